@@ -1,0 +1,12 @@
+pub mod FirstFault
+pub mod Formula
+pub mod FormulaCode
+pub mod Grant
+pub mod Names
+pub mod Padding
+pub mod Statement
+pub mod StatementCode
+pub mod Substitution
+pub mod Terms
+pub mod TimeOrder
+pub mod WellSorted

@@ -1,0 +1,105 @@
+//! Goals, and grants with the conditions that a proof left open.
+
+use crate::lists::{NoMemory, Sequence};
+use crate::names::Principal;
+use crate::terms::{Constraint, Constraints, NodeId, Perm, StatePred, StatePreds};
+use std::alloc::Global;
+use std::marker::Model;
+
+/// Who wants which permission on which file.
+#[derive(Clone, Copy, Debug, PartialEq, Eq)]
+pub struct Goal {
+    pub who: Principal,
+    pub file: NodeId,
+    pub perm: Perm,
+}
+
+/// What a verified proof grants: its goal, under conditions on time and on the server's state.
+#[derive(Debug, Drop)]
+pub struct Grant {
+    goal: Goal,
+    times: Constraints,
+    states: StatePreds,
+}
+
+impl Model for Grant {
+    ghost use Rattle.bl_syntax.specs.Grant.{Granted, IsGrant};
+
+    ghost Value = { Granted };
+
+    ghost view = { λ g. record { goal = g.goal; times = g.times; states = g.states } };
+
+    ghost invariant = { λ g. IsGrant (record { goal = g.goal; times = g.times; states = g.states }) };
+}
+
+impl Grant {
+    ghost use Rattle.std.specs.Prelude.{◌≡◌, ◌+◌, ◌<◌, [], ◌∷◌, ◌++◌, length, Contains, OnOk, OnErr, IfOk};
+    ghost use Rattle.bl_syntax.specs.Grant.{IsGrant, IsTimeCondition, IsStateCondition};
+
+    /// The goal without conditions. It takes no memory.
+    pub fn new(alloc: Global, goal: Goal) -> Grant
+        ensures { result ≡ record { goal = goal; times = []; states = [] } }
+    {
+        Grant {
+            goal,
+            times: Sequence::new(alloc),
+            states: Sequence::new(alloc),
+        }
+    }
+
+    /// What is granted.
+    pub fn goal(&self) -> Goal
+        ensures { result ≡ self.now.goal }
+    {
+        self.goal
+    }
+
+    /// The conditions on time, in the order in which they came up.
+    pub fn times(&self) -> &[Constraint]
+        ensures same { result.now ≡ self.now.times }
+        ensures kept { IsGrant self.now }
+    {
+        self.times.as_slice()
+    }
+
+    /// The conditions on the server's state, in the order in which they came up.
+    pub fn states(&self) -> &[StatePred]
+        ensures same { result.now ≡ self.now.states }
+        ensures kept { IsGrant self.now }
+    {
+        self.states.as_slice()
+    }
+
+    /// Adds a new condition on time behind the others.
+    pub fn push_time(&mut self, c: Constraint) -> Result<(), NoMemory>
+        requires condition { IsTimeCondition c }
+        requires new { Contains self.old.times c → ⊥ }
+        requires room { length self.old.times + length self.old.states < 64 }
+        ensures ok { OnOk result (self.new ≡ record self.old { times = self.old.times ++ c ∷ [] }) }
+        ensures err { OnErr result (self.new ≡ self.old) }
+    {
+        self.times.extend(&[c])
+    }
+
+    /// Adds a new condition on the server's state behind the others.
+    pub fn push_state(&mut self, s: StatePred) -> Result<(), NoMemory>
+        requires condition { IsStateCondition s }
+        requires new { Contains self.old.states s → ⊥ }
+        requires room { length self.old.times + length self.old.states < 64 }
+        ensures ok { OnOk result (self.new ≡ record self.old { states = self.old.states ++ s ∷ [] }) }
+        ensures err { OnErr result (self.new ≡ self.old) }
+    {
+        self.states.extend(&[s])
+    }
+
+    /// An equal grant in memory of its own.
+    pub fn copy(&self, alloc: Global) -> Result<Grant, NoMemory>
+        ensures { IfOk result (λ copied. copied ≡ self.now) }
+    {
+        Ok(Grant {
+            goal: self.goal,
+            times: self.times.copy(alloc)?,
+            states: self.states.copy(alloc)?,
+        })
+    }
+}
