@@ -1,17 +1,16 @@
 -- The first fault of a formula in preorder: each node before its parts, the parts from left to right. The order is this project's own.
-use Rattle.std.specs.Prelude.{◌≡◌, ℕ, List, [], ◌∷◌, length, Option, Some, None, nat_le, ◌==◌, ◌&&◌, if◌then◌else◌}
+use Rattle.std.specs.Prelude.{List, [], ◌∷◌, Option, Some, None, nat_le, ◌&&◌, if◌then◌else◌}
 use Rattle.std.specs.Str.{bytes_eq}
 use Rattle.bl_syntax.specs.declared.terms.Sort.{Sort}
 use Rattle.bl_syntax.specs.declared.terms.Sort.TheVariants as sorts
 use Rattle.bl_syntax.specs.declared.terms.Term.{Term}
-use Rattle.bl_syntax.specs.declared.terms.Constraint.{Constraint}
 use Rattle.bl_syntax.specs.declared.terms.StatePred.{StatePred}
 use Rattle.bl_syntax.specs.declared.terms.StatePred.TheVariants.{Owner, HasXattr, InDir}
 use Rattle.bl_syntax.specs.declared.check.SyntaxFault.{SyntaxFault}
 use Rattle.bl_syntax.specs.declared.check.SyntaxFault.TheVariants.{WrongSort, WrongArity, Unbound, TooLarge}
 use Rattle.bl_syntax.specs.Formula.{Form, atom, compare, state, both, either, implies, truth, falsity, forall_, exists_, says, on}
 use Rattle.bl_syntax.specs.Terms.{sort_of}
-use Rattle.bl_syntax.specs.WellSorted.{may, sorts_of_may, size, widest_atom}
+use Rattle.bl_syntax.specs.WellSorted.{may, size, widest_atom}
 
 -- the first of two places that has a fault
 abbrev pub first_of : Option SyntaxFault → Option SyntaxFault → Option SyntaxFault

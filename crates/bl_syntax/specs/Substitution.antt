@@ -1,5 +1,5 @@
 -- A term in the place of a bound variable, and a moment in the place of the current time (after the substitutions of BL's quantifier rules).
-use Rattle.std.specs.Prelude.{ℕ, ℤ, suc, List, map, ◌==◌, if◌then◌else◌}
+use Rattle.std.specs.Prelude.{ℕ, ℤ, suc, map, ◌==◌, if◌then◌else◌}
 use Rattle.bl_syntax.specs.declared.terms.Term.{Term}
 use Rattle.bl_syntax.specs.declared.terms.Term.TheVariants.{Prin, File, Perm, Time, Text, Ctime, Param, Bound}
 use Rattle.bl_syntax.specs.declared.terms.Constraint.{Constraint}

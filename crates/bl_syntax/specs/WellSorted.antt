@@ -1,18 +1,14 @@
 -- Which formulas are closed and well sorted, within the limits, and the first fault of one that is not. The sorts of predicates and the limits are this project's own.
-use Rattle.std.specs.Prelude.{◌≡◌, ◌≤◌, ℕ, ◌+◌, max, List, [], ◌∷◌, length, codes, Option, Some, None, IsSome, nat_le, ◌==◌, ◌&&◌, if◌then◌else◌}
+use Rattle.std.specs.Prelude.{◌≡◌, ◌≤◌, ℕ, ◌+◌, max, List, [], ◌∷◌, length, codes, Some, IsSome}
 use Rattle.std.specs.List.{AllByRecursion}
-use Rattle.std.specs.Str.{bytes_eq}
 use Rattle.bl_syntax.specs.declared.terms.Sort.{Sort}
 use Rattle.bl_syntax.specs.declared.terms.Sort.TheVariants as sorts
 use Rattle.bl_syntax.specs.declared.terms.Term.{Term}
-use Rattle.bl_syntax.specs.declared.terms.Term.TheVariants.{Prin, File, Perm, Time, Text, Ctime, Param, Bound}
 use Rattle.bl_syntax.specs.declared.terms.Constraint.{Constraint}
 use Rattle.bl_syntax.specs.declared.terms.StatePred.{StatePred}
 use Rattle.bl_syntax.specs.declared.terms.StatePred.TheVariants.{Owner, HasXattr, InDir}
-use Rattle.bl_syntax.specs.declared.check.SyntaxFault.{SyntaxFault}
-use Rattle.bl_syntax.specs.declared.check.SyntaxFault.TheVariants.{WrongSort, WrongArity, Unbound, TooLarge}
 use Rattle.bl_syntax.specs.Formula.{Form, atom, compare, state, both, either, implies, truth, falsity, forall_, exists_, says, on}
-use Rattle.bl_syntax.specs.Terms.{sort_of, HasTimeInRange}
+use Rattle.bl_syntax.specs.Terms.{sort_of}
 
 -- the predicate by which a policy gives a principal a permission on a file
 abbrev pub may : List ℕ

@@ -78,6 +78,7 @@ impl Grant {
         ensures ok { OnOk result (self.new ≡ record self.old { times = self.old.times ++ c ∷ [] }) }
         ensures err { OnErr result (self.new ≡ self.old) }
     {
+        // `push(c)` would move the constraint into a generic call, which the kit refuses for this type.
         self.times.extend(&[c])
     }
 

@@ -1,0 +1,55 @@
+-- One more condition at the end of a grant's lists.
+use Rattle.std.proofs.Common.{◌≡◌, ◌+◌, ◌<◌, List, [], ◌∷◌, ◌++◌, length, Result, Ok, Err, sym, subst, ⊎_elim, length-append, arith}
+use Rattle.std.specs.Prelude.{Contains, OnOk, OnErr}
+use Rattle.std.specs.List.{AllByRecursion}
+use Rattle.std.proofs.lemmas.List.Elements.{Contains-push_cases, Contains-append_right}
+use Rattle.bl_syntax.specs.declared.terms.Constraint.{Constraint}
+use Rattle.bl_syntax.specs.declared.terms.StatePred.{StatePred}
+use Rattle.bl_syntax.specs.declared.grant.Goal.{Goal}
+use Rattle.bl_syntax.specs.Grant.{Granted, IsGrant, IsTimeCondition, IsStateCondition, AreDistinct}
+
+pub AllByRecursion-push : {X : Type 0} (P : X → Type 0) (xs : List X) (x : X) → AllByRecursion P xs → P x → AllByRecursion P (xs ++ x ∷ [])
+AllByRecursion-push P [] x all here = (here, tt)
+AllByRecursion-push P (y ∷ ys) x all here = (all.0, AllByRecursion-push P ys x all.1 here)
+
+Contains-head : {X : Type 0} (x y : X) (ys : List X) → y ≡ x → Contains (y ∷ ys) x
+Contains-head x y ys same = (0, omega arith, same)
+
+-- what is new may stand at the end
+pub AreDistinct-push : {X : Type 0} (xs : List X) (x : X) → AreDistinct xs → (Contains xs x → ⊥) → AreDistinct (xs ++ x ∷ [])
+AreDistinct-push [] x distinct new = (λ h. absurd (omega (arith, h.1)), tt)
+AreDistinct-push (y ∷ ys) x distinct new = (
+  λ h. ⊎_elim distinct.0 (λ same. new (Contains-head x y ys (sym same))) (Contains-push_cases ys x y h),
+  AreDistinct-push ys x distinct.1 (λ h. new (Contains-append_right (y ∷ []) ys x h)),
+)
+
+abbrev pub granted : Goal → List Constraint → List StatePred → Granted
+granted goal times states = record { goal = goal; times = times; states = states }
+
+pub IsGrant-push_time : (goal : Goal) (times : List Constraint) (states : List StatePred) (c : Constraint)
+    → IsGrant (granted goal times states) → IsTimeCondition c → (Contains times c → ⊥) → length times + length states < 64
+    → IsGrant (granted goal (times ++ c ∷ []) states)
+IsGrant-push_time goal times states c old condition new room = record {
+  time_conditions = AllByRecursion-push IsTimeCondition times c old.time_conditions condition;
+  state_conditions = old.state_conditions;
+  distinct_times = AreDistinct-push times c old.distinct_times new;
+  distinct_states = old.distinct_states;
+  count = omega (arith, length-append times (c ∷ []));
+}
+
+pub IsGrant-push_state : (goal : Goal) (times : List Constraint) (states : List StatePred) (s : StatePred)
+    → IsGrant (granted goal times states) → IsStateCondition s → (Contains states s → ⊥) → length times + length states < 64
+    → IsGrant (granted goal times (states ++ s ∷ []))
+IsGrant-push_state goal times states s old condition new room = record {
+  time_conditions = old.time_conditions;
+  state_conditions = AllByRecursion-push IsStateCondition states s old.state_conditions condition;
+  distinct_times = old.distinct_times;
+  distinct_states = AreDistinct-push states s old.distinct_states new;
+  count = omega (arith, length-append states (s ∷ []));
+}
+
+-- what holds of the new list after a growth, and of the old one where the growth was refused, holds after the call
+pub after_growth : {X E : Type 0} (P : List X → Type 0) (old grown new : List X) (r : Result (Unit {0}) E)
+    → OnOk r (new ≡ grown) → OnErr r (new ≡ old) → P grown → P old → P new
+after_growth P old grown new (Ok x) same kept p q = subst P (sym same) p
+after_growth P old grown new (Err e) same kept p q = subst P (sym kept) q

@@ -1,0 +1,12 @@
+-- The new condition stands behind the others, or they are as before.
+use Rattle.bl_syntax.specs.Grant.{IsGrant}
+use Rattle.bl_syntax.proofs.GrantLemmas.{IsGrant-push_time, after_growth, granted}
+use Rattle.bl_syntax.proofs.grant.Grant.push_time.Goals as goal
+
+pub invariant_of-self : goal.invariant_of-self
+invariant_of-self c =
+    let g = c.self.inside in
+    let required = rw (← c.self.view_is) at c.requires in
+    after_growth (λ times. IsGrant (granted g.goal times g.states)) _ _ _ c.extend.result c.extend.ensures.ok c.extend.ensures.err
+    (IsGrant-push_time g.goal g.times g.states c.args.c c.self.invariant required.condition required.new required.room)
+    c.self.invariant
