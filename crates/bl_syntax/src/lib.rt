@@ -17,6 +17,7 @@ pub use formula::Formula;
 pub use grant::{Goal, Grant};
 pub use lists::{Bytes, NoMemory, Numbers, Sequence};
 pub use names::{Principal, Text, Word};
+pub use short::Short;
 pub use statement::Statement;
 pub use terms::{
     Constraint, Constraints, NodeId, Perm, Sort, StatePred, StatePreds, Term, Terms, TimePoint,
