@@ -1,0 +1,53 @@
+-- Which histories are lawful: each event is one that the state before it allows (this project's own).
+use Rattle.std.specs.Prelude.{◌≡◌, ◌≤◌, ◌<◌, ◌+◌, ◌-◌, ◌^◌, ◌≤ℤ◌, ℕ, ℤ, List, [], ◌∷◌, ◌++◌, length, Contains}
+use Rattle.std.specs.List.{AllByRecursion}
+use Rattle.bl_syntax.specs.TimeOrder.{IsMoment}
+use Rattle.bl_syntax.specs.Statement.{Saying}
+use Rattle.bl_syntax.specs.Grant.{Granted, AreDistinct}
+use Rattle.pcfs_top.specs.declared.event.Op.{Op}
+use Rattle.pcfs_top.specs.declared.event.Issue.{Issue}
+use Rattle.pcfs_top.specs.declared.event.Event.{Event}
+use Rattle.pcfs_top.specs.declared.event.Event.TheVariants.{Registered, Issued, Acted}
+use Rattle.pcfs_top.specs.declared.event.Base.{Base}
+use Rattle.pcfs_top.specs.Numbered.{IsNumbered}
+use Rattle.pcfs_top.specs.World.{FileTree, IsTree}
+use Rattle.pcfs_top.specs.Needs.{slots, bytes_to_write}
+use Rattle.pcfs_top.specs.Effect.{OpReply, replied, effect}
+use Rattle.pcfs_top.specs.Verdict.{grants, IsVerdict}
+use Rattle.pcfs_top.specs.Answer.{AreIssued, IsAdmitted}
+use Rattle.pcfs_top.specs.Replay.{replay}
+
+-- the issue cites a statement of the list, and its grant is the verdict on the proof that cites it
+pub record IsGoodIssue (statements : List Saying) (issue : Issue) : Type 0 where
+  pub number : ℕ
+  pub statement : Saying
+  pub cites : issue.cited ≡ number ∷ []
+  pub registered : IsNumbered statements number statement
+  pub verdict : IsVerdict statement issue.grant.goal (grants issue.grant)
+
+-- the event may come next
+pub data MayFollow (state : Base) : Event → Type 0 where
+  may_register : (pass : ℕ) (statement : Saying) → (Contains state.statements statement → ⊥) → length state.statements < 4096 → MayFollow state (Registered pass statement)
+  may_issue : (pass : ℕ) (cited : List ℕ) (g : Granted) → IsGoodIssue state.statements (record { cited = cited; grant = g }) → MayFollow state (Issued pass cited g)
+  may_act : (pass : ℕ) (caller : List ℕ) (op : Op) (procaps : List ℕ) (moment : ℤ) (reply : OpReply) (after : FileTree) →
+    state.moment ≤ℤ moment → IsMoment moment → length procaps ≡ slots op → bytes_to_write op ≤ 65536 →
+    AreIssued state procaps → IsAdmitted state caller op procaps moment → effect caller op state.world ≡ replied reply after →
+    MayFollow state (Acted pass caller op procaps moment)
+
+-- each event could come where it came
+pub data AreLawful (base : Base) : List Event → Type 0 where
+  no_event : AreLawful base []
+  one_more : (events : List Event) (event : Event) → AreLawful base events → MayFollow (replay base events) event → AreLawful base (events ++ event ∷ [])
+
+-- a state that a history may begin with
+pub record IsLawfulBase (base : Base) : Type 0 where
+  pub tree : IsTree base.world
+  pub statements_differ : AreDistinct base.statements
+  pub statements_fit : length base.statements ≤ 4096
+  pub moment_in_range : IsMoment base.moment
+  pub good_issues : AllByRecursion (IsGoodIssue base.statements) base.issues
+
+pub record IsLawful (base : Base) (events : List Event) : Type 0 where
+  pub lawful_base : IsLawfulBase base
+  pub counted : base.count + length events ≤ 2 ^ 48 - 1
+  pub each : AreLawful base events

@@ -1,0 +1,12 @@
+pub mod Answer
+pub mod Effect
+pub mod Facts
+pub mod Lawful
+pub mod Lines
+pub mod Needs
+pub mod Numbered
+pub mod Replay
+pub mod ReplyText
+pub mod Script
+pub mod Verdict
+pub mod World

@@ -1,0 +1,54 @@
+-- The run of a script: its lines in order, each answered over the state that the lines before it left (this project's own).
+use Rattle.std.specs.Prelude.{◌≡◌, ◌+◌, ℕ, ℤ, pos, List, [], ◌∷◌, ◌++◌, length, Option, Some, None, codes}
+use Rattle.std.specs.Option.{option_to_list}
+use Rattle.bl_syntax.specs.declared.grant.Goal.{Goal}
+use Rattle.bl_syntax.specs.Statement.{Saying}
+use Rattle.pcfs_top.specs.declared.event.Op.{Op}
+use Rattle.pcfs_top.specs.declared.event.Event.{Event}
+use Rattle.pcfs_top.specs.declared.event.Base.{Base}
+use Rattle.pcfs_top.specs.declared.request.Request.TheVariants as requests
+use Rattle.pcfs_top.specs.declared.command.Command.{Command}
+use Rattle.pcfs_top.specs.declared.command.Command.TheVariants as commands
+use Rattle.pcfs_top.specs.declared.reply.Reply.{Reply}
+use Rattle.pcfs_top.specs.declared.reply.Reply.TheVariants as replies
+use Rattle.pcfs_top.specs.Answer.{Answers}
+use Rattle.pcfs_top.specs.Replay.{replay}
+use Rattle.pcfs_top.specs.Lines.{IsLine}
+use Rattle.pcfs_top.specs.Verdict.{admin}
+
+-- where a script stands: what its clock shows, who calls, and the events so far
+pub record Standing : Type 0 where
+  pub clock : ℤ
+  pub caller : List ℕ
+  pub events : List Event
+
+-- a script begins at second 0 with `admin` as caller
+abbrev pub beginning : Standing
+beginning = record { clock = pos 0; caller = admin; events = [] }
+
+-- the events of a script carry this number
+abbrev pub script_pass : ℕ
+script_pass = 1
+
+-- how a line is answered, where the events follow this base: the reply, and where the script stands then
+pub data AnswersLine (base : Base) (before : Standing) (line : List ℕ) : Reply → Standing → Type 0 where
+  outside : ((command : Command) → IsLine line command → ⊥) → AnswersLine base before line (replies.Bad 9) before
+  sets_clock : (second : ℤ) → IsLine line (commands.At second) → AnswersLine base before line replies.Done (record before { clock = second })
+  sets_caller : (who : List ℕ) → IsLine line (commands.As who) → AnswersLine base before line replies.Done (record before { caller = who })
+  registers : (statement : Saying) (reply : Reply) (event : Option Event) → IsLine line (commands.Register statement) →
+    Answers (replay base before.events) script_pass before.clock (requests.Register statement) reply event →
+    AnswersLine base before line reply (record before { events = before.events ++ option_to_list event })
+  verifies : (goal : Goal) (number : ℕ) (reply : Reply) (event : Option Event) → IsLine line (commands.Verify goal number) →
+    Answers (replay base before.events) script_pass before.clock (requests.Issue number goal) reply event →
+    AnswersLine base before line reply (record before { events = before.events ++ option_to_list event })
+  acts : (op : Op) (procaps : List ℕ) (reply : Reply) (event : Option Event) → IsLine line (commands.Do op procaps) →
+    Answers (replay base before.events) script_pass before.clock (requests.Act before.caller op procaps) reply event →
+    AnswersLine base before line reply (record before { events = before.events ++ option_to_list event })
+
+-- a run of these lines gives these replies, and the script stands there then. In the place of any reply there may be want of memory, and then nothing changes
+pub data IsRun (base : Base) : List (List ℕ) → List Reply → Standing → Type 0 where
+  begun : IsRun base [] [] beginning
+  answered : (lines : List (List ℕ)) (answers : List Reply) (line : List ℕ) (reply : Reply) (before after : Standing) →
+    IsRun base lines answers before → AnswersLine base before line reply after → IsRun base (lines ++ line ∷ []) (answers ++ reply ∷ []) after
+  without_memory : (lines : List (List ℕ)) (answers : List Reply) (line : List ℕ) (before : Standing) →
+    IsRun base lines answers before → IsRun base (lines ++ line ∷ []) (answers ++ replies.NoMemory ∷ []) before

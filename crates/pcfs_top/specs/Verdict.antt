@@ -1,0 +1,70 @@
+-- What becomes of the one form of proof that these lines carry: `admin` says, by its claim, what the statement's body is. It claims the statement cited, and takes its body for
+-- the goal. (The rules are this project's profile of BL: says on the right, a claim, and the initial rule.)
+use Rattle.std.specs.Prelude.{◌≡◌, ◌≢◌, ◌⊎◌, ℕ, List, [], ◌∷◌, ◌++◌, codes}
+use Rattle.bl_syntax.specs.declared.terms.TimePoint.{TimePoint}
+use Rattle.bl_syntax.specs.declared.terms.TimePoint.TheVariants.{NegInf, At, PosInf}
+use Rattle.bl_syntax.specs.declared.terms.Term.{Term}
+use Rattle.bl_syntax.specs.declared.terms.Term.TheVariants.{Prin, File, Perm, Time, Ctime}
+use Rattle.bl_syntax.specs.declared.terms.Constraint.{Constraint}
+use Rattle.bl_syntax.specs.declared.grant.Goal.{Goal}
+use Rattle.bl_syntax.specs.Formula.{Form, atom}
+use Rattle.bl_syntax.specs.WellSorted.{may}
+use Rattle.bl_syntax.specs.Terms.{IsAtLeastAsStrong}
+use Rattle.bl_syntax.specs.Statement.{Saying}
+use Rattle.bl_syntax.specs.Grant.{Granted}
+
+-- a grant; or the number of a fault, and that of the rule that has it, from 0, each rule before its premises
+pub data Verdict : Type 0 where
+  grants : Granted → Verdict
+  faults : ℕ → ℕ → Verdict
+
+-- the principal whose word decides
+abbrev pub admin : List ℕ
+admin = codes "admin"
+
+-- what is to be derived: the principal may have the permission on the file
+abbrev pub wanted : Goal → Form
+wanted goal = atom may (Prin goal.who ∷ File goal.file ∷ Perm goal.perm ∷ [])
+
+-- that the interval has begun: left open, but for an interval without a beginning
+abbrev pub begun : TimePoint → List Constraint
+begun NegInf = []
+begun (At second) = record { low = Time (At second); high = Ctime } ∷ []
+begun PosInf = record { low = Time PosInf; high = Ctime } ∷ []
+
+-- that it has not ended: left open, but for an interval without an end
+abbrev pub not_ended : TimePoint → List Constraint
+not_ended NegInf = record { low = Ctime; high = Time NegInf } ∷ []
+not_ended (At second) = record { low = Ctime; high = Time (At second) } ∷ []
+not_ended PosInf = []
+
+-- the goal, under the condition that the statement's interval holds the current time
+abbrev pub granted_by : Saying → Goal → Granted
+granted_by statement goal = record { goal = goal; times = begun statement.from ++ not_ended statement.to; states = [] }
+
+-- the statement's principal speaks for `admin`
+abbrev pub SpeaksForAdmin : Saying → Type 0
+SpeaksForAdmin statement = IsAtLeastAsStrong (Prin statement.who) (Prin admin)
+
+-- the claim is of a principal that does not speak for `admin`: fault 5 at the claim, which is rule 1
+pub record IsTooWeak (statement : Saying) (fault rule : ℕ) : Type 0 where
+  pub fault_is : fault ≡ 5
+  pub rule_is : rule ≡ 1
+  pub weak : SpeaksForAdmin statement → ⊥
+
+-- the body is something else than the goal: fault 2 at the initial rule, which is rule 2
+pub record IsAboutElse (statement : Saying) (goal : Goal) (fault rule : ℕ) : Type 0 where
+  pub fault_is : fault ≡ 2
+  pub rule_is : rule ≡ 2
+  pub strong : SpeaksForAdmin statement
+  pub differs : statement.body ≢ wanted goal
+
+pub record IsGranting (statement : Saying) (goal : Goal) (g : Granted) : Type 0 where
+  pub strong : SpeaksForAdmin statement
+  pub same : statement.body ≡ wanted goal
+  pub grant_is : g ≡ granted_by statement goal
+
+-- the verdict on the proof that cites this one statement
+abbrev pub IsVerdict : Saying → Goal → Verdict → Type 0
+IsVerdict statement goal (grants g) = IsGranting statement goal g
+IsVerdict statement goal (faults fault rule) = IsTooWeak statement fault rule ⊎ IsAboutElse statement goal fault rule

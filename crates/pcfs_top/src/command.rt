@@ -1,0 +1,19 @@
+//! What a line of a script asks for.
+
+use crate::event::Op;
+use bl_syntax::{Goal, Numbers, Principal, Statement};
+
+/// A line of a script that is of one of the forms.
+#[derive(Debug, Drop)]
+pub enum Command {
+    /// Sets the clock, in whole seconds from 1970-01-01T00:00:00Z.
+    At(i64),
+    /// Sets the caller.
+    As(Principal),
+    /// Registers a statement.
+    Register(Statement),
+    /// Verifies a proof of the goal that cites the statement of this number.
+    Verify(Goal, u32),
+    /// Does an operation under the procaps of these issues.
+    Do(Op, Numbers),
+}
