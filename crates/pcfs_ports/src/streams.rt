@@ -1,0 +1,94 @@
+//! Whole streams: a source read to its end, and all of some bytes written.
+
+ghost use Rattle.std.specs.Prelude.{◌≡◌, ◌<◌, ◌≤◌, IfOk, OnOk, OnErr, IsErrOf, length};
+ghost use Rattle.pcfs_ports.specs.Faults.{HasRisen};
+ghost use Rattle.pcfs_ports.specs.Told.{with_back, ReadsWhole, TakesFirst, TakesSome, HoldsSome};
+ghost use Rattle.pcfs_ports.specs.declared.streams.TakeFault.TheVariants.{NoMemory as OutOfMemory, Failed as SourceFailed};
+
+use super::sinks::Sink;
+use super::sources::{Failed, Source};
+use bl_syntax::{Bytes, NoMemory};
+use std::alloc::{AllocError, Global};
+
+/// An input is shorter than this many bytes, 1 GiB.
+pub const INPUT_LIMIT: usize = 1_073_741_824;
+
+/// How many bytes a source is asked for at once, at most.
+const PIECE_LEN: usize = 65_536;
+
+/// Why an input was not read to its end.
+#[derive(Clone, Copy, Debug, PartialEq, Eq)]
+pub enum TakeFault {
+    /// The source failed.
+    Failed,
+    /// `INPUT_LIMIT` bytes were taken, and the end was not met before.
+    TooLong,
+    /// A growth was refused.
+    NoMemory,
+}
+
+impl From<NoMemory> for TakeFault {
+    ghost from_gives = { λ _ e. e ≡ OutOfMemory };
+
+    fn from(_refused: NoMemory) -> TakeFault {
+        TakeFault::NoMemory
+    }
+}
+
+impl From<AllocError> for TakeFault {
+    ghost from_gives = { λ _ e. e ≡ OutOfMemory };
+
+    fn from(_refused: AllocError) -> TakeFault {
+        TakeFault::NoMemory
+    }
+}
+
+impl From<Failed> for TakeFault {
+    ghost from_gives = { λ _ e. e ≡ SourceFailed };
+
+    fn from(_failed: Failed) -> TakeFault {
+        TakeFault::Failed
+    }
+}
+
+/// Writes all of the bytes, in as many calls as the sink takes for it.
+///
+/// `Failed` comes only where the sink's count of faults rose. Some first part may have been written then.
+pub fn write_all<O: Sink>(output: &mut O, bytes: &[u8]) -> Result<(), Failed>
+    ensures ok { OnOk result (O.held output.new ≡ with_back (O.held output.old) bytes.now) }
+    ensures err { OnErr result (HoldsSome (O.held output.old) (O.held output.new) bytes.now) }
+    ensures risen { OnErr result (HasRisen (O.faults output.old) (O.faults output.new)) }
+    ensures never_falls { O.faults output.old ≤ O.faults output.new }
+{
+    let mut at: usize = 0;
+    while at < bytes.len() {
+        at += output.write(&bytes[at..])?;
+    }
+    Ok(())
+}
+
+/// Reads a source to its end.
+///
+/// `TooLong` comes where `INPUT_LIMIT` bytes were taken and the end was not met before; it is not asked whether more
+/// follow. `Failed` comes only where the source's count of faults rose. `NoMemory` may come at any time. After a fault
+/// the bytes that were taken are lost.
+pub fn read_to_end<I: Source>(alloc: Global, input: &mut I) -> Result<Bytes, TakeFault>
+    ensures ok { IfOk result (λ bytes. ReadsWhole (I.left input.old) (I.left input.new) bytes) }
+    ensures short { IfOk result (λ bytes. length bytes < INPUT_LIMIT) }
+    ensures err { OnErr result (TakesSome (I.left input.old) (I.left input.new)) }
+    ensures too_long { IsErrOf result TakeFault.TooLong → TakesFirst INPUT_LIMIT (I.left input.old) (I.left input.new) }
+    ensures risen { IsErrOf result TakeFault.Failed → HasRisen (I.faults input.old) (I.faults input.new) }
+    ensures never_falls { I.faults input.old ≤ I.faults input.new }
+{
+    let mut piece = vec![in alloc; 0u8; PIECE_LEN]?;
+    let mut bytes = Bytes::new(alloc);
+    while bytes.len() < INPUT_LIMIT {
+        let room = PIECE_LEN.min(INPUT_LIMIT - bytes.len());
+        let count = input.read(&mut piece[..room])?;
+        if count == 0 {
+            return Ok(bytes);
+        }
+        bytes.extend(&piece[..count])?;
+    }
+    Err(TakeFault::TooLong)
+}
