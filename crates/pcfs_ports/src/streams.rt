@@ -1,8 +1,8 @@
 //! Whole streams: a source read to its end, and all of some bytes written.
 
-ghost use Rattle.std.specs.Prelude.{◌≡◌, ◌<◌, ◌≤◌, IfOk, OnOk, OnErr, IsErrOf, length};
+ghost use Rattle.std.specs.Prelude.{◌≡◌, ◌≢◌, ◌+◌, ◌<◌, ◌≤◌, IfOk, OnOk, OnErr, IsErrOf, length};
 ghost use Rattle.pcfs_ports.specs.Faults.{HasRisen};
-ghost use Rattle.pcfs_ports.specs.Told.{with_back, ReadsWhole, TakesFirst, TakesSome, HoldsSome};
+ghost use Rattle.pcfs_ports.specs.Told.{with_front, with_back, IsAtEnd, ReadsWhole, TakesFirst, TakesSome, HoldsSome};
 ghost use Rattle.pcfs_ports.specs.declared.streams.TakeFault.TheVariants.{NoMemory as OutOfMemory, Failed as SourceFailed};
 
 use super::sinks::Sink;
@@ -67,6 +67,36 @@ pub fn write_all<O: Sink>(output: &mut O, bytes: &[u8]) -> Result<(), Failed>
     Ok(())
 }
 
+// A buffer of zeros.
+fn zeros(alloc: Global, len: usize) -> Result<Vec<u8>, AllocError>
+    ensures { IfOk result (λ buffer. length buffer.items ≡ len) }
+{
+    vec![in alloc; 0u8; len]
+}
+
+// Moves bytes from the input behind those that were taken, by one read, and answers how many: none at the end.
+fn take_piece<I: Source>(
+    input: &mut I,
+    piece: &mut [u8],
+    bytes: &mut Bytes,
+) -> Result<usize, TakeFault>
+    requires room { 0 < length piece.old }
+    requires short { length bytes.old < INPUT_LIMIT }
+    ensures moved { OnOk result (with_front bytes.old (I.left input.old) ≡ with_front bytes.new (I.left input.new)) }
+    ensures count { IfOk result (λ count. length bytes.new ≡ length bytes.old + count) }
+    ensures limit { OnOk result (length bytes.new ≤ INPUT_LIMIT) }
+    ensures end { IfOk result (λ count. count ≡ 0 → IsAtEnd (I.left input.new)) }
+    ensures err { OnErr result (TakesSome (I.left input.old) (I.left input.new)) }
+    ensures not_too_long { result ≢ Err TakeFault.TooLong }
+    ensures risen { IsErrOf result TakeFault.Failed → HasRisen (I.faults input.old) (I.faults input.new) }
+    ensures never_falls { I.faults input.old ≤ I.faults input.new }
+{
+    let room = piece.len().min(INPUT_LIMIT - bytes.len());
+    let count = input.read(&mut piece[..room])?;
+    bytes.extend(&piece[..count])?;
+    Ok(count)
+}
+
 /// Reads a source to its end.
 ///
 /// `TooLong` comes where `INPUT_LIMIT` bytes were taken and the end was not met before; it is not asked whether more
@@ -80,15 +110,12 @@ pub fn read_to_end<I: Source>(alloc: Global, input: &mut I) -> Result<Bytes, Tak
     ensures risen { IsErrOf result TakeFault.Failed → HasRisen (I.faults input.old) (I.faults input.new) }
     ensures never_falls { I.faults input.old ≤ I.faults input.new }
 {
-    let mut piece = vec![in alloc; 0u8; PIECE_LEN]?;
+    let mut piece = zeros(alloc, PIECE_LEN)?;
     let mut bytes = Bytes::new(alloc);
     while bytes.len() < INPUT_LIMIT {
-        let room = PIECE_LEN.min(INPUT_LIMIT - bytes.len());
-        let count = input.read(&mut piece[..room])?;
-        if count == 0 {
+        if take_piece(input, &mut piece, &mut bytes)? == 0 {
             return Ok(bytes);
         }
-        bytes.extend(&piece[..count])?;
     }
     Err(TakeFault::TooLong)
 }
