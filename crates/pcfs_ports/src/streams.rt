@@ -5,8 +5,9 @@ ghost use Rattle.pcfs_ports.specs.Faults.{HasRisen};
 ghost use Rattle.pcfs_ports.specs.Told.{with_front, with_back, IsAtEnd, ReadsWhole, TakesFirst, TakesSome, HoldsSome};
 ghost use Rattle.pcfs_ports.specs.declared.streams.TakeFault.TheVariants.{NoMemory as OutOfMemory, Failed as SourceFailed};
 
+use super::faults::Failed;
 use super::sinks::Sink;
-use super::sources::{Failed, Source};
+use super::sources::Source;
 use bl_syntax::{Bytes, NoMemory};
 use std::alloc::{AllocError, Global};
 
@@ -118,4 +119,65 @@ pub fn read_to_end<I: Source>(alloc: Global, input: &mut I) -> Result<Bytes, Tak
         }
     }
     Err(TakeFault::TooLong)
+}
+
+#[cfg(test)]
+mod tests {
+    use super::*;
+    use crate::sinks::{MemorySink, StdSink};
+    use crate::sources::{MemorySource, StdSource};
+    use bl_syntax::Numbers;
+    use std::io::Read;
+    use std::test::Fail;
+
+    #[test]
+    fn an_input_is_read_to_its_end(rt: HostRuntime) -> Result<(), Fail> {
+        let cases: [(&str, &[u32], Result<&str, TakeFault>); 5] = [
+            ("", &[], Ok("")),
+            ("policy", &[], Ok("policy")),
+            ("policy", &[2], Ok("policy")),
+            ("policy", &[0], Err(TakeFault::Failed)),
+            ("policy", &[1], Err(TakeFault::Failed)),
+        ];
+        for (text, failing, want) in cases {
+            let bytes = Bytes::from_vec(text.as_bytes().to_vec(rt.alloc())?);
+            let failing = Numbers::from_vec(failing.to_vec(rt.alloc())?);
+            let mut input = MemorySource::new(rt.alloc(), bytes, failing);
+            let taken = read_to_end(rt.alloc(), &mut input);
+            match (taken, want) {
+                (Ok(taken), Ok(want)) => assert_eq!(rt; taken.as_slice(), want.as_bytes()),
+                (Err(taken), Err(want)) => assert_eq!(rt; taken, want),
+                _ => panic!(rt; "{text}"),
+            }
+        }
+        Ok(())
+    }
+
+    #[test]
+    fn an_input_in_pieces_is_read_to_its_end(rt: HostRuntime) -> Result<(), Fail> {
+        let long = vec![in rt.alloc(); b'x'; 3 * PIECE_LEN + 1]?;
+        let reader = (&b"ab"[..]).chain(long.as_slice()).chain(&b"c"[..]);
+        let taken = read_to_end(rt.alloc(), &mut StdSource::new(reader)).ok();
+        let taken = taken.ok_or("not read")?;
+        assert_eq!(rt; taken.len(), 3 * PIECE_LEN + 4);
+        assert!(rt; taken.as_slice().starts_with(b"abx"));
+        assert!(rt; taken.as_slice().ends_with(b"xc"));
+        Ok(())
+    }
+
+    #[test]
+    fn all_bytes_are_written(rt: HostRuntime) -> Result<(), Fail> {
+        let mut output = MemorySink::new(rt.alloc(), Numbers::new(rt.alloc()));
+        assert_eq!(rt; write_all(&mut output, b"ok "), Ok(()));
+        assert_eq!(rt; write_all(&mut output, b""), Ok(()));
+        assert_eq!(rt; write_all(&mut output, b"node"), Ok(()));
+        assert_eq!(rt; output.held(), b"ok node".as_slice());
+        let mut room = [0u8; 4];
+        assert_eq!(rt;
+            write_all(&mut StdSink::new(&mut room[..]), b"ok node"),
+            Err(Failed)
+        );
+        assert_eq!(rt; room, *b"ok n");
+        Ok(())
+    }
 }
