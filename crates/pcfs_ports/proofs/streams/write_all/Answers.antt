@@ -1,0 +1,11 @@
+use Rattle.std.proofs.Common.{arith}
+use Rattle.std.proofs.lemmas.List.{take_rest}
+use Rattle.pcfs_ports.proofs.ToldLemmas.{with_back-take}
+use Rattle.pcfs_ports.proofs.streams.write_all.Goals as goal
+
+pub loop-at-preserved : goal.loop-at-preserved
+loop-at-preserved g c = record {
+  within = omega (arith, c.in_ok-at.ensures.bound);
+  held = with_back-take _ _ _ c.args.bytes.now c.loop-at.at _ _ (take_rest c.args.bytes.now c.loop-at.at) c.loop-at.invariant.held c.in_ok-at.ensures.ok;
+  never_falls = omega (arith, c.in_ok-at.ensures.never_falls);
+}

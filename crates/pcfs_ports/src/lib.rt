@@ -1,0 +1,15 @@
+//! Ports: where bytes come from and where they go.
+//!
+//! A fault of a port comes only where the port's own count of faults rose.
+//! A port in memory tells its bytes, and fails only at the calls that were to fail, and at a growth that is refused.
+#![tactic(auto)]
+
+mod faults;
+mod sinks;
+mod sources;
+mod streams;
+
+pub use faults::Failed;
+pub use sinks::{MemorySink, Sink, StdSink};
+pub use sources::{MemorySource, Source, StdSource};
+pub use streams::{INPUT_LIMIT, TakeFault, read_to_end, write_all};

@@ -1,0 +1,203 @@
+//! Sinks: where bytes go.
+
+ghost use Rattle.std.specs.Prelude.{◌≡◌, ℕ, ◌+◌, ◌<◌, ◌≤◌, ◌⊎◌, List, [], ◌++◌, Option, None, Some, IfOk, IsErr, OnOk, OnErr, length, take};
+ghost use Rattle.pcfs_ports.specs.Faults.{HasRisen};
+ghost use Rattle.pcfs_ports.specs.Told.{with_back};
+ghost use Rattle.pcfs_ports.specs.Calls.{no_calls, FailsNext};
+ghost use Rattle.pcfs_ports.specs.MemorySink.{after_write, after_failed_write, after_refused_write};
+
+use super::faults::{CallPlan, Failed};
+use bl_syntax::{Bytes, NoMemory, Numbers};
+use std::alloc::Global;
+use std::io::Write;
+use std::marker::Model;
+
+/// Where bytes go, in order.
+///
+/// Its meaning is the bytes that it holds, which it tells or does not tell, and a count of faults that never falls.
+/// Whether it tells its bytes is the same after each call as before.
+pub trait Sink {
+    // The bytes that it holds, where it tells them.
+    ghost held: { Self → Option (List ℕ) };
+
+    // How many faults it has had.
+    ghost faults: { Self → ℕ };
+
+    /// Adds the first bytes of `piece` behind those that are held, and answers how many: at least one of a piece that
+    /// is not empty.
+    ///
+    /// `Failed` comes only where the count of faults rose, and adds nothing.
+    fn write(&mut self, piece: &[u8]) -> Result<usize, Failed>
+        ensures bound { IfOk result (λ count. count ≤ length piece.now) }
+        ensures progress { IfOk result (λ count. 0 < length piece.now → 0 < count) }
+        ensures ok { IfOk result (λ count. held self.new ≡ with_back (held self.old) (take count piece.now)) }
+        ensures err { OnErr result (held self.new ≡ held self.old) }
+        ensures risen { OnErr result (HasRisen (faults self.old) (faults self.new)) }
+        ensures never_falls { faults self.old ≤ faults self.new };
+}
+
+/// A sink that holds its bytes in memory. It fails at the calls that are to fail, and where a growth is refused.
+#[derive(Debug, Drop)]
+pub struct MemorySink {
+    bytes: Bytes,
+    plan: CallPlan,
+    refused: u64,
+}
+
+impl Model for MemorySink {
+    ghost use Rattle.pcfs_ports.specs.MemorySink.{SinkState};
+
+    ghost Value = { SinkState };
+
+    ghost view = { λ s. record { held = s.bytes; calls = s.plan; refused = s.refused } };
+}
+
+impl MemorySink {
+    /// A sink that holds nothing. `failing` lists the numbers, from 0, of the calls that fail. It takes no memory.
+    pub fn new(alloc: Global, failing: Numbers) -> Self
+        ensures { result ≡ record { held = []; calls = no_calls failing; refused = 0 } }
+    {
+        MemorySink {
+            bytes: Bytes::new(alloc),
+            plan: CallPlan::new(failing),
+            refused: 0,
+        }
+    }
+
+    /// The bytes that were written.
+    pub fn held(&self) -> &[u8]
+        ensures { result.now ≡ self.now.held }
+    {
+        self.bytes.as_slice()
+    }
+
+    /// How many growths were refused. At `u64::MAX` it counts as risen.
+    pub fn refused(&self) -> u64
+        ensures { result ≡ self.now.refused }
+    {
+        self.refused
+    }
+}
+
+impl Sink for MemorySink {
+    ghost held = { λ s. Some s.held };
+
+    ghost faults = { λ s. s.calls.faults };
+
+    fn write(&mut self, piece: &[u8]) -> Result<usize, Failed>
+        // It fails where it is to, and else only where a growth is refused.
+        ensures planned { FailsNext self.old.calls → IsErr result × (self.new ≡ after_failed_write self.old) }
+        ensures refused { OnErr result (FailsNext self.old.calls ⊎ (self.new ≡ after_refused_write self.old)) }
+
+        // Else it takes the whole piece.
+        ensures count { IfOk result (λ count. count ≡ length piece.now) }
+        ensures written { OnOk result (self.new ≡ after_write self.old piece.now) }
+
+        ensures never_falls { self.old.calls.faults ≤ self.new.calls.faults }
+    {
+        if self.plan.fails_next() {
+            self.plan.count_failed();
+            return Err(Failed);
+        }
+        match self.bytes.extend(piece) {
+            Ok(()) => {
+                self.plan.count();
+                Ok(piece.len())
+            }
+            Err(NoMemory) => {
+                self.plan.count_failed();
+                self.refused = self.refused.saturating_add(1);
+                Err(Failed)
+            }
+        }
+    }
+}
+
+/// A sink over a writer of std. It tells nothing of the bytes, and does not flush. Each error of the writer is a
+/// fault, and so is a write that takes nothing of a piece that is not empty.
+#[derive(Debug, Drop)]
+pub struct StdSink<W> {
+    writer: W,
+    faults: u64,
+}
+
+impl<W> Model for StdSink<W> {
+    ghost use Rattle.std.specs.Prelude.{ℕ};
+
+    // the count of faults
+    ghost Value = { ℕ };
+
+    ghost view = { λ s. s.faults };
+}
+
+impl<W: Write> StdSink<W> {
+    /// A sink over this writer, without a fault.
+    pub fn new(writer: W) -> Self
+        ensures { result ≡ 0 }
+    {
+        StdSink { writer, faults: 0 }
+    }
+}
+
+impl<W: Write> Sink for StdSink<W> {
+    ghost held = { λ _. None };
+
+    ghost faults = { λ faults. faults };
+
+    fn write(&mut self, piece: &[u8]) -> Result<usize, Failed> {
+        match self.writer.write(piece) {
+            Ok(count) if count > 0 || piece.is_empty() => Ok(count),
+            _ => {
+                self.faults = self.faults.saturating_add(1);
+                Err(Failed)
+            }
+        }
+    }
+}
+
+#[cfg(test)]
+mod tests {
+    use super::*;
+    use std::test::Fail;
+
+    #[test]
+    fn memory_sink_holds_what_was_written_and_fails_where_it_is_to(
+        rt: HostRuntime,
+    ) -> Result<(), Fail> {
+        let pieces = ["ab", "", "cde"];
+        let cases: [(&[u32], [bool; 3], &str); 5] = [
+            (&[], [true, true, true], "abcde"),
+            (&[0], [false, true, true], "cde"),
+            (&[1], [true, false, true], "abcde"),
+            (&[2, 0], [false, true, false], ""),
+            (&[3, 2, 2], [true, true, false], "ab"),
+        ];
+        for (failing, answers, held) in cases {
+            let failing = Numbers::from_vec(failing.to_vec(rt.alloc())?);
+            let mut sink = MemorySink::new(rt.alloc(), failing);
+            for (piece, is_ok) in pieces.iter().zip(answers) {
+                let want = if is_ok { Ok(piece.len()) } else { Err(Failed) };
+                assert_eq!(rt; sink.write(piece.as_bytes()), want, "{piece}");
+            }
+            assert_eq!(rt; sink.held(), held.as_bytes());
+            assert_eq!(rt; sink.refused(), 0);
+        }
+        Ok(())
+    }
+
+    #[test]
+    fn std_sink_fails_where_its_writer_takes_nothing(rt: HostRuntime) {
+        let mut room = [0u8; 4];
+        let mut sink = StdSink::new(&mut room[..]);
+        let steps = [
+            ("ab", Ok(2)),
+            ("cdef", Ok(2)),
+            ("", Ok(0)),
+            ("ef", Err(Failed)),
+        ];
+        for (piece, want) in steps {
+            assert_eq!(rt; sink.write(piece.as_bytes()), want, "{piece}");
+        }
+        assert_eq!(rt; room, *b"abcd");
+    }
+}

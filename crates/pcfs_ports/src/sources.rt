@@ -1,0 +1,190 @@
+//! Sources: where bytes come from.
+
+ghost use Rattle.std.specs.Prelude.{◌≡◌, ℕ, ◌<◌, ◌≤◌, ◌↔◌, List, Option, None, Some, IfOk, IsErr, OnErr, length, take, min};
+ghost use Rattle.pcfs_ports.specs.Faults.{HasRisen};
+ghost use Rattle.pcfs_ports.specs.Told.{with_front, IsAtEnd};
+ghost use Rattle.pcfs_ports.specs.Calls.{no_calls, FailsNext};
+ghost use Rattle.pcfs_ports.specs.MemorySource.{after_read, after_failed_read};
+
+use super::faults::{CallPlan, Failed};
+use bl_syntax::{Bytes, Numbers};
+use std::alloc::Global;
+use std::io::Read;
+use std::marker::Model;
+
+/// Where bytes come from, in order.
+///
+/// Its meaning is the bytes that are still to come, which it tells or does not tell, and a count of faults that never
+/// falls. Whether it tells its bytes is the same after each call as before.
+pub trait Source {
+    // The bytes that are still to come, where it tells them.
+    ghost left: { Self → Option (List ℕ) };
+
+    // How many faults it has had.
+    ghost faults: { Self → ℕ };
+
+    /// Takes the next bytes into the front of `buf`, and answers how many.
+    ///
+    /// No byte for a `buf` that is not empty is the end of the input. `Failed` comes only where the count of faults
+    /// rose, and takes nothing. What stands in `buf` behind the bytes that were taken, or at `Failed`, is left open.
+    fn read(&mut self, buf: &mut [u8]) -> Result<usize, Failed>
+        ensures bound { IfOk result (λ count. count ≤ length buf.new) }
+        ensures ok { IfOk result (λ count. left self.old ≡ with_front (take count buf.new) (left self.new)) }
+        ensures end { IfOk result (λ count. count ≡ 0 → 0 < length buf.new → IsAtEnd (left self.new)) }
+        ensures err { OnErr result (left self.new ≡ left self.old) }
+        ensures risen { OnErr result (HasRisen (faults self.old) (faults self.new)) }
+        ensures never_falls { faults self.old ≤ faults self.new };
+}
+
+/// A source over bytes in memory. It fails exactly at the calls that are to fail.
+#[derive(Debug, Drop)]
+pub struct MemorySource {
+    bytes: Bytes,
+    at: usize,
+    plan: CallPlan,
+}
+
+impl Model for MemorySource {
+    ghost use Rattle.std.specs.Prelude.{◌≤◌, drop, length};
+    ghost use Rattle.pcfs_ports.specs.MemorySource.{SourceState};
+
+    ghost Value = { SourceState };
+
+    ghost view = { λ s. record { left = drop s.at s.bytes; calls = s.plan } };
+
+    ghost invariant = { λ s. s.at ≤ length s.bytes };
+}
+
+impl MemorySource {
+    /// A source with these bytes. `failing` lists the numbers, from 0, of the calls that fail. It takes no memory.
+    pub fn new(_alloc: Global, bytes: Bytes, failing: Numbers) -> Self
+        ensures { result ≡ record { left = bytes; calls = no_calls failing } }
+    {
+        MemorySource {
+            bytes,
+            at: 0,
+            plan: CallPlan::new(failing),
+        }
+    }
+}
+
+impl Source for MemorySource {
+    ghost left = { λ s. Some s.left };
+
+    ghost faults = { λ s. s.calls.faults };
+
+    fn read(&mut self, buf: &mut [u8]) -> Result<usize, Failed>
+        // It fails exactly where it is to, and else gives as many bytes as there are and fit.
+        ensures planned { IsErr result ↔ FailsNext self.old.calls }
+        ensures failed { OnErr result (self.new ≡ after_failed_read self.old) }
+        ensures count { IfOk result (λ count. count ≡ min (length buf.new) (length self.old.left)) }
+        ensures bytes { IfOk result (λ count. take count buf.new ≡ take count self.old.left) }
+        ensures taken { IfOk result (λ count. self.new ≡ after_read self.old count) }
+        ensures never_falls { self.old.calls.faults ≤ self.new.calls.faults }
+    {
+        if self.plan.fails_next() {
+            self.plan.count_failed();
+            return Err(Failed);
+        }
+        self.plan.count();
+        let left = &self.bytes.as_slice()[self.at..];
+        let count = buf.len().min(left.len());
+        buf[..count].copy_from_slice(&left[..count]);
+        self.at += count;
+        Ok(count)
+    }
+}
+
+/// A source over a reader of std. It tells nothing of the bytes. Each error of the reader is a fault.
+#[derive(Debug, Drop)]
+pub struct StdSource<R> {
+    reader: R,
+    faults: u64,
+}
+
+impl<R> Model for StdSource<R> {
+    ghost use Rattle.std.specs.Prelude.{ℕ};
+
+    // the count of faults
+    ghost Value = { ℕ };
+
+    ghost view = { λ s. s.faults };
+}
+
+impl<R: Read> StdSource<R> {
+    /// A source over this reader, without a fault.
+    pub fn new(reader: R) -> Self
+        ensures { result ≡ 0 }
+    {
+        StdSource { reader, faults: 0 }
+    }
+}
+
+impl<R: Read> Source for StdSource<R> {
+    ghost left = { λ _. None };
+
+    ghost faults = { λ faults. faults };
+
+    fn read(&mut self, buf: &mut [u8]) -> Result<usize, Failed> {
+        match self.reader.read(buf) {
+            Ok(count) => Ok(count),
+            Err(_) => {
+                self.faults = self.faults.saturating_add(1);
+                Err(Failed)
+            }
+        }
+    }
+}
+
+#[cfg(test)]
+mod tests {
+    use super::*;
+    use std::io::{self, ErrorKind};
+    use std::test::Fail;
+
+    #[test]
+    fn memory_source_gives_its_bytes_and_fails_where_it_is_to(rt: HostRuntime) -> Result<(), Fail> {
+        let rooms = [3, 0, 4, 8];
+        let cases: [(&[u32], [Option<&str>; 4]); 4] = [
+            (&[], [Some("abc"), Some(""), Some("defg"), Some("")]),
+            (&[0], [None, Some(""), Some("abcd"), Some("efg")]),
+            (&[2, 1], [Some("abc"), None, None, Some("defg")]),
+            (&[4, 3], [Some("abc"), Some(""), Some("defg"), None]),
+        ];
+        for (failing, answers) in cases {
+            let bytes = Bytes::from_vec(b"abcdefg".to_vec(rt.alloc())?);
+            let failing = Numbers::from_vec(failing.to_vec(rt.alloc())?);
+            let mut source = MemorySource::new(rt.alloc(), bytes, failing);
+            for (room, answer) in rooms.into_iter().zip(answers) {
+                let mut buf = vec![in rt.alloc(); 0u8; room]?;
+                let given = source.read(&mut buf).ok();
+                assert_eq!(rt;
+                    given.map(|count| &buf[..count]),
+                    answer.map(|text| text.as_bytes())
+                );
+            }
+        }
+        Ok(())
+    }
+
+    #[derive(Drop)]
+    struct Broken;
+
+    impl Read for Broken {
+        fn read(&mut self, _buf: &mut [u8]) -> io::Result<usize> {
+            Err(ErrorKind::TimedOut.into())
+        }
+    }
+
+    #[test]
+    fn std_source_gives_what_its_reader_gives(rt: HostRuntime) {
+        let mut source = StdSource::new(&b"abc"[..]);
+        for want in ["ab", "c", ""] {
+            let mut buf = [0u8; 2];
+            let given = source.read(&mut buf);
+            assert_eq!(rt; given, Ok(want.len()));
+            assert_eq!(rt; &buf[..want.len()], want.as_bytes());
+        }
+        assert_eq!(rt; StdSource::new(Broken).read(&mut [0u8; 2]), Err(Failed));
+    }
+}

@@ -1,0 +1,183 @@
+//! Whole streams: a source read to its end, and all of some bytes written.
+
+ghost use Rattle.std.specs.Prelude.{◌≡◌, ◌≢◌, ◌+◌, ◌<◌, ◌≤◌, IfOk, OnOk, OnErr, IsErrOf, length};
+ghost use Rattle.pcfs_ports.specs.Faults.{HasRisen};
+ghost use Rattle.pcfs_ports.specs.Told.{with_front, with_back, IsAtEnd, ReadsWhole, TakesFirst, TakesSome, HoldsSome};
+ghost use Rattle.pcfs_ports.specs.declared.streams.TakeFault.TheVariants.{NoMemory as OutOfMemory, Failed as SourceFailed};
+
+use super::faults::Failed;
+use super::sinks::Sink;
+use super::sources::Source;
+use bl_syntax::{Bytes, NoMemory};
+use std::alloc::{AllocError, Global};
+
+/// An input is shorter than this many bytes, 1 GiB.
+pub const INPUT_LIMIT: usize = 1_073_741_824;
+
+/// How many bytes a source is asked for at once, at most.
+const PIECE_LEN: usize = 65_536;
+
+/// Why an input was not read to its end.
+#[derive(Clone, Copy, Debug, PartialEq, Eq)]
+pub enum TakeFault {
+    /// The source failed.
+    Failed,
+    /// `INPUT_LIMIT` bytes were taken, and the end was not met before.
+    TooLong,
+    /// A growth was refused.
+    NoMemory,
+}
+
+impl From<NoMemory> for TakeFault {
+    ghost from_gives = { λ _ e. e ≡ OutOfMemory };
+
+    fn from(_refused: NoMemory) -> TakeFault {
+        TakeFault::NoMemory
+    }
+}
+
+impl From<AllocError> for TakeFault {
+    ghost from_gives = { λ _ e. e ≡ OutOfMemory };
+
+    fn from(_refused: AllocError) -> TakeFault {
+        TakeFault::NoMemory
+    }
+}
+
+impl From<Failed> for TakeFault {
+    ghost from_gives = { λ _ e. e ≡ SourceFailed };
+
+    fn from(_failed: Failed) -> TakeFault {
+        TakeFault::Failed
+    }
+}
+
+/// Writes all of the bytes, in as many calls as the sink takes for it.
+///
+/// `Failed` comes only where the sink's count of faults rose. Some first part may have been written then.
+pub fn write_all<O: Sink>(output: &mut O, bytes: &[u8]) -> Result<(), Failed>
+    ensures ok { OnOk result (O.held output.new ≡ with_back (O.held output.old) bytes.now) }
+    ensures err { OnErr result (HoldsSome (O.held output.old) (O.held output.new) bytes.now) }
+    ensures risen { OnErr result (HasRisen (O.faults output.old) (O.faults output.new)) }
+    ensures never_falls { O.faults output.old ≤ O.faults output.new }
+{
+    let mut at: usize = 0;
+    while at < bytes.len() {
+        at += output.write(&bytes[at..])?;
+    }
+    Ok(())
+}
+
+// A buffer of zeros.
+fn zeros(alloc: Global, len: usize) -> Result<Vec<u8>, AllocError>
+    ensures { IfOk result (λ buffer. length buffer.items ≡ len) }
+{
+    vec![in alloc; 0u8; len]
+}
+
+// Moves bytes from the input behind those that were taken, by one read, and answers how many: none at the end.
+fn take_piece<I: Source>(
+    input: &mut I,
+    piece: &mut [u8],
+    bytes: &mut Bytes,
+) -> Result<usize, TakeFault>
+    requires room { 0 < length piece.old }
+    requires short { length bytes.old < INPUT_LIMIT }
+    ensures moved { OnOk result (with_front bytes.old (I.left input.old) ≡ with_front bytes.new (I.left input.new)) }
+    ensures count { IfOk result (λ count. length bytes.new ≡ length bytes.old + count) }
+    ensures limit { OnOk result (length bytes.new ≤ INPUT_LIMIT) }
+    ensures end { IfOk result (λ count. count ≡ 0 → IsAtEnd (I.left input.new)) }
+    ensures err { OnErr result (TakesSome (I.left input.old) (I.left input.new)) }
+    ensures not_too_long { result ≢ Err TakeFault.TooLong }
+    ensures risen { IsErrOf result TakeFault.Failed → HasRisen (I.faults input.old) (I.faults input.new) }
+    ensures never_falls { I.faults input.old ≤ I.faults input.new }
+{
+    let room = piece.len().min(INPUT_LIMIT - bytes.len());
+    let count = input.read(&mut piece[..room])?;
+    bytes.extend(&piece[..count])?;
+    Ok(count)
+}
+
+/// Reads a source to its end.
+///
+/// `TooLong` comes where `INPUT_LIMIT` bytes were taken and the end was not met before; it is not asked whether more
+/// follow. `Failed` comes only where the source's count of faults rose. `NoMemory` may come at any time. After a fault
+/// the bytes that were taken are lost.
+pub fn read_to_end<I: Source>(alloc: Global, input: &mut I) -> Result<Bytes, TakeFault>
+    ensures ok { IfOk result (λ bytes. ReadsWhole (I.left input.old) (I.left input.new) bytes) }
+    ensures short { IfOk result (λ bytes. length bytes < INPUT_LIMIT) }
+    ensures err { OnErr result (TakesSome (I.left input.old) (I.left input.new)) }
+    ensures too_long { IsErrOf result TakeFault.TooLong → TakesFirst INPUT_LIMIT (I.left input.old) (I.left input.new) }
+    ensures risen { IsErrOf result TakeFault.Failed → HasRisen (I.faults input.old) (I.faults input.new) }
+    ensures never_falls { I.faults input.old ≤ I.faults input.new }
+{
+    let mut piece = zeros(alloc, PIECE_LEN)?;
+    let mut bytes = Bytes::new(alloc);
+    while bytes.len() < INPUT_LIMIT {
+        if take_piece(input, &mut piece, &mut bytes)? == 0 {
+            return Ok(bytes);
+        }
+    }
+    Err(TakeFault::TooLong)
+}
+
+#[cfg(test)]
+mod tests {
+    use super::*;
+    use crate::sinks::{MemorySink, StdSink};
+    use crate::sources::{MemorySource, StdSource};
+    use bl_syntax::Numbers;
+    use std::io::Read;
+    use std::test::Fail;
+
+    #[test]
+    fn an_input_is_read_to_its_end(rt: HostRuntime) -> Result<(), Fail> {
+        let cases: [(&str, &[u32], Result<&str, TakeFault>); 5] = [
+            ("", &[], Ok("")),
+            ("policy", &[], Ok("policy")),
+            ("policy", &[2], Ok("policy")),
+            ("policy", &[0], Err(TakeFault::Failed)),
+            ("policy", &[1], Err(TakeFault::Failed)),
+        ];
+        for (text, failing, want) in cases {
+            let bytes = Bytes::from_vec(text.as_bytes().to_vec(rt.alloc())?);
+            let failing = Numbers::from_vec(failing.to_vec(rt.alloc())?);
+            let mut input = MemorySource::new(rt.alloc(), bytes, failing);
+            let taken = read_to_end(rt.alloc(), &mut input);
+            match (taken, want) {
+                (Ok(taken), Ok(want)) => assert_eq!(rt; taken.as_slice(), want.as_bytes()),
+                (Err(taken), Err(want)) => assert_eq!(rt; taken, want),
+                _ => panic!(rt; "{text}"),
+            }
+        }
+        Ok(())
+    }
+
+    #[test]
+    fn an_input_in_pieces_is_read_to_its_end(rt: HostRuntime) -> Result<(), Fail> {
+        let long = vec![in rt.alloc(); b'x'; 3 * PIECE_LEN + 1]?;
+        let reader = (&b"ab"[..]).chain(long.as_slice()).chain(&b"c"[..]);
+        let taken = read_to_end(rt.alloc(), &mut StdSource::new(reader)).ok();
+        let taken = taken.ok_or("not read")?;
+        assert_eq!(rt; taken.len(), 3 * PIECE_LEN + 4);
+        assert!(rt; taken.as_slice().starts_with(b"abx"));
+        assert!(rt; taken.as_slice().ends_with(b"xc"));
+        Ok(())
+    }
+
+    #[test]
+    fn all_bytes_are_written(rt: HostRuntime) -> Result<(), Fail> {
+        let mut output = MemorySink::new(rt.alloc(), Numbers::new(rt.alloc()));
+        assert_eq!(rt; write_all(&mut output, b"ok "), Ok(()));
+        assert_eq!(rt; write_all(&mut output, b""), Ok(()));
+        assert_eq!(rt; write_all(&mut output, b"node"), Ok(()));
+        assert_eq!(rt; output.held(), b"ok node".as_slice());
+        let mut room = [0u8; 4];
+        assert_eq!(rt;
+            write_all(&mut StdSink::new(&mut room[..]), b"ok node"),
+            Err(Failed)
+        );
+        assert_eq!(rt; room, *b"ok n");
+        Ok(())
+    }
+}
