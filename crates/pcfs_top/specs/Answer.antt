@@ -5,6 +5,7 @@ use Rattle.std.specs.List.{AllByRecursion}
 use Rattle.bl_syntax.specs.declared.terms.Constraint.{Constraint}
 use Rattle.bl_syntax.specs.declared.terms.StatePred.{StatePred}
 use Rattle.bl_syntax.specs.declared.grant.Goal.{Goal}
+use Rattle.bl_syntax.specs.FirstFailing.{IsFirstFailing}
 use Rattle.bl_syntax.specs.Statement.{Saying}
 use Rattle.bl_syntax.specs.Grant.{Granted, Holds, HoldsAt}
 use Rattle.pcfs_top.specs.declared.event.Op.{Op}
@@ -19,7 +20,7 @@ use Rattle.pcfs_top.specs.declared.reply.Cause.{Cause}
 use Rattle.pcfs_top.specs.declared.reply.Cause.TheVariants as causes
 use Rattle.pcfs_top.specs.declared.reply.Reply.{Reply}
 use Rattle.pcfs_top.specs.declared.reply.Reply.TheVariants as replies
-use Rattle.pcfs_top.specs.Numbered.{IsNumbered, IsAbsent, IsFirstFailing}
+use Rattle.pcfs_top.specs.Numbered.{IsNumbered, IsAbsent}
 use Rattle.pcfs_top.specs.World.{FileTree}
 use Rattle.pcfs_top.specs.Facts.{facts}
 use Rattle.pcfs_top.specs.Needs.{Need, needs}
@@ -54,8 +55,8 @@ pub data Fails (caller : List ℕ) (need : Need) (moment : ℤ) (known : List St
   other_principal : g.goal.who ≢ caller → Fails caller need moment known g causes.Principal
   other_file : g.goal.who ≡ caller → g.goal.file ≢ need.file → Fails caller need moment known g causes.File
   other_permission : g.goal.who ≡ caller → g.goal.file ≡ need.file → g.goal.perm ≢ need.permission → Fails caller need moment known g causes.Permission
-  time_passed : (place : ℕ) (c : Constraint) → NamesMatch caller need g → IsFirstFailing (HoldsAt moment) g.times place c → Fails caller need moment known g (causes.Time place c)
-  state_differs : (place : ℕ) (s : StatePred) → NamesMatch caller need g → AllByRecursion (HoldsAt moment) g.times → IsFirstFailing (Contains known) g.states place s → Fails caller need moment known g (causes.State place s)
+  time_passed : (place : ℕ) (c : Constraint) → NamesMatch caller need g → IsFirstFailing (HoldsAt moment) g.times place c → Fails caller need moment known g (causes.Time (place + 1) c)
+  state_differs : (place : ℕ) (s : StatePred) → NamesMatch caller need g → AllByRecursion (HoldsAt moment) g.times → IsFirstFailing (Contains known) g.states place s → Fails caller need moment known g (causes.State (place + 1) s)
 
 -- the procap in the place of the need gives what is needed
 pub record IsMet (state : Base) (caller : List ℕ) (procaps : List ℕ) (moment : ℤ) (need : Need) : Type 0 where
@@ -82,22 +83,22 @@ reply_of (node made) = replies.Node made
 
 pub data Answers (state : Base) (pass : ℕ) (clock : ℤ) : Request → Reply → Option Event → Type 0 where
   duplicate : (statement : Saying) (number : ℕ) → IsNumbered state.statements number statement →
-    Answers state pass clock (requests.Register statement) (replies.Rejected (Duplicate number)) None
+      Answers state pass clock (requests.Register statement) (replies.Rejected (Duplicate number)) None
   registry_full : (statement : Saying) → (Contains state.statements statement → ⊥) → 4096 ≤ length state.statements →
-    Answers state pass clock (requests.Register statement) (replies.Rejected RegistryFull) None
+      Answers state pass clock (requests.Register statement) (replies.Rejected RegistryFull) None
   registered : (statement : Saying) → (Contains state.statements statement → ⊥) → length state.statements < 4096 →
-    Answers state pass clock (requests.Register statement) (replies.Statement (length state.statements + 1)) (Some (events.Registered pass statement))
+      Answers state pass clock (requests.Register statement) (replies.Statement (length state.statements + 1)) (Some (events.Registered pass statement))
   no_statement : (number : ℕ) (goal : Goal) → IsAbsent state.statements number →
-    Answers state pass clock (requests.Issue number goal) (replies.Absent number) None
+      Answers state pass clock (requests.Issue number goal) (replies.Absent number) None
   unproved : (number : ℕ) (goal : Goal) (statement : Saying) (fault rule : ℕ) → IsNumbered state.statements number statement → IsVerdict statement goal (faults fault rule) →
-    Answers state pass clock (requests.Issue number goal) (replies.Unproved fault rule) None
+      Answers state pass clock (requests.Issue number goal) (replies.Unproved fault rule) None
   issued : (number : ℕ) (goal : Goal) (statement : Saying) (g : Granted) → IsNumbered state.statements number statement → IsVerdict statement goal (grants g) →
-    Answers state pass clock (requests.Issue number goal) (replies.Issue (length state.issues + 1) (length g.times) (length g.states)) (Some (events.Issued pass (number ∷ []) g))
+      Answers state pass clock (requests.Issue number goal) (replies.Issue (length state.issues + 1) (length g.times) (length g.states)) (Some (events.Issued pass (number ∷ []) g))
   no_issue : (caller : List ℕ) (op : Op) (procaps : List ℕ) (place number : ℕ) → IsFirstFailing (λ n. IsAbsent state.issues n → ⊥) procaps place number →
-    Answers state pass clock (requests.Act caller op procaps) (replies.Absent number) None
+      Answers state pass clock (requests.Act caller op procaps) (replies.Absent number) None
   denied : (caller : List ℕ) (op : Op) (procaps : List ℕ) (place : ℕ) (cause : Cause) → AreIssued state procaps → IsDenied state caller procaps (moment_of state clock) (needs op state.world) place cause →
-    Answers state pass clock (requests.Act caller op procaps) (replies.Denied (record { need = place; cause = cause; at = state.count })) None
+      Answers state pass clock (requests.Act caller op procaps) (replies.Denied (record { need = place; cause = cause; at = state.count })) None
   refused_ : (caller : List ℕ) (op : Op) (procaps : List ℕ) (refusal : ℕ) → AreIssued state procaps → IsAdmitted state caller op procaps (moment_of state clock) → effect caller op state.world ≡ refused refusal →
-    Answers state pass clock (requests.Act caller op procaps) (replies.Refused refusal state.count) None
+      Answers state pass clock (requests.Act caller op procaps) (replies.Refused refusal state.count) None
   acted : (caller : List ℕ) (op : Op) (procaps : List ℕ) (reply : OpReply) (after : FileTree) → AreIssued state procaps → IsAdmitted state caller op procaps (moment_of state clock) → effect caller op state.world ≡ replied reply after →
-    Answers state pass clock (requests.Act caller op procaps) (reply_of reply) (Some (events.Acted pass caller op procaps (moment_of state clock)))
+      Answers state pass clock (requests.Act caller op procaps) (reply_of reply) (Some (events.Acted pass caller op procaps (moment_of state clock)))

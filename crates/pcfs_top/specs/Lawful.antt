@@ -30,9 +30,9 @@ pub data MayFollow (state : Base) : Event → Type 0 where
   may_register : (pass : ℕ) (statement : Saying) → (Contains state.statements statement → ⊥) → length state.statements < 4096 → MayFollow state (Registered pass statement)
   may_issue : (pass : ℕ) (cited : List ℕ) (g : Granted) → IsGoodIssue state.statements (record { cited = cited; grant = g }) → MayFollow state (Issued pass cited g)
   may_act : (pass : ℕ) (caller : List ℕ) (op : Op) (procaps : List ℕ) (moment : ℤ) (reply : OpReply) (after : FileTree) →
-    state.moment ≤ℤ moment → IsMoment moment → length procaps ≡ slots op → bytes_to_write op ≤ 65536 →
-    AreIssued state procaps → IsAdmitted state caller op procaps moment → effect caller op state.world ≡ replied reply after →
-    MayFollow state (Acted pass caller op procaps moment)
+      state.moment ≤ℤ moment → IsMoment moment → length procaps ≡ slots op → bytes_to_write op ≤ 65536 →
+      AreIssued state procaps → IsAdmitted state caller op procaps moment → effect caller op state.world ≡ replied reply after →
+      MayFollow state (Acted pass caller op procaps moment)
 
 -- each event could come where it came
 pub data AreLawful (base : Base) : List Event → Type 0 where

@@ -64,12 +64,12 @@ says_may who from to = record { who = admin; body = wanted (writes_root who); fr
 -- the line is of a form, and asks for this
 pub data IsLine : List ℕ → Command → Type 0 where
   sets_clock : (word : List ℕ) (second : ℤ) → IsSecond word second →
-    IsLine (codes "at " ++ word) (At second)
+      IsLine (codes "at " ++ word) (At second)
   sets_caller : (who : List ℕ) → IsTrue (is_principal_name who) →
-    IsLine (codes "as " ++ who) (As who)
+      IsLine (codes "as " ++ who) (As who)
   registers : (who lower upper : List ℕ) (from to : TimePoint) → IsTrue (is_principal_name who) → IsBound lower from → IsBound upper to →
-    IsLine (codes "register - admin says may(" ++ (who ++ (codes ",#1,write) from " ++ (lower ++ (codes " to " ++ upper))))) (Register (says_may who from to))
+      IsLine (codes "register - admin says may(" ++ (who ++ (codes ",#1,write) from " ++ (lower ++ (codes " to " ++ upper))))) (Register (says_may who from to))
   verifies : (who word : List ℕ) (number : ℕ) → IsTrue (is_principal_name who) → IsNumber word number →
-    IsLine (codes "verify " ++ (who ++ (codes " #1 write " ++ (word ++ codes " saysR(claim(0,init(1)))")))) (Verify (writes_root who) number)
+      IsLine (codes "verify " ++ (who ++ (codes " #1 write " ++ (word ++ codes " saysR(claim(0,init(1)))")))) (Verify (writes_root who) number)
   creates : (name word : List ℕ) (number : ℕ) → IsTrue (is_node_name name) → IsNumber word number →
-    IsLine (codes "do create #1 " ++ (name ++ (codes " @" ++ word))) (Do (Create (record { 0 = 1 }) name) (number ∷ []))
+      IsLine (codes "do create #1 " ++ (name ++ (codes " @" ++ word))) (Do (Create (record { 0 = 1 }) name) (number ∷ []))

@@ -36,19 +36,19 @@ pub data AnswersLine (base : Base) (before : Standing) (line : List ℕ) : Reply
   sets_clock : (second : ℤ) → IsLine line (commands.At second) → AnswersLine base before line replies.Done (record before { clock = second })
   sets_caller : (who : List ℕ) → IsLine line (commands.As who) → AnswersLine base before line replies.Done (record before { caller = who })
   registers : (statement : Saying) (reply : Reply) (event : Option Event) → IsLine line (commands.Register statement) →
-    Answers (replay base before.events) script_pass before.clock (requests.Register statement) reply event →
-    AnswersLine base before line reply (record before { events = before.events ++ option_to_list event })
+      Answers (replay base before.events) script_pass before.clock (requests.Register statement) reply event →
+      AnswersLine base before line reply (record before { events = before.events ++ option_to_list event })
   verifies : (goal : Goal) (number : ℕ) (reply : Reply) (event : Option Event) → IsLine line (commands.Verify goal number) →
-    Answers (replay base before.events) script_pass before.clock (requests.Issue number goal) reply event →
-    AnswersLine base before line reply (record before { events = before.events ++ option_to_list event })
+      Answers (replay base before.events) script_pass before.clock (requests.Issue number goal) reply event →
+      AnswersLine base before line reply (record before { events = before.events ++ option_to_list event })
   acts : (op : Op) (procaps : List ℕ) (reply : Reply) (event : Option Event) → IsLine line (commands.Do op procaps) →
-    Answers (replay base before.events) script_pass before.clock (requests.Act before.caller op procaps) reply event →
-    AnswersLine base before line reply (record before { events = before.events ++ option_to_list event })
+      Answers (replay base before.events) script_pass before.clock (requests.Act before.caller op procaps) reply event →
+      AnswersLine base before line reply (record before { events = before.events ++ option_to_list event })
 
 -- a run of these lines gives these replies, and the script stands there then. In the place of any reply there may be want of memory, and then nothing changes
 pub data IsRun (base : Base) : List (List ℕ) → List Reply → Standing → Type 0 where
   begun : IsRun base [] [] beginning
   answered : (lines : List (List ℕ)) (answers : List Reply) (line : List ℕ) (reply : Reply) (before after : Standing) →
-    IsRun base lines answers before → AnswersLine base before line reply after → IsRun base (lines ++ line ∷ []) (answers ++ reply ∷ []) after
+      IsRun base lines answers before → AnswersLine base before line reply after → IsRun base (lines ++ line ∷ []) (answers ++ reply ∷ []) after
   without_memory : (lines : List (List ℕ)) (answers : List Reply) (line : List ℕ) (before : Standing) →
-    IsRun base lines answers before → IsRun base (lines ++ line ∷ []) (answers ++ replies.NoMemory ∷ []) before
+      IsRun base lines answers before → IsRun base (lines ++ line ∷ []) (answers ++ replies.NoMemory ∷ []) before

@@ -1,7 +1,7 @@
 //! What the history keeps.
 
 use crate::world::World;
-use bl_syntax::{Bytes, Grant, NodeId, NoMemory, Numbers, Principal, Sequence, Statement};
+use bl_syntax::{Bytes, Grant, NoMemory, NodeId, Numbers, Principal, Sequence, Statement};
 
 /// An operation on the file tree.
 #[derive(Debug, Drop)]
@@ -20,13 +20,28 @@ pub struct Issue {
 /// What happened.
 #[derive(Debug, Drop)]
 pub enum Event {
-    Registered { pass: u64, statement: Statement },
-    Issued { pass: u64, cited: Numbers, grant: Grant },
-    Acted { pass: u64, caller: Principal, op: Op, procaps: Numbers, moment: i64 },
+    Registered {
+        pass: u64,
+        statement: Statement,
+    },
+    Issued {
+        pass: u64,
+        cited: Numbers,
+        grant: Grant,
+    },
+    Acted {
+        pass: u64,
+        caller: Principal,
+        op: Op,
+        procaps: Numbers,
+        moment: i64,
+    },
 }
 
 pub type Events = Sequence<Event>;
+
 pub type Statements = Sequence<Statement>;
+
 pub type Issues = Sequence<Issue>;
 
 /// A state.
@@ -43,18 +58,26 @@ pub fn try_a(events: &mut Vec<Event>, e: Event) -> Result<(), NoMemory> {
     events.push(e)?;
     Ok(())
 }
+
 pub fn try_b(events: &mut Events, e: Event) -> Result<(), NoMemory> {
     events.push(e)
 }
+
 pub fn try_c(events: &mut Option<Event>) -> Option<Event> {
     events.take()
 }
+
 pub fn try_d(b: &mut Base, st: Statement) -> Result<(), NoMemory> {
     b.statements.push(st)
 }
+
 pub fn try_e(b: &mut Issues, i: Issue) -> Result<(), NoMemory> {
     b.push(i)
 }
+
 pub fn try_f(events: &mut Events, st: Statement) -> Result<(), NoMemory> {
-    events.push(Event::Registered{pass: 1, statement: st})
+    events.push(Event::Registered {
+        pass: 1,
+        statement: st,
+    })
 }
