@@ -1,6 +1,9 @@
 pub mod Answer
 pub mod Effect
 pub mod Facts
+pub mod History
+pub mod HistoryCode
+pub mod HistoryParts
 pub mod Lawful
 pub mod Lines
 pub mod Needs

@@ -1,5 +1,5 @@
--- What becomes of the one form of proof that these lines carry: `admin` says, by its claim, what the statement's body is. It claims the statement cited, and takes its body for
--- the goal. (The rules are this project's profile of BL: says on the right, a claim, and the initial rule.)
+-- The verdict on the proof that derives what `admin` says from the claim of one cited statement, whose body has to be the goal: by the rules for `says` on the right, for a claim,
+-- and the initial rule, as this project's profile of BL has them.
 use Rattle.std.specs.Prelude.{◌≡◌, ◌≢◌, ◌⊎◌, ℕ, List, [], ◌∷◌, ◌++◌, codes}
 use Rattle.bl_syntax.specs.declared.terms.TimePoint.{TimePoint}
 use Rattle.bl_syntax.specs.declared.terms.TimePoint.TheVariants.{NegInf, At, PosInf}

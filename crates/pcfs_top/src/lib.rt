@@ -3,12 +3,16 @@
 
 mod command;
 mod event;
+mod history;
 mod reply;
 mod request;
+mod step;
 mod world;
 
 pub use command::Command;
 pub use event::{Base, Event, Events, Issue, Op};
+pub use history::History;
 pub use reply::{Cause, Denial, RegisterFault, Reply};
-pub use request::Request;
+pub use request::StepRequest;
+pub use step::{AddedNode, Change, Step};
 pub use world::{Kind, Row, World};
