@@ -8,6 +8,8 @@ use Rattle.pcfs_top.specs.declared.event.Op.TheVariants.{Create}
 use Rattle.pcfs_top.specs.declared.event.Base.{Base}
 use Rattle.pcfs_top.specs.World.{FileTree, is_node_name}
 use Rattle.pcfs_top.specs.Effect.{has_node, has_directory, has_entry, is_full, create_refusal, create_outcome}
+use Rattle.bl_syntax.specs.TimeOrder.{IsMoment}
+use Rattle.pcfs_top.specs.Lawful.{AreLawful, no_event, one_more, MayFollow, may_register, may_issue, may_act}
 use Rattle.pcfs_top.specs.Replay.{replay, next_state}
 
 -- one more event
@@ -24,6 +26,28 @@ next_count state (Acted pass caller op procaps moment) = refl
 pub count-replay : (base : Base) (events : List Event) → (replay base events).count ≡ base.count + length events
 count-replay base [] = omega arith
 count-replay base (e ∷ events) = let now = count-replay (next_state base e) events in let one = next_count base e in omega (arith, now, one)
+
+next_statements : (state : Base) (event : Event) → MayFollow state event → length state.statements ≤ 4096 → length (next_state state event).statements ≤ 4096
+next_statements state event (may_register pass statement new room) few = omega (arith, length-append state.statements (statement ∷ []))
+next_statements state event (may_issue pass cited g good) few = few
+next_statements state event (may_act pass caller op procaps moment reply after later in_range slots bytes issued admitted does) few = few
+
+-- no lawful history has more than 4,096 statements
+pub few_statements : (base : Base) (events : List Event) → length base.statements ≤ 4096 → AreLawful base events → length (replay base events).statements ≤ 4096
+few_statements base events few no_event = few
+few_statements base events few (one_more before event lawful follows) =
+    rw (replay-more base before event) (next_statements (replay base before) event follows (few_statements base before few lawful))
+
+next_moment : (state : Base) (event : Event) → MayFollow state event → IsMoment state.moment → IsMoment (next_state state event).moment
+next_moment state event (may_register pass statement new room) m = m
+next_moment state event (may_issue pass cited g good) m = m
+next_moment state event (may_act pass caller op procaps moment reply after later in_range slots bytes issued admitted does) m = in_range
+
+-- the moment of a lawful history's state lies in the range
+pub moment_in_range : (base : Base) (events : List Event) → IsMoment base.moment → AreLawful base events → IsMoment (replay base events).moment
+moment_in_range base events m no_event = m
+moment_in_range base events m (one_more before event lawful follows) =
+    rw (replay-more base before event) (next_moment (replay base before) event follows (moment_in_range base before m lawful))
 
 -- what a test that did not refuse says
 not_refused : (b : Bool) (number : ℕ) (rest : Option ℕ) → cond b (Some number) rest ≡ None → (b ≡ false) × (rest ≡ None)

@@ -1,4 +1,6 @@
 pub mod Answer
+pub mod Decision
+pub mod DecisionCode
 pub mod Effect
 pub mod Facts
 pub mod History
@@ -10,6 +12,8 @@ pub mod Needs
 pub mod Numbered
 pub mod Replay
 pub mod ReplyText
+pub mod Run
 pub mod Script
 pub mod Verdict
+pub mod Verified
 pub mod World

@@ -44,7 +44,8 @@ impl History {
 
     /// The statements that are registered, by their numbers from 1.
     pub fn statements(&self) -> &[Statement]
-        ensures { result.now ≡ (state_of self.now).statements }
+        ensures same { result.now ≡ (state_of self.now).statements }
+        ensures few { length result.now ≤ 4096 }
     {
         self.statements.as_slice()
     }

@@ -2,11 +2,15 @@
 #![tactic(auto)]
 
 mod command;
+mod decide;
 mod event;
+mod gate;
 mod history;
 mod reply;
 mod request;
 mod step;
+mod stubs;
+mod verdict;
 mod world;
 
 pub use command::Command;
