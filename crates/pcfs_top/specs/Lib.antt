@@ -10,3 +10,4 @@ pub mod ReplyText
 pub mod Script
 pub mod Verdict
 pub mod World
+pub mod Written

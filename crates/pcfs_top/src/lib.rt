@@ -4,11 +4,13 @@
 mod command;
 mod event;
 mod reply;
+mod reply_text;
 mod request;
 mod world;
 
 pub use command::Command;
 pub use event::{Base, Event, Events, Issue, Op};
 pub use reply::{Cause, Denial, RegisterFault, Reply};
+pub use reply_text::write_reply;
 pub use request::Request;
 pub use world::{Kind, Row, World};
