@@ -3,6 +3,7 @@
 
 mod command;
 mod event;
+mod node_name;
 mod reply;
 mod reply_text;
 mod request;
