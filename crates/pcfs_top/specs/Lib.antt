@@ -17,3 +17,4 @@ pub mod Script
 pub mod Verdict
 pub mod Verified
 pub mod World
+pub mod Written

@@ -1,22 +1,12 @@
 //! Stubs, not to be committed.
 ghost use Rattle.std.specs.Prelude.{◌≡◌, ◌<◌, ◌++◌, ◌∷◌, [], length, OnOk, OnErr, IfOk, IfSome, MatchOption};
-ghost use Rattle.pcfs_top.specs.ReplyText.{reply_text};
 ghost use Rattle.pcfs_top.specs.Lines.{lines_of, IsLine};
 ghost use Rattle.pcfs_top.specs.declared.command.Command.{Command as Asked};
 
 use crate::command::Command;
-use crate::reply::Reply;
-use bl_syntax::{Bytes, NoMemory};
+use bl_syntax::NoMemory;
 use std::alloc::Global;
 
-pub fn write_reply(out: &mut Bytes, reply: &Reply) -> Result<(), NoMemory>
-    ensures ok { OnOk result (out.new ≡ out.old ++ (reply_text reply.now ++ 10 ∷ [])) }
-    ensures err { OnErr result (out.new ≡ out.old) }
-{
-    let _ = reply;
-    let _ = out;
-    Err(NoMemory)
-}
 
 pub fn read_line(alloc: Global, line: &[u8]) -> Result<Option<Command>, NoMemory>
     ensures found { IfOk result (λ r. MatchOption r ((command : Asked) → IsLine line.now command → ⊥) (IsLine line.now)) }
