@@ -3,6 +3,7 @@
 
 mod command;
 mod event;
+mod fresh;
 mod node_name;
 mod reply;
 mod reply_text;
@@ -11,7 +12,8 @@ mod world;
 
 pub use command::Command;
 pub use event::{Base, Event, Events, Issue, Op};
+pub use node_name::is_node_name;
 pub use reply::{Cause, Denial, RegisterFault, Reply};
 pub use reply_text::write_reply;
 pub use request::Request;
-pub use world::{Kind, Row, World};
+pub use world::{Kind, Row, World, create_refusal, created_row};
