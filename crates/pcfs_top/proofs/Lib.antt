@@ -1,4 +1,5 @@
 pub mod Deciding
 pub mod Keeping
 pub mod Replays
+pub mod TreeLemmas
 pub mod WrittenLemmas
