@@ -1,4 +1,5 @@
 pub mod Answer
+pub mod Decides
 pub mod Decision
 pub mod DecisionCode
 pub mod Effect

@@ -24,8 +24,8 @@ pub struct Decided {
     pub step: Option<Step>,
 }
 
-// The answer without anything to keep.
-fn told(reply: Reply) -> Decided
+/// The answer without anything to keep.
+pub fn told(reply: Reply) -> Decided
     ensures { result ≡ record { reply = reply; step = None } }
 {
     Decided { reply, step: None }
@@ -74,8 +74,8 @@ pub fn decide_register(
     })
 }
 
-// The numbers of the statements that a proof cites: this one.
-fn citing(alloc: Global, number: u32) -> Result<Numbers, NoMemory>
+/// The list of this one number.
+pub fn citing(alloc: Global, number: u32) -> Result<Numbers, NoMemory>
     ensures { IfOk result (λ cited. cited ≡ number ∷ []) }
 {
     let mut cited = Numbers::new(alloc);

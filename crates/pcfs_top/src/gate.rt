@@ -44,7 +44,41 @@ impl Model for Gate {
 }
 
 impl Gate {
-    ghost use Rattle.pcfs_top.specs.Replay.{replay};
+    ghost use Rattle.bl_syntax.specs.TimeOrder.{IsMoment};
+    ghost use Rattle.pcfs_top.specs.Replay.{replay, fresh};
+    ghost use Rattle.pcfs_top.specs.Decides.{Decides, IsWellFormed};
+
+    /// A gate over a store before its first event.
+    pub fn fresh(alloc: Global) -> Result<Gate, NoMemory>
+        ensures { IfOk result (λ gate. gate ≡ record { base = fresh; events = []; pending = None }) }
+    {
+        Ok(Gate {
+            history: History::fresh(alloc)?,
+            pending: None,
+        })
+    }
+
+    /// Decides the request at the moment that the clock shows, in whole seconds from 1970-01-01T00:00:00Z. An event
+    /// that is to be kept is pending then; nothing else is changed.
+    pub fn decide(
+        &mut self,
+        alloc: Global,
+        pass: u64,
+        request: &StepRequest,
+        clock: i64,
+    ) -> Decision
+        requires in_range { IsMoment clock }
+        requires well_formed { IsWellFormed request.now }
+        ensures base { self.new.base ≡ self.old.base }
+        ensures events { self.new.events ≡ self.old.events }
+        ensures answer { Decides (replay self.old.base self.old.events) pass clock request.now result self.new.pending }
+    {
+        self.pending = None;
+        match decide_request(alloc, &self.history, pass, request, clock) {
+            Ok(decided) => self.take(decided),
+            Err(_) => Decision::NoMemory,
+        }
+    }
 
     /// Keeps the pending event. It takes no memory.
     pub fn commit(&mut self)

@@ -1,6 +1,8 @@
 //! The file server over its core: the world, the history, the gate, and the lines of a script.
 #![tactic(auto)]
 
+mod act;
+mod cause;
 mod command;
 mod decide;
 mod event;
@@ -24,5 +26,4 @@ pub use reply::{Cause, Denial, RegisterFault, Reply};
 pub use request::StepRequest;
 pub use step::{AddedNode, Change, Step};
 pub use reply_text::write_reply;
-pub use world::{Kind, Row, World};
 pub use world::{Kind, Row, World, create_refusal, created_row};
