@@ -1,7 +1,9 @@
 -- What was decided is an answer, over plain values.
 use Rattle.std.proofs.Common.{◌≡◌, ◌≤◌, ◌<◌, ◌+◌, ◌-◌, ℕ, suc, zero, List, [], ◌∷◌, ◌++◌, length, get_or, refl, ap, subst, sym, ◌∙◌, arith, None, Some, Option}
 use Rattle.std.specs.Prelude.{ℤ, Contains}
+use Rattle.std.specs.Prelude.{Result, Ok, Err, IfOk}
 use Rattle.std.specs.List.{slice_get}
+use Rattle.std.proofs.lemmas.Option.{slice_get_read}
 use Rattle.bl_syntax.specs.declared.grant.Goal.{Goal}
 use Rattle.bl_syntax.specs.Statement.{Saying}
 use Rattle.bl_syntax.specs.Grant.{Granted}
@@ -44,3 +46,25 @@ issued_decided state pass clock number goal statement g times states issues step
     (subst (λ e. Answers state pass clock (requests.Issue number goal) (replies.Issue (length state.issues + 1) (length g.times) (length g.states)) (Some e) × Brings state e step.change) (sym event_is)
     (subst (λ (ch : Change). Answers state pass clock (requests.Issue number goal) (replies.Issue (length state.issues + 1) (length g.times) (length g.states)) (Some (Issued pass (number ∷ []) g)) × Brings state (Issued pass (number ∷ []) g) ch) (sym change_is)
       (issued number goal statement g numbered verdict, refl)))))
+
+-- what holds of an Ok, from what holds of it
+pub ok_so : {A E : Type 0} {P Q : A → Type 0} (r : Result A E) → ((x : A) → P x → Q x) → IfOk r P → IfOk r Q
+ok_so (Ok x) so holds = so x holds
+ok_so (Err e) so holds = holds
+
+-- no item has the number 0
+pub no_zero : {A : Type 0} (items : List A) (number : ℕ) → number ≡ 0 → HasNumber items number → ⊥
+no_zero items number none has = omega (arith, none, has.0)
+
+-- no item has a number beyond the last
+pub none_beyond : {A : Type 0} (items shown : List A) (number : ℕ) → shown ≡ items → length shown < number → HasNumber items number → ⊥
+none_beyond items shown number same more has = omega (arith, more, has.1, ap length same)
+
+-- an item has a number up to the last
+pub has_at : {A : Type 0} (items shown : List A) (number : ℕ) → shown ≡ items → (number ≡ 0 → ⊥) → number ≤ length shown → HasNumber items number
+has_at items shown number same some within = (omega (arith, some), omega (arith, within, ap length same))
+
+-- the item that was read
+pub numbered_in : {A : Type 0} (items shown : List A) (number : ℕ) (item : A) → shown ≡ items → (number ≡ 0 → ⊥) → number ≤ length shown → item ≡ get_or shown (number - 1) item → IsNumbered items number item
+numbered_in {A} items shown number item same some within at =
+    numbered_at items number item some (subst (λ (xs : List A). slice_get xs (number - 1) ≡ Some item) same (slice_get_read shown (length shown) (number - 1) item refl (omega (arith, some, within)) at))

@@ -1,19 +1,11 @@
 -- What a decision of the gate says (this project's own).
-use Rattle.std.specs.Prelude.{◌≡◌, ℕ, ℤ, List, length, Option, Some, None}
+use Rattle.std.specs.Prelude.{◌≡◌, ℕ, ℤ, Option, Some, None}
 use Rattle.pcfs_top.specs.declared.event.Event.{Event}
 use Rattle.pcfs_top.specs.declared.event.Base.{Base}
 use Rattle.pcfs_top.specs.declared.gate.Decision.{Decision}
 use Rattle.pcfs_top.specs.declared.gate.Decision.TheVariants.{Answer, Keep, NoMemory}
 use Rattle.pcfs_top.specs.declared.request.StepRequest.{StepRequest}
-use Rattle.pcfs_top.specs.declared.request.StepRequest.TheVariants.{Register, Issue, Act}
-use Rattle.pcfs_top.specs.Needs.{slots}
 use Rattle.pcfs_top.specs.Answer.{Answers}
-
--- an operation brings one procap for each place of its needs
-abbrev pub IsWellFormed : StepRequest → Type 0
-IsWellFormed (Register statement) = Unit {0}
-IsWellFormed (Issue number goal) = Unit {0}
-IsWellFormed (Act caller op procaps) = length procaps ≡ slots op
 
 -- the decision is the answer to the request, and the event that the answer keeps is pending
 abbrev pub Decides : Base → ℕ → ℤ → StepRequest → Decision → Option Event → Type 0

@@ -17,5 +17,6 @@ pub mod Run
 pub mod Script
 pub mod Verdict
 pub mod Verified
+pub mod WellFormed
 pub mod World
 pub mod Written

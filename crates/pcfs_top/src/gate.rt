@@ -1,7 +1,12 @@
 //! The gate: what may happen is decided, and what was decided is kept.
 
 ghost use Rattle.std.specs.Prelude.{◌≡◌, ◌≤◌, ◌<◌, ◌+◌, ◌-◌, ◌^◌, ◌++◌, ◌∷◌, [], Some, None, IfOk, IfSome, IsSome, OnOk, OnErr, length};
+ghost use Rattle.pcfs_top.specs.History.{state_of};
+ghost use Rattle.pcfs_top.specs.Decision.{IsDecided};
+ghost use Rattle.pcfs_top.specs.WellFormed.{IsWellFormed};
 
+use crate::act::decide_act;
+use crate::decide::{Decided, decide_issue, decide_register};
 use crate::history::History;
 use crate::reply::Reply;
 use crate::request::StepRequest;
@@ -43,10 +48,30 @@ impl Model for Gate {
     ghost invariant = { λ g. MatchOption g.pending ⊤ (CanKeep g.history) };
 }
 
+/// The answer to a request, and the step where there is one to keep.
+fn decide_request(
+    alloc: Global,
+    history: &History,
+    pass: u64,
+    request: &StepRequest,
+    clock: i64,
+) -> Result<Decided, NoMemory>
+    requires { IsWellFormed request.now }
+    ensures { IfOk result (λ d. IsDecided (state_of history.now) pass clock request.now d.reply d.step) }
+{
+    match request {
+        StepRequest::Register(statement) => decide_register(alloc, history, pass, statement),
+        StepRequest::Issue(number, goal) => decide_issue(alloc, history, pass, *number, goal),
+        StepRequest::Act(caller, op, procaps) => {
+            decide_act(alloc, history, pass, caller, op, procaps, clock)
+        }
+    }
+}
+
 impl Gate {
     ghost use Rattle.bl_syntax.specs.TimeOrder.{IsMoment};
     ghost use Rattle.pcfs_top.specs.Replay.{replay, fresh};
-    ghost use Rattle.pcfs_top.specs.Decides.{Decides, IsWellFormed};
+    ghost use Rattle.pcfs_top.specs.Decides.{Decides};
 
     /// A gate over a store before its first event.
     pub fn fresh(alloc: Global) -> Result<Gate, NoMemory>
@@ -74,10 +99,18 @@ impl Gate {
         ensures answer { Decides (replay self.old.base self.old.events) pass clock request.now result self.new.pending }
     {
         self.pending = None;
-        match decide_request(alloc, &self.history, pass, request, clock) {
-            Ok(decided) => self.take(decided),
-            Err(_) => Decision::NoMemory,
+        let Ok(decided) = decide_request(alloc, &self.history, pass, request, clock) else {
+            return Decision::NoMemory;
+        };
+        let Decided { reply, step } = decided;
+        let Some(step) = step else {
+            return Decision::Answer(reply);
+        };
+        if self.history.reserve().is_err() {
+            return Decision::NoMemory;
         }
+        self.pending = Some(step);
+        Decision::Keep(reply)
     }
 
     /// Keeps the pending event. It takes no memory.

@@ -42,6 +42,26 @@ impl History {
     ghost use Rattle.pcfs_top.specs.Lawful.{IsLawful, MayFollow};
     ghost use Rattle.pcfs_top.specs.Replay.{fresh};
 
+    /// The history of a store before its first event.
+    pub fn fresh(alloc: Global) -> Result<History, NoMemory>
+        ensures base { IfOk result (λ history. history.base ≡ fresh) }
+        ensures events { IfOk result (λ history. history.events ≡ []) }
+    {
+        let base = Base::fresh(alloc)?;
+        let rows = Vec::from_slice(alloc, base.world.rows())?;
+        let next = base.world.next_number();
+        Ok(History {
+            moment: base.moment,
+            count: base.count,
+            base,
+            events: Vec::new(alloc),
+            rows,
+            next,
+            statements: Vec::new(alloc),
+            issues: Vec::new(alloc),
+        })
+    }
+
     /// The statements that are registered, by their numbers from 1.
     pub fn statements(&self) -> &[Statement]
         ensures same { result.now ≡ (state_of self.now).statements }
