@@ -1,44 +1,18 @@
-// The two hashers of a key.
+// A text that is taken in piece by piece under one key.
 
-ghost use Rattle.std.specs.Prelude.{◌≡◌, [], ◌++◌, replicate};
-ghost use Rattle.sha2.specs.Hashers.{Holds256};
-ghost use Rattle.pcfs_hmac.specs.Hmac.{block_key, hmac, xor_bytes};
+ghost use Rattle.std.specs.Prelude.{◌≡◌, [], ◌++◌};
+ghost use Rattle.pcfs_hmac.specs.Hmac.{hmac};
 
 use crate::given::{Given, joined, nothing};
+use crate::padded::{INNER_PAD, OUTER_PAD, block_key, padded, tag};
 use sha2::{Digest, Sha256};
 use std::marker::Model;
 
-const BLOCK_LENGTH: usize = 64;
-
-const INNER_PAD: u8 = 0x36;
-
-const OUTER_PAD: u8 = 0x5c;
-
-// The key as one block.
-fn block_key(key: &[u8]) -> [u8; 64]
-    ensures { result ≡ block_key key.now }
-{
-    let mut block = [0u8; 64];
-    if key.len() > BLOCK_LENGTH {
-        block[..32].copy_from_slice(&Sha256::digest(key));
-    } else {
-        block[..key.len()].copy_from_slice(key);
-    }
-    block
-}
-
-// A hasher of the block with `pad` XORed into each byte.
-fn padded(block: &[u8; 64], pad: u8) -> Sha256
-    ensures { Holds256 result (xor_bytes block.now (replicate 64 pad)) }
-{
-    let mut bytes = *block;
-    for byte in bytes.iter_mut() {
-        *byte ^= pad;
-    }
-    Sha256::new_with_prefix(&bytes)
-}
-
-/// A text that is taken in piece by piece under one key, whose tag is wanted.
+/// A text that is taken in piece by piece under one key, until its tag is made.
+///
+/// Contracts see it as the key and the text so far. It keeps the two states of the hash in which
+/// the key is absorbed already, so that a copy made before the first piece spares that work for
+/// each further text. It takes no memory, and nothing wipes it when it is dropped.
 #[derive(Drop)]
 pub struct Mac {
     inner: Sha256,
@@ -98,8 +72,6 @@ impl Mac {
     pub fn finish(self) -> [u8; 32]
         ensures { result ≡ hmac self.key self.text }
     {
-        let mut outer = self.outer;
-        outer.update(&self.inner.finalize());
-        outer.finalize()
+        tag(self.inner, self.outer)
     }
 }

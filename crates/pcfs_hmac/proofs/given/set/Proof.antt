@@ -1,21 +1,20 @@
 -- An empty body: the borrow is opened, and closed at another ghost value.
-use Rattle.std.proofs.Common.{ℕ, List, [], ◌∷◌, ◌++◌, refl, length}
+use Rattle.std.proofs.Common.{[], ◌∷◌, ◌++◌, refl}
 use Rattle.std.proofs.raw_atomic.Walks.{proved}
 use mir.Syntax.{named}
 use mir.Val.{vunit}
 use base.Logic.{id⊢}
 use base.Fml.{ftrue, flft}
-use contract.Running.{tables}
-use types.Kit.{‵, ◌⊛◌, ◌$◌, ◌∵◌, !, qed, move, keep, drop, use1, split, join, fsplit, fsplit3, feq_i, fjoin, fjoin3, suffices, frame, group, done}
+use types.Kit.{‵, ◌⊛◌, ◌$◌, ◌∵◌, !, qed, move, keep, drop, use1, split, join, fsplit, fsplit3, feq_i, fjoin, fjoin3, suffices, frame, done}
 use types.Run.{unit_lit, of_opd, returns, enter}
 use types.ByLocal.{alloc_all, pass_all, free_all, look_at, sets}
 use denote.Builtin.{u8}
 use denote.Exit.{yes}
 use denote.RattleType.{RattleType, owns}
-use denote.Ref.{MutRef, mut_vals, mut_Tells, shr_vals, shr_Tells}
+use denote.Ref.{mut_vals, mut_Tells, shr_vals, shr_Tells}
 use denote.Signature.{plain, types_at}
 use denote.Slice.{shr_slice_vals, shr_slice_Tells}
-use denote.Steps.{nothing, opens, closes}
+use denote.Steps.{opens, closes}
 use denote.Triple.Walked.{says, Stays, stay_ref, stay_none_ref, stay_none_slice, Goes-ref, Goes-none_ref, Goes-none_slice, walk_of, ends_at}
 use Rattle.std.specs.contracts.snapshot.Snapshot as Snapshot
 use Rattle.pcfs_hmac.specs.contracts.given.NoBytes as NoBytes

@@ -1,5 +1,5 @@
-use Rattle.std.proofs.Common.{◌≡◌, ◌<◌, length, arith}
-use Rattle.pcfs_hmac.proofs.keyed.padded.Goals as goal
+use Rattle.std.proofs.Common.{◌≡◌, arith}
+use Rattle.pcfs_hmac.proofs.padded.padded.Goals as goal
 use Rattle.pcfs_hmac.proofs.Blocks.{IsPaddedTo-set, IsPaddedTo_all}
 
 pub loop-byte-preserved : goal.loop-byte-preserved
