@@ -1,11 +1,13 @@
-// Bytes that only contracts see: they have no room in a value, and nothing of them is left when the program runs.
+// Lists of bytes for contracts alone. They take no room in a value, and the functions below do nothing.
+//
+// Nothing here ties such a list to what a program holds: the invariant of `Mac` does that.
 
 ghost use Rattle.std.specs.Prelude.{◌≡◌, ℕ, List, [], ◌++◌};
 
 use std::marker::Model;
 use std::snapshot::Snapshot;
 
-// The empty list of bytes, of which the first snapshot is taken.
+// The empty list, of which a snapshot is taken to begin with.
 #[derive(Drop)]
 pub(crate) struct NoBytes;
 
@@ -15,7 +17,6 @@ impl Model for NoBytes {
     ghost view = { λ _. [] };
 }
 
-// A list of bytes for contracts alone.
 pub(crate) type Given = Snapshot<NoBytes>;
 
 pub(crate) fn nothing() -> Given
@@ -33,7 +34,7 @@ pub(crate) fn joined(before: &Given, piece: &[u8]) -> Given
     given
 }
 
-// Changes what contracts see and nothing else.
+// Changes the list that contracts see. The proof is by hand.
 fn set(given: &mut Given, _before: &Given, _piece: &[u8])
     ensures { given.new.value ≡ _before.now.value ++ _piece.now }
 {}

@@ -4,15 +4,15 @@ ghost use Rattle.std.specs.Prelude.{◌≡◌, [], ◌++◌};
 ghost use Rattle.pcfs_hmac.specs.Hmac.{hmac};
 
 use crate::given::{Given, joined, nothing};
-use crate::padded::{INNER_PAD, OUTER_PAD, block_key, padded, tag};
+use crate::hashers::{INNER_PAD, OUTER_PAD, block_key, padded_hasher, tag};
 use sha2::{Digest, Sha256};
 use std::marker::Model;
 
-/// A text that is taken in piece by piece under one key, until its tag is made.
+/// A text that is taken in piece by piece under one key.
 ///
-/// Contracts see it as the key and the text so far. It keeps the two states of the hash in which
-/// the key is absorbed already, so that a copy made before the first piece spares that work for
-/// each further text. It takes no memory, and nothing wipes it when it is dropped.
+/// Contracts see it as the key and the text so far. It keeps the two hashers that have taken in the
+/// key already, so a copy of a `Mac` spares that work for every further text under the key. Nothing
+/// wipes them when it is dropped.
 #[derive(Drop)]
 pub struct Mac {
     inner: Sha256,
@@ -41,8 +41,8 @@ impl Mac {
     {
         let block = block_key(key);
         Mac {
-            inner: padded(&block, INNER_PAD),
-            outer: padded(&block, OUTER_PAD),
+            inner: padded_hasher(&block, INNER_PAD),
+            outer: padded_hasher(&block, OUTER_PAD),
             key: joined(&nothing(), key),
             text: nothing(),
         }

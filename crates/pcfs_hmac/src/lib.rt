@@ -7,24 +7,25 @@ ghost use Rattle.std.specs.Prelude.{◌≡◌};
 ghost use Rattle.pcfs_hmac.specs.Hmac.{hmac};
 
 mod given;
+mod hashers;
 mod keyed;
-mod padded;
 #[cfg(test)]
 mod tests;
 
-use crate::padded::{INNER_PAD, OUTER_PAD, block_key, padded, tag};
+use crate::hashers::{INNER_PAD, OUTER_PAD, block_key, padded_hasher, tag};
 pub use keyed::Mac;
 use sha2::Digest;
 
-/// The tag of `text` under `key`: all 32 bytes, of which a caller may keep the first ones.
+/// The tag of `text` under `key`, which may have any length.
 ///
-/// The key may have any length. The digest of a text of 2^61 bytes or more, which the standard of
-/// SHA-256 leaves out, is the one that `sha2` defines, with the length's low 64 bits.
+/// The standard of SHA-256 speaks of messages below 2^61 bytes, and the first 64 bytes of the inner
+/// one come from the key. Past that, the tag is by the definition of `sha2`, which takes a message's
+/// length in bits modulo 2^64.
 pub fn mac(key: &[u8], text: &[u8]) -> [u8; 32]
     ensures { result ≡ hmac key.now text.now }
 {
     let block = block_key(key);
-    let mut inner = padded(&block, INNER_PAD);
+    let mut inner = padded_hasher(&block, INNER_PAD);
     inner.update(text);
-    tag(inner, padded(&block, OUTER_PAD))
+    tag(inner, padded_hasher(&block, OUTER_PAD))
 }

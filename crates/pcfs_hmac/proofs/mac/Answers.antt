@@ -3,4 +3,4 @@ use Rattle.pcfs_hmac.proofs.mac.Goals as goal
 
 pub returns : goal.returns
 unfolding hmac ipad opad
-returns c = rw (← c.block_key-block.ensures) (c.tag.ensures _ _ (c.update.ensures _ c.padded-inner.ensures) c.padded.ensures)
+returns c = rw (← c.block_key-block.ensures) (c.tag.ensures _ _ (c.update.ensures _ c.padded_hasher-inner.ensures) c.padded_hasher.ensures)

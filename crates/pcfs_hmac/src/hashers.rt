@@ -1,4 +1,4 @@
-// A key as one block, the hashers that begin with that block under a pad, and the tag that two of them make.
+// A key as one block, the two hashers that begin with it, each under its pad, and the tag that they make.
 
 ghost use Rattle.std.specs.Prelude.{◌≡◌, ℕ, List, ◌++◌, replicate};
 ghost use Rattle.sha2.specs.Hashers.{Holds256};
@@ -27,7 +27,7 @@ pub(crate) fn block_key(key: &[u8]) -> [u8; 64]
 }
 
 // A hasher of the block with `pad` XORed into each byte.
-pub(crate) fn padded(block: &[u8; 64], pad: u8) -> Sha256
+pub(crate) fn padded_hasher(block: &[u8; 64], pad: u8) -> Sha256
     ensures { Holds256 result (xor_bytes block.now (replicate 64 pad)) }
 {
     let mut bytes = *block;

@@ -1,4 +1,4 @@
-use Rattle.pcfs_hmac.proofs.padded.padded.Given as goal
+use Rattle.pcfs_hmac.proofs.hashers.padded_hasher.Given as goal
 use Rattle.pcfs_hmac.proofs.Blocks.{IsPaddedTo}
 
 abbrev pub invariant-loop-byte : goal.invariant-loop-byte
