@@ -61,6 +61,35 @@ fn digest(rt: &impl Clock) -> io::Result<u128> {
     Ok(tenths(start.elapsed(rt)?, COUNT))
 }
 
+// The two digests in a tag: of the key's block and the text, and of the key's block and a digest.
+fn two_digests(rt: &impl Clock) -> io::Result<u128> {
+    let mut inner = [0x36u8; 105];
+    let mut outer = [0x5cu8; 96];
+    let start = Instant::now(rt)?;
+    for _ in 0..COUNT {
+        outer[64] = digest_of(&inner)[0];
+        inner[104] = digest_of(&outer)[0];
+    }
+    Ok(tenths(start.elapsed(rt)?, COUNT))
+}
+
+#[inline(never)]
+fn digest_after(hasher: &Sha256, message: &[u8]) -> [u8; 32] {
+    hasher.clone().unwrap().chain_update(message).finalize()
+}
+
+// The same from copies of two hashers that have taken in the key's block.
+fn two_copied(rt: &impl Clock) -> io::Result<u128> {
+    let inner = Sha256::new_with_prefix(&[0x36u8; 64]);
+    let outer = Sha256::new_with_prefix(&[0x5cu8; 64]);
+    let mut text = [0x74u8; 41];
+    let start = Instant::now(rt)?;
+    for _ in 0..COUNT {
+        text[0] = digest_after(&outer, &digest_after(&inner, &text))[0];
+    }
+    Ok(tenths(start.elapsed(rt)?, COUNT))
+}
+
 fn whole(rt: &impl Clock) -> io::Result<u128> {
     let key = [0x6bu8; 32];
     let mut text = [0x74u8; 41];
@@ -84,15 +113,17 @@ fn copied(rt: &impl Clock) -> io::Result<u128> {
 }
 
 fn main(rt: HostRuntime) -> io::Result<()> {
-    let mut least = [u128::MAX; 4];
+    let mut least = [u128::MAX; 6];
     for _ in 0..ROUNDS {
         least[0] = least[0].min(compression(&rt)?);
         least[1] = least[1].min(digest(&rt)?);
-        least[2] = least[2].min(whole(&rt)?);
-        least[3] = least[3].min(copied(&rt)?);
+        least[2] = least[2].min(two_digests(&rt)?);
+        least[3] = least[3].min(two_copied(&rt)?);
+        least[4] = least[4].min(whole(&rt)?);
+        least[5] = least[5].min(copied(&rt)?);
     }
-    let [compression, digest, whole, copied] = least;
-    println!(rt; "{compression} {digest} {whole} {copied}")
+    let [compression, digest, two_digests, two_copied, whole, copied] = least;
+    println!(rt; "{compression} {digest} {two_digests} {two_copied} {whole} {copied}")
 }
 END
 (cd "$work/crates/bench_hmac" && rt run > "$work/rt.log" 2>&1) || { tail -n 20 "$work/rt.log"; exit 2; }
@@ -163,25 +194,31 @@ if cc -O2 -Wno-deprecated-declarations -o "$work/openssl" "$work/openssl.c" -lcr
     peer="$work/openssl"
 fi
 
-for _ in 1 2 3; do
+for _ in 1 2 3 4 5; do
     "$work/crates/bench_hmac/out/bench_hmac" >> "$work/ours"
     [ -z "$peer" ] || "$peer" >> "$work/theirs"
 done
 touch "$work/theirs"
 
 echo "processor: $(sed -n 's/^model name[^:]*: //p' /proc/cpuinfo | head -n 1)"
-echo "nanoseconds for one, the least of 75 rounds"
+echo "nanoseconds for one, the least of 125 rounds"
 awk '
     function keep(i, x) { if (!(i in least) || x < least[i]) least[i] = x }
-    function line(name, x, said) { printf "%-44s %8.1f  %s\n", name, x, said }
-    FILENAME ~ /ours$/ { for (i = 1; i <= 4; i++) keep("ours" i, $i / 10) }
+    function line(name, x, more) { printf "%-44s %8.1f  %s\n", name, x, more }
+    FILENAME ~ /ours$/ { for (i = 1; i <= 6; i++) keep("ours" i, $i / 10) }
     FILENAME ~ /theirs$/ { for (i = 1; i <= 2; i++) keep("theirs" i, $i) }
+    function said(x, many, count, alone) {
+        return sprintf("%.3f of %s compressions, %.3f of %s digests, %.3f of sha2 alone",
+            x / (count * block), many, x / (count * digest), many, x / alone)
+    }
     END {
-        block = least["ours1"]; digest = least["ours2"]; whole = least["ours3"]; copied = least["ours4"]
+        block = least["ours1"]; digest = least["ours2"]; whole = least["ours5"]; copied = least["ours6"]
         line("sha2, a compression within a long message", block, "")
         line("sha2, a digest of one block", digest, "")
-        line("mac", whole, sprintf("%.3f of four compressions, %.3f of four digests", whole / (4 * block), whole / (4 * digest)))
-        line("copy of a keyed Mac, update, finish", copied, sprintf("%.3f of two compressions, %.3f of two digests", copied / (2 * block), copied / (2 * digest)))
+        line("sha2 alone, the two digests of a tag", least["ours3"], "")
+        line("sha2 alone, those from copied hashers", least["ours4"], "")
+        line("mac", whole, said(whole, "four", 4, least["ours3"]))
+        line("copy of a keyed Mac, update, finish", copied, said(copied, "two", 2, least["ours4"]))
         if (!("theirs1" in least)) { print "OpenSSL was not built here"; exit }
         line("OpenSSL, HMAC", least["theirs1"], sprintf("mac takes %.2f of it", whole / least["theirs1"]))
         line("OpenSSL, under a kept key", least["theirs2"], sprintf("a copied Mac takes %.2f of it", copied / least["theirs2"]))
