@@ -1,5 +1,5 @@
--- What a port tells of its bytes: `Some` of those that a source still has to give, or that a sink holds,
--- and `None` where it does not tell them. This project's own.
+-- What a port tells of its bytes: `Some` of those that a source still has to give, or that a sink
+-- holds, and `None` where it does not tell them. This project's own.
 use Rattle.std.specs.Prelude.{◌≡◌, ℕ, ◌≤◌, List, [], ◌++◌, length, take, drop, Option, IfSome}
 use Rattle.std.specs.Option.{option_map}
 
