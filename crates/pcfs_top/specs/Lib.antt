@@ -2,6 +2,7 @@ pub mod Answer
 pub mod Effect
 pub mod Facts
 pub mod Lawful
+pub mod Laws
 pub mod Lines
 pub mod Needs
 pub mod Numbered

@@ -4,6 +4,7 @@
 mod command;
 mod event;
 mod fresh;
+mod laws;
 mod node_name;
 mod reply;
 mod reply_text;
@@ -12,6 +13,7 @@ mod world;
 
 pub use command::Command;
 pub use event::{Base, Event, Events, Issue, Op};
+pub use laws::{answers_are_determined, effect_keeps_trees, histories_keep_trees};
 pub use node_name::is_node_name;
 pub use reply::{Cause, Denial, RegisterFault, Reply};
 pub use reply_text::write_reply;
