@@ -2,5 +2,9 @@ pub mod Deciding
 pub mod Keeping
 pub mod Making
 pub mod Replays
+pub mod AnswerLemmas
+pub mod LawfulLemmas
+pub mod ListLemmas
+pub mod NumberedLemmas
 pub mod TreeLemmas
 pub mod WrittenLemmas

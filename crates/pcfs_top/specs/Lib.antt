@@ -8,6 +8,7 @@ pub mod History
 pub mod HistoryCode
 pub mod HistoryParts
 pub mod Lawful
+pub mod Laws
 pub mod Lines
 pub mod Needs
 pub mod Numbered
