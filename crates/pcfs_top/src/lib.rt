@@ -4,6 +4,7 @@
 mod command;
 mod event;
 mod node_name;
+mod numerals;
 mod reply;
 mod request;
 mod world;
