@@ -9,4 +9,5 @@ pub mod Replay
 pub mod ReplyText
 pub mod Script
 pub mod Verdict
+pub mod Words
 pub mod World

@@ -3,10 +3,12 @@
 
 mod command;
 mod event;
+mod lines;
 mod node_name;
 mod numerals;
 mod reply;
 mod request;
+mod words;
 mod world;
 
 pub use command::Command;
