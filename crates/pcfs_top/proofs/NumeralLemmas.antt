@@ -104,3 +104,16 @@ IsAnswer-fits word value (Err e) same h no_zero fits =
 -- what `u32::try_from` and `ok` answer
 pub IsAnswer-number : {E : Type 0} (word : List ℕ) (value : ℕ) (r : Result ℕ E) (answer : Option ℕ) → value ≡ digits_value 10 word → IsDigits word → (get_or word 0 0 ≡ 48 → length word ≡ 1) → OkIff r (value < 2 ^ 32) value → answer ≡ result_ok r → IsAnswer (IsNumber word) answer
 IsAnswer-number word value r answer same h no_zero fits is = subst (IsAnswer (IsNumber word)) (sym is) (IsAnswer-fits word value r same h no_zero fits)
+
+pub IsInteger-from_digits : (word : List ℕ) (n : ℤ) → IsDigits word → n ≡ pos (digits_value 10 word) → IsInteger word n
+IsInteger-from_digits word n h same = subst (IsInteger word) (sym same) (from_zero_up word h)
+
+pub IsInteger-from_minus : (word digits : List ℕ) (n : ℤ) → word ≡ 45 ∷ digits → IsDigits digits → n ≡ pos 0 -ℤ pos (digits_value 10 digits) → IsInteger word n
+IsInteger-from_minus word digits n same h n_is = rw (same, n_is) (below_zero digits h)
+
+-- ---- ends of intervals
+
+pub IsBound-second : {word : List ℕ} {point : TimePoint} → IsBound word point → word ≢ codes "-inf" → word ≢ codes "+inf" → (second : ℤ) × IsSecond word second × (point ≡ At second)
+IsBound-second without_beginning no_neg no_pos = absurd (no_neg refl)
+IsBound-second without_end no_neg no_pos = absurd (no_pos refl)
+IsBound-second (at_second word second h) no_neg no_pos = (second, h, refl)

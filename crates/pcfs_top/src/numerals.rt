@@ -1,6 +1,6 @@
 //! Numbers, seconds and ends of intervals in the text of a line.
 
-ghost use Rattle.std.specs.Prelude.{◌≡◌, ◌↔◌, ◌<◌, ◌^◌, ℕ, ℤ, IsTrue, IfSome, MatchOption};
+ghost use Rattle.std.specs.Prelude.{◌≡◌, ◌↔◌, ◌<◌, ◌^◌, ℕ, ℤ, pos, IsTrue, IfSome, MatchOption};
 ghost use Rattle.std.specs.List.{list_all};
 ghost use Rattle.std.specs.Str.Parse.{digits_value};
 ghost use Rattle.bl_syntax.specs.Names.{is_digit};
@@ -8,6 +8,7 @@ ghost use Rattle.bl_syntax.specs.TimeOrder.{IsMoment};
 ghost use Rattle.bl_syntax.specs.declared.terms.TimePoint.{TimePoint};
 ghost use Rattle.pcfs_top.specs.Lines.{IsDigits, IsInteger, IsSecond, IsBound, IsNumber};
 
+use crate::words::after;
 use bl_syntax::TimePoint;
 
 /// 0001-01-01T00:00:00Z.
@@ -47,15 +48,25 @@ fn digits_value(digits: &[u8]) -> u64
     value
 }
 
+fn natural(word: &[u8]) -> Option<i64>
+    ensures found { IfSome result (λ n. IsDigits word.now × (n ≡ pos (digits_value 10 word.now))) }
+    ensures only { IsDigits word.now → result ≡ Some (pos (digits_value 10 word.now)) }
+{
+    if is_numeral(word) {
+        Some(digits_value(word) as i64)
+    } else {
+        None
+    }
+}
+
 fn integer(word: &[u8]) -> Option<i64>
     ensures found { IfSome result (IsInteger word.now) }
     ensures only { (n : ℤ) → IsInteger word.now n → result ≡ Some n }
 {
-    match word {
-        [b'-', digits @ ..] if is_numeral(digits) => Some(-(digits_value(digits) as i64)),
-        _ if is_numeral(word) => Some(digits_value(word) as i64),
-        _ => None,
+    if let Some(digits) = after(word, b"-") {
+        return Some(-natural(digits)?);
     }
+    natural(word)
 }
 
 fn is_moment(second: i64) -> bool

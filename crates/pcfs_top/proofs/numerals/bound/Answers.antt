@@ -1,24 +1,32 @@
-use Rattle.std.proofs.Common.{rules, ◌≡◌, ◌↔◌, ◌<◌, ◌^◌, ℕ, ℤ, IsTrue, IfSome, MatchOption, ◌+◌, ◌-◌, ◌*◌, ◌≤◌, length, ◌/◌, ◌%◌, Bool, true, false, nat_eq, nat_lt, List, [], ◌∷◌, ◌++◌, slice_index_or, slice_set, bit_and, bit_or, Fits, w8, w32, w64, Bor, MutBor}
-use Rattle.std.specs.List.{list_all}
-use Rattle.std.specs.Str.Parse.{digits_value}
-use Rattle.bl_syntax.specs.Names.{is_digit}
-use Rattle.bl_syntax.specs.TimeOrder.{IsMoment}
-use Rattle.bl_syntax.specs.declared.terms.TimePoint.{TimePoint}
-use Rattle.pcfs_top.specs.Lines.{IsDigits, IsInteger, IsSecond, IsBound, IsNumber}
+-- An end of an interval is `-inf`, `+inf` or a second.
+use Rattle.std.proofs.Common.{◌≡◌, ◌≢◌, sym, ap, ◌∙◌, subst, rules, Some, w64, arith}
+use Rattle.std.specs.Prelude.{codes}
+use Rattle.std.proofs.lemmas.Int.{to_z-of_z}
+use Rattle.std.proofs.lemmas.Option.{same_Some}
+use Rattle.bl_syntax.specs.declared.terms.TimePoint.TheVariants.{NegInf, At, PosInf}
+use Rattle.pcfs_top.specs.Lines.{IsBound, without_beginning, without_end, at_second}
+use Rattle.pcfs_top.proofs.NumeralLemmas.{IsBound-second}
 use Rattle.pcfs_top.proofs.numerals.bound.Goals as goal
 
--- src/numerals.rt:87:9
 pub returns-then-eq-clause-found : goal.returns-then-eq-clause-found
-returns-then-eq-clause-found c = ?
+returns-then-eq-clause-found c =
+    let same : c.args.word.now ≡ codes "-inf" = search rules in subst (λ word. IsBound word NegInf) (sym same) without_beginning
 
--- src/numerals.rt:90:9
 pub returns-then-eq-2-clause-found : goal.returns-then-eq-2-clause-found
-returns-then-eq-2-clause-found c = ?
+returns-then-eq-2-clause-found c =
+    let same : c.args.word.now ≡ codes "+inf" = search rules in subst (λ word. IsBound word PosInf) (sym same) without_end
 
--- src/numerals.rt:82:1
 pub returns-clause-found : goal.returns-clause-found
-returns-clause-found c = ?
+returns-clause-found c =
+    let second = c.in_ok-second.ensures.found in
+    let bits = to_z-of_z w64 c.in_ok-second.field-0 (search rules) in
+    subst (λ s. IsBound c.args.word.now (At s)) (sym bits) (at_second c.args.word.now c.in_ok-second.field-0 second)
 
--- src/numerals.rt:82:1
 pub returns-clause-only : goal.returns-clause-only
-returns-clause-only c = ?
+returns-clause-only c point bound =
+    let not_neg : c.args.word.now ≢ codes "-inf" = search rules in
+    let not_pos : c.args.word.now ≢ codes "+inf" = search rules in
+    let found = IsBound-second bound not_neg not_pos in
+    let same = same_Some c.in_ok-second.field-0 found.0 (c.in_ok-second.ensures.only found.0 found.1) in
+    let bits = to_z-of_z w64 c.in_ok-second.field-0 (search rules) in
+    ap (λ s. Some (At s)) (bits ∙ same) ∙ ap Some (sym found.2)
