@@ -1,9 +1,13 @@
 //! Terms, their sorts, points in time, predicates on the server's state, and constraints between times.
 
-ghost use Rattle.std.specs.Prelude.{◌≡◌};
+ghost use Rattle.std.specs.Prelude.{◌≡◌, ◌↔◌, IsTrue, codes};
+ghost use Rattle.bl_syntax.specs.Terms.{IsAtLeastAsStrong};
 
 use crate::lists::Sequence;
 use crate::names::{Principal, Text};
+
+/// The principal that is as strong as any.
+const LOC: &[u8] = b"loc";
 
 /// A node of the file tree, by its number.
 #[derive(Clone, Copy, Debug, PartialEq, Eq)]
@@ -51,6 +55,38 @@ pub enum Term {
     Bound(u32),
 }
 
+impl Term {
+    /// Whether it is the same term.
+    pub fn is_same(&self, other: &Term) -> bool
+        ensures { IsTrue result ↔ (self.now ≡ other.now) }
+    {
+        self == other
+    }
+}
+
+/// Whether the first principal is at least as strong as the second: they are equal, or the first is `loc`.
+pub fn stronger(k: &Term, k0: &Term) -> bool
+    ensures { IsTrue result ↔ IsAtLeastAsStrong k.now k0.now }
+{
+    k.is_same(k0) || is_loc(k)
+}
+
+fn is_loc(k: &Term) -> bool
+    ensures { IsTrue result ↔ (k.now ≡ Term.Prin (codes "loc")) }
+{
+    match k {
+        Term::Prin(name) => name.bytes() == LOC,
+        _ => false,
+    }
+}
+
+/// Whether they are the same terms in the same order.
+pub fn are_same(terms: &[Term], others: &[Term]) -> bool
+    ensures { IsTrue result ↔ (terms.now ≡ others.now) }
+{
+    terms == others
+}
+
 /// A predicate on the server's state.
 #[derive(Clone, Copy, Debug, PartialEq, Eq)]
 pub enum StatePred {
@@ -62,11 +98,29 @@ pub enum StatePred {
     InDir(Term, Term),
 }
 
+impl StatePred {
+    /// Whether it is the same predicate of the same terms.
+    pub fn is_same(&self, other: &StatePred) -> bool
+        ensures { IsTrue result ↔ (self.now ≡ other.now) }
+    {
+        self == other
+    }
+}
+
 /// One time is not after another.
 #[derive(Clone, Copy, Debug, PartialEq, Eq)]
 pub struct Constraint {
     pub low: Term,
     pub high: Term,
+}
+
+impl Constraint {
+    /// Whether it is between the same terms.
+    pub fn is_same(&self, other: &Constraint) -> bool
+        ensures { IsTrue result ↔ (self.now ≡ other.now) }
+    {
+        self == other
+    }
 }
 
 /// Terms in order.
