@@ -5,10 +5,7 @@ use Rattle.std.specs.List.{list_all, position_or_len}
 use Rattle.std.proofs.lemmas.Bool.{false≢true, ltb-false}
 use Rattle.std.proofs.lemmas.List.Sums.{prefix_len-le-length}
 use Rattle.std.proofs.lemmas.List.{take_at, drop_at}
-use Rattle.pcfs_top.specs.Words.{is_stop, starts_with_stop}
-
-abbrev pub HasNoStop : List ℕ → Type 0
-HasNoStop word = IsTrue (list_all (λ byte. not (is_stop byte)) word)
+use Rattle.pcfs_top.specs.Words.{is_stop, starts_with_stop, HasNoStop}
 
 stop_here : (is_end : Bool) (n : ℕ) → is_end ≡ true → cond (not is_end) (1 + n) 0 ≡ 0
 stop_here true n e = refl

@@ -3,6 +3,7 @@
 
 mod command;
 mod event;
+mod forms;
 mod lines;
 mod node_name;
 mod numerals;

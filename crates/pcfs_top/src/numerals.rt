@@ -4,18 +4,11 @@ ghost use Rattle.std.specs.Prelude.{◌≡◌, ◌↔◌, ◌<◌, ◌^◌, ℕ,
 ghost use Rattle.std.specs.List.{list_all};
 ghost use Rattle.std.specs.Str.Parse.{digits_value};
 ghost use Rattle.bl_syntax.specs.Names.{is_digit};
-ghost use Rattle.bl_syntax.specs.TimeOrder.{IsMoment};
 ghost use Rattle.bl_syntax.specs.declared.terms.TimePoint.{TimePoint};
 ghost use Rattle.pcfs_top.specs.Lines.{IsDigits, IsInteger, IsSecond, IsBound, IsNumber};
 
 use crate::words::after;
-use bl_syntax::TimePoint;
-
-/// 0001-01-01T00:00:00Z.
-const FIRST_MOMENT: i64 = -62_135_596_800;
-
-/// 9999-12-31T23:59:59Z.
-const LAST_MOMENT: i64 = 253_402_300_799;
+use bl_syntax::{TimePoint, is_moment};
 
 /// Whether a byte is one of `0` to `9`.
 pub fn is_digit(byte: u8) -> bool
@@ -67,12 +60,6 @@ fn integer(word: &[u8]) -> Option<i64>
         return Some(-natural(digits)?);
     }
     natural(word)
-}
-
-fn is_moment(second: i64) -> bool
-    ensures { IsTrue result ↔ IsMoment second }
-{
-    FIRST_MOMENT <= second && second <= LAST_MOMENT
 }
 
 /// The second that the word writes: 1 to 18 digits, with a `-` before them for a time before
