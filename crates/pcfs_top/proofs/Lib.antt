@@ -1,4 +1,5 @@
 pub mod AnswerLemmas
+pub mod FormLemmas
 pub mod LineLemmas
 pub mod NumeralLemmas
 pub mod WordLemmas

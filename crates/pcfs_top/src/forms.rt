@@ -77,8 +77,8 @@ fn principal_and_interval(rest: &[u8]) -> Option<(Principal, TimePoint, TimePoin
     ensures only { (command : Command) → IsLine (codes "register - admin says may(" ++ rest.now) command
         → IsSomeAnd result (λ p. command ≡ Register (says_may p.0 p.1 p.2)) }
 {
-    let (who, lower, upper) = two_words_before(rest, b",#1,write) from ", b" to ")?;
-    let who = Principal::new(who)?;
+    let (name, lower, upper) = two_words_before(rest, b",#1,write) from ", b" to ")?;
+    let who = Principal::new(name)?;
     let from = bound(lower)?;
     let to = bound(upper)?;
     Some((who, from, to))
@@ -105,11 +105,11 @@ fn verifies(rest: &[u8]) -> Option<Command>
     ensures found { IfSome result (IsLine (codes "verify " ++ rest.now)) }
     ensures only { (command : Command) → IsLine (codes "verify " ++ rest.now) command → result ≡ Some command }
 {
-    let (who, word, rest) = two_words_before(rest, b" #1 write ", b" saysR(claim(0,init(1)))")?;
-    if !rest.is_empty() {
+    let (name, word, behind) = two_words_before(rest, b" #1 write ", b" saysR(claim(0,init(1)))")?;
+    if !behind.is_empty() {
         return None;
     }
-    let who = Principal::new(who)?;
+    let who = Principal::new(name)?;
     let number = number(word)?;
     let goal = Goal {
         who,
