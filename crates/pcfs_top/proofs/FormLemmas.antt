@@ -1,4 +1,6 @@
 -- The forms of a line differ in how they begin, and a line of a form names its parts in one way.
+use Rattle.std.proofs.Common.{Option, Some, None, Result, Ok, Err, MatchOption, IfSome, IfOk, ◌≢◌}
+use Rattle.std.proofs.lemmas.Option.{none-some}
 use Rattle.std.proofs.Common.{◌≡◌, ℕ, ℤ, pos, ◌-ℤ◌, Bool, true, false, not, cond, List, [], ◌∷◌, ◌++◌, length, get_or, IsTrue, refl, sym, ap, ◌∙◌, subst, eqb}
 use Rattle.std.specs.Prelude.{codes, ◌==◌, ◌&&◌, ◌||◌}
 use Rattle.std.specs.List.{list_all}
@@ -173,3 +175,32 @@ IsLine-create rest name word number same named numbered = rw same (creates name 
 -- nothing stands behind
 pub nothing_behind : (behind : List ℕ) → true ≡ (length behind == 0) → behind ≡ []
 nothing_behind behind none = nil_from_length behind (eqb-true (length behind) 0 (sym none))
+
+-- ---- what is read behind the beginning of a line is what the line asks for
+
+module _ (line beginning rest : List ℕ) (same : line ≡ beginning ++ rest) where
+  found_option : (answer : Option Command) → IfSome answer (IsLine (beginning ++ rest)) → ((command : Command) → IsLine (beginning ++ rest) command → answer ≡ Some command)
+      → MatchOption answer ((command : Command) → IsLine line command → ⊥) (IsLine line)
+  found_option None found only = λ command h. none-some command (only command (rw same at h))
+  found_option (Some command) found only = rw same found
+
+  pub found_behind : {E : Type 0} (r : Result (Option Command) E) → IfOk r (λ answer. IfSome answer (IsLine (beginning ++ rest)))
+      → IfOk r (λ answer. (command : Command) → IsLine (beginning ++ rest) command → answer ≡ Some command)
+      → IfOk r (λ answer. MatchOption answer ((command : Command) → IsLine line command → ⊥) (IsLine line))
+  found_behind (Ok answer) found only = found_option answer found only
+  found_behind (Err e) found only = tt
+
+  pub only_behind : {E : Type 0} (r : Result (Option Command) E) → IfOk r (λ answer. (command : Command) → IsLine (beginning ++ rest) command → answer ≡ Some command)
+      → IfOk r (λ answer. (command : Command) → IsLine line command → answer ≡ Some command)
+  only_behind (Ok answer) only = λ command h. only command (rw same at h)
+  only_behind (Err e) only = tt
+
+-- each line of a form has one of the five beginnings
+pub no_beginning : {line : List ℕ} {command : Command} → IsLine line command
+    → ((rest : List ℕ) → line ≢ codes "at " ++ rest) → ((rest : List ℕ) → line ≢ codes "as " ++ rest) → ((rest : List ℕ) → line ≢ codes "register - admin says may(" ++ rest)
+    → ((rest : List ℕ) → line ≢ codes "verify " ++ rest) → ((rest : List ℕ) → line ≢ codes "do create #1 " ++ rest) → ⊥
+no_beginning (sets_clock w second h) at_ as_ register verify create = at_ _ refl
+no_beginning (sets_caller who h) at_ as_ register verify create = as_ _ refl
+no_beginning (registers who lower upper from to h f t) at_ as_ register verify create = register _ refl
+no_beginning (verifies who w number h n) at_ as_ register verify create = verify _ refl
+no_beginning (creates name w number h n) at_ as_ register verify create = create _ refl
