@@ -6,5 +6,10 @@ pub mod AnswerLemmas
 pub mod LawfulLemmas
 pub mod ListLemmas
 pub mod NumberedLemmas
+pub mod OptionLemmas
 pub mod TreeLemmas
 pub mod WrittenLemmas
+pub mod FormLemmas
+pub mod LineLemmas
+pub mod NumeralLemmas
+pub mod WordLemmas

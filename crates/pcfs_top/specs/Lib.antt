@@ -19,5 +19,6 @@ pub mod Script
 pub mod Verdict
 pub mod Verified
 pub mod WellFormed
+pub mod Words
 pub mod World
 pub mod Written

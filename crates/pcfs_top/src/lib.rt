@@ -10,13 +10,16 @@ mod gate;
 mod history;
 mod fresh;
 mod laws;
+mod forms;
+mod lines;
 mod node_name;
+mod numerals;
 mod reply;
 mod reply_text;
 mod request;
 mod step;
-mod stubs;
 mod verdict;
+mod words;
 mod world;
 
 pub use command::Command;

@@ -2,8 +2,10 @@
 
 ghost use Rattle.std.specs.Prelude.{◌≡◌};
 ghost use Rattle.std.specs.List.{list_all};
-ghost use Rattle.bl_syntax.specs.Names.{is_lower_case, is_digit};
+ghost use Rattle.bl_syntax.specs.Names.{is_lower_case};
 ghost use Rattle.pcfs_top.specs.World.{is_upper_case, is_node_name_byte, is_node_name};
+
+use crate::numerals::is_digit;
 
 fn is_lower_case(byte: u8) -> bool
     ensures { result ≡ is_lower_case byte }
@@ -15,12 +17,6 @@ fn is_upper_case(byte: u8) -> bool
     ensures { result ≡ is_upper_case byte }
 {
     b'A' <= byte && byte <= b'Z'
-}
-
-fn is_digit(byte: u8) -> bool
-    ensures { result ≡ is_digit byte }
-{
-    b'0' <= byte && byte <= b'9'
 }
 
 fn is_node_name_byte(byte: u8) -> bool

@@ -1,0 +1,11 @@
+-- The statement is the one that the line names.
+use Rattle.std.proofs.Common.{sym, ap, ◌∙◌, Some}
+use Rattle.pcfs_top.specs.declared.command.Command.TheVariants.{Register}
+use Rattle.pcfs_top.proofs.forms.registers.Goals as goal
+
+pub returns-in_ok-statement-in-Some-clause-only : goal.returns-in_ok-statement-in-Some-clause-only
+returns-in_ok-statement-in-Some-clause-only c command h =
+    ap (λ statement. Some (Register statement)) c.in_ok-statement-in-Some.ensures ∙ ap Some (sym (c.in-Some.ensures.only command h))
+
+pub returns-in-None-clause-only : goal.returns-in-None-clause-only
+returns-in-None-clause-only c command h = absurd (c.in-None.ensures.only command h)

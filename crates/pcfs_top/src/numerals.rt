@@ -1,0 +1,105 @@
+//! Numbers, seconds and ends of intervals in the text of a line.
+
+ghost use Rattle.std.specs.Prelude.{◌≡◌, ◌↔◌, ◌<◌, ◌^◌, ℕ, ℤ, pos, IsTrue, IfSome, MatchOption};
+ghost use Rattle.std.specs.List.{list_all};
+ghost use Rattle.std.specs.Str.Parse.{digits_value};
+ghost use Rattle.bl_syntax.specs.Names.{is_digit};
+ghost use Rattle.bl_syntax.specs.declared.terms.TimePoint.{TimePoint};
+ghost use Rattle.pcfs_top.specs.Lines.{IsDigits, IsInteger, IsSecond, IsBound, IsNumber};
+
+use crate::words::after;
+use bl_syntax::{TimePoint, is_moment};
+
+/// Whether a byte is one of `0` to `9`.
+pub fn is_digit(byte: u8) -> bool
+    ensures { result ≡ is_digit byte }
+{
+    b'0' <= byte && byte <= b'9'
+}
+
+fn are_digits(bytes: &[u8]) -> bool
+    ensures { result ≡ list_all is_digit bytes.now }
+{
+    bytes.iter().all(|byte| is_digit(*byte))
+}
+
+fn is_numeral(word: &[u8]) -> bool
+    ensures { IsTrue result ↔ IsDigits word.now }
+{
+    1 <= word.len() && word.len() <= 18 && are_digits(word)
+}
+
+fn digits_value(digits: &[u8]) -> u64
+    requires { IsDigits digits.now }
+    ensures value { result ≡ digits_value 10 digits.now }
+    ensures fits { result < 10 ^ 18 }
+{
+    let mut value = 0;
+    for byte in digits {
+        value = value * 10 + u64::from(*byte - b'0');
+    }
+    value
+}
+
+fn natural(word: &[u8]) -> Option<i64>
+    ensures found { IfSome result (λ n. IsDigits word.now × (n ≡ pos (digits_value 10 word.now))) }
+    ensures only { IsDigits word.now → result ≡ Some (pos (digits_value 10 word.now)) }
+{
+    if is_numeral(word) {
+        Some(digits_value(word) as i64)
+    } else {
+        None
+    }
+}
+
+fn integer(word: &[u8]) -> Option<i64>
+    ensures found { IfSome result (IsInteger word.now) }
+    ensures only { (n : ℤ) → IsInteger word.now n → result ≡ Some n }
+{
+    if let Some(digits) = after(word, b"-") {
+        return Some(-natural(digits)?);
+    }
+    natural(word)
+}
+
+/// The second that the word writes: 1 to 18 digits, with a `-` before them for a time before
+/// 1970-01-01T00:00:00Z, in the years 1 to 9999.
+pub fn second(word: &[u8]) -> Option<i64>
+    ensures found { MatchOption result ((s : ℤ) → IsSecond word.now s → ⊥) (IsSecond word.now) }
+    ensures only { (s : ℤ) → IsSecond word.now s → result ≡ Some s }
+{
+    let second = integer(word)?;
+    if is_moment(second) {
+        Some(second)
+    } else {
+        None
+    }
+}
+
+/// The end of an interval that the word writes: `-inf`, `+inf` or a second.
+pub fn bound(word: &[u8]) -> Option<TimePoint>
+    ensures found { MatchOption result ((point : TimePoint) → IsBound word.now point → ⊥) (IsBound word.now) }
+    ensures only { (point : TimePoint) → IsBound word.now point → result ≡ Some point }
+{
+    if word == b"-inf".as_slice() {
+        return Some(TimePoint::NegInf);
+    }
+    if word == b"+inf".as_slice() {
+        return Some(TimePoint::PosInf);
+    }
+    Some(TimePoint::At(second(word)?))
+}
+
+/// The number that the word writes: decimal digits without leading zeros, below 2^32.
+pub fn number(word: &[u8]) -> Option<u32>
+    ensures found { MatchOption result ((n : ℕ) → IsNumber word.now n → ⊥) (IsNumber word.now) }
+    ensures only { (n : ℕ) → IsNumber word.now n → result ≡ Some n }
+{
+    if !is_numeral(word) {
+        return None;
+    }
+    if word.len() > 1 && word[0] == b'0' {
+        return None;
+    }
+    u32::try_from(digits_value(word)).ok()
+}
