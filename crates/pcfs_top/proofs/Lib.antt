@@ -1,3 +1,5 @@
+pub mod Beginning
+pub mod CauseLemmas
 pub mod Deciding
 pub mod Keeping
 pub mod Making
@@ -9,6 +11,7 @@ pub mod NumberedLemmas
 pub mod OptionLemmas
 pub mod TreeLemmas
 pub mod WrittenLemmas
+pub mod Following
 pub mod FormLemmas
 pub mod LineLemmas
 pub mod NumeralLemmas

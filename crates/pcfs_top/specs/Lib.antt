@@ -2,6 +2,7 @@ pub mod Answer
 pub mod Decides
 pub mod Decision
 pub mod DecisionCode
+pub mod Differs
 pub mod Effect
 pub mod Facts
 pub mod History

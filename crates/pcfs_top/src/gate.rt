@@ -48,6 +48,13 @@ impl Model for Gate {
     ghost invariant = { λ g. MatchOption g.pending ⊤ (CanKeep g.history) };
 }
 
+// Puts the step in the place of what was pending.
+fn put(pending: &mut Option<Step>, step: Step)
+    ensures { pending.new ≡ Some step }
+{
+    *pending = Some(step);
+}
+
 /// The answer to a request, and the step where there is one to keep.
 fn decide_request(
     alloc: Global,
@@ -98,19 +105,23 @@ impl Gate {
         ensures events { self.new.events ≡ self.old.events }
         ensures answer { Decides (replay self.old.base self.old.events) pass clock request.now result self.new.pending }
     {
-        self.pending = None;
-        let Ok(decided) = decide_request(alloc, &self.history, pass, request, clock) else {
-            return Decision::NoMemory;
-        };
-        let Decided { reply, step } = decided;
-        let Some(step) = step else {
-            return Decision::Answer(reply);
-        };
+        self.forget();
         if self.history.reserve().is_err() {
             return Decision::NoMemory;
         }
-        self.pending = Some(step);
-        Decision::Keep(reply)
+        match decide_request(alloc, &self.history, pass, request, clock) {
+            Ok(decided) => {
+                let Decided { reply, step } = decided;
+                match step {
+                    None => Decision::Answer(reply),
+                    Some(step) => {
+                        put(&mut self.pending, step);
+                        Decision::Keep(reply)
+                    }
+                }
+            }
+            Err(_) => Decision::NoMemory,
+        }
     }
 
     /// Keeps the pending event. It takes no memory.

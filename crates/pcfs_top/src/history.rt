@@ -111,6 +111,7 @@ impl History {
         ensures base { self.new.base ≡ self.old.base }
         ensures events { self.new.events ≡ self.old.events }
         ensures room { OnOk result (1 ≤ self.new.room) }
+        ensures lawful { IsLawful self.new.base self.new.events }
     {
         self.events.reserve(1)?;
         self.rows.reserve(1)?;

@@ -1,0 +1,68 @@
+-- An event that an answer keeps may come next.
+use Rattle.std.proofs.Common.{◌≡◌, ◌≤◌, ◌<◌, ◌+◌, ◌-◌, ℕ, suc, zero, List, [], ◌∷◌, ◌++◌, length, refl, ap, subst, sym, ◌∙◌, arith, None, Some, Option}
+use Rattle.std.specs.Prelude.{Result, Ok, Err, OnOk, false, ℤ, ◌≤ℤ◌, ⊤, MatchOption}
+use Rattle.std.specs.Int.{int_max}
+use Rattle.std.specs.Option.{option_map}
+use Rattle.std.specs.Result.{is_err}
+use Rattle.std.proofs.lemmas.Int.{ints, int_max_is}
+use Rattle.bl_syntax.specs.TimeOrder.{IsMoment}
+use Rattle.bl_syntax.specs.declared.grant.Goal.{Goal}
+use Rattle.bl_syntax.specs.Statement.{Saying}
+use Rattle.bl_syntax.specs.Grant.{Granted}
+use Rattle.pcfs_top.specs.Verdict.{IsVerdict, grants}
+use Rattle.pcfs_top.specs.declared.event.Base.{Base}
+use Rattle.pcfs_top.specs.declared.event.Event.{Event}
+use Rattle.pcfs_top.specs.declared.event.Op.{Op}
+use Rattle.pcfs_top.specs.declared.event.Op.TheVariants.{Create}
+use Rattle.pcfs_top.specs.declared.step.Step.{Step}
+use Rattle.pcfs_top.specs.declared.request.StepRequest.{StepRequest}
+use Rattle.pcfs_top.specs.declared.reply.Reply.{Reply}
+use Rattle.pcfs_top.specs.WellFormed.{IsWellFormed}
+use Rattle.pcfs_top.specs.Needs.{bytes_to_write}
+use Rattle.pcfs_top.specs.Answer.{Answers, registered, issued, acted, moment_of}
+use Rattle.pcfs_top.specs.History.{Kept, state_of}
+use Rattle.pcfs_top.specs.Decision.{IsDecided, CanKeep}
+use Rattle.pcfs_top.proofs.Replays.{moment_in_range}
+use Rattle.pcfs_top.specs.Lawful.{IsLawful, MayFollow, may_register, may_issue, may_act, IsGoodIssue}
+
+-- the greater of two moments is a moment, and not before the second
+max_in_range : (a b : ℤ) → IsMoment a → IsMoment b → IsMoment (int_max a b)
+max_in_range a b m n = record { not_before = omega (arith, ints, int_max_is a b, m.not_before, n.not_before); not_after = omega (arith, ints, int_max_is a b, m.not_after, n.not_after) }
+
+last_up_to_max : (a b : ℤ) → b ≤ℤ int_max a b
+last_up_to_max a b = omega (arith, ints, int_max_is a b)
+
+few_bytes : (op : Op) → bytes_to_write op ≤ 65536
+few_bytes (Create directory name) = omega arith
+
+-- a grant is of the goal that it was asked for
+good : (goal : Goal) (g : Granted) (statement : Saying) → IsVerdict statement goal (grants g) → IsVerdict statement g.goal (grants g)
+good goal g statement verdict = subst (λ (x : Goal). IsVerdict statement x (grants g)) (sym (ap (λ (y : Granted). y.goal) verdict.grant_is)) verdict
+
+pub MayFollow-answered : (state : Base) (pass : ℕ) (clock : ℤ) (request : StepRequest) (reply : Reply) (event : Event) → IsMoment clock → IsMoment state.moment → IsWellFormed request → Answers state pass clock request reply (Some event) → MayFollow state event
+MayFollow-answered state pass clock request reply event at last formed (registered statement new room) = may_register pass statement new room
+MayFollow-answered state pass clock request reply event at last formed (issued number goal statement g numbered verdict) =
+    may_issue pass (number ∷ []) g (record { number = number; statement = statement; cites = refl; registered = numbered; verdict = good goal g statement verdict })
+MayFollow-answered state pass clock request reply event at last formed (acted caller op procaps made after issues admitted does) =
+    may_act pass caller op procaps (moment_of state clock) made after (last_up_to_max clock state.moment) (max_in_range clock state.moment at last) formed (few_bytes op) issues admitted does
+
+-- nothing is pending
+pub nothing : (p : Option Step) (f : Step → Event) (P : Step → Type 0) → option_map f p ≡ None → MatchOption p ⊤ P
+nothing None f P e = tt
+nothing (Some s) f P e = absurd cc
+
+-- a step that was decided can be kept
+pub CanKeep-decided : (h : Kept) (pass : ℕ) (clock : ℤ) (request : StepRequest) (reply : Reply) (decided : Option Step) (step : Step) → decided ≡ Some step → 1 ≤ h.room → IsLawful h.base h.events → IsMoment clock → IsWellFormed request →
+    IsDecided (state_of h) pass clock request reply decided → CanKeep h step
+CanKeep-decided h pass clock request reply decided step is room lawful at formed answered =
+    let there : IsDecided (state_of h) pass clock request reply (Some step) = subst (λ (d : Option Step). IsDecided (state_of h) pass clock request reply d) is answered in
+    record {
+      room = room;
+      lawful = MayFollow-answered (state_of h) pass clock request reply step.event at (moment_in_range h.base h.events lawful.lawful_base.moment_in_range lawful.each) formed there.0;
+      brings = there.1;
+    }
+
+-- what holds where there is no error
+pub on_no_err : {A E : Type 0} (P : Type 0) (r : Result A E) → is_err r ≡ false → OnOk r P → P
+on_no_err P (Ok x) e holds = holds
+on_no_err P (Err x) e holds = absurd cc
