@@ -1,7 +1,9 @@
 //! Formulas of the logic.
 
+use crate::lists::NoMemory;
 use crate::names::Word;
-use crate::terms::{Constraint, Sort, StatePred, Term, Terms};
+use crate::terms::{Constraint, Sort, StatePred, Term, Terms, are_same};
+use std::alloc::Global;
 
 /// A formula. A binder binds the variable that counts it as 0.
 #[derive(Debug, Drop)]
@@ -23,4 +25,79 @@ pub enum Formula {
     Says(Term, Box<Formula>),
     /// A formula on an interval, from the first time to the second.
     At(Box<Formula>, Term, Term),
+}
+
+impl Formula {
+    ghost use Rattle.std.specs.Prelude.{◌≡◌, ◌↔◌, IfOk, IsTrue};
+    ghost use Rattle.bl_syntax.specs.Formula.{formula};
+
+    /// An equal formula in memory of its own.
+    pub fn copy(&self, alloc: Global) -> Result<Formula, NoMemory>
+        ensures { IfOk result (λ copied. formula copied ≡ formula self.now) }
+    {
+        match self {
+            Formula::Atom(name, terms) => Ok(Formula::Atom(*name, terms.copy(alloc)?)),
+            Formula::Cons(constraint) => Ok(Formula::Cons(*constraint)),
+            Formula::State(predicate) => Ok(Formula::State(*predicate)),
+            Formula::And(a, b) => Ok(Formula::And(
+                Box::new(alloc, a.copy(alloc)?)?,
+                Box::new(alloc, b.copy(alloc)?)?,
+            )),
+            Formula::Or(a, b) => Ok(Formula::Or(
+                Box::new(alloc, a.copy(alloc)?)?,
+                Box::new(alloc, b.copy(alloc)?)?,
+            )),
+            Formula::Imp(a, b) => Ok(Formula::Imp(
+                Box::new(alloc, a.copy(alloc)?)?,
+                Box::new(alloc, b.copy(alloc)?)?,
+            )),
+            Formula::True => Ok(Formula::True),
+            Formula::False => Ok(Formula::False),
+            Formula::Forall(sort, a) => Ok(Formula::Forall(
+                *sort,
+                Box::new(alloc, a.copy(alloc)?)?,
+            )),
+            Formula::Exists(sort, a) => Ok(Formula::Exists(
+                *sort,
+                Box::new(alloc, a.copy(alloc)?)?,
+            )),
+            Formula::Says(who, a) => Ok(Formula::Says(*who, Box::new(alloc, a.copy(alloc)?)?)),
+            Formula::At(a, from, to) => Ok(Formula::At(
+                Box::new(alloc, a.copy(alloc)?)?,
+                *from,
+                *to,
+            )),
+        }
+    }
+
+    /// Whether it is the same formula.
+    pub fn is_same(&self, other: &Formula) -> bool
+        ensures { IsTrue result ↔ (formula self.now ≡ formula other.now) }
+    {
+        match (self, other) {
+            (Formula::Atom(name, terms), Formula::Atom(other_name, other_terms)) => {
+                name.is_same(other_name) && are_same(terms.as_slice(), other_terms.as_slice())
+            }
+            (Formula::Cons(c), Formula::Cons(d)) => c.is_same(d),
+            (Formula::State(s), Formula::State(t)) => s.is_same(t),
+            (Formula::And(a, b), Formula::And(c, d))
+            | (Formula::Or(a, b), Formula::Or(c, d))
+            | (Formula::Imp(a, b), Formula::Imp(c, d)) => a.is_same(c) && b.is_same(d),
+            (Formula::True, Formula::True) => true,
+            (Formula::False, Formula::False) => true,
+            (Formula::Forall(sort, a), Formula::Forall(other_sort, b)) => {
+                sort == other_sort && a.is_same(b)
+            }
+            (Formula::Exists(sort, a), Formula::Exists(other_sort, b)) => {
+                sort == other_sort && a.is_same(b)
+            }
+            (Formula::Says(who, a), Formula::Says(other_who, b)) => {
+                who.is_same(other_who) && a.is_same(b)
+            }
+            (Formula::At(a, from, to), Formula::At(b, other_from, other_to)) => {
+                a.is_same(b) && from.is_same(other_from) && to.is_same(other_to)
+            }
+            _ => false,
+        }
+    }
 }

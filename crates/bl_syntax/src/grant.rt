@@ -14,6 +14,17 @@ pub struct Goal {
     pub perm: Perm,
 }
 
+impl Goal {
+    ghost use Rattle.std.specs.Prelude.{◌≡◌, ◌↔◌, IsTrue};
+
+    /// Whether the same principal wants the same permission on the same file.
+    pub fn is_same(&self, other: &Goal) -> bool
+        ensures { IsTrue result ↔ (self.now ≡ other.now) }
+    {
+        self == other
+    }
+}
+
 /// What a verified proof grants: its goal, under conditions on time and on the server's state.
 #[derive(Debug, Drop)]
 pub struct Grant {

@@ -75,6 +75,13 @@ impl Principal {
     {
         self.name.bytes()
     }
+
+    /// Whether it is the same name.
+    pub fn is_same(&self, other: &Principal) -> bool
+        ensures { IsTrue result ↔ (self.now ≡ other.now) }
+    {
+        self == other
+    }
 }
 
 /// A predicate's name: as a principal's, but not `owner`, `has_xattr` or `in_dir`.
@@ -118,6 +125,13 @@ impl Word {
     {
         self.name.bytes()
     }
+
+    /// Whether it is the same name.
+    pub fn is_same(&self, other: &Word) -> bool
+        ensures { IsTrue result ↔ (self.now ≡ other.now) }
+    {
+        self == other
+    }
 }
 
 /// A text constant: at most 128 bytes from 0x20 to 0x7e without `"` and `\`.
@@ -160,6 +174,13 @@ impl Text {
         ensures fits { IsTrue (is_text self.now) }
     {
         self.text.bytes()
+    }
+
+    /// Whether it is the same text.
+    pub fn is_same(&self, other: &Text) -> bool
+        ensures { IsTrue result ↔ (self.now ≡ other.now) }
+    {
+        self == other
     }
 }
 

@@ -1,6 +1,6 @@
 //! Terms, their sorts, points in time, predicates on the server's state, and constraints between times.
 
-ghost use Rattle.std.specs.Prelude.{◌≡◌};
+ghost use Rattle.std.specs.Prelude.{◌≡◌, ◌↔◌, IsTrue};
 
 use crate::lists::Sequence;
 use crate::names::{Principal, Text};
@@ -51,6 +51,22 @@ pub enum Term {
     Bound(u32),
 }
 
+impl Term {
+    /// Whether it is the same term.
+    pub fn is_same(&self, other: &Term) -> bool
+        ensures { IsTrue result ↔ (self.now ≡ other.now) }
+    {
+        self == other
+    }
+}
+
+/// Whether they are the same terms in the same order.
+pub fn are_same(terms: &[Term], others: &[Term]) -> bool
+    ensures { IsTrue result ↔ (terms.now ≡ others.now) }
+{
+    terms == others
+}
+
 /// A predicate on the server's state.
 #[derive(Clone, Copy, Debug, PartialEq, Eq)]
 pub enum StatePred {
@@ -62,11 +78,29 @@ pub enum StatePred {
     InDir(Term, Term),
 }
 
+impl StatePred {
+    /// Whether it is the same predicate of the same terms.
+    pub fn is_same(&self, other: &StatePred) -> bool
+        ensures { IsTrue result ↔ (self.now ≡ other.now) }
+    {
+        self == other
+    }
+}
+
 /// One time is not after another.
 #[derive(Clone, Copy, Debug, PartialEq, Eq)]
 pub struct Constraint {
     pub low: Term,
     pub high: Term,
+}
+
+impl Constraint {
+    /// Whether it is between the same terms.
+    pub fn is_same(&self, other: &Constraint) -> bool
+        ensures { IsTrue result ↔ (self.now ≡ other.now) }
+    {
+        self == other
+    }
 }
 
 /// Terms in order.

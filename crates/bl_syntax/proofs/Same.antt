@@ -1,0 +1,122 @@
+-- `==` tells exactly whether two values are the same. Crates above cite these for `contains` or `==` over a slice of such values, as
+-- `contains_decides constraint_eq Decides-constraint_eq` with std's lemma on the elements of a list.
+use Rattle.std.proofs.Common.{◌≡◌, ◌∙◌, ℕ, List, Bool, ap, rules}
+use Rattle.std.specs.Bool.{Decides}
+use Rattle.std.proofs.lemmas.Bool.Decides.{Decides-and, Decides-like}
+use Rattle.std.proofs.lemmas.Bool.{false≢true}
+use Rattle.std.proofs.lemmas.Slice.Eq.{bytes_eq-Decides}
+use borrow.Author.Tests.{tests}
+use Rattle.bl_syntax.specs.declared.terms.NodeId.{NodeId}
+use Rattle.bl_syntax.specs.declared.terms.Perm.{Perm}
+use Rattle.bl_syntax.specs.declared.terms.Sort.{Sort}
+use Rattle.bl_syntax.specs.declared.terms.TimePoint.{TimePoint}
+use Rattle.bl_syntax.specs.declared.terms.Term.{Term}
+use Rattle.bl_syntax.specs.declared.terms.Constraint.{Constraint}
+use Rattle.bl_syntax.specs.declared.terms.StatePred.{StatePred}
+use Rattle.bl_syntax.specs.declared.terms.StatePred.TheVariants.{Owner, HasXattr, InDir}
+use Rattle.bl_syntax.specs.declared.grant.Goal.{Goal}
+use Rattle.bl_syntax.specs.contracts.names.PrincipalPartialEq.TheImpl as principal
+use Rattle.bl_syntax.specs.contracts.names.WordPartialEq.TheImpl as word
+use Rattle.bl_syntax.specs.contracts.names.TextPartialEq.TheImpl as text
+use Rattle.bl_syntax.specs.contracts.terms.NodeIdPartialEq.TheImpl as node
+use Rattle.bl_syntax.specs.contracts.terms.PermPartialEq.TheImpl as perm
+use Rattle.bl_syntax.specs.contracts.terms.SortPartialEq.TheImpl as sort
+use Rattle.bl_syntax.specs.contracts.terms.TimePointPartialEq.TheImpl as time_point
+use Rattle.bl_syntax.specs.contracts.terms.TermPartialEq.TheImpl as term
+use Rattle.bl_syntax.specs.contracts.terms.ConstraintPartialEq.TheImpl as constraint
+use Rattle.bl_syntax.specs.contracts.terms.StatePredPartialEq.TheImpl as state
+use Rattle.bl_syntax.specs.contracts.grant.GoalPartialEq.TheImpl as goal
+
+-- what `==` answers of two values of each type
+abbrev pub principal_eq : List ℕ → List ℕ → Bool
+principal_eq = principal.ghosts.eq
+
+abbrev pub word_eq : List ℕ → List ℕ → Bool
+word_eq = word.ghosts.eq
+
+abbrev pub text_eq : List ℕ → List ℕ → Bool
+text_eq = text.ghosts.eq
+
+abbrev pub node_eq : NodeId → NodeId → Bool
+node_eq = node.ghosts.eq
+
+abbrev pub perm_eq : Perm → Perm → Bool
+perm_eq = perm.ghosts.eq
+
+abbrev pub sort_eq : Sort → Sort → Bool
+sort_eq = sort.ghosts.eq
+
+abbrev pub time_point_eq : TimePoint → TimePoint → Bool
+time_point_eq = time_point.ghosts.eq
+
+abbrev pub term_eq : Term → Term → Bool
+term_eq = term.ghosts.eq
+
+abbrev pub constraint_eq : Constraint → Constraint → Bool
+constraint_eq = constraint.ghosts.eq
+
+abbrev pub state_eq : StatePred → StatePred → Bool
+state_eq = state.ghosts.eq
+
+abbrev pub goal_eq : Goal → Goal → Bool
+goal_eq = goal.ghosts.eq
+
+pub Decides-principal_eq : (a b : List ℕ) → Decides (principal_eq a b) (a ≡ b)
+Decides-principal_eq a b = bytes_eq-Decides a b
+
+pub Decides-word_eq : (a b : List ℕ) → Decides (word_eq a b) (a ≡ b)
+Decides-word_eq a b = bytes_eq-Decides a b
+
+pub Decides-text_eq : (a b : List ℕ) → Decides (text_eq a b) (a ≡ b)
+Decides-text_eq a b = bytes_eq-Decides a b
+
+pub Decides-node_eq : (a b : NodeId) → Decides (node_eq a b) (a ≡ b)
+Decides-node_eq a b = search (tests, rules)
+
+pub Decides-perm_eq : (a b : Perm) → Decides (perm_eq a b) (a ≡ b)
+Decides-perm_eq a b = search (tests, rules)
+
+pub Decides-sort_eq : (a b : Sort) → Decides (sort_eq a b) (a ≡ b)
+Decides-sort_eq a b = search (tests, rules)
+
+pub Decides-time_point_eq : (a b : TimePoint) → Decides (time_point_eq a b) (a ≡ b)
+Decides-time_point_eq a b = search (tests, rules)
+
+pub Decides-term_eq : (a b : Term) → Decides (term_eq a b) (a ≡ b)
+Decides-term_eq a b = search (tests, rules)
+
+between : Term → Term → Constraint
+between u v = record { low = u; high = v }
+
+same_between : (a b : Constraint) → (a.low ≡ b.low) × (a.high ≡ b.high) → a ≡ b
+unfolding between
+same_between a b h = ap (λ (u : Term). between u a.high) h.0 ∙ ap (λ (v : Term). between b.low v) h.1
+
+pub Decides-constraint_eq : (a b : Constraint) → Decides (constraint_eq a b) (a ≡ b)
+Decides-constraint_eq a b =
+    Decides-like (constraint_eq a b) (same_between a b) (λ e. (ap (λ (c : Constraint). c.low) e, ap (λ (c : Constraint). c.high) e))
+    (Decides-and _ _ (Decides-term_eq a.low b.low) (Decides-term_eq a.high b.high))
+
+pub Decides-state_eq : (a b : StatePred) → Decides (state_eq a b) (a ≡ b)
+Decides-state_eq (Owner f k) (Owner g l) =
+    Decides-like _ (λ (h : (f ≡ g) × (k ≡ l)). let first = h.0 in let second = h.1 in cc) (λ e. (cc, cc)) (Decides-and _ _ (Decides-term_eq f g) (Decides-term_eq k l))
+Decides-state_eq (HasXattr f a v) (HasXattr g b w) =
+    Decides-like _ (λ (h : (f ≡ g) × ((a ≡ b) × (v ≡ w))). let first = h.0 in let second = h.1.0 in let third = h.1.1 in cc) (λ e. (cc, (cc, cc)))
+    (Decides-and _ _ (Decides-term_eq f g) (Decides-and _ _ (Decides-term_eq a b) (Decides-term_eq v w)))
+Decides-state_eq (InDir f d) (InDir g e) =
+    Decides-like _ (λ (h : (f ≡ g) × (d ≡ e)). let first = h.0 in let second = h.1 in cc) (λ same. (cc, cc)) (Decides-and _ _ (Decides-term_eq f g) (Decides-term_eq d e))
+Decides-state_eq _ _ = (λ e. absurd (false≢true e), λ e. cc)
+
+wanted : List ℕ → NodeId → Perm → Goal
+wanted who file perm = record { who = who; file = file; perm = perm }
+
+same_wanted : (a b : Goal) → (a.who ≡ b.who) × ((a.file ≡ b.file) × (a.perm ≡ b.perm)) → a ≡ b
+unfolding wanted
+same_wanted a b h =
+    ap (λ (who : List ℕ). wanted who a.file a.perm) h.0 ∙ ap (λ (file : NodeId). wanted b.who file a.perm) h.1.0 ∙ ap (λ (p : Perm). wanted b.who b.file p) h.1.1
+
+pub Decides-goal_eq : (a b : Goal) → Decides (goal_eq a b) (a ≡ b)
+Decides-goal_eq a b =
+    Decides-like (goal_eq a b) (same_wanted a b)
+    (λ e. (ap (λ (g : Goal). g.who) e, (ap (λ (g : Goal). g.file) e, ap (λ (g : Goal). g.perm) e)))
+    (Decides-and _ _ (Decides-principal_eq a.who b.who) (Decides-and _ _ (Decides-node_eq a.file b.file) (Decides-perm_eq a.perm b.perm)))
