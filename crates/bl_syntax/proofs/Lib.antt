@@ -1,3 +1,6 @@
+pub mod ConditionLemmas
+pub mod FaultLemmas
 pub mod GrantLemmas
 pub mod PaddingLemmas
 pub mod Same
+pub mod StatementLemmas

@@ -1,5 +1,5 @@
 -- The first fault of a formula in preorder: each node before its parts, the parts from left to right. The order is this project's own.
-use Rattle.std.specs.Prelude.{List, [], ◌∷◌, Option, Some, None, nat_le, ◌&&◌, if◌then◌else◌}
+use Rattle.std.specs.Prelude.{◌≡◌, Result, MatchResult, List, [], ◌∷◌, Option, Some, None, nat_le, ◌&&◌, if◌then◌else◌}
 use Rattle.std.specs.Str.{bytes_eq}
 use Rattle.bl_syntax.specs.declared.terms.Sort.{Sort}
 use Rattle.bl_syntax.specs.declared.terms.Sort.TheVariants as sorts
@@ -78,3 +78,7 @@ sorting_fault parameters binders (on a u v) = first_of (sorting_fault parameters
 abbrev pub formula_fault : List Sort → Form → Option SyntaxFault
 formula_fault parameters f =
     if nat_le (size f) 512 && nat_le (widest_atom f) 8 then sorting_fault parameters [] f else Some TooLarge
+
+-- a check gives the fault that there is, and passes where there is none
+abbrev pub Finds : Result (Unit {0}) SyntaxFault → Option SyntaxFault → Type 0
+Finds result fault = MatchResult result (λ _. fault ≡ None) (λ found. fault ≡ Some found)

@@ -1,3 +1,4 @@
+pub mod Binders
 pub mod FirstFailing
 pub mod FirstFault
 pub mod Formula

@@ -16,6 +16,9 @@ pub record Saying : Type 0 where
   pub from : TimePoint
   pub to : TimePoint
 
+abbrev pub saying : List ℕ → Form → TimePoint → TimePoint → Saying
+saying who body from to = record { who = who; body = body; from = from; to = to }
+
 -- each term of the formula has the property
 abbrev pub AllTerms : (Term → Type 0) → Form → Type 0
 AllTerms P (atom name terms) = AllByRecursion P terms
@@ -41,6 +44,14 @@ IsNotCtime (Text constant) = Unit {0}
 IsNotCtime Ctime = ⊥
 IsNotCtime (Param n) = Unit {0}
 IsNotCtime (Bound n) = Unit {0}
+
+-- the term may stand in a statement
+abbrev pub IsSayable : Term → Type 0
+IsSayable t = IsNotCtime t × HasTimeInRange t
+
+-- the formula may stand in a statement
+abbrev pub IsSayableFormula : Form → Type 0
+IsSayableFormula f = IsFormula [] f × AllTerms IsSayable f
 
 -- what may be said: a closed and well sorted formula within the limits, without parameters and the current time, with all times in the range of moments
 pub record IsStatement (s : Saying) : Type 0 where

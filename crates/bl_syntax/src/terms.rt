@@ -1,9 +1,13 @@
 //! Terms, their sorts, points in time, predicates on the server's state, and constraints between times.
 
-ghost use Rattle.std.specs.Prelude.{◌≡◌, ◌↔◌, IsTrue};
+ghost use Rattle.std.specs.Prelude.{◌≡◌, ◌↔◌, IsTrue, codes};
+ghost use Rattle.bl_syntax.specs.Terms.{IsAtLeastAsStrong};
 
 use crate::lists::Sequence;
 use crate::names::{Principal, Text};
+
+/// The principal that is as strong as any.
+const LOC: &[u8] = b"loc";
 
 /// A node of the file tree, by its number.
 #[derive(Clone, Copy, Debug, PartialEq, Eq)]
@@ -57,6 +61,22 @@ impl Term {
         ensures { IsTrue result ↔ (self.now ≡ other.now) }
     {
         self == other
+    }
+}
+
+/// Whether the first principal is at least as strong as the second: they are equal, or the first is `loc`.
+pub fn stronger(k: &Term, k0: &Term) -> bool
+    ensures { IsTrue result ↔ IsAtLeastAsStrong k.now k0.now }
+{
+    k.is_same(k0) || is_loc(k)
+}
+
+fn is_loc(k: &Term) -> bool
+    ensures { IsTrue result ↔ (k.now ≡ Term.Prin (codes "loc")) }
+{
+    match k {
+        Term::Prin(name) => name.bytes() == LOC,
+        _ => false,
     }
 }
 
