@@ -2,13 +2,24 @@
 #![tactic(auto)]
 
 mod command;
+mod decide;
 mod event;
+mod gate;
+mod history;
+mod node_name;
 mod reply;
+mod reply_text;
 mod request;
+mod step;
+mod stubs;
+mod verdict;
 mod world;
 
 pub use command::Command;
 pub use event::{Base, Event, Events, Issue, Op};
+pub use history::History;
 pub use reply::{Cause, Denial, RegisterFault, Reply};
-pub use request::Request;
+pub use request::StepRequest;
+pub use step::{AddedNode, Change, Step};
+pub use reply_text::write_reply;
 pub use world::{Kind, Row, World};

@@ -1,0 +1,4 @@
+pub mod Deciding
+pub mod Keeping
+pub mod Replays
+pub mod WrittenLemmas
