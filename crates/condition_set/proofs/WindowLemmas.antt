@@ -14,7 +14,7 @@ use Rattle.bl_syntax.specs.declared.terms.Constraint.{Constraint}
 use Rattle.bl_syntax.specs.Terms.{AreInOrder, in_order, term_at}
 use Rattle.bl_syntax.specs.TimeOrder.{IsUpTo, IsMoment, IsInRange}
 use Rattle.bl_syntax.specs.Grant.{HoldsAt}
-use Rattle.condition_set.specs.Window.{LiesBetween, Meets, IsMet, IsWindow}
+use Rattle.condition_set.specs.Window.{LiesBetween, Meets, IsWindow}
 
 IsUpTo-trans : (u v w : TimePoint) → IsUpTo u v → IsUpTo v w → IsUpTo u w
 IsUpTo-trans NegInf v w p q = tt

@@ -1,5 +1,5 @@
 -- Conditions as they come up: each is kept once, in the order of its first appearance (this project's own).
-use Rattle.std.specs.Prelude.{◌≡◌, ◌+◌, ℕ, List, [], ◌∷◌, ◌++◌, length, Contains}
+use Rattle.std.specs.Prelude.{◌≡◌, ◌+◌, List, [], ◌∷◌, ◌++◌, length, Contains}
 use Rattle.bl_syntax.specs.declared.terms.Constraint.{Constraint}
 use Rattle.bl_syntax.specs.declared.terms.StatePred.{StatePred}
 use Rattle.bl_syntax.specs.declared.grant.Goal.{Goal}
