@@ -64,7 +64,7 @@ HasNoStop-bound (at_second word second h) = HasNoStop-integer h.integer
 -- ---- what a line of each form says
 
 -- two lines that differ at a place
-differ : {a b : List ℕ} (place : ℕ) → eqb (get_or a place 0) (get_or b place 0) ≡ false → a ≡ b → ⊥
+pub differ : {a b : List ℕ} (place : ℕ) → eqb (get_or a place 0) (get_or b place 0) ≡ false → a ≡ b → ⊥
 differ {a} {b} place unequal same = false≢true (sym unequal ∙ eq-eqb (get_or a place 0) (get_or b place 0) (ap (λ line. get_or line place 0) same))
 
 pub record IsClockLine (word : List ℕ) (command : Command) : Type 0 where

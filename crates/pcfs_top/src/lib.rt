@@ -4,6 +4,7 @@
 mod command;
 mod event;
 mod forms;
+pub mod line_laws;
 mod lines;
 mod node_name;
 mod numerals;
