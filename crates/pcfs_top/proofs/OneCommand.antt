@@ -1,5 +1,5 @@
 -- Each part of a line is read in one way.
-use Rattle.std.proofs.Common.{◌≡◌, ◌≢◌, ℕ, ℤ, List, [], ◌∷◌, ◌++◌, IsTrue, true, false, refl, sym, ap, ◌∙◌, subst}
+use Rattle.std.proofs.Common.{◌≡◌, ℕ, ℤ, List, [], ◌∷◌, ◌++◌, IsTrue, false, refl, sym, ap, ◌∙◌, subst}
 use Rattle.std.specs.Prelude.{codes}
 use Rattle.std.specs.List.{list_all}
 use Rattle.std.proofs.lemmas.Bool.{false≢true}
@@ -7,11 +7,10 @@ use Rattle.std.proofs.lemmas.List.{append_cancel_left}
 use Rattle.bl_syntax.specs.declared.terms.TimePoint.{TimePoint}
 use Rattle.bl_syntax.specs.declared.terms.TimePoint.TheVariants.{NegInf, At, PosInf}
 use Rattle.bl_syntax.specs.Names.{is_digit}
-use Rattle.pcfs_top.specs.declared.event.Op.TheVariants.{Create}
 use Rattle.pcfs_top.specs.declared.command.Command.{Command}
 use Rattle.pcfs_top.specs.declared.command.Command.TheVariants as commands
-use Rattle.pcfs_top.specs.Words.{is_stop, starts_with_stop, HasNoStop}
-use Rattle.pcfs_top.specs.Lines.{IsInteger, from_zero_up, below_zero, IsSecond, IsBound, without_beginning, without_end, at_second, IsNumber, IsLine, sets_clock, sets_caller, registers, verifies, creates, writes_root, says_may}
+use Rattle.pcfs_top.specs.Words.{starts_with_stop, HasNoStop}
+use Rattle.pcfs_top.specs.Lines.{IsInteger, from_zero_up, below_zero, IsSecond, IsBound, without_beginning, without_end, at_second, IsNumber, IsLine, sets_clock, sets_caller, registers, verifies, creates}
 use Rattle.pcfs_top.proofs.NumeralLemmas.{IsInteger-digits, IsInteger-minus, IsPlain-from_number}
 use Rattle.pcfs_top.proofs.WordLemmas.{IsSplit-at_word, starts_with_stop-append}
 use Rattle.pcfs_top.proofs.FormLemmas.{HasNoStop-principal, HasNoStop-node_name, HasNoStop-number, HasNoStop-bound, differ, clock_line, caller_line, register_line, verify_line, create_line}

@@ -93,8 +93,9 @@ fn the_statement_of_a_line(rt: HostRuntime) -> Result<(), Fail> {
         Term::Perm(Perm::Write),
     ])?;
     let body = Formula::Atom(may, terms);
-    let want =
-        Statement::new(admin, body, TimePoint::At(5), TimePoint::At(6)).ok_or("a statement")?;
+    let want = Statement::new(admin, body, TimePoint::At(5), TimePoint::At(6)).ok_or(
+        "a statement",
+    )?;
     match &command {
         Some(Command::Register(statement)) => assert!(rt; statement.is_same(&want)),
         _ => assert!(rt; false),

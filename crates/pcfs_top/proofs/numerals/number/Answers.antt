@@ -21,9 +21,9 @@ returns c =
     let word = c.args.word.now in
     let digits = c.if-not-is_numeral.ensures.0 refl in
     let no_zero : get_or word 0 0 ≡ 48 → length word ≡ 1 =
-        elim c.else-word-gt1.branch [
-          else-word-gt1-via-then-word-gt1+else-word-eq48 w ↦ λ first. absurd (w.if-word-eq48.false first)
-        | else-word-gt1-via-else-word-gt1 w ↦ λ first. omega (arith, digits.some, w.if-word-gt1.false)
-        ] in
+    elim c.else-word-gt1.branch [
+      | else-word-gt1-via-then-word-gt1+else-word-eq48 w ↦ λ first. absurd (w.if-word-eq48.false first)
+      | else-word-gt1-via-else-word-gt1 w ↦ λ first. omega (arith, digits.some, w.if-word-gt1.false)
+    ] in
     let a = IsAnswer-number word c.digits_value.result c.try_from.result c.ok.result c.digits_value.ensures.value digits no_zero c.try_from.ensures c.ok.ensures.value in
     record { found = a.found; only = a.only }
