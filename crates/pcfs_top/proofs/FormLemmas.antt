@@ -1,7 +1,7 @@
 -- The forms of a line differ in how they begin, and a line of a form names its parts in one way.
 use Rattle.std.proofs.Common.{Option, Some, None, Result, Ok, Err, MatchOption, IfSome, IfOk, ◌≢◌}
 use Rattle.std.proofs.lemmas.Option.{none-some}
-use Rattle.std.proofs.Common.{◌≡◌, ℕ, ℤ, pos, ◌-ℤ◌, Bool, true, false, not, cond, List, [], ◌∷◌, ◌++◌, length, get_or, IsTrue, refl, sym, ap, ◌∙◌, subst, eqb}
+use Rattle.std.proofs.Common.{◌≡◌, ℕ, ℤ, Bool, true, false, not, List, [], ◌∷◌, ◌++◌, length, get_or, IsTrue, refl, sym, ap, ◌∙◌, subst, eqb}
 use Rattle.std.specs.Prelude.{codes, ◌==◌, ◌&&◌, ◌||◌}
 use Rattle.std.specs.List.{list_all}
 use Rattle.std.proofs.lemmas.Bool.{and_parts, and_from, false≢true, eqb-true, eq-eqb}
@@ -11,7 +11,6 @@ use Rattle.bl_syntax.specs.Names.{is_lower_case, is_digit, is_name_byte, is_iden
 use Rattle.pcfs_top.specs.declared.event.Op.TheVariants.{Create}
 use Rattle.pcfs_top.specs.declared.command.Command.{Command}
 use Rattle.pcfs_top.specs.declared.command.Command.TheVariants.{At, As, Register, Verify, Do}
-use Rattle.bl_syntax.specs.Statement.{Saying}
 use Rattle.pcfs_top.specs.World.{is_node_name, is_node_name_byte}
 use Rattle.pcfs_top.specs.Words.{is_stop, HasNoStop}
 use Rattle.pcfs_top.specs.Lines.{IsDigits, IsInteger, plain, negated, IsSecond, IsBound, without_beginning, without_end, at_second, IsNumber, IsLine, sets_clock, sets_caller, registers, verifies, creates, writes_root, says_may}
@@ -64,7 +63,7 @@ HasNoStop-bound (at_second word second h) = HasNoStop-integer h.integer
 -- ---- what a line of each form says
 
 -- two lines that differ at a place
-differ : {a b : List ℕ} (place : ℕ) → eqb (get_or a place 0) (get_or b place 0) ≡ false → a ≡ b → ⊥
+pub differ : {a b : List ℕ} (place : ℕ) → eqb (get_or a place 0) (get_or b place 0) ≡ false → a ≡ b → ⊥
 differ {a} {b} place unequal same = false≢true (sym unequal ∙ eq-eqb (get_or a place 0) (get_or b place 0) (ap (λ line. get_or line place 0) same))
 
 pub record IsClockLine (word : List ℕ) (command : Command) : Type 0 where
@@ -107,7 +106,14 @@ pub record IsRegisterLine (rest : List ℕ) (command : Command) : Type 0 where
 
 pub register_line : {line : List ℕ} {command : Command} → IsLine line command → (rest : List ℕ) → line ≡ codes "register - admin says may(" ++ rest → IsRegisterLine rest command
 register_line (registers who lower upper from to h f t) rest same = record {
-  who = who; lower = lower; upper = upper; from = from; to = to; named = h; lower_is = f; upper_is = t;
+  who = who;
+  lower = lower;
+  upper = upper;
+  from = from;
+  to = to;
+  named = h;
+  lower_is = f;
+  upper_is = t;
   rest_is = sym (append_cancel_left (codes "register - admin says may(") _ rest same);
   command_is = refl;
 }
@@ -127,7 +133,11 @@ pub record IsVerifyLine (rest : List ℕ) (command : Command) : Type 0 where
 
 pub verify_line : {line : List ℕ} {command : Command} → IsLine line command → (rest : List ℕ) → line ≡ codes "verify " ++ rest → IsVerifyLine rest command
 verify_line (verifies who word number h n) rest same = record {
-  who = who; word = word; number = number; named = h; numbered = n;
+  who = who;
+  word = word;
+  number = number;
+  named = h;
+  numbered = n;
   rest_is = sym (append_cancel_left (codes "verify ") _ rest same);
   command_is = refl;
 }
@@ -147,7 +157,11 @@ pub record IsCreateLine (rest : List ℕ) (command : Command) : Type 0 where
 
 pub create_line : {line : List ℕ} {command : Command} → IsLine line command → (rest : List ℕ) → line ≡ codes "do create #1 " ++ rest → IsCreateLine rest command
 create_line (creates name word number h n) rest same = record {
-  name = name; word = word; number = number; named = h; numbered = n;
+  name = name;
+  word = word;
+  number = number;
+  named = h;
+  numbered = n;
   rest_is = sym (append_cancel_left (codes "do create #1 ") _ rest same);
   command_is = refl;
 }

@@ -15,4 +15,5 @@ pub mod Following
 pub mod FormLemmas
 pub mod LineLemmas
 pub mod NumeralLemmas
+pub mod OneCommand
 pub mod WordLemmas

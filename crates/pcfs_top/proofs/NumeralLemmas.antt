@@ -1,5 +1,5 @@
 -- The digits of a word, and the number that they write.
-use Rattle.std.proofs.Common.{◌≡◌, ◌≢◌, ℕ, zero, suc, ◌+◌, ◌*◌, ◌-◌, ◌^◌, ◌<◌, ◌≤◌, ℤ, pos, ◌-ℤ◌, List, [], ◌∷◌, length, take, get_or, IsTrue, sym, ap, ◌∙◌, subst, refl, ⊎_elim, arith, rules}
+use Rattle.std.proofs.Common.{◌≡◌, ◌≢◌, ℕ, zero, suc, ◌+◌, ◌*◌, ◌-◌, ◌^◌, ◌<◌, ◌≤◌, ℤ, pos, ◌-ℤ◌, List, ◌∷◌, length, take, get_or, IsTrue, sym, ap, ◌∙◌, subst, refl, arith, rules}
 use Rattle.std.proofs.Common.{Option, Result, Ok, Err}
 use Rattle.std.specs.Prelude.{codes}
 use Rattle.std.specs.Result.{OkIff, result_ok}
@@ -7,7 +7,7 @@ use Rattle.std.specs.List.{list_all}
 use Rattle.std.specs.Char.{digit_value}
 use Rattle.std.specs.Int.{IsInRange}
 use Rattle.std.specs.Fmt.{decimal}
-use Rattle.std.specs.Str.Parse.{digits_value, AllDigits}
+use Rattle.std.specs.Str.Parse.{digits_value}
 use Rattle.std.proofs.lemmas.Str.{digit_value_digit}
 use Rattle.std.proofs.lemmas.Str.Parse.{IsNumeralModel, numerals_by_value, digits_value_short, digits_value-take-le, digit_at}
 use Rattle.std.proofs.lemmas.Int.Digits.{digits_value_more}
@@ -15,7 +15,7 @@ use Rattle.std.proofs.lemmas.Fmt.{decimal_digit, digits_decimal, digits_value-de
 use Rattle.pcfs_top.proofs.OptionLemmas.{IsAnswer, IsAnswer-None, IsAnswer-Some}
 use Rattle.bl_syntax.specs.Names.{is_digit}
 use Rattle.bl_syntax.specs.declared.terms.TimePoint.{TimePoint}
-use Rattle.bl_syntax.specs.declared.terms.TimePoint.TheVariants.{NegInf, At, PosInf}
+use Rattle.bl_syntax.specs.declared.terms.TimePoint.TheVariants.{At}
 use Rattle.pcfs_top.specs.Lines.{IsDigits, IsInteger, plain, negated, IsSecond, IsBound, without_beginning, without_end, at_second, IsNumber}
 
 -- the words of digits, and what they write, in the words of std's lemmas

@@ -1,5 +1,5 @@
 -- The one value that has a property, or none where nothing has it.
-use Rattle.std.proofs.Common.{◌≡◌, Option, Some, None, MatchOption, sym, ap}
+use Rattle.std.proofs.Common.{◌≡◌, Option, Some, None, MatchOption, ap}
 
 pub record IsAnswer {A : Type 0} (P : A → Type 0) (answer : Option A) : Type 0 where
   pub found : MatchOption answer ((x : A) → P x → ⊥) P

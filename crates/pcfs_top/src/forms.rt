@@ -147,3 +147,6 @@ fn name_and_issue(rest: &[u8]) -> Option<(&[u8], u32)>
     let issue = number(word)?;
     Some((name, issue))
 }
+
+#[cfg(test)]
+mod tests;

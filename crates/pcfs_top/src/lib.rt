@@ -11,6 +11,7 @@ mod history;
 mod fresh;
 mod laws;
 mod forms;
+pub mod line_laws;
 mod lines;
 mod node_name;
 mod numerals;

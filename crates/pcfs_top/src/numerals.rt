@@ -1,6 +1,6 @@
 //! Numbers, seconds and ends of intervals in the text of a line.
 
-ghost use Rattle.std.specs.Prelude.{◌≡◌, ◌↔◌, ◌<◌, ◌^◌, ℕ, ℤ, pos, IsTrue, IfSome, MatchOption};
+ghost use Rattle.std.specs.Prelude.{◌≡◌, ◌↔◌, ◌<◌, ◌^◌, ℕ, ℤ, pos, length, slice_index, IsTrue, IfSome, MatchOption};
 ghost use Rattle.std.specs.List.{list_all};
 ghost use Rattle.std.specs.Str.Parse.{digits_value};
 ghost use Rattle.bl_syntax.specs.Names.{is_digit};
@@ -27,6 +27,12 @@ fn is_numeral(word: &[u8]) -> bool
     ensures { IsTrue result ↔ IsDigits word.now }
 {
     1 <= word.len() && word.len() <= 18 && are_digits(word)
+}
+
+fn is_decimal(word: &[u8]) -> bool
+    ensures { IsTrue result ↔ (IsDigits word.now × (slice_index word.now 0 ≡ 48 → length word.now ≡ 1)) }
+{
+    is_numeral(word) && (word.len() == 1 || word[0] != b'0')
 }
 
 fn digits_value(digits: &[u8]) -> u64
@@ -95,10 +101,7 @@ pub fn number(word: &[u8]) -> Option<u32>
     ensures found { MatchOption result ((n : ℕ) → IsNumber word.now n → ⊥) (IsNumber word.now) }
     ensures only { (n : ℕ) → IsNumber word.now n → result ≡ Some n }
 {
-    if !is_numeral(word) {
-        return None;
-    }
-    if word.len() > 1 && word[0] == b'0' {
+    if !is_decimal(word) {
         return None;
     }
     u32::try_from(digits_value(word)).ok()

@@ -1,5 +1,5 @@
 -- The line names a node and an issue.
-use Rattle.std.proofs.Common.{sym, ap, ◌∙◌, Some, [], ◌∷◌, refl}
+use Rattle.std.proofs.Common.{sym, ap, ◌∙◌, [], ◌∷◌, refl}
 use Rattle.std.proofs.lemmas.Bool.{false≢true}
 use Rattle.std.proofs.lemmas.Option.{none-some, same_Some}
 use Rattle.pcfs_top.specs.declared.event.Op.TheVariants.{Create}

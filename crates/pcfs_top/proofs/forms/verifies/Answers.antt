@@ -1,10 +1,9 @@
 -- The line names a principal and a statement.
-use Rattle.std.proofs.Common.{sym, ap, ◌∙◌, subst, Some, [], refl, ◌==◌, length, true, false, rules}
+use Rattle.std.proofs.Common.{sym, ap, ◌∙◌, Some, [], refl, ◌==◌, length}
 use Rattle.std.proofs.lemmas.Bool.{false≢true}
 use Rattle.std.proofs.lemmas.Option.{none-some, same_Some}
-use Rattle.bl_syntax.specs.Names.{is_principal_name}
 use Rattle.pcfs_top.specs.declared.command.Command.TheVariants.{Verify}
-use Rattle.pcfs_top.specs.Lines.{IsLine, IsNumber, writes_root}
+use Rattle.pcfs_top.specs.Lines.{writes_root}
 use Rattle.pcfs_top.proofs.FormLemmas.{verify_line, HasNoStop-principal, HasNoStop-number, IsLine-verify, nothing_behind}
 use Rattle.pcfs_top.proofs.forms.verifies.Goals as goal
 

@@ -1,6 +1,5 @@
 -- An integer is digits, or a `-` before digits.
-use Rattle.std.proofs.Common.{◌≡◌, pos, ◌-ℤ◌, w64, arith}
-use Rattle.std.specs.Str.Parse.{digits_value}
+use Rattle.std.proofs.Common.{arith}
 use Rattle.std.proofs.lemmas.Int.{ints}
 use Rattle.std.proofs.lemmas.Option.{IfSome_then}
 use Rattle.pcfs_top.proofs.NumeralLemmas.{digits_value-lt, IsInteger-from_digits, IsInteger-from_minus}
