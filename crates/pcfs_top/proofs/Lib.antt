@@ -1,5 +1,7 @@
 pub mod Deciding
 pub mod Keeping
+pub mod LineLemmas
 pub mod Replays
+pub mod Running
 pub mod TreeLemmas
 pub mod WrittenLemmas

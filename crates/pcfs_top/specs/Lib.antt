@@ -2,6 +2,8 @@ pub mod Answer
 pub mod Decides
 pub mod Decision
 pub mod DecisionCode
+pub mod Desk
+pub mod DeskCode
 pub mod Effect
 pub mod Facts
 pub mod History

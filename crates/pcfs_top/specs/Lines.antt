@@ -17,7 +17,7 @@ use Rattle.pcfs_top.specs.World.{is_node_name}
 use Rattle.pcfs_top.specs.Verdict.{admin, wanted}
 
 -- the byte before the first of these lines
-abbrev with_byte : ℕ → List (List ℕ) → List (List ℕ)
+abbrev pub with_byte : ℕ → List (List ℕ) → List (List ℕ)
 with_byte byte [] = (byte ∷ []) ∷ []
 with_byte byte (line ∷ lines) = (byte ∷ line) ∷ lines
 
