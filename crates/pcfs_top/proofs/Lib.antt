@@ -1,4 +1,5 @@
 pub mod Deciding
+pub mod Ending
 pub mod Keeping
 pub mod LineLemmas
 pub mod Replays

@@ -15,6 +15,7 @@ mod node_name;
 mod reply;
 mod reply_text;
 mod request;
+pub mod run;
 mod script;
 mod step;
 mod stubs;
