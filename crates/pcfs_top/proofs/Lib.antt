@@ -1,6 +1,7 @@
 pub mod Beginning
 pub mod CauseLemmas
 pub mod Deciding
+pub mod Ending
 pub mod Keeping
 pub mod Making
 pub mod Replays
@@ -9,11 +10,12 @@ pub mod LawfulLemmas
 pub mod ListLemmas
 pub mod NumberedLemmas
 pub mod OptionLemmas
+pub mod LineLemmas
+pub mod Running
 pub mod TreeLemmas
 pub mod WrittenLemmas
 pub mod Following
 pub mod FormLemmas
-pub mod LineLemmas
 pub mod NumeralLemmas
 pub mod OneCommand
 pub mod WordLemmas

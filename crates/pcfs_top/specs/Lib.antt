@@ -3,6 +3,8 @@ pub mod Decides
 pub mod Decision
 pub mod DecisionCode
 pub mod Differs
+pub mod Desk
+pub mod DeskCode
 pub mod Effect
 pub mod Facts
 pub mod History

@@ -65,3 +65,18 @@ pub record IsCutShort (words : List (String Global)) (left left_after : Option (
 pub data IsOutOfMemory (words : List (String Global)) (left left_after : Option (List ℕ)) (held held_after : Option (List ℕ)) : Type 0 where
   while_reading : IsScript words → TakesSome left left_after → held_after ≡ held → IsOutOfMemory words left left_after held held_after
   while_answering : (bytes written : List ℕ) → IsScript words → ReadsWhole left left_after bytes → RunsPart bytes written → HoldsSome held held_after written → IsOutOfMemory words left left_after held held_after
+
+-- the status that a run ends with, and its cause
+pub data EndsWith (words : List (String Global)) (left left_after : Option (List ℕ)) (read_faults read_faults_after : ℕ) (held held_after : Option (List ℕ)) (write_faults write_faults_after : ℕ) : ℕ → Type 0 where
+  done : IsScript words → IsDone left left_after held held_after →
+      EndsWith words left left_after read_faults read_faults_after held held_after write_faults write_faults_after 0
+  usage : (IsScript words → ⊥) → left_after ≡ left → Tells (codes "usage") held held_after →
+      EndsWith words left left_after read_faults read_faults_after held held_after write_faults write_faults_after 1
+  read_fault : IsScript words → HasRisen read_faults read_faults_after → TakesSome left left_after → Tells (codes "readfault") held held_after →
+      EndsWith words left left_after read_faults read_faults_after held held_after write_faults write_faults_after 6
+  write_fault : HasRisen write_faults write_faults_after → IsCutShort words left left_after read_faults read_faults_after held held_after →
+      EndsWith words left left_after read_faults read_faults_after held held_after write_faults write_faults_after 7
+  out_of_memory : IsOutOfMemory words left left_after held held_after →
+      EndsWith words left left_after read_faults read_faults_after held held_after write_faults write_faults_after 9
+  too_long : IsScript words → TakesFirst 1073741824 left left_after → Tells (codes "toolong") held held_after →
+      EndsWith words left left_after read_faults read_faults_after held held_after write_faults write_faults_after 13

@@ -1,0 +1,220 @@
+-- A script that was run as far as some rest of its input.
+use Rattle.std.proofs.Common.{◌≡◌, ℕ, ℤ, zero, suc, ◌+◌, ◌-◌, ◌^◌, ◌≤◌, ◌<◌, Bool, true, false, cond, List, [], ◌∷◌, ◌++◌, length, take, Option, Some, None, refl, sym, ap, subst, ◌∙◌, arith, append_assoc, append-nil, length-append}
+use Rattle.std.specs.Prelude.{◌==◌, IfSome, MatchOption}
+use Rattle.std.specs.Option.{option_to_list}
+use Rattle.std.specs.List.{flat_map}
+use Rattle.std.proofs.lemmas.Grind.{flat_map-append}
+use Rattle.std.proofs.Math.Seq.{take-append-add}
+use Rattle.bl_syntax.specs.declared.grant.Goal.{Goal}
+use Rattle.bl_syntax.specs.Statement.{Saying}
+use Rattle.pcfs_ports.proofs.ToldLemmas.{with_back-nil, with_back-with_back}
+use Rattle.pcfs_ports.specs.Told.{with_back, HoldsSome}
+use Rattle.pcfs_top.specs.declared.event.Event.{Event}
+use Rattle.pcfs_top.specs.declared.event.Base.{Base}
+use Rattle.pcfs_top.specs.declared.event.Op.{Op}
+use Rattle.pcfs_top.specs.declared.request.StepRequest.{StepRequest}
+use Rattle.pcfs_top.specs.declared.request.StepRequest.TheVariants as requests
+use Rattle.pcfs_top.specs.declared.reply.Reply.{Reply}
+use Rattle.pcfs_top.specs.declared.reply.Reply.TheVariants as replies
+use Rattle.pcfs_top.specs.declared.command.Command.{Command}
+use Rattle.pcfs_top.specs.declared.command.Command.TheVariants as commands
+use Rattle.pcfs_top.specs.Answer.{Answers}
+use Rattle.pcfs_top.specs.Decision.{Gated}
+use Rattle.pcfs_top.specs.Replay.{replay, fresh}
+use Rattle.pcfs_top.specs.Lines.{lines_of, with_byte, IsLine}
+use Rattle.pcfs_top.specs.Lines as lines
+use Rattle.pcfs_top.specs.ReplyText.{reply_text, output_of}
+use Rattle.pcfs_top.specs.Script.{Standing, beginning, AnswersLine, script_pass, IsRun}
+use Rattle.pcfs_top.specs.Script as script
+use Rattle.pcfs_top.specs.Desk.{Seated, IsAsked, IsReplied, IsAllowed}
+use Rattle.pcfs_top.specs.Desk as desk
+use Rattle.pcfs_top.specs.Run.{RunsWhole, RunsPart}
+use Rattle.pcfs_top.proofs.Replays.{count-replay}
+
+-- what a line asks for is allowed
+pub IsAllowed-line : (line : List ℕ) (command : Command) → IsLine line command → IsAllowed command
+IsAllowed-line line command (lines.sets_clock word second is) = is.in_range
+IsAllowed-line line command (lines.sets_caller who is) = tt
+IsAllowed-line line command (lines.registers who lower upper from to is l u) = tt
+IsAllowed-line line command (lines.verifies who word number is n) = tt
+IsAllowed-line line command (lines.creates name word number is n) = refl
+
+-- what is decided and kept is answered
+pub IsAsked-keep : (seated : Seated) (base : Base) (clock shown : ℤ) (caller : List ℕ) (events : List Event) (decided kept : Gated) (request : StepRequest) (reply : Reply) →
+    seated ≡ record { base = base; standing = record { clock = clock; caller = caller; events = events } } → decided.events ≡ events → shown ≡ clock →
+    ((event : Event) × Answers (replay base events) script_pass shown request reply (Some event) × (decided.pending ≡ Some event)) →
+    IfSome decided.pending (λ event. kept ≡ record { base = decided.base; events = decided.events ++ event ∷ []; pending = None }) →
+    IsAsked seated.base seated.standing request reply (record { clock = clock; caller = caller; events = kept.events })
+IsAsked-keep seated base clock shown caller events decided kept request reply is same clock_is answer keep =
+    let k = subst (λ (p : Option Event). IfSome p (λ event. kept ≡ record { base = decided.base; events = decided.events ++ event ∷ []; pending = None })) answer.2 keep in
+    let more : kept.events ≡ events ++ answer.0 ∷ [] = ap (λ (g : Gated). g.events) k ∙ ap (λ (es : List Event). es ++ answer.0 ∷ []) same in
+    subst (λ (s : Seated). IsAsked s.base s.standing request reply (record { clock = clock; caller = caller; events = kept.events })) (sym is)
+    (record { event = Some answer.0; answer = subst (λ (z : ℤ). Answers (replay base events) script_pass z request reply (Some answer.0)) clock_is answer.1; after_is = ap (λ (es : List Event). record { clock = clock; caller = caller; events = es }) more })
+
+-- the line sets the clock
+pub AnswersLine-at : (seated : Seated) (base : Base) (clock : ℤ) (caller : List ℕ) (events : List Event) (line : List ℕ) (command : Command) (second shown : ℤ) →
+    seated ≡ record { base = base; standing = record { clock = clock; caller = caller; events = events } } → command ≡ commands.At second → shown ≡ second → IsLine line command →
+    AnswersLine seated.base seated.standing line replies.Done (record { clock = shown; caller = caller; events = events })
+AnswersLine-at seated base clock caller events line command second shown is asks same line_is =
+    subst (λ (s : Seated). AnswersLine s.base s.standing line replies.Done (record { clock = shown; caller = caller; events = events })) (sym is)
+    (subst (λ (z : ℤ). AnswersLine base (record { clock = clock; caller = caller; events = events }) line replies.Done (record { clock = z; caller = caller; events = events })) (sym same)
+      (script.sets_clock second (subst (IsLine line) asks line_is)))
+
+-- the line sets the caller
+pub AnswersLine-as : (seated : Seated) (base : Base) (clock : ℤ) (caller : List ℕ) (events : List Event) (line : List ℕ) (command : Command) (who : List ℕ) →
+    seated ≡ record { base = base; standing = record { clock = clock; caller = caller; events = events } } → command ≡ commands.As who → IsLine line command →
+    AnswersLine seated.base seated.standing line replies.Done (record { clock = clock; caller = who; events = events })
+AnswersLine-as seated base clock caller events line command who is asks line_is =
+    subst (λ (s : Seated). AnswersLine s.base s.standing line replies.Done (record { clock = clock; caller = who; events = events })) (sym is)
+    (script.sets_caller who (subst (IsLine line) asks line_is))
+
+-- what was read of a line
+pub IsLine-found : (line : List ℕ) (read : Option Command) (command : Command) → read ≡ Some command → MatchOption read ((c : Command) → IsLine line c → ⊥) (IsLine line) → IsLine line command
+IsLine-found line read command is found = subst (λ (r : Option Command). MatchOption r ((c : Command) → IsLine line c → ⊥) (IsLine line)) is found
+
+pub IsLine-none : (line : List ℕ) (read : Option Command) → read ≡ None → MatchOption read ((c : Command) → IsLine line c → ⊥) (IsLine line) → (c : Command) → IsLine line c → ⊥
+IsLine-none line read is found = subst (λ (r : Option Command). MatchOption r ((c : Command) → IsLine line c → ⊥) (IsLine line)) is found
+
+pub AnswersLine-register : (base : Base) (before after : Standing) (line : List ℕ) (command : Command) (statement : Saying) (reply : Reply) → command ≡ commands.Register statement → IsLine line command →
+    IsAsked base before (requests.Register statement) reply after → AnswersLine base before line reply after
+AnswersLine-register base before after line command statement reply asks line_is asked =
+    subst (λ (s : Standing). AnswersLine base before line reply s) (sym asked.after_is) (script.registers statement reply asked.event (subst (IsLine line) asks line_is) asked.answer)
+
+pub AnswersLine-verify : (base : Base) (before after : Standing) (line : List ℕ) (command : Command) (goal : Goal) (number : ℕ) (reply : Reply) → command ≡ commands.Verify goal number → IsLine line command →
+    IsAsked base before (requests.Issue number goal) reply after → AnswersLine base before line reply after
+AnswersLine-verify base before after line command goal number reply asks line_is asked =
+    subst (λ (s : Standing). AnswersLine base before line reply s) (sym asked.after_is) (script.verifies goal number reply asked.event (subst (IsLine line) asks line_is) asked.answer)
+
+acts_line : (base : Base) (before after : Standing) (line : List ℕ) (op : Op) (procaps : List ℕ) (reply : Reply) → IsLine line (commands.Do op procaps) →
+    IsAsked base before (requests.Act before.caller op procaps) reply after → AnswersLine base before line reply after
+acts_line base before after line op procaps reply is asked =
+    subst (λ (s : Standing). AnswersLine base before line reply s) (sym asked.after_is) (script.acts op procaps reply asked.event is asked.answer)
+
+pub AnswersLine-do : (seated : Seated) (base : Base) (clock : ℤ) (caller : List ℕ) (events : List Event) (after : Standing) (line : List ℕ) (command : Command) (op : Op) (procaps : List ℕ) (reply : Reply) →
+    seated ≡ record { base = base; standing = record { clock = clock; caller = caller; events = events } } → command ≡ commands.Do op procaps → IsLine line command →
+    IsAsked seated.base seated.standing (requests.Act caller op procaps) reply after → AnswersLine seated.base seated.standing line reply after
+AnswersLine-do seated base clock caller events after line command op procaps reply is asks line_is asked =
+    acts_line seated.base seated.standing after line op procaps reply (subst (IsLine line) asks line_is)
+    (subst (λ (who : List ℕ). IsAsked seated.base seated.standing (requests.Act who op procaps) reply after) (sym (ap (λ (s : Seated). s.standing.caller) is)) asked)
+
+-- where nothing changed there was want of memory
+pub IsReplied-without_memory : (before after : Seated) (line : List ℕ) → after ≡ before → IsReplied before.base before.standing line replies.NoMemory after.standing
+IsReplied-without_memory before after line same = subst (λ (s : Seated). IsReplied before.base before.standing line replies.NoMemory s.standing) (sym same) desk.without_memory
+
+-- a line adds at most one event
+length-option : (event : Option Event) → length (option_to_list event) ≤ 1
+length-option None = omega arith
+length-option (Some event) = omega arith
+
+more_events : (events : List Event) (event : Option Event) → length (events ++ option_to_list event) ≤ length events + 1
+more_events events event = omega (arith, length-append events (option_to_list event), length-option event)
+
+one_event : (base : Base) (before after : Standing) (line : List ℕ) (reply : Reply) → AnswersLine base before line reply after → length after.events ≤ length before.events + 1
+one_event base before after line reply (script.outside none) = omega arith
+one_event base before after line reply (script.sets_clock second is) = omega arith
+one_event base before after line reply (script.sets_caller who is) = omega arith
+one_event base before after line reply (script.registers statement r event is answer) = more_events before.events event
+one_event base before after line reply (script.verifies goal number r event is answer) = more_events before.events event
+one_event base before after line reply (script.acts op procaps r event is answer) = more_events before.events event
+
+-- so there are no more events than lines
+run_events : (base : Base) (done : List (List ℕ)) (answers : List Reply) (standing : Standing) → IsRun base done answers standing → length standing.events ≤ length done
+run_events base done answers standing script.begun = omega arith
+run_events base done answers standing (script.answered before_lines before_answers line reply before after run answer) =
+    omega (arith, length-append before_lines (line ∷ []), run_events base before_lines before_answers before run, one_event base before after line reply answer)
+run_events base done answers standing (script.without_memory before_lines before_answers line before run) =
+    omega (arith, length-append before_lines (line ∷ []), run_events base before_lines before_answers before run)
+
+-- and no more lines than bytes
+length-with_byte : (byte : ℕ) (ls : List (List ℕ)) → length (with_byte byte ls) ≤ length ls + 1
+length-with_byte byte [] = omega arith
+length-with_byte byte (line ∷ ls) = omega arith
+
+few_lines_step : (is_end : Bool) (byte : ℕ) (ls : List (List ℕ)) (n : ℕ) → length ls ≤ n → length (cond is_end ([] ∷ ls) (with_byte byte ls)) ≤ suc n
+few_lines_step true byte ls n few = omega arith
+few_lines_step false byte ls n few = omega (arith, length-with_byte byte ls)
+
+pub few_lines : (bytes : List ℕ) → length (lines_of bytes) ≤ length bytes
+few_lines [] = omega arith
+few_lines (byte ∷ bytes) = few_lines_step (byte == 10) byte (lines_of bytes) (length bytes) (few_lines bytes)
+
+-- the lines before the rest were run, their replies stand behind what was held, and the script stands there
+pub record HasRun (bytes rest : List ℕ) (standing : Standing) (held held_now : Option (List ℕ)) : Type 0 where
+  pub done : List (List ℕ)
+  pub answers : List Reply
+  pub run : IsRun fresh done answers standing
+  pub parts : lines_of bytes ≡ done ++ lines_of rest
+  pub output : held_now ≡ with_back held (output_of answers)
+
+pub HasRun-start : (bytes : List ℕ) (standing : Standing) (held : Option (List ℕ)) → standing ≡ beginning → HasRun bytes bytes standing held held
+HasRun-start bytes standing held start = record {
+  done = [];
+  answers = [];
+  run = subst (λ (s : Standing). IsRun fresh [] [] s) (sym start) script.begun;
+  parts = refl;
+  output = with_back-nil held;
+}
+
+pub HasRun-counted : (bytes rest : List ℕ) (base : Base) (standing : Standing) (held held_now : Option (List ℕ)) → base ≡ fresh → HasRun bytes rest standing held held_now → length bytes < 2 ^ 30 → (replay base standing.events).count < 2 ^ 48 - 1
+HasRun-counted bytes rest base standing held held_now same h short =
+    subst (λ (b : Base). (replay b standing.events).count < 2 ^ 48 - 1) (sym same)
+    (let lines_are : length (lines_of bytes) ≡ length (h.done ++ lines_of rest) = ap length h.parts in
+    omega (arith, short, lines_are, length-append h.done (lines_of rest), few_lines bytes, run_events fresh h.done h.answers standing h.run, count-replay fresh standing.events))
+
+one_more : (done : List (List ℕ)) (answers : List Reply) (before after : Standing) (line : List ℕ) (reply : Reply) → IsRun fresh done answers before → IsReplied fresh before line reply after →
+    IsRun fresh (done ++ line ∷ []) (answers ++ reply ∷ []) after
+one_more done answers before after line reply run (desk.answered r a answer) = script.answered done answers line reply before after run answer
+one_more done answers before after line reply run desk.without_memory = script.without_memory done answers line before run
+
+run-more : (base : Base) (done : List (List ℕ)) (answers : List Reply) (before after : Standing) (line : List ℕ) (reply : Reply) → base ≡ fresh → IsRun fresh done answers before → IsReplied base before line reply after →
+    IsRun fresh (done ++ line ∷ []) (answers ++ reply ∷ []) after
+run-more base done answers before after line reply same run replied =
+    one_more done answers before after line reply run (subst (λ (b : Base). IsReplied b before line reply after) same replied)
+
+output-more : (answers : List Reply) (reply : Reply) → output_of (answers ++ reply ∷ []) ≡ output_of answers ++ (reply_text reply ++ 10 ∷ [])
+output-more answers reply = flat_map-append (λ (r : Reply). reply_text r ++ 10 ∷ []) answers (reply ∷ []) ∙ ap (λ (l : List ℕ). output_of answers ++ l) (append-nil (reply_text reply ++ 10 ∷ []))
+
+parts-more : (bytes rest others line : List ℕ) (done : List (List ℕ)) → lines_of bytes ≡ done ++ lines_of rest → lines_of rest ≡ line ∷ lines_of others → lines_of bytes ≡ (done ++ line ∷ []) ++ lines_of others
+parts-more bytes rest others line done parts first = parts ∙ ap (λ (l : List (List ℕ)). done ++ l) first ∙ sym (append_assoc done (line ∷ []) (lines_of others))
+
+pub HasRun-more : (bytes rest others line : List ℕ) (base : Base) (before after : Standing) (reply : Reply) (held mid new : Option (List ℕ)) → base ≡ fresh → HasRun bytes rest before held mid → lines_of rest ≡ line ∷ lines_of others →
+    IsReplied base before line reply after → new ≡ with_back mid (reply_text reply ++ 10 ∷ []) → HasRun bytes others after held new
+HasRun-more bytes rest others line base before after reply held mid new same h first replied written = record {
+  done = h.done ++ line ∷ [];
+  answers = h.answers ++ reply ∷ [];
+  run = run-more base h.done h.answers before after line reply same h.run replied;
+  parts = parts-more bytes rest others line h.done h.parts first;
+  output = written ∙ ap (λ t. with_back t (reply_text reply ++ 10 ∷ [])) h.output ∙ with_back-with_back held (output_of h.answers) (reply_text reply ++ 10 ∷ []) ∙ ap (with_back held) (sym (output-more h.answers reply));
+}
+
+pub HasRun-whole : (bytes rest : List ℕ) (standing : Standing) (held held_now : Option (List ℕ)) → HasRun bytes rest standing held held_now → rest ≡ [] →
+    (written : List ℕ) × RunsWhole bytes written × (held_now ≡ with_back held written)
+HasRun-whole bytes rest standing held held_now h end =
+    let all : lines_of bytes ≡ h.done = h.parts ∙ ap (λ (r : List ℕ). h.done ++ lines_of r) end ∙ append-nil h.done in
+    (output_of h.answers, record { answers = h.answers; after = standing; run = subst (λ (ls : List (List ℕ)). IsRun fresh ls h.answers standing) (sym all) h.run; written_is = refl }, h.output)
+
+pub HasRun-part : (bytes rest others line : List ℕ) (base : Base) (before after : Standing) (reply : Reply) (held mid new : Option (List ℕ)) → base ≡ fresh → HasRun bytes rest before held mid → lines_of rest ≡ line ∷ lines_of others →
+    IsReplied base before line reply after → HoldsSome mid new (reply_text reply ++ 10 ∷ []) → (written : List ℕ) × RunsPart bytes written × HoldsSome held new written
+HasRun-part bytes rest others line base before after reply held mid new same h first replied some =
+    let out = output_of h.answers in
+    let text = reply_text reply ++ 10 ∷ [] in
+    (out ++ text,
+      record {
+        front = h.done ++ line ∷ [];
+        others = lines_of others;
+        parts = parts-more bytes rest others line h.done h.parts first;
+        answers = h.answers ++ reply ∷ [];
+        after = after;
+        run = run-more base h.done h.answers before after line reply same h.run replied;
+        written_is = sym (output-more h.answers reply);
+      }, record {
+        count = length out + some.count;
+        within = omega (arith, some.within, length-append out text);
+        held = some.held ∙ ap (λ t. with_back t (take some.count text)) h.output ∙ with_back-with_back held out (take some.count text) ∙ ap (with_back held) (sym (take-append-add out text some.count));
+      })
+
+-- nothing was run, and nothing written
+pub nothing_run : (bytes : List ℕ) (held : Option (List ℕ)) → (written : List ℕ) × RunsPart bytes written × HoldsSome held held written
+nothing_run bytes held =
+    ([], record { front = []; others = lines_of bytes; parts = refl; answers = []; after = beginning; run = script.begun; written_is = refl },
+      record { count = 0; within = omega arith; held = with_back-nil held })

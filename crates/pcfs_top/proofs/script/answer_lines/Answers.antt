@@ -1,0 +1,27 @@
+-- Each line that was answered, with its reply written, is one more of the run.
+use Rattle.std.proofs.Common.{ap, ◌∙◌, arith}
+use Rattle.pcfs_ports.proofs.ToldLemmas.{on_err}
+use Rattle.pcfs_top.specs.Desk.{Seated}
+use Rattle.pcfs_top.proofs.Running.{HasRun-start, HasRun-counted, HasRun-more, HasRun-part}
+use Rattle.pcfs_top.proofs.script.answer_lines.Goals as goal
+
+pub loop-line-init : goal.loop-line-init
+loop-line-init g c = record {
+  base = ap (λ (s : Seated). s.base) c.requires.fresh;
+  run = HasRun-start _ _ _ (ap (λ (s : Seated). s.standing) c.requires.fresh);
+  never_falls = omega arith;
+}
+
+pub reply_to-reply-requires : goal.reply_to-reply-requires
+reply_to-reply-requires g c = record { counted = HasRun-counted _ _ _ _ _ _ c.loop-line.invariant.base c.loop-line.invariant.run c.requires.short }
+
+pub returns-in_err-send-clause-err : goal.returns-in_err-send-clause-err
+returns-in_err-send-clause-err g c =
+    on_err c.from_residual.result (HasRun-part _ _ c.in-Some.others.now _ _ _ _ _ _ _ _ c.loop-line.invariant.base c.loop-line.invariant.run c.in-Some.ensures.lines c.reply_to-reply.ensures.reply c.in_err-send.ensures.err)
+
+pub loop-line-preserved : goal.loop-line-preserved
+loop-line-preserved g c = record {
+  base = c.reply_to-reply.ensures.base ∙ c.loop-line.invariant.base;
+  run = HasRun-more _ _ c.in-Some.others.now _ _ _ _ _ _ _ _ c.loop-line.invariant.base c.loop-line.invariant.run c.in-Some.ensures.lines c.reply_to-reply.ensures.reply c.in_ok-send.ensures.ok;
+  never_falls = omega (arith, c.in_ok-send.ensures.never_falls);
+}

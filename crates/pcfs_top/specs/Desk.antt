@@ -1,0 +1,39 @@
+-- What is seen of a desk, at which the lines of a script are answered, and what it does with one (this project's own).
+use Rattle.std.specs.Prelude.{◌≡◌, ℕ, List, ◌++◌, length, Option}
+use Rattle.std.specs.Option.{option_to_list}
+use Rattle.pcfs_top.specs.declared.event.Event.{Event}
+use Rattle.pcfs_top.specs.declared.event.Base.{Base}
+use Rattle.pcfs_top.specs.declared.request.StepRequest.{StepRequest}
+use Rattle.pcfs_top.specs.declared.reply.Reply.{Reply}
+use Rattle.pcfs_top.specs.declared.reply.Reply.TheVariants as replies
+use Rattle.pcfs_top.specs.declared.command.Command.{Command}
+use Rattle.pcfs_top.specs.declared.command.Command.TheVariants.{At, As, Register, Verify, Do}
+use Rattle.bl_syntax.specs.TimeOrder.{IsMoment}
+use Rattle.pcfs_top.specs.Needs.{slots}
+use Rattle.pcfs_top.specs.Answer.{Answers}
+use Rattle.pcfs_top.specs.Replay.{replay}
+use Rattle.pcfs_top.specs.Script.{Standing, AnswersLine, script_pass}
+
+-- the base that the events follow, and where the script stands
+pub record Seated : Type 0 where
+  pub base : Base
+  pub standing : Standing
+
+-- the request is answered, and the script stands there then: its event, where there is one, is kept
+pub record IsAsked (base : Base) (before : Standing) (request : StepRequest) (reply : Reply) (after : Standing) : Type 0 where
+  pub event : Option Event
+  pub answer : Answers (replay base before.events) script_pass before.clock request reply event
+  pub after_is : after ≡ record before { events = before.events ++ option_to_list event }
+
+-- the line is answered, or there is want of memory in the place of its reply and nothing changes
+pub data IsReplied (base : Base) (before : Standing) (line : List ℕ) : Reply → Standing → Type 0 where
+  answered : (reply : Reply) (after : Standing) → AnswersLine base before line reply after → IsReplied base before line reply after
+  without_memory : IsReplied base before line replies.NoMemory before
+
+-- what a line can ask for: a moment for the clock, and a procap for each place of an operation's needs
+abbrev pub IsAllowed : Command → Type 0
+IsAllowed (At second) = IsMoment second
+IsAllowed (As who) = Unit {0}
+IsAllowed (Register statement) = Unit {0}
+IsAllowed (Verify goal number) = Unit {0}
+IsAllowed (Do op procaps) = length procaps ≡ slots op

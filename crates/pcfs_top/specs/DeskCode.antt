@@ -1,0 +1,15 @@
+-- Desks can be told apart.
+use Rattle.std.specs.Prelude.{ℕ, ℤ, List, refl}
+use Rattle.std.specs.Coded.{Coded, code_by, coded×, coded_ℕ, coded_ℤ, coded_list}
+use Rattle.pcfs_top.specs.declared.event.Event.{Event}
+use Rattle.pcfs_top.specs.declared.event.Base.{Base}
+use Rattle.pcfs_top.specs.contracts.event.Event as event
+use Rattle.pcfs_top.specs.contracts.event.Base as base
+use Rattle.pcfs_top.specs.Desk.{Seated}
+
+abbrev pub seated_code : Coded Seated
+seated_code =
+    code_by (Base × (ℤ × (List ℕ × List Event))) (coded× base.the_row.coded (coded× coded_ℤ (coded× (coded_list coded_ℕ) (coded_list event.the_row.coded))))
+      (λ s. (s.base, (s.standing.clock, (s.standing.caller, s.standing.events))))
+      (λ p. record { base = p.0; standing = record { clock = p.1.0; caller = p.1.1.0; events = p.1.1.1 } })
+      (λ _. refl)

@@ -1,0 +1,128 @@
+//! The desk: where the lines of a script are answered.
+
+ghost use Rattle.std.specs.Prelude.{◌≡◌, ◌<◌, ◌-◌, ◌^◌, List, ℕ, IfOk, OnErr};
+
+use crate::command::Command;
+use crate::gate::{Decision, Gate};
+use crate::reply::Reply;
+use crate::request::StepRequest;
+use crate::forms::read_line;
+use bl_syntax::{NoMemory, Principal};
+use std::alloc::Global;
+use std::marker::Model;
+
+/// The events of a script carry this number.
+const SCRIPT_PASS: u64 = 1;
+
+/// The fault of a line that is of none of the forms.
+const NO_FORM: u32 = 9;
+
+/// A gate, what the clock shows in whole seconds from 1970-01-01T00:00:00Z, and who calls.
+#[derive(Debug, Drop)]
+pub struct Desk {
+    gate: Gate,
+    clock: i64,
+    caller: Principal,
+}
+
+impl Model for Desk {
+    ghost use Rattle.std.specs.Prelude.{◌≡◌, None};
+    ghost use Rattle.bl_syntax.specs.TimeOrder.{IsMoment};
+    ghost use Rattle.pcfs_top.specs.Desk.{Seated};
+    ghost use Rattle.pcfs_top.specs.DeskCode.{seated_code};
+
+    ghost Value = { Seated };
+
+    ghost coded = { seated_code };
+
+    ghost view = { λ d. record { base = d.gate.base; standing = record { clock = d.clock; caller = d.caller; events = d.gate.events } } };
+
+    ghost invariant = { λ d. IsMoment d.clock × (d.gate.pending ≡ None) };
+}
+
+impl Desk {
+    ghost use Rattle.pcfs_top.specs.Decides.{IsWellFormed};
+    ghost use Rattle.pcfs_top.specs.Lines.{IsLine};
+    ghost use Rattle.pcfs_top.specs.Replay.{replay, fresh};
+    ghost use Rattle.pcfs_top.specs.Script.{beginning, AnswersLine};
+    ghost use Rattle.pcfs_top.specs.Desk.{IsAsked, IsReplied, IsAllowed};
+
+    /// A desk where a script begins, over a store before its first event.
+    pub fn fresh(alloc: Global) -> Result<Desk, NoMemory>
+        ensures { IfOk result (λ desk. desk ≡ record { base = fresh; standing = beginning }) }
+    {
+        Ok(Desk {
+            gate: Gate::fresh(alloc)?,
+            clock: 0,
+            caller: Principal::new(b"admin").unwrap(),
+        })
+    }
+
+    // Asks the gate, and keeps the event where there is one.
+    fn ask(&mut self, alloc: Global, request: &StepRequest) -> Result<Reply, NoMemory>
+        requires counted { (replay self.old.base self.old.standing.events).count < 2 ^ 48 - 1 }
+        requires well_formed { IsWellFormed request.now }
+        ensures ok { IfOk result (λ reply. IsAsked self.old.base self.old.standing request.now reply self.new.standing) }
+        ensures err { OnErr result (self.new ≡ self.old) }
+        ensures base { self.new.base ≡ self.old.base }
+    {
+        match self.gate.decide(alloc, SCRIPT_PASS, request, self.clock) {
+            Decision::Answer(reply) => Ok(reply),
+            Decision::Keep(reply) => {
+                self.gate.commit();
+                Ok(reply)
+            }
+            Decision::NoMemory => Err(NoMemory),
+        }
+    }
+
+    // Does what a line of a script asks for.
+    fn follow(&mut self, alloc: Global, command: Command) -> Result<Reply, NoMemory>
+        requires counted { (replay self.old.base self.old.standing.events).count < 2 ^ 48 - 1 }
+        requires allowed { IsAllowed command }
+        ensures ok { IfOk result (λ reply. (line : List ℕ) → IsLine line command → AnswersLine self.old.base self.old.standing line reply self.new.standing) }
+        ensures err { OnErr result (self.new ≡ self.old) }
+        ensures base { self.new.base ≡ self.old.base }
+    {
+        match command {
+            Command::At(second) => {
+                self.clock = second;
+                Ok(Reply::Done)
+            }
+            Command::As(who) => {
+                self.caller = who;
+                Ok(Reply::Done)
+            }
+            Command::Register(statement) => self.ask(alloc, &StepRequest::Register(statement)),
+            Command::Verify(goal, number) => self.ask(alloc, &StepRequest::Issue(number, goal)),
+            Command::Do(op, procaps) => {
+                self.ask(alloc, &StepRequest::Act(self.caller, op, procaps))
+            }
+        }
+    }
+
+    /// Answers a line of a script, which is given without its end. Nothing changes where there is no memory.
+    pub fn answer_line(&mut self, alloc: Global, line: &[u8]) -> Result<Reply, NoMemory>
+        requires counted { (replay self.old.base self.old.standing.events).count < 2 ^ 48 - 1 }
+        ensures ok { IfOk result (λ reply. AnswersLine self.old.base self.old.standing line.now reply self.new.standing) }
+        ensures err { OnErr result (self.new ≡ self.old) }
+        ensures base { self.new.base ≡ self.old.base }
+    {
+        match read_line(alloc, line)? {
+            None => Ok(Reply::Bad(NO_FORM)),
+            Some(command) => self.follow(alloc, command),
+        }
+    }
+
+    /// The reply to a line of a script, and want of memory where there is none for it.
+    pub fn reply_to(&mut self, alloc: Global, line: &[u8]) -> Reply
+        requires counted { (replay self.old.base self.old.standing.events).count < 2 ^ 48 - 1 }
+        ensures reply { IsReplied self.old.base self.old.standing line.now result self.new.standing }
+        ensures base { self.new.base ≡ self.old.base }
+    {
+        match self.answer_line(alloc, line) {
+            Ok(reply) => reply,
+            Err(_) => Reply::NoMemory,
+        }
+    }
+}
