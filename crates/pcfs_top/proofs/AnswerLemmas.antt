@@ -13,21 +13,21 @@ use Rattle.pcfs_top.specs.declared.event.Issue.{Issue}
 use Rattle.pcfs_top.specs.declared.event.Event.{Event}
 use Rattle.pcfs_top.specs.declared.event.Event.TheVariants as events
 use Rattle.pcfs_top.specs.declared.event.Base.{Base}
-use Rattle.pcfs_top.specs.declared.request.Request.{Request}
-use Rattle.pcfs_top.specs.declared.request.Request.TheVariants as requests
+use Rattle.pcfs_top.specs.declared.request.StepRequest.{StepRequest}
+use Rattle.pcfs_top.specs.declared.request.StepRequest.TheVariants as requests
 use Rattle.pcfs_top.specs.declared.reply.RegisterFault.TheVariants.{RegistryFull, Duplicate}
 use Rattle.pcfs_top.specs.declared.reply.Cause.{Cause}
 use Rattle.pcfs_top.specs.declared.reply.Cause.TheVariants as causes
 use Rattle.pcfs_top.specs.declared.reply.Reply.{Reply}
 use Rattle.pcfs_top.specs.declared.reply.Reply.TheVariants as replies
-use Rattle.pcfs_top.specs.Numbered.{IsNumbered, IsAbsent}
+use Rattle.pcfs_top.specs.Numbered.{IsNumbered, HasNumber}
 use Rattle.pcfs_top.specs.World.{FileTree}
 use Rattle.pcfs_top.specs.Facts.{facts}
 use Rattle.pcfs_top.specs.Needs.{Need, needs}
-use Rattle.pcfs_top.specs.Effect.{refused, replied, OpReply, effect}
+use Rattle.pcfs_top.specs.Effect.{refusal, replied, OpReply, effect}
 use Rattle.pcfs_top.specs.Verdict.{grants, faults, IsTooWeak, IsAboutElse, IsVerdict}
-use Rattle.pcfs_top.specs.Answer.{moment_of, IsProcapAt, NamesMatch, Gives, Fails, other_principal, other_file, other_permission, time_passed, state_differs, IsMet, IsAdmitted, IsDenied, here, further, AreIssued, reply_of, Answers, duplicate, registry_full, registered, no_statement, unproved, issued, no_issue, denied, refused_, acted}
-use Rattle.pcfs_top.proofs.NumberedLemmas.{Contains-numbered, numbered_item, distinct_number, none_fails, first_failing}
+use Rattle.pcfs_top.specs.Answer.{moment_of, IsProcapAt, NamesMatch, Gives, Fails, other_principal, other_file, other_permission, time_passed, state_differs, IsMet, IsAdmitted, IsDenied, here, further, AreIssued, reply_of, Answers, duplicate, registry_full, registered, no_statement, unproved, issued, no_issue, denied, refused, acted}
+use Rattle.pcfs_top.proofs.NumberedLemmas.{Contains-numbered, numbered_item, distinct_number, none_fails, first_failing, HasNumber-item}
 
 -- the procap in a place stands for one grant
 procap_grant : (state : Base) (procaps : List ℕ) (place : ℕ) (g h : Granted) → IsProcapAt state procaps place g → IsProcapAt state procaps place h → g ≡ h
@@ -146,7 +146,7 @@ grant_or_fault statement goal g f r granted fault =
 
 module _ (state : Base) (pass : ℕ) (clock : ℤ) where
   -- this answer, with this event, is the one
-  abbrev IsOnly : Request → Reply → Option Event → Type 0
+  abbrev IsOnly : StepRequest → Reply → Option Event → Type 0
   IsOnly request reply event = (other : Reply) (other_event : Option Event) → Answers state pass clock request other other_event → (reply ≡ other) × (event ≡ other_event)
 
   only_duplicate : (statement : Saying) (number : ℕ) → AreDistinct state.statements → IsNumbered state.statements number statement → IsOnly (requests.Register statement) (replies.Rejected (Duplicate number)) None
@@ -166,14 +166,14 @@ module _ (state : Base) (pass : ℕ) (clock : ℤ) where
   only_registered statement new room _ _ (registry_full _ new' full) = absurd (omega (arith, full, room))
   only_registered statement new room _ _ (registered _ new' room') = (refl, refl)
 
-  only_no_statement : (number : ℕ) (goal : Goal) → IsAbsent state.statements number → IsOnly (requests.Issue number goal) (replies.Absent number) None
+  only_no_statement : (number : ℕ) (goal : Goal) → (HasNumber state.statements number → ⊥) → IsOnly (requests.Issue number goal) (replies.Absent number) None
   only_no_statement number goal absent _ _ (no_statement _ _ absent') = (refl, refl)
-  only_no_statement number goal absent _ _ (unproved _ _ statement fault rule numbered verdict) = absurd (absent statement numbered)
-  only_no_statement number goal absent _ _ (issued _ _ statement g numbered verdict) = absurd (absent statement numbered)
+  only_no_statement number goal absent _ _ (unproved _ _ statement fault rule numbered verdict) = absurd (absent (HasNumber-item state.statements number statement numbered))
+  only_no_statement number goal absent _ _ (issued _ _ statement g numbered verdict) = absurd (absent (HasNumber-item state.statements number statement numbered))
 
   only_unproved : (number : ℕ) (goal : Goal) (statement : Saying) (fault rule : ℕ) → IsNumbered state.statements number statement → IsVerdict statement goal (faults fault rule)
       → IsOnly (requests.Issue number goal) (replies.Unproved fault rule) None
-  only_unproved number goal statement fault rule numbered verdict _ _ (no_statement _ _ absent) = absurd (absent statement numbered)
+  only_unproved number goal statement fault rule numbered verdict _ _ (no_statement _ _ absent) = absurd (absent (HasNumber-item state.statements number statement numbered))
   only_unproved number goal statement fault rule numbered verdict _ _ (unproved _ _ statement' fault' rule' numbered' verdict') =
       let same : statement' ≡ statement = numbered_item state.statements number statement' statement numbered' numbered in
       let verdict'' : IsVerdict statement goal (faults fault' rule') = subst (λ (s : Saying). IsVerdict s goal (faults fault' rule')) same verdict' in
@@ -186,7 +186,7 @@ module _ (state : Base) (pass : ℕ) (clock : ℤ) where
 
   only_issued : (number : ℕ) (goal : Goal) (statement : Saying) (g : Granted) → IsNumbered state.statements number statement → IsVerdict statement goal (grants g)
       → IsOnly (requests.Issue number goal) (replies.Issue (length state.issues + 1) (length g.times) (length g.states)) (Some (events.Issued pass (number ∷ []) g))
-  only_issued number goal statement g numbered verdict _ _ (no_statement _ _ absent) = absurd (absent statement numbered)
+  only_issued number goal statement g numbered verdict _ _ (no_statement _ _ absent) = absurd (absent (HasNumber-item state.statements number statement numbered))
   only_issued number goal statement g numbered verdict _ _ (unproved _ _ statement' fault rule numbered' verdict') =
       let same : statement' ≡ statement = numbered_item state.statements number statement' statement numbered' numbered in
       let verdict'' : IsVerdict statement goal (faults fault rule) = subst (λ (s : Saying). IsVerdict s goal (faults fault rule)) same verdict' in
@@ -198,7 +198,7 @@ module _ (state : Base) (pass : ℕ) (clock : ℤ) where
       (ap (λ (k : Granted). replies.Issue (length state.issues + 1) (length k.times) (length k.states)) one, ap (λ (k : Granted). Some (events.Issued pass (number ∷ []) k)) one)
 
   abbrev IsNoMissing : ℕ → Type 0
-  IsNoMissing number = IsAbsent state.issues number → ⊥
+  IsNoMissing number = HasNumber state.issues number
 
   only_no_issue : (caller : List ℕ) (op : Op) (procaps : List ℕ) (place number : ℕ) → IsFirstFailing IsNoMissing procaps place number
       → IsOnly (requests.Act caller op procaps) (replies.Absent number) None
@@ -206,7 +206,7 @@ module _ (state : Base) (pass : ℕ) (clock : ℤ) where
       let same = first_failing IsNoMissing procaps place place' number number' first first' in
       (ap replies.Absent same.1, refl)
   only_no_issue caller op procaps place number first _ _ (denied _ _ _ need cause present denial) = absurd (none_fails IsNoMissing procaps place number present first)
-  only_no_issue caller op procaps place number first _ _ (refused_ _ _ _ refusal present admitted outcome) = absurd (none_fails IsNoMissing procaps place number present first)
+  only_no_issue caller op procaps place number first _ _ (refused _ _ _ code present admitted outcome) = absurd (none_fails IsNoMissing procaps place number present first)
   only_no_issue caller op procaps place number first _ _ (acted _ _ _ reply after present admitted outcome) = absurd (none_fails IsNoMissing procaps place number present first)
 
   abbrev denial_of : ℕ → Cause → Reply
@@ -218,30 +218,30 @@ module _ (state : Base) (pass : ℕ) (clock : ℤ) where
   only_denied caller op procaps need cause present denial _ _ (denied _ _ _ need' cause' present' denial') =
       let same = one_denial state caller procaps (moment_of state clock) (needs op state.world) need cause need' cause' denial denial' in
       (ap (λ (n : ℕ). denial_of n cause) same.0 ∙ ap (λ (c : Cause). denial_of need' c) same.1, refl)
-  only_denied caller op procaps need cause present denial _ _ (refused_ _ _ _ refusal present' admitted outcome) =
+  only_denied caller op procaps need cause present denial _ _ (refused _ _ _ code present' admitted outcome) =
       absurd (admitted_or_denied state caller procaps (moment_of state clock) (needs op state.world) need cause admitted denial)
   only_denied caller op procaps need cause present denial _ _ (acted _ _ _ reply after present' admitted outcome) =
       absurd (admitted_or_denied state caller procaps (moment_of state clock) (needs op state.world) need cause admitted denial)
 
-  only_refused : (caller : List ℕ) (op : Op) (procaps : List ℕ) (refusal : ℕ) → AreIssued state procaps → IsAdmitted state caller op procaps (moment_of state clock) → effect caller op state.world ≡ refused refusal
-      → IsOnly (requests.Act caller op procaps) (replies.Refused refusal state.count) None
-  only_refused caller op procaps refusal present admitted outcome _ _ (no_issue _ _ _ place' number' first') = absurd (none_fails IsNoMissing procaps place' number' present first')
-  only_refused caller op procaps refusal present admitted outcome _ _ (denied _ _ _ need cause present' denial) =
+  only_refused : (caller : List ℕ) (op : Op) (procaps : List ℕ) (number : ℕ) → AreIssued state procaps → IsAdmitted state caller op procaps (moment_of state clock) → effect caller op state.world ≡ refusal number
+      → IsOnly (requests.Act caller op procaps) (replies.Refused number state.count) None
+  only_refused caller op procaps number present admitted outcome _ _ (no_issue _ _ _ place' number' first') = absurd (none_fails IsNoMissing procaps place' number' present first')
+  only_refused caller op procaps number present admitted outcome _ _ (denied _ _ _ need cause present' denial) =
       absurd (admitted_or_denied state caller procaps (moment_of state clock) (needs op state.world) need cause admitted denial)
-  only_refused caller op procaps refusal present admitted outcome _ _ (refused_ _ _ _ refusal' present' admitted' outcome') =
-      let same : refusal ≡ refusal' = cc in (ap (λ (r : ℕ). replies.Refused r state.count) same, refl)
-  only_refused caller op procaps refusal present admitted outcome _ _ (acted _ _ _ reply after present' admitted' outcome') = cc
+  only_refused caller op procaps number present admitted outcome _ _ (refused _ _ _ number' present' admitted' outcome') =
+      let same : number ≡ number' = cc in (ap (λ (r : ℕ). replies.Refused r state.count) same, refl)
+  only_refused caller op procaps number present admitted outcome _ _ (acted _ _ _ reply after present' admitted' outcome') = cc
 
   only_acted : (caller : List ℕ) (op : Op) (procaps : List ℕ) (reply : OpReply) (after : FileTree) → AreIssued state procaps → IsAdmitted state caller op procaps (moment_of state clock) → effect caller op state.world ≡ replied reply after
       → IsOnly (requests.Act caller op procaps) (reply_of reply) (Some (events.Acted pass caller op procaps (moment_of state clock)))
   only_acted caller op procaps reply after present admitted outcome _ _ (no_issue _ _ _ place' number' first') = absurd (none_fails IsNoMissing procaps place' number' present first')
   only_acted caller op procaps reply after present admitted outcome _ _ (denied _ _ _ need cause present' denial) =
       absurd (admitted_or_denied state caller procaps (moment_of state clock) (needs op state.world) need cause admitted denial)
-  only_acted caller op procaps reply after present admitted outcome _ _ (refused_ _ _ _ refusal' present' admitted' outcome') = cc
+  only_acted caller op procaps reply after present admitted outcome _ _ (refused _ _ _ number' present' admitted' outcome') = cc
   only_acted caller op procaps reply after present admitted outcome _ _ (acted _ _ _ reply' after' present' admitted' outcome') =
       let same : reply ≡ reply' = cc in (ap reply_of same, refl)
 
-  only : (request : Request) (first : Reply) (kept : Option Event) → AreDistinct state.statements → Answers state pass clock request first kept → IsOnly request first kept
+  only : (request : StepRequest) (first : Reply) (kept : Option Event) → AreDistinct state.statements → Answers state pass clock request first kept → IsOnly request first kept
   only _ _ _ distinct (duplicate statement number numbered) = only_duplicate statement number distinct numbered
   only _ _ _ distinct (registry_full statement new full) = only_full statement new full
   only _ _ _ distinct (registered statement new room) = only_registered statement new room
@@ -250,11 +250,11 @@ module _ (state : Base) (pass : ℕ) (clock : ℤ) where
   only _ _ _ distinct (issued number goal statement g numbered verdict) = only_issued number goal statement g numbered verdict
   only _ _ _ distinct (no_issue caller op procaps place number first) = only_no_issue caller op procaps place number first
   only _ _ _ distinct (denied caller op procaps need cause present denial) = only_denied caller op procaps need cause present denial
-  only _ _ _ distinct (refused_ caller op procaps refusal present admitted outcome) = only_refused caller op procaps refusal present admitted outcome
+  only _ _ _ distinct (refused caller op procaps number present admitted outcome) = only_refused caller op procaps number present admitted outcome
   only _ _ _ distinct (acted caller op procaps reply after present admitted outcome) = only_acted caller op procaps reply after present admitted outcome
 
 -- a request has one answer over a state, and one event to keep
-pub one_answer : (state : Base) (pass : ℕ) (clock : ℤ) (request : Request) (first second : Reply) (kept other : Option Event)
+pub one_answer : (state : Base) (pass : ℕ) (clock : ℤ) (request : StepRequest) (first second : Reply) (kept other : Option Event)
     → AreDistinct state.statements → Answers state pass clock request first kept → Answers state pass clock request second other
     → (first ≡ second) × (kept ≡ other)
 one_answer state pass clock request first second kept other distinct one = only state pass clock request first kept distinct one second other

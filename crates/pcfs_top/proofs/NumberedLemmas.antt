@@ -6,7 +6,7 @@ use Rattle.std.proofs.lemmas.List.Elements.{Contains-append_right}
 use Rattle.std.proofs.lemmas.Option.{slice_get_within, get_or_from_slice_get}
 use Rattle.bl_syntax.specs.FirstFailing.{IsFirstFailing}
 use Rattle.bl_syntax.specs.Grant.{AreDistinct}
-use Rattle.pcfs_top.specs.Numbered.{IsNumbered}
+use Rattle.pcfs_top.specs.Numbered.{IsNumbered, HasNumber}
 use Rattle.pcfs_top.proofs.ListLemmas.{AllByRecursion-contains, Contains-head}
 
 Contains-from_get : {A : Type 0} (items : List A) (place : ℕ) (item : A) → slice_get items place ≡ Some item → Contains items item
@@ -14,6 +14,12 @@ Contains-from_get items place item found = (place, slice_get_within items place 
 
 pub Contains-numbered : {A : Type 0} (items : List A) (number : ℕ) (item : A) → IsNumbered items number item → Contains items item
 Contains-numbered items number item numbered = Contains-from_get items numbered.place item numbered.found
+
+-- an item's number is one that the list has
+pub HasNumber-item : {A : Type 0} (items : List A) (number : ℕ) (item : A) → IsNumbered items number item → HasNumber items number
+HasNumber-item items number item numbered =
+    let within = slice_get_within items numbered.place item numbered.found in
+    (omega (arith, numbered.from_one), omega (arith, within, numbered.from_one))
 
 -- a number has one item
 pub numbered_item : {A : Type 0} (items : List A) (number : ℕ) (first second : A) → IsNumbered items number first → IsNumbered items number second → first ≡ second

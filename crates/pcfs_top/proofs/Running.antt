@@ -7,7 +7,7 @@ use Rattle.std.proofs.lemmas.Grind.{flat_map-append}
 use Rattle.std.proofs.Math.Seq.{take-append-add}
 use Rattle.bl_syntax.specs.declared.grant.Goal.{Goal}
 use Rattle.bl_syntax.specs.Statement.{Saying}
-use Rattle.pcfs_ports.proofs.ToldLemmas.{with_back-nil, with_back-with_back}
+use Rattle.pcfs_ports.proofs.ToldLemmas.{with_back-with_back}
 use Rattle.pcfs_ports.specs.Told.{with_back, HoldsSome}
 use Rattle.pcfs_top.specs.declared.event.Event.{Event}
 use Rattle.pcfs_top.specs.declared.event.Base.{Base}
@@ -30,6 +30,11 @@ use Rattle.pcfs_top.specs.Desk.{Seated, IsAsked, IsReplied, IsAllowed}
 use Rattle.pcfs_top.specs.Desk as desk
 use Rattle.pcfs_top.specs.Run.{RunsWhole, RunsPart}
 use Rattle.pcfs_top.proofs.Replays.{count-replay}
+
+-- no byte behind what is held is no change
+pub with_back-nil : (told : Option (List ℕ)) → told ≡ with_back told []
+with_back-nil None = refl
+with_back-nil (Some first) = ap Some (sym (append-nil first))
 
 -- what a line asks for is allowed
 pub IsAllowed-line : (line : List ℕ) (command : Command) → IsLine line command → IsAllowed command

@@ -4,7 +4,7 @@ use Rattle.bl_syntax.specs.Grant.{AreDistinct}
 use Rattle.pcfs_top.specs.declared.event.Op.{Op}
 use Rattle.pcfs_top.specs.declared.event.Event.{Event}
 use Rattle.pcfs_top.specs.declared.event.Base.{Base}
-use Rattle.pcfs_top.specs.declared.request.Request.{Request}
+use Rattle.pcfs_top.specs.declared.request.StepRequest.{StepRequest}
 use Rattle.pcfs_top.specs.declared.reply.Reply.{Reply}
 use Rattle.pcfs_top.specs.World.{FileTree, IsTree}
 use Rattle.pcfs_top.specs.Effect.{OpReply, replied, effect}
@@ -22,6 +22,6 @@ HistoriesKeepTrees = (base : Base) (events : List Event) → IsLawful base event
 
 -- a request has one answer over a state, and one event to keep
 abbrev pub AnswersAreDetermined : Type 0
-AnswersAreDetermined = (state : Base) (pass : ℕ) (clock : ℤ) (request : Request) (first second : Reply) (kept other : Option Event)
+AnswersAreDetermined = (state : Base) (pass : ℕ) (clock : ℤ) (request : StepRequest) (first second : Reply) (kept other : Option Event)
     → AreDistinct state.statements → Answers state pass clock request first kept → Answers state pass clock request second other
     → (first ≡ second) × (kept ≡ other)

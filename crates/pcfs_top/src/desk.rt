@@ -41,7 +41,7 @@ impl Model for Desk {
 }
 
 impl Desk {
-    ghost use Rattle.pcfs_top.specs.Decides.{IsWellFormed};
+    ghost use Rattle.pcfs_top.specs.WellFormed.{IsWellFormed};
     ghost use Rattle.pcfs_top.specs.Lines.{IsLine};
     ghost use Rattle.pcfs_top.specs.Replay.{replay, fresh};
     ghost use Rattle.pcfs_top.specs.Script.{beginning, AnswersLine};
