@@ -1,1 +1,234 @@
-use super::*;
+//! Runs over ports in memory: worked rows of lines and their replies, the limits, and the statuses.
+
+use super::run;
+use bl_syntax::{Bytes, Numbers};
+use pcfs_ports::{MemorySink, MemorySource};
+use std::alloc::Global;
+use std::sync::Wait;
+use std::test::Fail;
+use std::thread::Threads;
+
+const FIRST_FILE: [&str; 5] = [
+    "at 100",
+    "register - admin says may(alice,#1,write) from 0 to 200",
+    "verify alice #1 write 1 saysR(claim(0,init(1)))",
+    "as alice",
+    "do create #1 notes @1",
+];
+
+const FIRST_REPLIES: [&str; 5] = [
+    "ok",
+    "ok statement 1",
+    "ok issue 1 time 2 state 0",
+    "ok",
+    "ok node #2",
+];
+
+// How a run ended, and what was written.
+#[derive(Drop)]
+struct Outcome {
+    status: u8,
+    output: MemorySink,
+}
+
+// The lines, each with its end.
+fn text_of(alloc: Global, lines: &[&str]) -> Result<Bytes, Fail> {
+    let mut text = Bytes::new(alloc);
+    for line in lines {
+        text.extend(line.as_bytes())?;
+        text.push(b'\n')?;
+    }
+    Ok(text)
+}
+
+// Runs over an input and an output of which the calls of these numbers fail.
+fn run_over<R: Threads + Wait + Sync + AllocGlobal>(
+    rt: &R,
+    words: &[&str],
+    text: Bytes,
+    failing_reads: &[u32],
+    failing_writes: &[u32],
+) -> Result<Outcome, Fail> {
+    let alloc = rt.alloc();
+    let mut given = Vec::new(alloc);
+    for word in words {
+        given.push(word.to_string(alloc)?)?;
+    }
+    let failing_reads = Numbers::from_vec(failing_reads.to_vec(alloc)?);
+    let mut input = MemorySource::new(alloc, text, failing_reads);
+    let failing_writes = Numbers::from_vec(failing_writes.to_vec(alloc)?);
+    let mut output = MemorySink::new(alloc, failing_writes);
+    let status = run(rt, alloc, &given, &mut input, &mut output);
+    Ok(Outcome { status, output })
+}
+
+#[test]
+fn lines_are_answered_after_the_first_file(rt: HostRuntime) -> Result<(), Fail> {
+    let rows: [(&[&str], &[&str]); 7] = [
+        (&[], &[]),
+        (
+            &[
+                "do create #1 notes @1",
+                "verify bob #1 write 1 saysR(claim(0,init(1)))",
+                "verify alice #1 write 2 saysR(claim(0,init(1)))",
+                "do create #1 notes",
+                "do create #1 other @2",
+            ],
+            &["refused 5 at 3", "unproved 2 2", "absent 2", "bad 9", "absent 2"],
+        ),
+        (
+            &["at 200", "do create #1 b @1", "at 201", "do create #1 c @1"],
+            &["ok", "ok node #3", "ok", "denied 1 time 2 ctime <= 200 at 4"],
+        ),
+        (
+            &[
+                "register - admin says may(alice,#1,write) from 0 to 180",
+                "verify alice #1 write 2 saysR(claim(0,init(1)))",
+                "at 190",
+                "do create #1 b @1",
+                "at 150",
+                "do create #1 c @2",
+            ],
+            &[
+                "ok statement 2",
+                "ok issue 2 time 2 state 0",
+                "ok",
+                "ok node #3",
+                "ok",
+                "denied 1 time 2 ctime <= 180 at 6",
+            ],
+        ),
+        (
+            &["as bob", "do create #1 x @1"],
+            &["ok", "denied 1 principal at 3"],
+        ),
+        (
+            &["register - admin says may(alice,#1,write) from 0 to 200"],
+            &["rejected 3 1"],
+        ),
+        (
+            &[
+                "at -1",
+                "register - admin says may(bob,#1,write) from -inf to +inf",
+                "verify bob #1 write 2 saysR(claim(0,init(1)))",
+                "as bob",
+                "do create #1 d @2",
+            ],
+            &["ok", "ok statement 2", "ok issue 2 time 0 state 0", "ok", "ok node #3"],
+        ),
+    ];
+    for (lines, replies) in rows {
+        let mut text = text_of(rt.alloc(), &FIRST_FILE)?;
+        text.extend(text_of(rt.alloc(), lines)?.as_slice())?;
+        let mut want = text_of(rt.alloc(), &FIRST_REPLIES)?;
+        want.extend(text_of(rt.alloc(), replies)?.as_slice())?;
+        let got = run_over(&rt, &["script"], text, &[], &[])?;
+        assert_eq!(rt; got.status, 0);
+        assert_eq!(rt; got.output.held(), want.as_slice());
+    }
+    Ok(())
+}
+
+#[test]
+fn a_line_of_no_form_is_bad(rt: HostRuntime) -> Result<(), Fail> {
+    let lines = [
+        "",
+        " at 100",
+        "at  100",
+        "at 100 ",
+        "at 100\r",
+        "at",
+        "at ",
+        "at +100",
+        "at --1",
+        "at 0x10",
+        "at 1234567890123456789",
+        "at 253402300800",
+        "AT 100",
+        "as Alice",
+        "as inf",
+        "as ",
+        "register - admin says may(alice,#1,read) from 0 to 200",
+        "register - admin says may(alice,#2,write) from 0 to 200",
+        "register - loc says may(alice,#1,write) from 0 to 200",
+        "register - admin says may(alice,#1,write) from 0",
+        "register - admin says may(alice,#1,write) from 0 to inf",
+        "register 00 admin says may(alice,#1,write) from 0 to 200",
+        "verify alice #1 write 01 saysR(claim(0,init(1)))",
+        "verify alice #1 write 4294967296 saysR(claim(0,init(1)))",
+        "verify alice #1 write 1 saysR(claim(0,init(2)))",
+        "verify alice #1 write 1",
+        "do create #1 notes",
+        "do create #1 notes @",
+        "do create #1 notes 1",
+        "do create #2 notes @1",
+        "do create #1 a/b @1",
+        "do read #1 @1",
+        "stop",
+    ];
+    let got = run_over(&rt, &["script"], text_of(rt.alloc(), &lines)?, &[], &[])?;
+    assert_eq!(rt; got.status, 0);
+    let want = text_of(rt.alloc(), &["bad 9"; 33])?;
+    assert_eq!(rt; got.output.held(), want.as_slice());
+    Ok(())
+}
+
+#[test]
+fn an_input_may_be_empty_or_lack_its_last_end(rt: HostRuntime) -> Result<(), Fail> {
+    for (text, want) in [("", ""), ("\n", "bad 9\n"), ("at 1", "ok\n"), ("at 1\nas bob", "ok\nok\n")] {
+        let mut bytes = Bytes::new(rt.alloc());
+        bytes.extend(text.as_bytes())?;
+        let got = run_over(&rt, &["script"], bytes, &[], &[])?;
+        assert_eq!(rt; got.status, 0);
+        assert_eq!(rt; got.output.held(), want.as_bytes());
+    }
+    Ok(())
+}
+
+#[test]
+fn no_more_than_4096_statements_are_kept(rt: HostRuntime) -> Result<(), Fail> {
+    let mut text = Bytes::new(rt.alloc());
+    for number in 1..4098u32 {
+        let line = format!(in rt.alloc(); "register - admin says may(p{number},#1,write) from 0 to 200\n")?;
+        text.extend(line.as_bytes())?;
+    }
+    let got = run_over(&rt, &["script"], text, &[], &[])?;
+    assert_eq!(rt; got.status, 0);
+    assert!(rt; got.output.held().ends_with(b"\nok statement 4096\nrejected 2\n"));
+    Ok(())
+}
+
+#[test]
+fn no_more_than_16384_nodes_are_made(rt: HostRuntime) -> Result<(), Fail> {
+    let mut text = text_of(rt.alloc(), &FIRST_FILE)?;
+    for number in 3..16386u32 {
+        let line = format!(in rt.alloc(); "do create #1 f{number} @1\n")?;
+        text.extend(line.as_bytes())?;
+    }
+    let got = run_over(&rt, &["script"], text, &[], &[])?;
+    assert_eq!(rt; got.status, 0);
+    assert!(rt; got.output.held().ends_with(b"\nok node #16384\nrefused 9 at 16385\n"));
+    Ok(())
+}
+
+#[test]
+fn a_run_ends_with_the_status_of_its_cause(rt: HostRuntime) -> Result<(), Fail> {
+    let cases: [(&[&str], &[u32], &[u32], u8, &str); 9] = [
+        (&[], &[], &[], 1, "usage\n"),
+        (&["Script"], &[], &[], 1, "usage\n"),
+        (&["script", "script"], &[0], &[], 1, "usage\n"),
+        (&["serve"], &[], &[0], 7, ""),
+        (&["script"], &[0], &[], 6, "readfault\n"),
+        (&["script"], &[1], &[], 6, "readfault\n"),
+        (&["script"], &[1], &[0], 7, ""),
+        (&["script"], &[], &[0], 7, ""),
+        (&["script"], &[], &[2], 7, "ok\nok statement 1\n"),
+    ];
+    for (words, failing_reads, failing_writes, status, written) in cases {
+        let text = text_of(rt.alloc(), &FIRST_FILE)?;
+        let got = run_over(&rt, words, text, failing_reads, failing_writes)?;
+        assert_eq!(rt; got.status, status);
+        assert_eq!(rt; got.output.held(), written.as_bytes());
+    }
+    Ok(())
+}
