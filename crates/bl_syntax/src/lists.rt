@@ -1,6 +1,6 @@
 //! Lists that contracts see as lists, and the one error of a growth that is refused.
 
-ghost use Rattle.std.specs.Prelude.{◌≡◌, [], ◌∷◌, ◌++◌, OnOk, OnErr, IfOk, length};
+ghost use Rattle.std.specs.Prelude.{◌≡◌, [], ◌∷◌, ◌++◌, OnOk, OnErr, IfOk, length, take};
 ghost use Rattle.bl_syntax.specs.declared.lists.NoMemory.{NoMemory};
 
 use std::alloc::{AllocError, AllocFailed, Global};
@@ -89,6 +89,20 @@ impl<T: Drop> Sequence<T> {
     {
         self.items.push(item)?;
         Ok(())
+    }
+
+    /// Keeps the first `len` items, and drops those behind them.
+    pub fn truncate(&mut self, len: usize)
+        ensures { self.new ≡ take len self.old }
+    {
+        self.items.truncate(len);
+    }
+
+    /// Drops all items. It gives no memory back.
+    pub fn clear(&mut self)
+        ensures { self.new ≡ [] }
+    {
+        self.items.clear();
     }
 }
 

@@ -12,7 +12,8 @@ pub record SinkState : Type 0 where
 
 -- a call wrote these bytes
 abbrev pub after_write : SinkState → List ℕ → SinkState
-after_write state bytes = record state { held = state.held ++ bytes; calls = after_call state.calls }
+after_write state bytes =
+    record state { held = state.held ++ bytes; calls = after_call state.calls }
 
 -- a call failed, as it was to
 abbrev pub after_failed_write : SinkState → SinkState
@@ -20,4 +21,5 @@ after_failed_write state = record state { calls = after_failed_call state.calls 
 
 -- a call failed, since a growth was refused
 abbrev pub after_refused_write : SinkState → SinkState
-after_refused_write state = record state { calls = after_failed_call state.calls; refused = raised state.refused }
+after_refused_write state =
+    record state { calls = after_failed_call state.calls; refused = raised state.refused }

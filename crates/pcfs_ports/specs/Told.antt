@@ -1,8 +1,7 @@
--- What a port tells of its bytes: `Some` of those that a source still has to give, or that a sink holds,
--- and `None` where it does not tell them. This project's own.
-use Rattle.std.specs.Prelude.{◌≡◌, ℕ, ◌≤◌, List, [], ◌++◌, length, take, drop, IfSome}
+-- What a port tells of its bytes: `Some` of those that a source still has to give, or that a sink
+-- holds, and `None` where it does not tell them. This project's own.
+use Rattle.std.specs.Prelude.{◌≡◌, ℕ, ◌≤◌, List, [], ◌++◌, length, take, drop, Option, IfSome}
 use Rattle.std.specs.Option.{option_map}
-use Rattle.std.specs.Prelude.{Option}
 
 -- these bytes, and then those that are told
 abbrev pub with_front : List ℕ → Option (List ℕ) → Option (List ℕ)

@@ -1,7 +1,7 @@
 //! Ports: where bytes come from and where they go.
 //!
 //! A fault of a port comes only where the port's own count of faults rose.
-//! A port in memory tells its bytes, and fails only at the calls that were to fail, and at a growth that is refused.
+//! A port in memory tells its bytes, and fails only where it was to or where a growth is refused.
 #![tactic(auto)]
 
 mod faults;

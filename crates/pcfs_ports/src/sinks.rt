@@ -1,7 +1,8 @@
 //! Sinks: where bytes go.
 
-ghost use Rattle.std.specs.Prelude.{◌≡◌, ℕ, ◌+◌, ◌<◌, ◌≤◌, ◌⊎◌, List, [], ◌++◌, Option, None, Some, IfOk, IsErr, OnOk, OnErr, length, take};
-ghost use Rattle.pcfs_ports.specs.Faults.{HasRisen};
+ghost use Rattle.std.specs.Prelude.{◌≡◌, ℕ, ◌+◌, ◌<◌, ◌≤◌, ◌⊎◌, List, [], ◌++◌, Option, None, Some, IfOk, IsErr, OnOk, OnErr, length, take, is_ok, if◌then◌else◌};
+ghost use Rattle.std.specs.Io.KnownBytes.{WriteAppends};
+ghost use Rattle.pcfs_ports.specs.Faults.{HasRisen, raised};
 ghost use Rattle.pcfs_ports.specs.Told.{with_back};
 ghost use Rattle.pcfs_ports.specs.Calls.{no_calls, FailsNext};
 ghost use Rattle.pcfs_ports.specs.MemorySink.{after_write, after_failed_write, after_refused_write};
@@ -14,8 +15,9 @@ use std::marker::Model;
 
 /// Where bytes go, in order.
 ///
-/// Its meaning is the bytes that it holds, which it tells or does not tell, and a count of faults that never falls.
-/// Whether it tells its bytes is the same after each call as before.
+/// Its meaning is the bytes that it holds, which it tells or does not tell, and a count of faults that
+/// never falls, and counts as risen where it stands at `u64::MAX`. Whether it tells its bytes is the
+/// same after each call as before.
 pub trait Sink {
     // The bytes that it holds, where it tells them.
     ghost held: { Self → Option (List ℕ) };
@@ -23,20 +25,22 @@ pub trait Sink {
     // How many faults it has had.
     ghost faults: { Self → ℕ };
 
-    /// Adds the first bytes of `piece` behind those that are held, and answers how many: at least one of a piece that
-    /// is not empty.
+    /// Adds the first bytes of `piece` behind those that are held, and answers how many: at least one
+    /// of a piece that is not empty.
     ///
     /// `Failed` comes only where the count of faults rose, and adds nothing.
     fn write(&mut self, piece: &[u8]) -> Result<usize, Failed>
         ensures bound { IfOk result (λ count. count ≤ length piece.now) }
         ensures progress { IfOk result (λ count. 0 < length piece.now → 0 < count) }
-        ensures ok { IfOk result (λ count. held self.new ≡ with_back (held self.old) (take count piece.now)) }
+        ensures ok { IfOk result (λ count.
+            held self.new ≡ with_back (held self.old) (take count piece.now)) }
         ensures err { OnErr result (held self.new ≡ held self.old) }
         ensures risen { OnErr result (HasRisen (faults self.old) (faults self.new)) }
         ensures never_falls { faults self.old ≤ faults self.new };
 }
 
-/// A sink that holds its bytes in memory. It fails at the calls that are to fail, and where a growth is refused.
+/// A sink that holds its bytes in memory. It fails at the calls that are to fail, and where a growth
+/// is refused.
 #[derive(Debug, Drop)]
 pub struct MemorySink {
     bytes: Bytes,
@@ -53,7 +57,8 @@ impl Model for MemorySink {
 }
 
 impl MemorySink {
-    /// A sink that holds nothing. `failing` lists the numbers, from 0, of the calls that fail. It takes no memory.
+    /// A sink that holds nothing. `failing` lists the numbers, from 0, of the calls that fail.
+    /// It takes no memory.
     pub fn new(alloc: Global, failing: Numbers) -> Self
         ensures { result ≡ record { held = []; calls = no_calls failing; refused = 0 } }
     {
@@ -87,7 +92,8 @@ impl Sink for MemorySink {
     fn write(&mut self, piece: &[u8]) -> Result<usize, Failed>
         // It fails where it is to, and else only where a growth is refused.
         ensures planned { FailsNext self.old.calls → IsErr result × (self.new ≡ after_failed_write self.old) }
-        ensures refused { OnErr result (FailsNext self.old.calls ⊎ (self.new ≡ after_refused_write self.old)) }
+        ensures refused { OnErr result (
+            FailsNext self.old.calls ⊎ (self.new ≡ after_refused_write self.old)) }
 
         // Else it takes the whole piece.
         ensures count { IfOk result (λ count. count ≡ length piece.now) }
@@ -113,8 +119,8 @@ impl Sink for MemorySink {
     }
 }
 
-/// A sink over a writer of std. It tells nothing of the bytes, and does not flush. Each error of the writer is a
-/// fault, and so is a write that takes nothing of a piece that is not empty.
+/// A sink over a writer of std. As a sink it tells nothing of the bytes, and it never flushes. Each
+/// error of the writer is a fault, and so is a write that takes nothing of a piece that is not empty.
 #[derive(Debug, Drop)]
 pub struct StdSink<W> {
     writer: W,
@@ -124,16 +130,16 @@ pub struct StdSink<W> {
 impl<W> Model for StdSink<W> {
     ghost use Rattle.std.specs.Prelude.{ℕ};
 
-    // the count of faults
-    ghost Value = { ℕ };
+    // the writer, and the count of faults
+    ghost Value = { W × ℕ };
 
-    ghost view = { λ s. s.faults };
+    ghost view = { λ s. (s.writer, s.faults) };
 }
 
 impl<W: Write> StdSink<W> {
     /// A sink over this writer, without a fault.
     pub fn new(writer: W) -> Self
-        ensures { result ≡ 0 }
+        ensures { result ≡ (writer, 0) }
     {
         StdSink { writer, faults: 0 }
     }
@@ -142,9 +148,17 @@ impl<W: Write> StdSink<W> {
 impl<W: Write> Sink for StdSink<W> {
     ghost held = { λ _. None };
 
-    ghost faults = { λ faults. faults };
+    ghost faults = { λ s. s.1 };
 
-    fn write(&mut self, piece: &[u8]) -> Result<usize, Failed> {
+    fn write(&mut self, piece: &[u8]) -> Result<usize, Failed>
+        ensures bound { IfOk result (λ count. count ≤ length piece.now) }
+        ensures progress { IfOk result (λ count. 0 < length piece.now → 0 < count) }
+
+        // What the writer itself tells of its bytes holds here too.
+        ensures bytes { WriteAppends (W.contents self.old.0) (W.contents self.new.0) result piece.now }
+        ensures faults { self.new.1 ≡ (if is_ok result then self.old.1 else raised self.old.1) }
+        ensures never_falls { self.old.1 ≤ self.new.1 }
+    {
         match self.writer.write(piece) {
             Ok(count) if count > 0 || piece.is_empty() => Ok(count),
             _ => {

@@ -1,7 +1,8 @@
 //! Sources: where bytes come from.
 
-ghost use Rattle.std.specs.Prelude.{◌≡◌, ℕ, ◌<◌, ◌≤◌, ◌↔◌, List, Option, None, Some, IfOk, IsErr, OnErr, length, take, min};
-ghost use Rattle.pcfs_ports.specs.Faults.{HasRisen};
+ghost use Rattle.std.specs.Prelude.{◌≡◌, ℕ, ◌<◌, ◌≤◌, ◌↔◌, List, Option, None, Some, IfOk, IsErr, OnErr, length, take, min, is_ok, if◌then◌else◌};
+ghost use Rattle.std.specs.Io.KnownBytes.{ReadConsumes};
+ghost use Rattle.pcfs_ports.specs.Faults.{HasRisen, raised};
 ghost use Rattle.pcfs_ports.specs.Told.{with_front, IsAtEnd};
 ghost use Rattle.pcfs_ports.specs.Calls.{no_calls, FailsNext};
 ghost use Rattle.pcfs_ports.specs.MemorySource.{after_read, after_failed_read};
@@ -14,8 +15,9 @@ use std::marker::Model;
 
 /// Where bytes come from, in order.
 ///
-/// Its meaning is the bytes that are still to come, which it tells or does not tell, and a count of faults that never
-/// falls. Whether it tells its bytes is the same after each call as before.
+/// Its meaning is the bytes that are still to come, which it tells or does not tell, and a count of
+/// faults that never falls, and counts as risen where it stands at `u64::MAX`. Whether it tells its
+/// bytes is the same after each call as before.
 pub trait Source {
     // The bytes that are still to come, where it tells them.
     ghost left: { Self → Option (List ℕ) };
@@ -25,12 +27,15 @@ pub trait Source {
 
     /// Takes the next bytes into the front of `buf`, and answers how many.
     ///
-    /// No byte for a `buf` that is not empty is the end of the input. `Failed` comes only where the count of faults
-    /// rose, and takes nothing. What stands in `buf` behind the bytes that were taken, or at `Failed`, is left open.
+    /// No byte for a `buf` that is not empty is the end of the input. `Failed` comes only where the
+    /// count of faults rose, and takes nothing. What stands in `buf` behind the bytes that were
+    /// taken, or at `Failed`, is left open.
     fn read(&mut self, buf: &mut [u8]) -> Result<usize, Failed>
         ensures bound { IfOk result (λ count. count ≤ length buf.new) }
-        ensures ok { IfOk result (λ count. left self.old ≡ with_front (take count buf.new) (left self.new)) }
-        ensures end { IfOk result (λ count. count ≡ 0 → 0 < length buf.new → IsAtEnd (left self.new)) }
+        ensures ok { IfOk result (λ count.
+            left self.old ≡ with_front (take count buf.new) (left self.new)) }
+        ensures end { IfOk result (λ count.
+            count ≡ 0 → 0 < length buf.new → IsAtEnd (left self.new)) }
         ensures err { OnErr result (left self.new ≡ left self.old) }
         ensures risen { OnErr result (HasRisen (faults self.old) (faults self.new)) }
         ensures never_falls { faults self.old ≤ faults self.new };
@@ -56,7 +61,8 @@ impl Model for MemorySource {
 }
 
 impl MemorySource {
-    /// A source with these bytes. `failing` lists the numbers, from 0, of the calls that fail. It takes no memory.
+    /// A source with these bytes. `failing` lists the numbers, from 0, of the calls that fail.
+    /// It takes no memory.
     pub fn new(_alloc: Global, bytes: Bytes, failing: Numbers) -> Self
         ensures { result ≡ record { left = bytes; calls = no_calls failing } }
     {
@@ -95,7 +101,8 @@ impl Source for MemorySource {
     }
 }
 
-/// A source over a reader of std. It tells nothing of the bytes. Each error of the reader is a fault.
+/// A source over a reader of std. As a source it tells nothing of the bytes. Each error of the reader
+/// is a fault.
 #[derive(Debug, Drop)]
 pub struct StdSource<R> {
     reader: R,
@@ -105,16 +112,16 @@ pub struct StdSource<R> {
 impl<R> Model for StdSource<R> {
     ghost use Rattle.std.specs.Prelude.{ℕ};
 
-    // the count of faults
-    ghost Value = { ℕ };
+    // the reader, and the count of faults
+    ghost Value = { R × ℕ };
 
-    ghost view = { λ s. s.faults };
+    ghost view = { λ s. (s.reader, s.faults) };
 }
 
 impl<R: Read> StdSource<R> {
     /// A source over this reader, without a fault.
     pub fn new(reader: R) -> Self
-        ensures { result ≡ 0 }
+        ensures { result ≡ (reader, 0) }
     {
         StdSource { reader, faults: 0 }
     }
@@ -123,9 +130,16 @@ impl<R: Read> StdSource<R> {
 impl<R: Read> Source for StdSource<R> {
     ghost left = { λ _. None };
 
-    ghost faults = { λ faults. faults };
+    ghost faults = { λ s. s.1 };
 
-    fn read(&mut self, buf: &mut [u8]) -> Result<usize, Failed> {
+    fn read(&mut self, buf: &mut [u8]) -> Result<usize, Failed>
+        ensures bound { IfOk result (λ count. count ≤ length buf.new) }
+
+        // What the reader itself tells of its bytes holds here too.
+        ensures bytes { ReadConsumes (R.remaining self.old.0) (R.remaining self.new.0) result buf.new }
+        ensures faults { self.new.1 ≡ (if is_ok result then self.old.1 else raised self.old.1) }
+        ensures never_falls { self.old.1 ≤ self.new.1 }
+    {
         match self.reader.read(buf) {
             Ok(count) => Ok(count),
             Err(_) => {

@@ -54,7 +54,8 @@ impl From<Failed> for TakeFault {
 
 /// Writes all of the bytes, in as many calls as the sink takes for it.
 ///
-/// `Failed` comes only where the sink's count of faults rose. Some first part may have been written then.
+/// `Failed` comes only where the sink's count of faults rose. Some first part may have been written
+/// then.
 pub fn write_all<O: Sink>(output: &mut O, bytes: &[u8]) -> Result<(), Failed>
     ensures ok { OnOk result (O.held output.new ≡ with_back (O.held output.old) bytes.now) }
     ensures err { OnErr result (HoldsSome (O.held output.old) (O.held output.new) bytes.now) }
@@ -75,7 +76,8 @@ fn zeros(alloc: Global, len: usize) -> Result<Vec<u8>, AllocError>
     vec![in alloc; 0u8; len]
 }
 
-// Moves bytes from the input behind those that were taken, by one read, and answers how many: none at the end.
+// Moves bytes from the input behind those that were taken, by one read, and answers how many: none
+// at the end.
 fn take_piece<I: Source>(
     input: &mut I,
     piece: &mut [u8],
@@ -83,7 +85,8 @@ fn take_piece<I: Source>(
 ) -> Result<usize, TakeFault>
     requires room { 0 < length piece.old }
     requires short { length bytes.old < INPUT_LIMIT }
-    ensures moved { OnOk result (with_front bytes.old (I.left input.old) ≡ with_front bytes.new (I.left input.new)) }
+    ensures moved { OnOk result (
+        with_front bytes.old (I.left input.old) ≡ with_front bytes.new (I.left input.new)) }
     ensures count { IfOk result (λ count. length bytes.new ≡ length bytes.old + count) }
     ensures limit { OnOk result (length bytes.new ≤ INPUT_LIMIT) }
     ensures end { IfOk result (λ count. count ≡ 0 → IsAtEnd (I.left input.new)) }
@@ -100,14 +103,15 @@ fn take_piece<I: Source>(
 
 /// Reads a source to its end.
 ///
-/// `TooLong` comes where `INPUT_LIMIT` bytes were taken and the end was not met before; it is not asked whether more
-/// follow. `Failed` comes only where the source's count of faults rose. `NoMemory` may come at any time. After a fault
-/// the bytes that were taken are lost.
+/// `TooLong` comes where `INPUT_LIMIT` bytes were taken and the end was not met before; it is not
+/// asked whether more follow. `Failed` comes only where the source's count of faults rose. `NoMemory`
+/// may come at any time. After a fault the bytes that were taken are lost.
 pub fn read_to_end<I: Source>(alloc: Global, input: &mut I) -> Result<Bytes, TakeFault>
     ensures ok { IfOk result (λ bytes. ReadsWhole (I.left input.old) (I.left input.new) bytes) }
     ensures short { IfOk result (λ bytes. length bytes < INPUT_LIMIT) }
     ensures err { OnErr result (TakesSome (I.left input.old) (I.left input.new)) }
-    ensures too_long { IsErrOf result TakeFault.TooLong → TakesFirst INPUT_LIMIT (I.left input.old) (I.left input.new) }
+    ensures too_long { IsErrOf result TakeFault.TooLong →
+        TakesFirst INPUT_LIMIT (I.left input.old) (I.left input.new) }
     ensures risen { IsErrOf result TakeFault.Failed → HasRisen (I.faults input.old) (I.faults input.new) }
     ensures never_falls { I.faults input.old ≤ I.faults input.new }
 {

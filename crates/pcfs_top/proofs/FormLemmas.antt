@@ -13,7 +13,7 @@ use Rattle.pcfs_top.specs.declared.command.Command.{Command}
 use Rattle.pcfs_top.specs.declared.command.Command.TheVariants.{At, As, Register, Verify, Do}
 use Rattle.pcfs_top.specs.World.{is_node_name, is_node_name_byte}
 use Rattle.pcfs_top.specs.Words.{is_stop, HasNoStop}
-use Rattle.pcfs_top.specs.Lines.{IsDigits, IsInteger, from_zero_up, below_zero, IsSecond, IsBound, without_beginning, without_end, at_second, IsNumber, IsLine, sets_clock, sets_caller, registers, verifies, creates, writes_root, says_may}
+use Rattle.pcfs_top.specs.Lines.{IsDigits, IsInteger, plain, negated, IsSecond, IsBound, without_beginning, without_end, at_second, IsNumber, IsLine, sets_clock, sets_caller, registers, verifies, creates, writes_root, says_may}
 use Rattle.pcfs_top.proofs.NumeralLemmas.{IsPlain-from_number}
 
 -- ---- no part of a line holds a space or a comma
@@ -52,8 +52,8 @@ pub HasNoStop-number : {word : List ℕ} {number : ℕ} → IsNumber word number
 HasNoStop-number {word} h = HasNoStop-digits word (IsPlain-from_number h).digits
 
 HasNoStop-integer : {word : List ℕ} {n : ℤ} → IsInteger word n → HasNoStop word
-HasNoStop-integer (from_zero_up digits h) = HasNoStop-digits digits h
-HasNoStop-integer (below_zero digits h) = HasNoStop-digits digits h
+HasNoStop-integer (plain digits h) = HasNoStop-digits digits h
+HasNoStop-integer (negated digits h) = HasNoStop-digits digits h
 
 pub HasNoStop-bound : {word : List ℕ} {point : TimePoint} → IsBound word point → HasNoStop word
 HasNoStop-bound without_beginning = refl

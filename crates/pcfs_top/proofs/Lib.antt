@@ -1,4 +1,14 @@
+pub mod Deciding
+pub mod Keeping
+pub mod Making
+pub mod Replays
 pub mod AnswerLemmas
+pub mod LawfulLemmas
+pub mod ListLemmas
+pub mod NumberedLemmas
+pub mod OptionLemmas
+pub mod TreeLemmas
+pub mod WrittenLemmas
 pub mod FormLemmas
 pub mod LineLemmas
 pub mod NumeralLemmas

@@ -12,11 +12,11 @@ use Rattle.std.proofs.lemmas.Str.{digit_value_digit}
 use Rattle.std.proofs.lemmas.Str.Parse.{IsNumeralModel, numerals_by_value, digits_value_short, digits_value-take-le, digit_at}
 use Rattle.std.proofs.lemmas.Int.Digits.{digits_value_more}
 use Rattle.std.proofs.lemmas.Fmt.{decimal_digit, digits_decimal, digits_value-decimal, decimal_nonempty, length-decimal-le, first_decimal, decimal-digits_value}
-use Rattle.pcfs_top.proofs.AnswerLemmas.{IsAnswer, IsAnswer-None, IsAnswer-Some}
+use Rattle.pcfs_top.proofs.OptionLemmas.{IsAnswer, IsAnswer-None, IsAnswer-Some}
 use Rattle.bl_syntax.specs.Names.{is_digit}
 use Rattle.bl_syntax.specs.declared.terms.TimePoint.{TimePoint}
 use Rattle.bl_syntax.specs.declared.terms.TimePoint.TheVariants.{At}
-use Rattle.pcfs_top.specs.Lines.{IsDigits, IsInteger, from_zero_up, below_zero, IsSecond, IsBound, without_beginning, without_end, at_second, IsNumber}
+use Rattle.pcfs_top.specs.Lines.{IsDigits, IsInteger, plain, negated, IsSecond, IsBound, without_beginning, without_end, at_second, IsNumber}
 
 -- the words of digits, and what they write, in the words of std's lemmas
 pub is_numeral_model : IsNumeralModel (λ ds. IsTrue (list_all is_digit ds)) (digits_value 10)
@@ -46,16 +46,16 @@ next_digit ds i h inside =
 -- ---- integers
 
 pub IsInteger-digits : {word : List ℕ} {n : ℤ} → IsInteger word n → IsDigits word → n ≡ pos (digits_value 10 word)
-IsInteger-digits (from_zero_up digits h) d = refl
-IsInteger-digits (below_zero digits h) d = absurd (let no = d.digits in cc)
+IsInteger-digits (plain digits h) d = refl
+IsInteger-digits (negated digits h) d = absurd (let no = d.digits in cc)
 
 -- what stands behind the `-`
 abbrev pub IsBelowZero : List ℕ → ℤ → Type 0
 IsBelowZero digits n = IsDigits digits × (n ≡ pos 0 -ℤ pos (digits_value 10 digits))
 
 pub IsInteger-minus : {word : List ℕ} {n : ℤ} → IsInteger word n → (digits : List ℕ) → word ≡ 45 ∷ digits → IsBelowZero digits n
-IsInteger-minus (from_zero_up others h) digits same = absurd (let no = subst (λ ds. IsTrue (list_all is_digit ds)) same h.digits in cc)
-IsInteger-minus (below_zero others h) digits same =
+IsInteger-minus (plain others h) digits same = absurd (let no = subst (λ ds. IsTrue (list_all is_digit ds)) same h.digits in cc)
+IsInteger-minus (negated others h) digits same =
     let tails : others ≡ digits = cc in
     (subst IsDigits tails h, ap (λ ds. pos 0 -ℤ pos (digits_value 10 ds)) tails)
 
@@ -106,10 +106,10 @@ pub IsAnswer-number : {E : Type 0} (word : List ℕ) (value : ℕ) (r : Result �
 IsAnswer-number word value r answer same h no_zero fits is = subst (IsAnswer (IsNumber word)) (sym is) (IsAnswer-fits word value r same h no_zero fits)
 
 pub IsInteger-from_digits : (word : List ℕ) (n : ℤ) → IsDigits word → n ≡ pos (digits_value 10 word) → IsInteger word n
-IsInteger-from_digits word n h same = subst (IsInteger word) (sym same) (from_zero_up word h)
+IsInteger-from_digits word n h same = subst (IsInteger word) (sym same) (plain word h)
 
 pub IsInteger-from_minus : (word digits : List ℕ) (n : ℤ) → word ≡ 45 ∷ digits → IsDigits digits → n ≡ pos 0 -ℤ pos (digits_value 10 digits) → IsInteger word n
-IsInteger-from_minus word digits n same h n_is = rw (same, n_is) (below_zero digits h)
+IsInteger-from_minus word digits n same h n_is = rw (same, n_is) (negated digits h)
 
 -- ---- ends of intervals
 

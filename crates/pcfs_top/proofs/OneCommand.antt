@@ -10,23 +10,23 @@ use Rattle.bl_syntax.specs.Names.{is_digit}
 use Rattle.pcfs_top.specs.declared.command.Command.{Command}
 use Rattle.pcfs_top.specs.declared.command.Command.TheVariants as commands
 use Rattle.pcfs_top.specs.Words.{starts_with_stop, HasNoStop}
-use Rattle.pcfs_top.specs.Lines.{IsInteger, from_zero_up, below_zero, IsSecond, IsBound, without_beginning, without_end, at_second, IsNumber, IsLine, sets_clock, sets_caller, registers, verifies, creates}
+use Rattle.pcfs_top.specs.Lines.{IsInteger, plain, negated, IsSecond, IsBound, without_beginning, without_end, at_second, IsNumber, IsLine, sets_clock, sets_caller, registers, verifies, creates}
 use Rattle.pcfs_top.proofs.NumeralLemmas.{IsInteger-digits, IsInteger-minus, IsPlain-from_number}
 use Rattle.pcfs_top.proofs.WordLemmas.{IsSplit-at_word, starts_with_stop-append}
 use Rattle.pcfs_top.proofs.FormLemmas.{HasNoStop-principal, HasNoStop-node_name, HasNoStop-number, HasNoStop-bound, differ, clock_line, caller_line, register_line, verify_line, create_line}
 
 IsInteger-unique : {word : List ℕ} {m n : ℤ} → IsInteger word m → IsInteger word n → m ≡ n
-IsInteger-unique (from_zero_up digits h) other = sym (IsInteger-digits other h)
-IsInteger-unique (below_zero digits h) other = sym (IsInteger-minus other digits refl).1
+IsInteger-unique (plain digits h) other = sym (IsInteger-digits other h)
+IsInteger-unique (negated digits h) other = sym (IsInteger-minus other digits refl).1
 
 IsNumber-unique : {word : List ℕ} {m n : ℕ} → IsNumber word m → IsNumber word n → m ≡ n
 IsNumber-unique h other = sym (IsPlain-from_number h).value ∙ (IsPlain-from_number other).value
 
 -- the word is no integer
 not_integer : {word : List ℕ} {n : ℤ} → IsInteger word n → (first : ℕ) (others : List ℕ) → word ≡ first ∷ others → is_digit first ≡ false → list_all is_digit others ≡ false → ⊥
-not_integer (from_zero_up digits h) first others same no_first no_others =
+not_integer (plain digits h) first others same no_first no_others =
     let digit = subst (λ word. IsTrue (list_all is_digit word)) same h.digits in cc
-not_integer (below_zero digits h) first others same no_first no_others =
+not_integer (negated digits h) first others same no_first no_others =
     let tails : digits ≡ others = cc in
     false≢true (sym no_others ∙ subst (λ word. IsTrue (list_all is_digit word)) tails h.digits)
 

@@ -1,4 +1,4 @@
--- The answer to a request over a state, and the event to keep. One constructor is one row of the table of answers (this project's own).
+-- The answer to a request over a state, and the event to keep: one constructor for each answer and its cause (this project's own).
 use Rattle.std.specs.Prelude.{◌≡◌, ◌≢◌, ◌≤◌, ◌<◌, ◌+◌, ℕ, ℤ, List, [], ◌∷◌, length, Option, Some, None, Contains}
 use Rattle.std.specs.Int.{int_max}
 use Rattle.std.specs.List.{AllByRecursion}
@@ -13,18 +13,18 @@ use Rattle.pcfs_top.specs.declared.event.Issue.{Issue}
 use Rattle.pcfs_top.specs.declared.event.Event.{Event}
 use Rattle.pcfs_top.specs.declared.event.Event.TheVariants as events
 use Rattle.pcfs_top.specs.declared.event.Base.{Base}
-use Rattle.pcfs_top.specs.declared.request.Request.{Request}
-use Rattle.pcfs_top.specs.declared.request.Request.TheVariants as requests
+use Rattle.pcfs_top.specs.declared.request.StepRequest.{StepRequest}
+use Rattle.pcfs_top.specs.declared.request.StepRequest.TheVariants as requests
 use Rattle.pcfs_top.specs.declared.reply.RegisterFault.TheVariants.{RegistryFull, Duplicate}
 use Rattle.pcfs_top.specs.declared.reply.Cause.{Cause}
 use Rattle.pcfs_top.specs.declared.reply.Cause.TheVariants as causes
 use Rattle.pcfs_top.specs.declared.reply.Reply.{Reply}
 use Rattle.pcfs_top.specs.declared.reply.Reply.TheVariants as replies
-use Rattle.pcfs_top.specs.Numbered.{IsNumbered, IsAbsent}
+use Rattle.pcfs_top.specs.Numbered.{IsNumbered, HasNumber}
 use Rattle.pcfs_top.specs.World.{FileTree}
 use Rattle.pcfs_top.specs.Facts.{facts}
 use Rattle.pcfs_top.specs.Needs.{Need, needs}
-use Rattle.pcfs_top.specs.Effect.{Outcome, refused, replied, OpReply, node, effect}
+use Rattle.pcfs_top.specs.Effect.{refusal, replied, OpReply, node, effect}
 use Rattle.pcfs_top.specs.Verdict.{grants, faults, IsVerdict}
 
 -- the moment of a step: the clock's, but not before the last one
@@ -75,30 +75,31 @@ pub data IsDenied (state : Base) (caller : List ℕ) (procaps : List ℕ) (momen
 
 -- each procap names an issue
 abbrev pub AreIssued : Base → List ℕ → Type 0
-AreIssued state procaps = AllByRecursion (λ number. IsAbsent state.issues number → ⊥) procaps
+AreIssued state procaps = AllByRecursion (HasNumber state.issues) procaps
 
 -- what an operation answers, as a reply
 abbrev pub reply_of : OpReply → Reply
 reply_of (node made) = replies.Node made
 
-pub data Answers (state : Base) (pass : ℕ) (clock : ℤ) : Request → Reply → Option Event → Type 0 where
+-- the answer to a request, and the event to keep where there is one. An operation brings one procap for each place of its needs
+pub data Answers (state : Base) (pass : ℕ) (clock : ℤ) : StepRequest → Reply → Option Event → Type 0 where
   duplicate : (statement : Saying) (number : ℕ) → IsNumbered state.statements number statement →
       Answers state pass clock (requests.Register statement) (replies.Rejected (Duplicate number)) None
   registry_full : (statement : Saying) → (Contains state.statements statement → ⊥) → 4096 ≤ length state.statements →
       Answers state pass clock (requests.Register statement) (replies.Rejected RegistryFull) None
   registered : (statement : Saying) → (Contains state.statements statement → ⊥) → length state.statements < 4096 →
       Answers state pass clock (requests.Register statement) (replies.Statement (length state.statements + 1)) (Some (events.Registered pass statement))
-  no_statement : (number : ℕ) (goal : Goal) → IsAbsent state.statements number →
+  no_statement : (number : ℕ) (goal : Goal) → (HasNumber state.statements number → ⊥) →
       Answers state pass clock (requests.Issue number goal) (replies.Absent number) None
   unproved : (number : ℕ) (goal : Goal) (statement : Saying) (fault rule : ℕ) → IsNumbered state.statements number statement → IsVerdict statement goal (faults fault rule) →
       Answers state pass clock (requests.Issue number goal) (replies.Unproved fault rule) None
   issued : (number : ℕ) (goal : Goal) (statement : Saying) (g : Granted) → IsNumbered state.statements number statement → IsVerdict statement goal (grants g) →
       Answers state pass clock (requests.Issue number goal) (replies.Issue (length state.issues + 1) (length g.times) (length g.states)) (Some (events.Issued pass (number ∷ []) g))
-  no_issue : (caller : List ℕ) (op : Op) (procaps : List ℕ) (place number : ℕ) → IsFirstFailing (λ n. IsAbsent state.issues n → ⊥) procaps place number →
+  no_issue : (caller : List ℕ) (op : Op) (procaps : List ℕ) (place number : ℕ) → IsFirstFailing (HasNumber state.issues) procaps place number →
       Answers state pass clock (requests.Act caller op procaps) (replies.Absent number) None
   denied : (caller : List ℕ) (op : Op) (procaps : List ℕ) (place : ℕ) (cause : Cause) → AreIssued state procaps → IsDenied state caller procaps (moment_of state clock) (needs op state.world) place cause →
       Answers state pass clock (requests.Act caller op procaps) (replies.Denied (record { need = place; cause = cause; at = state.count })) None
-  refused_ : (caller : List ℕ) (op : Op) (procaps : List ℕ) (refusal : ℕ) → AreIssued state procaps → IsAdmitted state caller op procaps (moment_of state clock) → effect caller op state.world ≡ refused refusal →
-      Answers state pass clock (requests.Act caller op procaps) (replies.Refused refusal state.count) None
+  refused : (caller : List ℕ) (op : Op) (procaps : List ℕ) (number : ℕ) → AreIssued state procaps → IsAdmitted state caller op procaps (moment_of state clock) → effect caller op state.world ≡ refusal number →
+      Answers state pass clock (requests.Act caller op procaps) (replies.Refused number state.count) None
   acted : (caller : List ℕ) (op : Op) (procaps : List ℕ) (reply : OpReply) (after : FileTree) → AreIssued state procaps → IsAdmitted state caller op procaps (moment_of state clock) → effect caller op state.world ≡ replied reply after →
       Answers state pass clock (requests.Act caller op procaps) (reply_of reply) (Some (events.Acted pass caller op procaps (moment_of state clock)))

@@ -16,7 +16,7 @@ pub data OpReply : Type 0 where
 
 -- a refusal by its number, or the reply and the tree after it
 pub data Outcome : Type 0 where
-  refused : ℕ → Outcome
+  refusal : ℕ → Outcome
   replied : OpReply → FileTree → Outcome
 
 abbrev pub is_directory_kind : Kind → Bool
@@ -35,7 +35,7 @@ has_directory world number = list_any (λ row. (row.number.0 == number) && is_di
 abbrev pub has_entry : FileTree → ℕ → List ℕ → Bool
 has_entry world number name = list_any (λ row. (row.parent == number) && bytes_eq row.name name) world.rows
 
--- 16,384 nodes are there, or the next number is the last
+-- 16,384 nodes or more are there, or no number is left for another
 abbrev pub is_full : FileTree → Bool
 is_full world = nat_le 16384 (length world.rows) || (world.next == 2 ^ 64 - 1)
 
@@ -57,7 +57,7 @@ abbrev pub with_row : FileTree → Row → FileTree
 with_row world row = record { rows = world.rows ++ row ∷ []; next = world.next + 1 }
 
 abbrev pub create_outcome : Option ℕ → List ℕ → ℕ → List ℕ → FileTree → Outcome
-create_outcome (Some refusal) caller directory name world = refused refusal
+create_outcome (Some number) caller directory name world = refusal number
 create_outcome None caller directory name world = replied (node (record { 0 = world.next })) (with_row world (created_row caller directory name world))
 
 -- what the caller's operation does

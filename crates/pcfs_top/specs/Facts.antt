@@ -15,5 +15,8 @@ abbrev pub containment : Row → StatePred
 containment row = InDir (File row.number) (File (record { 0 = row.parent }))
 
 -- every node has an owner, and every node but the root, which is the first, a directory
+abbrev pub facts_of : List Row → List StatePred
+facts_of rows = map ownership rows ++ map containment (drop 1 rows)
+
 abbrev pub facts : FileTree → List StatePred
-facts world = map ownership world.rows ++ map containment (drop 1 world.rows)
+facts world = facts_of world.rows

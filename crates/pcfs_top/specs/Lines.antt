@@ -32,10 +32,10 @@ pub record IsDigits (word : List ℕ) : Type 0 where
   pub some : 1 ≤ length word
   pub few : length word ≤ 18
 
--- 1 to 18 digits, with a `-` before them for a number below zero
+-- 1 to 18 digits; a `-` may stand before them
 pub data IsInteger : List ℕ → ℤ → Type 0 where
-  from_zero_up : (digits : List ℕ) → IsDigits digits → IsInteger digits (pos (digits_value 10 digits))
-  below_zero : (digits : List ℕ) → IsDigits digits → IsInteger (45 ∷ digits) (pos 0 -ℤ pos (digits_value 10 digits))
+  plain : (digits : List ℕ) → IsDigits digits → IsInteger digits (pos (digits_value 10 digits))
+  negated : (digits : List ℕ) → IsDigits digits → IsInteger (45 ∷ digits) (pos 0 -ℤ pos (digits_value 10 digits))
 
 -- a whole second in the range of moments
 pub record IsSecond (word : List ℕ) (second : ℤ) : Type 0 where

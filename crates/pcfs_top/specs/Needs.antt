@@ -17,9 +17,13 @@ pub record Need : Type 0 where
 abbrev pub slots : Op → ℕ
 slots (Create directory name) = 1
 
+-- the first need of an operation
+abbrev pub need_of : NodeId → Perm → Need
+need_of file permission = record { place = 1; file = file; permission = permission }
+
 -- what it needs over this tree
 abbrev pub needs : Op → FileTree → List Need
-needs (Create directory name) world = record { place = 1; file = directory; permission = Write } ∷ []
+needs (Create directory name) world = need_of directory Write ∷ []
 
 -- how many bytes it brings to be written into a file
 abbrev pub bytes_to_write : Op → ℕ

@@ -1,5 +1,5 @@
--- Lists whose items are numbered by their places, from 1.
-use Rattle.std.specs.Prelude.{◌≡◌, ◌+◌, ℕ, List, Some}
+-- Lists whose items are numbered by their places, from 1 (this project's own).
+use Rattle.std.specs.Prelude.{◌≡◌, ◌≤◌, ◌+◌, ℕ, List, length, Some}
 use Rattle.std.specs.List.{slice_get}
 
 -- the item of that number
@@ -8,6 +8,6 @@ pub record IsNumbered {A : Type 0} (items : List A) (number : ℕ) (item : A) : 
   pub from_one : number ≡ place + 1
   pub found : slice_get items place ≡ Some item
 
--- no item has that number
-abbrev pub IsAbsent : {A : Type 0} → List A → ℕ → Type 0
-IsAbsent items number = (item : _) → IsNumbered items number item → ⊥
+-- there is an item of that number
+abbrev pub HasNumber : {A : Type 0} → List A → ℕ → Type 0
+HasNumber items number = (1 ≤ number) × (number ≤ length items)

@@ -1,14 +1,11 @@
 -- The state after an event, and after a list of events (this project's own).
-use Rattle.std.specs.Prelude.{ℕ, ◌+◌, List, [], ◌∷◌, ◌++◌, negsuc}
-use Rattle.bl_syntax.specs.declared.terms.NodeId.{NodeId}
+use Rattle.std.specs.Prelude.{◌+◌, List, [], ◌∷◌, ◌++◌, negsuc, codes}
 use Rattle.pcfs_top.specs.declared.world.Kind.TheVariants.{Directory}
-use Rattle.pcfs_top.specs.declared.event.Op.{Op}
 use Rattle.pcfs_top.specs.declared.event.Event.{Event}
 use Rattle.pcfs_top.specs.declared.event.Event.TheVariants.{Registered, Issued, Acted}
 use Rattle.pcfs_top.specs.declared.event.Base.{Base}
 use Rattle.pcfs_top.specs.World.{FileTree}
-use Rattle.pcfs_top.specs.Effect.{Outcome, refused, replied, effect}
-use Rattle.std.specs.Prelude.{codes}
+use Rattle.pcfs_top.specs.Effect.{Outcome, refusal, replied, effect}
 
 -- a store before its first event: the root, which `admin` owns, and the first moment of the range
 abbrev pub fresh : Base
@@ -22,7 +19,7 @@ fresh = record {
 
 -- the tree after an outcome: as it was where the operation was refused
 abbrev pub tree_after : Outcome → FileTree → FileTree
-tree_after (refused refusal) world = world
+tree_after (refusal number) world = world
 tree_after (replied reply after) world = after
 
 -- the state after an event. The number of a statement or an issue is its place, from 1

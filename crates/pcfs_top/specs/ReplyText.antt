@@ -79,4 +79,4 @@ reply_text replies.NoMemory = codes "nomemory"
 
 -- each reply as a line, with its end
 abbrev pub output_of : List Reply → List ℕ
-output_of replies = flat_map (λ reply. reply_text reply ++ 10 ∷ []) replies
+output_of answers = flat_map (λ reply. reply_text reply ++ 10 ∷ []) answers

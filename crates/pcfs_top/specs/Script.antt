@@ -1,12 +1,12 @@
 -- The run of a script: its lines in order, each answered over the state that the lines before it left (this project's own).
-use Rattle.std.specs.Prelude.{◌≡◌, ◌+◌, ℕ, ℤ, pos, List, [], ◌∷◌, ◌++◌, length, Option, Some, None, codes}
+use Rattle.std.specs.Prelude.{ℕ, ℤ, pos, List, [], ◌∷◌, ◌++◌, Option}
 use Rattle.std.specs.Option.{option_to_list}
 use Rattle.bl_syntax.specs.declared.grant.Goal.{Goal}
 use Rattle.bl_syntax.specs.Statement.{Saying}
 use Rattle.pcfs_top.specs.declared.event.Op.{Op}
 use Rattle.pcfs_top.specs.declared.event.Event.{Event}
 use Rattle.pcfs_top.specs.declared.event.Base.{Base}
-use Rattle.pcfs_top.specs.declared.request.Request.TheVariants as requests
+use Rattle.pcfs_top.specs.declared.request.StepRequest.TheVariants as requests
 use Rattle.pcfs_top.specs.declared.command.Command.{Command}
 use Rattle.pcfs_top.specs.declared.command.Command.TheVariants as commands
 use Rattle.pcfs_top.specs.declared.reply.Reply.{Reply}
@@ -45,7 +45,8 @@ pub data AnswersLine (base : Base) (before : Standing) (line : List ℕ) : Reply
       Answers (replay base before.events) script_pass before.clock (requests.Act before.caller op procaps) reply event →
       AnswersLine base before line reply (record before { events = before.events ++ option_to_list event })
 
--- a run of these lines gives these replies, and the script stands there then. In the place of any reply there may be want of memory, and then nothing changes
+-- a run of these lines gives these replies, and the script stands there then. In the place of any reply there may be want of memory, and then nothing changes.
+-- (An input is too short for more events than can be numbered.)
 pub data IsRun (base : Base) : List (List ℕ) → List Reply → Standing → Type 0 where
   begun : IsRun base [] [] beginning
   answered : (lines : List (List ℕ)) (answers : List Reply) (line : List ℕ) (reply : Reply) (before after : Standing) →

@@ -1,5 +1,5 @@
--- What becomes of the one form of proof that these lines carry: `admin` says, by its claim, what the statement's body is. It claims the statement cited, and takes its body for
--- the goal. (The rules are this project's profile of BL: says on the right, a claim, and the initial rule.)
+-- The verdict on the proof that derives what `admin` says from the claim of one cited statement, whose body has to be the goal: by the rules for `says` on the right, for a claim,
+-- and the initial rule, as this project's profile of BL has them.
 use Rattle.std.specs.Prelude.{◌≡◌, ◌≢◌, ◌⊎◌, ℕ, List, [], ◌∷◌, ◌++◌, codes}
 use Rattle.bl_syntax.specs.declared.terms.TimePoint.{TimePoint}
 use Rattle.bl_syntax.specs.declared.terms.TimePoint.TheVariants.{NegInf, At, PosInf}
@@ -42,25 +42,25 @@ not_ended PosInf = []
 abbrev pub granted_by : Saying → Goal → Granted
 granted_by statement goal = record { goal = goal; times = begun statement.from ++ not_ended statement.to; states = [] }
 
--- the statement's principal speaks for `admin`
-abbrev pub SpeaksForAdmin : Saying → Type 0
-SpeaksForAdmin statement = IsAtLeastAsStrong (Prin statement.who) (Prin admin)
+-- the principal speaks for `admin`
+abbrev pub SpeaksForAdmin : List ℕ → Type 0
+SpeaksForAdmin who = IsAtLeastAsStrong (Prin who) (Prin admin)
 
 -- the claim is of a principal that does not speak for `admin`: fault 5 at the claim, which is rule 1
 pub record IsTooWeak (statement : Saying) (fault rule : ℕ) : Type 0 where
   pub fault_is : fault ≡ 5
   pub rule_is : rule ≡ 1
-  pub weak : SpeaksForAdmin statement → ⊥
+  pub weak : SpeaksForAdmin statement.who → ⊥
 
 -- the body is something else than the goal: fault 2 at the initial rule, which is rule 2
 pub record IsAboutElse (statement : Saying) (goal : Goal) (fault rule : ℕ) : Type 0 where
   pub fault_is : fault ≡ 2
   pub rule_is : rule ≡ 2
-  pub strong : SpeaksForAdmin statement
+  pub strong : SpeaksForAdmin statement.who
   pub differs : statement.body ≢ wanted goal
 
 pub record IsGranting (statement : Saying) (goal : Goal) (g : Granted) : Type 0 where
-  pub strong : SpeaksForAdmin statement
+  pub strong : SpeaksForAdmin statement.who
   pub same : statement.body ≡ wanted goal
   pub grant_is : g ≡ granted_by statement goal
 

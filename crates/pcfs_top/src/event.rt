@@ -53,31 +53,3 @@ pub struct Base {
     pub moment: i64,
     pub count: u64,
 }
-
-pub fn try_a(events: &mut Vec<Event>, e: Event) -> Result<(), NoMemory> {
-    events.push(e)?;
-    Ok(())
-}
-
-pub fn try_b(events: &mut Events, e: Event) -> Result<(), NoMemory> {
-    events.push(e)
-}
-
-pub fn try_c(events: &mut Option<Event>) -> Option<Event> {
-    events.take()
-}
-
-pub fn try_d(b: &mut Base, st: Statement) -> Result<(), NoMemory> {
-    b.statements.push(st)
-}
-
-pub fn try_e(b: &mut Issues, i: Issue) -> Result<(), NoMemory> {
-    b.push(i)
-}
-
-pub fn try_f(events: &mut Events, st: Statement) -> Result<(), NoMemory> {
-    events.push(Event::Registered {
-        pass: 1,
-        statement: st,
-    })
-}

@@ -1,20 +1,35 @@
 //! The file server over its core: the world, the history, the gate, and the lines of a script.
 #![tactic(auto)]
 
+mod act;
+mod cause;
 mod command;
+mod decide;
 mod event;
+mod gate;
+mod history;
+mod fresh;
+mod laws;
 mod forms;
 pub mod line_laws;
 mod lines;
 mod node_name;
 mod numerals;
 mod reply;
+mod reply_text;
 mod request;
+mod step;
+mod verdict;
 mod words;
 mod world;
 
 pub use command::Command;
 pub use event::{Base, Event, Events, Issue, Op};
+pub use history::History;
+pub use laws::{answers_are_determined, effect_keeps_trees, histories_keep_trees};
+pub use node_name::is_node_name;
 pub use reply::{Cause, Denial, RegisterFault, Reply};
-pub use request::Request;
-pub use world::{Kind, Row, World};
+pub use request::StepRequest;
+pub use step::{AddedNode, Change, Step};
+pub use reply_text::write_reply;
+pub use world::{Kind, Row, World, create_refusal, created_row};

@@ -55,7 +55,7 @@ pub enum Reply {
     Absent(u64),
     /// The proof has this fault at this rule, counted from 0.
     Unproved(u32, u32),
-    /// The line is outside the forms.
+    /// The line has this fault: 9, it is of none of the forms.
     Bad(u32),
     /// There was no memory for it, and nothing changed.
     NoMemory,

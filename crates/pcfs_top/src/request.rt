@@ -5,7 +5,7 @@ use bl_syntax::{Goal, Numbers, Principal, Statement};
 
 /// A request to the gate.
 #[derive(Debug, Drop)]
-pub enum Request {
+pub enum StepRequest {
     /// Keep a statement.
     Register(Statement),
     /// Issue a grant of the goal by the proof that cites the statement of this number.

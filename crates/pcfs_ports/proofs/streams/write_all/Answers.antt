@@ -6,6 +6,8 @@ use Rattle.pcfs_ports.proofs.streams.write_all.Goals as goal
 pub loop-at-preserved : goal.loop-at-preserved
 loop-at-preserved g c = record {
   within = omega (arith, c.in_ok-at.ensures.bound);
-  held = with_back-take _ _ _ c.args.bytes.now c.loop-at.at _ _ (take_rest c.args.bytes.now c.loop-at.at) c.loop-at.invariant.held c.in_ok-at.ensures.ok;
+  held =
+      let rest = take_rest c.args.bytes.now c.loop-at.at in
+      with_back-take _ _ _ _ _ _ _ rest c.loop-at.invariant.held c.in_ok-at.ensures.ok;
   never_falls = omega (arith, c.in_ok-at.ensures.never_falls);
 }

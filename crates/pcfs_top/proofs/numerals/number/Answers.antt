@@ -2,7 +2,7 @@
 use Rattle.std.proofs.Common.{refl}
 use Rattle.std.proofs.lemmas.Bool.{false≢true}
 use Rattle.pcfs_top.specs.Lines.{IsNumber}
-use Rattle.pcfs_top.proofs.AnswerLemmas.{IsAnswer-None}
+use Rattle.pcfs_top.proofs.OptionLemmas.{IsAnswer-None}
 use Rattle.pcfs_top.proofs.NumeralLemmas.{IsPlain-from_number, IsAnswer-number}
 use Rattle.pcfs_top.proofs.numerals.number.Goals as goal
 

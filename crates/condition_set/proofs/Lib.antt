@@ -1,0 +1,2 @@
+pub mod FirstFailingLemmas
+pub mod WindowLemmas

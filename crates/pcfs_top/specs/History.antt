@@ -1,0 +1,36 @@
+-- What a history keeps, and what its parts are for (this project's own).
+use Rattle.std.specs.Prelude.{◌≡◌, ◌≤◌, ◌-◌, ◌+◌, ◌++◌, ℕ, ℤ, List, [], ◌∷◌, Vec, vec_len, vec_capacity, min}
+use Rattle.std.specs.declared.alloc.Global.{Global}
+use Rattle.bl_syntax.specs.Statement.{Saying}
+use Rattle.pcfs_top.specs.declared.world.Row.{Row}
+use Rattle.pcfs_top.specs.declared.event.Issue.{Issue}
+use Rattle.pcfs_top.specs.declared.event.Event.{Event}
+use Rattle.pcfs_top.specs.declared.event.Base.{Base}
+use Rattle.pcfs_top.specs.declared.step.Change.{Change}
+use Rattle.pcfs_top.specs.declared.step.Change.TheVariants as changes
+use Rattle.pcfs_top.specs.Effect.{with_row}
+use Rattle.pcfs_top.specs.Replay.{replay, next_state}
+
+-- the base, the events since, and for how many events there is room
+pub record Kept : Type 0 where
+  pub base : Base
+  pub events : List Event
+  pub room : ℕ
+
+-- the state to which the events lead
+abbrev pub state_of : Kept → Base
+state_of h = replay h.base h.events
+
+-- how many items a vector takes without growing
+abbrev pub spare : {A : Type 0} → Vec A Global → ℕ
+spare v = vec_capacity v - vec_len v
+
+-- the state after a change
+abbrev pub changed : Base → Change → Base
+changed state (changes.Statement statement) = record state { statements = state.statements ++ statement ∷ []; count = state.count + 1 }
+changed state (changes.Issue issue) = record state { issues = state.issues ++ issue ∷ []; count = state.count + 1 }
+changed state (changes.Node added) = record state { world = with_row state.world added.row; moment = added.moment; count = state.count + 1 }
+
+-- the change is what the event does to the state
+abbrev pub Brings : Base → Event → Change → Type 0
+Brings state event change = changed state change ≡ next_state state event

@@ -1,0 +1,67 @@
+-- How a run of the program ends: its status, and what it took and wrote. Where the input does not tell what it has, or the output what it holds, nothing is said of that
+-- (this project's own).
+use Rattle.std.specs.Prelude.{◌≡◌, ◌⊎◌, ◌^◌, ℕ, List, [], ◌∷◌, ◌++◌, Option, String, map, codes}
+use Rattle.std.specs.String.{string_bytes}
+use Rattle.std.specs.declared.alloc.Global.{Global}
+use Rattle.pcfs_ports.specs.Faults.{HasRisen}
+use Rattle.pcfs_ports.specs.Told.{with_back, ReadsWhole, TakesFirst, TakesSome, HoldsSome}
+use Rattle.pcfs_top.specs.declared.reply.Reply.{Reply}
+use Rattle.pcfs_top.specs.Replay.{fresh}
+use Rattle.pcfs_top.specs.Lines.{lines_of}
+use Rattle.pcfs_top.specs.ReplyText.{output_of}
+use Rattle.pcfs_top.specs.Script.{Standing, IsRun}
+
+-- the words are the one word `script`
+abbrev pub IsScript : List (String Global) → Type 0
+IsScript words = map string_bytes words ≡ codes "script" ∷ []
+
+-- a line with its end
+abbrev pub ended : List ℕ → List ℕ
+ended line = line ++ 10 ∷ []
+
+-- the script was run over these bytes: each line of them was answered
+pub record RunsWhole (bytes written : List ℕ) : Type 0 where
+  pub answers : List Reply
+  pub after : Standing
+  pub run : IsRun fresh (lines_of bytes) answers after
+  pub written_is : written ≡ output_of answers
+
+-- the script was run over the first lines of these bytes
+pub record RunsPart (bytes written : List ℕ) : Type 0 where
+  pub front : List (List ℕ)
+  pub others : List (List ℕ)
+  pub parts : lines_of bytes ≡ front ++ others
+  pub answers : List Reply
+  pub after : Standing
+  pub run : IsRun fresh front answers after
+  pub written_is : written ≡ output_of answers
+
+-- status 0: the input was read to its end, and the output has one line more for each reply of the run over it
+pub record IsDone (left left_after held held_after : Option (List ℕ)) : Type 0 where
+  pub bytes : List ℕ
+  pub written : List ℕ
+  pub read : ReadsWhole left left_after bytes
+  pub run : RunsWhole bytes written
+  pub output : held_after ≡ with_back held written
+
+-- one line was written in the place of replies
+abbrev pub Tells : List ℕ → Option (List ℕ) → Option (List ℕ) → Type 0
+Tells line held held_after = held_after ≡ with_back held (ended line)
+
+-- what was to be written: a last line with its cause, or the replies to the first lines of the input
+pub data IsToWrite (words : List (String Global)) (left left_after : Option (List ℕ)) (read_faults read_faults_after : ℕ) : List ℕ → Type 0 where
+  usage : (IsScript words → ⊥) → left_after ≡ left → IsToWrite words left left_after read_faults read_faults_after (ended (codes "usage"))
+  read_fault : IsScript words → HasRisen read_faults read_faults_after → TakesSome left left_after → IsToWrite words left left_after read_faults read_faults_after (ended (codes "readfault"))
+  too_long : IsScript words → TakesFirst 1073741824 left left_after → IsToWrite words left left_after read_faults read_faults_after (ended (codes "toolong"))
+  replies : (bytes written : List ℕ) → IsScript words → ReadsWhole left left_after bytes → RunsPart bytes written → IsToWrite words left left_after read_faults read_faults_after written
+
+-- a first part of what was to be written was written
+pub record IsCutShort (words : List (String Global)) (left left_after : Option (List ℕ)) (read_faults read_faults_after : ℕ) (held held_after : Option (List ℕ)) : Type 0 where
+  pub whole : List ℕ
+  pub to_write : IsToWrite words left left_after read_faults read_faults_after whole
+  pub output : HoldsSome held held_after whole
+
+-- status 9: before the input was read to its end, and nothing was written; or a first part of the replies was written
+pub data IsOutOfMemory (words : List (String Global)) (left left_after : Option (List ℕ)) (held held_after : Option (List ℕ)) : Type 0 where
+  while_reading : IsScript words → TakesSome left left_after → held_after ≡ held → IsOutOfMemory words left left_after held held_after
+  while_answering : (bytes written : List ℕ) → IsScript words → ReadsWhole left left_after bytes → RunsPart bytes written → HoldsSome held held_after written → IsOutOfMemory words left left_after held held_after
