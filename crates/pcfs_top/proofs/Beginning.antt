@@ -41,11 +41,11 @@ pub shown_fresh : (base : Base) (rows : List Row) (next : ℕ) (statements : Lis
     state_with rows next statements issues moment base.count ≡ fresh
 shown_fresh base rows next statements issues moment is rows_is next_is none none_too moment_is =
     ap (λ (rs : List Row). state_with rs next statements issues moment base.count) (rows_is ∙ ap (λ (b : Base). b.world.rows) is)
-      ∙ ap (λ (n : ℕ). state_with fresh.world.rows n statements issues moment base.count) (next_is ∙ ap (λ (b : Base). b.world.next) is)
-      ∙ ap (λ (ss : List Saying). state_with fresh.world.rows fresh.world.next ss issues moment base.count) none
-      ∙ ap (λ (is : List Issue). state_with fresh.world.rows fresh.world.next [] is moment base.count) none_too
-      ∙ ap (λ (m : ℤ). state_with fresh.world.rows fresh.world.next [] [] m base.count) (moment_is ∙ ap (λ (b : Base). b.moment) is)
-      ∙ ap (λ (n : ℕ). state_with fresh.world.rows fresh.world.next [] [] fresh.moment n) (ap (λ (b : Base). b.count) is)
+    ∙ ap (λ (n : ℕ). state_with fresh.world.rows n statements issues moment base.count) (next_is ∙ ap (λ (b : Base). b.world.next) is)
+    ∙ ap (λ (ss : List Saying). state_with fresh.world.rows fresh.world.next ss issues moment base.count) none
+    ∙ ap (λ (is : List Issue). state_with fresh.world.rows fresh.world.next [] is moment base.count) none_too
+    ∙ ap (λ (m : ℤ). state_with fresh.world.rows fresh.world.next [] [] m base.count) (moment_is ∙ ap (λ (b : Base). b.moment) is)
+    ∙ ap (λ (n : ℕ). state_with fresh.world.rows fresh.world.next [] [] fresh.moment n) (ap (λ (b : Base). b.count) is)
 
 -- the first moment, as a word has it
 pub first_moment_kept : (base : Base) → base ≡ fresh → to_z w64 (of_z w64 base.moment) ≡ base.moment

@@ -28,7 +28,7 @@ registered_decided state pass clock statement one other statements first second 
     subst (λ (s : Saying). Answers state pass clock (requests.Register statement) (replies.Statement (length statements + 1)) (Some (Registered pass s)) × Brings state (Registered pass s) (changes.Statement other)) (sym first)
     (subst (λ (s : Saying). Answers state pass clock (requests.Register statement) (replies.Statement (length statements + 1)) (Some (Registered pass statement)) × Brings state (Registered pass statement) (changes.Statement s)) (sym second)
     (subst (λ (ss : List Saying). Answers state pass clock (requests.Register statement) (replies.Statement (length ss + 1)) (Some (Registered pass statement)) × Brings state (Registered pass statement) (changes.Statement statement)) (sym same)
-      (registered statement (subst (λ (ss : List Saying). Contains ss statement → ⊥) same new) (subst (λ (ss : List Saying). length ss < 4096) same room), refl)))
+    (registered statement (subst (λ (ss : List Saying). Contains ss statement → ⊥) same new) (subst (λ (ss : List Saying). length ss < 4096) same room), refl)))
 
 -- the item before the place of that number
 pub numbered_at : {A : Type 0} (items : List A) (number : ℕ) (item : A) → (number ≡ 0 → ⊥) → slice_get items (number - 1) ≡ Some item → IsNumbered items number item
@@ -45,7 +45,7 @@ issued_decided state pass clock number goal statement g times states issues step
     (subst (λ (n : ℕ). Answers state pass clock (requests.Issue number goal) (replies.Issue (length state.issues + 1) (length g.times) n) (Some step.event) × Brings state step.event step.change) (sym states_is)
     (subst (λ e. Answers state pass clock (requests.Issue number goal) (replies.Issue (length state.issues + 1) (length g.times) (length g.states)) (Some e) × Brings state e step.change) (sym event_is)
     (subst (λ (ch : Change). Answers state pass clock (requests.Issue number goal) (replies.Issue (length state.issues + 1) (length g.times) (length g.states)) (Some (Issued pass (number ∷ []) g)) × Brings state (Issued pass (number ∷ []) g) ch) (sym change_is)
-      (issued number goal statement g numbered verdict, refl)))))
+    (issued number goal statement g numbered verdict, refl)))))
 
 -- what holds of an Ok, from what holds of it
 pub ok_so : {A E : Type 0} {P Q : A → Type 0} (r : Result A E) → ((x : A) → P x → Q x) → IfOk r P → IfOk r Q

@@ -24,8 +24,8 @@ IsDecided state pass clock request reply step =
 abbrev pub IsMade : Base → ℕ → List ℕ → NodeId → List ℕ → List ℕ → ℤ → Reply → Option Step → Type 0
 IsMade state pass caller directory name procaps moment reply step =
     MatchOption step
-      ((number : ℕ) × (effect caller (Create directory name) state.world ≡ refusal number) × (reply ≡ Refused number state.count))
-      (λ s. (made : OpReply) × (after : FileTree) × (effect caller (Create directory name) state.world ≡ replied made after) × (reply ≡ reply_of made) × (s.event ≡ Acted pass caller (Create directory name) procaps moment) × Brings state s.event s.change)
+    ((number : ℕ) × (effect caller (Create directory name) state.world ≡ refusal number) × (reply ≡ Refused number state.count))
+    (λ s. (made : OpReply) × (after : FileTree) × (effect caller (Create directory name) state.world ≡ replied made after) × (reply ≡ reply_of made) × (s.event ≡ Acted pass caller (Create directory name) procaps moment) × Brings state s.event s.change)
 
 -- a gate: the history's base and events, and the event that is decided and not kept yet
 pub record Gated : Type 0 where

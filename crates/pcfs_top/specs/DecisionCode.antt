@@ -10,6 +10,6 @@ use Rattle.pcfs_top.specs.Decision.{Gated}
 abbrev pub gated_code : Coded Gated
 gated_code =
     code_by (Base × (List Event × Option Event)) (coded× base.the_row.coded (coded× (coded_list event.the_row.coded) (coded_option event.the_row.coded)))
-      (λ g. (g.base, (g.events, g.pending)))
-      (λ p. record { base = p.0; events = p.1.0; pending = p.1.1 })
-      (λ _. refl)
+    (λ g. (g.base, (g.events, g.pending)))
+    (λ p. record { base = p.0; events = p.1.0; pending = p.1.1 })
+    (λ _. refl)

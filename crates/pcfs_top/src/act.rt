@@ -84,14 +84,23 @@ fn decide_create(
     }
     let moment = clock.max(history.moment());
     let grant = &issues[procap as usize - 1].grant;
-    if let Some(cause) = cause_of(caller, directory, Perm::Write, moment, history.rows(), grant) {
+    if let Some(cause) = cause_of(
+        caller,
+        directory,
+        Perm::Write,
+        moment,
+        history.rows(),
+        grant,
+    ) {
         return Ok(told(Reply::Denied(Denial {
             need: 1,
             cause,
             at: history.count(),
         })));
     }
-    make(alloc, history, pass, caller, directory, name, procap, moment)
+    make(
+        alloc, history, pass, caller, directory, name, procap, moment,
+    )
 }
 
 /// Whether an operation is admitted, and what it does. There is one procap for each place of its needs.
@@ -110,7 +119,9 @@ pub fn decide_act(
     let procap = procaps.as_slice()[0];
     match op {
         Op::Create(directory, name) => {
-            decide_create(alloc, history, pass, caller, *directory, name, procap, clock)
+            decide_create(
+                alloc, history, pass, caller, *directory, name, procap, clock,
+            )
         }
     }
 }

@@ -58,7 +58,9 @@ fn is_contained(rows: &[Row], file: &Term, directory: &Term) -> bool
     ensures { IsTrue result ↔ Contains (map containment rows.now) (InDir file.now directory.now) }
 {
     for row in rows {
-        if Term::File(row.number).is_same(file) && Term::File(NodeId(row.parent)).is_same(directory) {
+        if Term::File(row.number).is_same(file)
+            && Term::File(NodeId(row.parent)).is_same(directory)
+        {
             return true;
         }
     }

@@ -3,10 +3,10 @@
 ghost use Rattle.std.specs.Prelude.{◌≡◌, ◌<◌, ◌-◌, ◌^◌, List, ℕ, IfOk, OnErr};
 
 use crate::command::Command;
+use crate::forms::read_line;
 use crate::gate::{Decision, Gate};
 use crate::reply::Reply;
 use crate::request::StepRequest;
-use crate::forms::read_line;
 use bl_syntax::{NoMemory, Principal};
 use std::alloc::Global;
 use std::marker::Model;

@@ -18,11 +18,11 @@ use Rattle.pcfs_top.proofs.act.decide_create.Goals.{then-procap-eq0-via-then-pro
 pub returns-then-procap-eq0 : goal.returns-then-procap-eq0
 returns-then-procap-eq0 c =
     subst (λ (d : Decided). IsDecided (state_of c.args.history.now) c.args.pass c.args.clock (Act c.args.caller.now (Create c.args.directory c.args.name.now) (c.args.procap ∷ [])) d.reply d.step) (sym c.told.ensures)
-      (create_absent (state_of c.args.history.now) c.args.pass c.args.clock c.args.caller.now c.args.directory c.args.name.now c.args.procap
-        (elim c.then-procap-eq0.branch [
-          | then-procap-eq0-via-then-procap-eq0 w ↦ no_zero (state_of c.args.history.now).issues c.args.procap w.if-procap-eq0.true
-          | then-procap-eq0-via-else-procap-eq0+then-issues-procap w ↦ none_beyond (state_of c.args.history.now).issues c.issues-issues.result.now c.args.procap c.issues-issues.ensures w.if-issues-procap.true
-        ]))
+    (create_absent (state_of c.args.history.now) c.args.pass c.args.clock c.args.caller.now c.args.directory c.args.name.now c.args.procap
+    (elim c.then-procap-eq0.branch [
+      | then-procap-eq0-via-then-procap-eq0 w ↦ no_zero (state_of c.args.history.now).issues c.args.procap w.if-procap-eq0.true
+      | then-procap-eq0-via-else-procap-eq0+then-issues-procap w ↦ none_beyond (state_of c.args.history.now).issues c.issues-issues.result.now c.args.procap c.issues-issues.ensures w.if-issues-procap.true
+    ]))
 
 -- the moment of the step, as the calls have it
 step_moment : (clock last shown_last max : ℤ) → SFits w64 clock → SFits w64 shown_last → SFits w64 max → shown_last ≡ last → max ≡ int_max (to_z w64 (of_z w64 clock)) (to_z w64 (of_z w64 shown_last)) → to_z w64 (of_z w64 max) ≡ int_max clock last
@@ -36,11 +36,11 @@ returns-in-Some c =
     let last_fits : SFits w64 c.moment.result = search rules in
     let max_fits : SFits w64 c.max-moment.result = search rules in
     subst (λ (d : Decided). IsDecided (state_of c.args.history.now) c.args.pass c.args.clock (Act c.args.caller.now (Create c.args.directory c.args.name.now) (c.args.procap ∷ [])) d.reply d.step) (sym c.told-in-Some.ensures)
-      (create_denied (state_of c.args.history.now) c.args.pass c.args.clock c.args.caller.now c.args.directory c.args.name.now c.args.procap (get_or c.issues-issues.result.now (c.args.procap - 1) c.index-issues-procap.result)
-        (to_z w64 (of_z w64 c.max-moment.result)) c.in-Some.cause c.count.result c.rows.result.now
-        has (subst (λ (i : Issue). IsNumbered (state_of c.args.history.now).issues c.args.procap i) c.index-issues-procap.is numbered)
-        (step_moment c.args.clock (state_of c.args.history.now).moment c.moment.result c.max-moment.result c.ranges.clock last_fits max_fits c.moment.ensures c.max-moment.ensures.value)
-        c.rows.ensures c.in-Some.ensures c.count.ensures.count)
+    (create_denied (state_of c.args.history.now) c.args.pass c.args.clock c.args.caller.now c.args.directory c.args.name.now c.args.procap (get_or c.issues-issues.result.now (c.args.procap - 1) c.index-issues-procap.result)
+    (to_z w64 (of_z w64 c.max-moment.result)) c.in-Some.cause c.count.result c.rows.result.now
+    has (subst (λ (i : Issue). IsNumbered (state_of c.args.history.now).issues c.args.procap i) c.index-issues-procap.is numbered)
+    (step_moment c.args.clock (state_of c.args.history.now).moment c.moment.result c.max-moment.result c.ranges.clock last_fits max_fits c.moment.ensures c.max-moment.ensures.value)
+    c.rows.ensures c.in-Some.ensures c.count.ensures.count)
 
 pub returns : goal.returns
 returns c =
@@ -50,7 +50,7 @@ returns c =
     let max_fits : SFits w64 c.max-moment.result = search rules in
     let gives = c.in_default.ensures in
     ok_so c.make.result (λ d made. create_admitted (state_of c.args.history.now) c.args.pass c.args.clock c.args.caller.now c.args.directory c.args.name.now c.args.procap (get_or c.issues-issues.result.now (c.args.procap - 1) c.index-issues-procap.result)
-      (to_z w64 (of_z w64 c.max-moment.result)) c.rows.result.now d.reply d.step
-      has (subst (λ (i : Issue). IsNumbered (state_of c.args.history.now).issues c.args.procap i) c.index-issues-procap.is numbered)
-      (step_moment c.args.clock (state_of c.args.history.now).moment c.moment.result c.max-moment.result c.ranges.clock last_fits max_fits c.moment.ensures c.max-moment.ensures.value)
-      c.rows.ensures gives made) c.make.ensures
+    (to_z w64 (of_z w64 c.max-moment.result)) c.rows.result.now d.reply d.step
+    has (subst (λ (i : Issue). IsNumbered (state_of c.args.history.now).issues c.args.procap i) c.index-issues-procap.is numbered)
+    (step_moment c.args.clock (state_of c.args.history.now).moment c.moment.result c.max-moment.result c.ranges.clock last_fits max_fits c.moment.ensures c.max-moment.ensures.value)
+    c.rows.ensures gives made) c.make.ensures

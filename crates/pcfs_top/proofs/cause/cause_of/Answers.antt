@@ -29,7 +29,7 @@ returns-in-Some-first_failing_time c =
     let read = subst (λ (ts : List Constraint). c.index-times-place.result ≡ get_or ts c.in-Some-first_failing_time.place c.index-times-place.result) c.times-times.ensures.same c.index-times-place.is in
     let first = failing_read _ c.args.grant.now.times c.in-Some-first_failing_time.place f.0 c.index-times-place.result f.1 read in
     time_passed c.in-Some-first_failing_time.place c.index-times-place.result names
-      (subst (λ (m : ℤ). IsFirstFailing (HoldsAt m) c.args.grant.now.times c.in-Some-first_failing_time.place c.index-times-place.result) (to_z-of_z w64 c.args.moment c.ranges.moment) first)
+    (subst (λ (m : ℤ). IsFirstFailing (HoldsAt m) c.args.grant.now.times c.in-Some-first_failing_time.place c.index-times-place.result) (to_z-of_z w64 c.args.moment c.ranges.moment) first)
 
 pub returns-in-Some-first_failing_state : goal.returns-in-Some-first_failing_state
 returns-in-Some-first_failing_state c =
@@ -39,7 +39,7 @@ returns-in-Some-first_failing_state c =
     let first = failing_read _ c.args.grant.now.states c.in-Some-first_failing_state.place f.0 c.index-states-place.result f.1 read in
     let times = c.in_default-first_failing_time.ensures.none.0 refl in
     state_differs c.in-Some-first_failing_state.place c.index-states-place.result names
-      (subst (λ (m : ℤ). AllByRecursion (HoldsAt m) c.args.grant.now.times) (to_z-of_z w64 c.args.moment c.ranges.moment) times) first
+    (subst (λ (m : ℤ). AllByRecursion (HoldsAt m) c.args.grant.now.times) (to_z-of_z w64 c.args.moment c.ranges.moment) times) first
 
 pub overflow_cast-result-in-Some-first_failing_state : goal.overflow_cast-result-in-Some-first_failing_state
 overflow_cast-result-in-Some-first_failing_state c = let f = c.in-Some-first_failing_state.ensures.first in omega (arith, place_within _ _ _ _ f.1, c.states-states.ensures.kept.count)

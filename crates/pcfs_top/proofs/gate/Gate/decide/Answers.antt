@@ -14,4 +14,4 @@ invariant_of-self-in-Some c =
     let room = on_no_err (1 ≤ c.reserve.new.self.room) c.reserve.result (sym c.is_err.ensures.value ∙ c.if-is_err.false) c.reserve.ensures.room in
     let decided = subst (λ (z : ℤ). IsDecided (state_of c.reserve.new.self) c.args.pass z c.args.request.now c.in-Ok.decided.reply c.in-Ok.decided.step) (to_z-of_z w64 c.args.clock c.ranges.clock) c.in-Ok.ensures in
     subst (λ (p : Option Step). MatchOption p ⊤ (CanKeep c.reserve.new.self)) (sym c.put.ensures)
-      (CanKeep-decided c.reserve.new.self c.args.pass c.args.clock c.args.request.now c.in-Ok.decided.reply c.in-Ok.decided.step c.in-Some.step c.in-Some.is room c.reserve.ensures.lawful c.requires.in_range c.requires.well_formed decided)
+    (CanKeep-decided c.reserve.new.self c.args.pass c.args.clock c.args.request.now c.in-Ok.decided.reply c.in-Ok.decided.step c.in-Some.step c.in-Some.is room c.reserve.ensures.lawful c.requires.in_range c.requires.well_formed decided)
