@@ -258,3 +258,10 @@ pub one_answer : (state : Base) (pass : ℕ) (clock : ℤ) (request : StepReques
     → AreDistinct state.statements → Answers state pass clock request first kept → Answers state pass clock request second other
     → (first ≡ second) × (kept ≡ other)
 one_answer state pass clock request first second kept other distinct one = only state pass clock request first kept distinct one second other
+
+-- an operation that is admitted and not refused gets its reply and is kept
+pub admitted_kept : (state : Base) (pass : ℕ) (clock : ℤ) (caller : List ℕ) (op : Op) (procaps : List ℕ) (made : OpReply) (after : FileTree) (reply : Reply) (event : Option Event)
+    → AreIssued state procaps → IsAdmitted state caller op procaps (moment_of state clock) → effect caller op state.world ≡ replied made after
+    → Answers state pass clock (requests.Act caller op procaps) reply event → (reply_of made ≡ reply) × (Some (events.Acted pass caller op procaps (moment_of state clock)) ≡ event)
+admitted_kept state pass clock caller op procaps made after reply event present admitted outcome answer =
+    only_acted state pass clock caller op procaps made after present admitted outcome reply event answer

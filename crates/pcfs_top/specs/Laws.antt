@@ -1,5 +1,5 @@
 -- Laws of the definitions: a tree stays a tree, also along a whole history, and an answer is determined.
-use Rattle.std.specs.Prelude.{◌≡◌, ℕ, ℤ, List, Option}
+use Rattle.std.specs.Prelude.{◌≡◌, ℕ, ℤ, List, Option, Some}
 use Rattle.bl_syntax.specs.Grant.{AreDistinct}
 use Rattle.pcfs_top.specs.declared.event.Op.{Op}
 use Rattle.pcfs_top.specs.declared.event.Event.{Event}
@@ -10,7 +10,9 @@ use Rattle.pcfs_top.specs.World.{FileTree, IsTree}
 use Rattle.pcfs_top.specs.Effect.{OpReply, replied, effect}
 use Rattle.pcfs_top.specs.Replay.{replay}
 use Rattle.pcfs_top.specs.Lawful.{IsLawful}
-use Rattle.pcfs_top.specs.Answer.{Answers}
+use Rattle.pcfs_top.specs.declared.event.Event.TheVariants.{Acted}
+use Rattle.pcfs_top.specs.declared.request.StepRequest.TheVariants.{Act}
+use Rattle.pcfs_top.specs.Answer.{Answers, AreIssued, IsAdmitted, moment_of, reply_of}
 
 -- whoever calls, an operation that is not refused leaves a tree a tree
 abbrev pub EffectKeepsTrees : Type 0
@@ -25,3 +27,9 @@ abbrev pub AnswersAreDetermined : Type 0
 AnswersAreDetermined = (state : Base) (pass : ℕ) (clock : ℤ) (request : StepRequest) (first second : Reply) (kept other : Option Event)
     → AreDistinct state.statements → Answers state pass clock request first kept → Answers state pass clock request second other
     → (first ≡ second) × (kept ≡ other)
+
+-- an operation that is admitted and that the effect does not refuse gets the effect's reply and is kept
+abbrev pub AdmittedAreKept : Type 0
+AdmittedAreKept = (state : Base) (pass : ℕ) (clock : ℤ) (caller : List ℕ) (op : Op) (procaps : List ℕ) (made : OpReply) (after : FileTree) (reply : Reply) (event : Option Event)
+    → AreIssued state procaps → IsAdmitted state caller op procaps (moment_of state clock) → effect caller op state.world ≡ replied made after
+    → Answers state pass clock (Act caller op procaps) reply event → (reply_of made ≡ reply) × (Some (Acted pass caller op procaps (moment_of state clock)) ≡ event)

@@ -1,4 +1,7 @@
 //! The file server over its core: the world, the history, the gate, and the lines of a script.
+//!
+//! A history keeps lawful events alone. The gate answers a request by the definition of answers, and keeps exactly the
+//! event that the answer keeps. `run` answers each line of a script, and its status says how it ended and why.
 #![tactic(auto)]
 
 mod act;
@@ -28,8 +31,11 @@ mod world;
 
 pub use command::Command;
 pub use event::{Base, Event, Events, Issue, Op};
+pub use gate::{Decision, Gate};
 pub use history::History;
-pub use laws::{answers_are_determined, effect_keeps_trees, histories_keep_trees};
+pub use laws::{
+    admitted_operations_are_kept, answers_are_determined, effect_keeps_trees, histories_keep_trees,
+};
 pub use node_name::is_node_name;
 pub use reply::{Cause, Denial, RegisterFault, Reply};
 pub use reply_text::write_reply;
