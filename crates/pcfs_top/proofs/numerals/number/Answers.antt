@@ -9,8 +9,8 @@ use Rattle.pcfs_top.proofs.numerals.number.Goals as goal
 pub returns-then-not-is_decimal : goal.returns-then-not-is_decimal
 returns-then-not-is_decimal c =
     let a =
-        IsAnswer-None (IsNumber c.args.word.now)
-        (λ n p. let plain = IsPlain-from_number p in false≢true (c.if-not-is_decimal.ensures.1 (plain.digits, plain.no_zero))) in
+    IsAnswer-None (IsNumber c.args.word.now)
+    (λ n p. let plain = IsPlain-from_number p in false≢true (c.if-not-is_decimal.ensures.1 (plain.digits, plain.no_zero))) in
     record { found = a.found; only = a.only }
 
 pub returns : goal.returns
