@@ -1,10 +1,10 @@
 -- The forms of a line differ in how they begin, and a line of a form names its parts in one way.
 use Rattle.std.proofs.Common.{Option, Some, None, Result, Ok, Err, MatchOption, IfSome, IfOk, ◌≢◌}
 use Rattle.std.proofs.lemmas.Option.{none-some}
-use Rattle.std.proofs.Common.{◌≡◌, ℕ, ℤ, Bool, true, false, not, List, [], ◌∷◌, ◌++◌, length, get_or, IsTrue, refl, sym, ap, ◌∙◌, subst, eqb}
+use Rattle.std.proofs.Common.{◌≡◌, ℕ, ℤ, Bool, true, false, not, List, [], ◌∷◌, ◌++◌, length, IsTrue, refl, sym, ap, subst}
 use Rattle.std.specs.Prelude.{codes, ◌==◌, ◌&&◌, ◌||◌}
 use Rattle.std.specs.List.{list_all}
-use Rattle.std.proofs.lemmas.Bool.{and_parts, and_from, false≢true, eqb-true, eq-eqb}
+use Rattle.std.proofs.lemmas.Bool.{and_parts, and_from, false≢true, eqb-true}
 use Rattle.std.proofs.lemmas.List.{append_cancel_left, nil_from_length}
 use Rattle.bl_syntax.specs.declared.terms.TimePoint.{TimePoint}
 use Rattle.bl_syntax.specs.Names.{is_lower_case, is_digit, is_name_byte, is_identifier, is_among, reserved_words, is_principal_name}
@@ -15,6 +15,7 @@ use Rattle.pcfs_top.specs.World.{is_node_name, is_node_name_byte}
 use Rattle.pcfs_top.specs.Words.{is_stop, HasNoStop}
 use Rattle.pcfs_top.specs.Lines.{IsDigits, IsInteger, plain, negated, IsSecond, IsBound, without_beginning, without_end, at_second, IsNumber, IsLine, sets_clock, sets_caller, registers, verifies, creates, writes_root, says_may}
 use Rattle.pcfs_top.proofs.NumeralLemmas.{IsPlain-from_number}
+use Rattle.pcfs_top.proofs.WordLemmas.{differ}
 
 -- ---- no part of a line holds a space or a comma
 
@@ -61,10 +62,6 @@ HasNoStop-bound without_end = refl
 HasNoStop-bound (at_second word second h) = HasNoStop-integer h.integer
 
 -- ---- what a line of each form says
-
--- two lines that differ at a place
-pub differ : {a b : List ℕ} (place : ℕ) → eqb (get_or a place 0) (get_or b place 0) ≡ false → a ≡ b → ⊥
-differ {a} {b} place unequal same = false≢true (sym unequal ∙ eq-eqb (get_or a place 0) (get_or b place 0) (ap (λ line. get_or line place 0) same))
 
 pub record IsClockLine (word : List ℕ) (command : Command) : Type 0 where
   pub second : ℤ

@@ -1,5 +1,5 @@
 -- The digits of a word, and the number that they write.
-use Rattle.std.proofs.Common.{◌≡◌, ◌≢◌, ℕ, zero, suc, ◌+◌, ◌*◌, ◌-◌, ◌^◌, ◌<◌, ◌≤◌, ℤ, pos, ◌-ℤ◌, List, ◌∷◌, length, take, get_or, IsTrue, sym, ap, ◌∙◌, subst, refl, arith, rules}
+use Rattle.std.proofs.Common.{◌≡◌, ℕ, zero, suc, ◌+◌, ◌*◌, ◌-◌, ◌^◌, ◌<◌, ◌≤◌, ℤ, pos, ◌-ℤ◌, false, List, ◌∷◌, length, take, get_or, IsTrue, sym, ap, ◌∙◌, subst, refl, arith, rules}
 use Rattle.std.proofs.Common.{Option, Result, Ok, Err}
 use Rattle.std.specs.Prelude.{codes}
 use Rattle.std.specs.Result.{OkIff, result_ok}
@@ -12,10 +12,12 @@ use Rattle.std.proofs.lemmas.Str.{digit_value_digit}
 use Rattle.std.proofs.lemmas.Str.Parse.{IsNumeralModel, numerals_by_value, digits_value_short, digits_value-take-le, digit_at}
 use Rattle.std.proofs.lemmas.Int.Digits.{digits_value_more}
 use Rattle.std.proofs.lemmas.Fmt.{decimal_digit, digits_decimal, digits_value-decimal, decimal_nonempty, length-decimal-le, first_decimal, decimal-digits_value}
+use Rattle.std.proofs.lemmas.Bool.{false≢true}
 use Rattle.pcfs_top.proofs.OptionLemmas.{IsAnswer, IsAnswer-None, IsAnswer-Some}
+use Rattle.pcfs_top.proofs.WordLemmas.{differ}
 use Rattle.bl_syntax.specs.Names.{is_digit}
 use Rattle.bl_syntax.specs.declared.terms.TimePoint.{TimePoint}
-use Rattle.bl_syntax.specs.declared.terms.TimePoint.TheVariants.{At}
+use Rattle.bl_syntax.specs.declared.terms.TimePoint.TheVariants.{NegInf, At, PosInf}
 use Rattle.pcfs_top.specs.Lines.{IsDigits, IsInteger, plain, negated, IsSecond, IsBound, without_beginning, without_end, at_second, IsNumber}
 
 -- the words of digits, and what they write, in the words of std's lemmas
@@ -111,9 +113,39 @@ IsInteger-from_digits word n h same = subst (IsInteger word) (sym same) (plain w
 pub IsInteger-from_minus : (word digits : List ℕ) (n : ℤ) → word ≡ 45 ∷ digits → IsDigits digits → n ≡ pos 0 -ℤ pos (digits_value 10 digits) → IsInteger word n
 IsInteger-from_minus word digits n same h n_is = rw (same, n_is) (negated digits h)
 
--- ---- ends of intervals
+-- ---- a word is read in one way
 
-pub IsBound-second : {word : List ℕ} {point : TimePoint} → IsBound word point → word ≢ codes "-inf" → word ≢ codes "+inf" → (second : ℤ) × IsSecond word second × (point ≡ At second)
-IsBound-second without_beginning no_neg no_pos = absurd (no_neg refl)
-IsBound-second without_end no_neg no_pos = absurd (no_pos refl)
-IsBound-second (at_second word second h) no_neg no_pos = (second, h, refl)
+pub IsInteger-unique : {word : List ℕ} {m n : ℤ} → IsInteger word m → IsInteger word n → m ≡ n
+IsInteger-unique (plain digits h) other = sym (IsInteger-digits other h)
+IsInteger-unique (negated digits h) other = sym (IsInteger-minus other digits refl).1
+
+pub IsNumber-unique : {word : List ℕ} {m n : ℕ} → IsNumber word m → IsNumber word n → m ≡ n
+IsNumber-unique h other = sym (IsPlain-from_number h).value ∙ (IsPlain-from_number other).value
+
+-- the word is no integer
+not_integer : {word : List ℕ} {n : ℤ} → IsInteger word n → (first : ℕ) (others : List ℕ) → word ≡ first ∷ others → is_digit first ≡ false → list_all is_digit others ≡ false → ⊥
+not_integer (plain digits h) first others same no_first no_others =
+    let digit = subst (λ word. IsTrue (list_all is_digit word)) same h.digits in cc
+not_integer (negated digits h) first others same no_first no_others =
+    let tails : digits ≡ others = cc in
+    false≢true (sym no_others ∙ subst (λ word. IsTrue (list_all is_digit word)) tails h.digits)
+
+bound_at_neg : {word : List ℕ} {point : TimePoint} → IsBound word point → word ≡ codes "-inf" → NegInf ≡ point
+bound_at_neg without_beginning same = refl
+bound_at_neg without_end same = absurd (differ 0 refl same)
+bound_at_neg (at_second word second h) same = absurd (not_integer h.integer 45 (codes "inf") same refl refl)
+
+bound_at_pos : {word : List ℕ} {point : TimePoint} → IsBound word point → word ≡ codes "+inf" → PosInf ≡ point
+bound_at_pos without_beginning same = absurd (differ 0 refl same)
+bound_at_pos without_end same = refl
+bound_at_pos (at_second word second h) same = absurd (not_integer h.integer 43 (codes "inf") same refl refl)
+
+bound_at_second : {word : List ℕ} {second : ℤ} {point : TimePoint} → IsSecond word second → IsBound word point → At second ≡ point
+bound_at_second s without_beginning = absurd (not_integer s.integer 45 (codes "inf") refl refl refl)
+bound_at_second s without_end = absurd (not_integer s.integer 43 (codes "inf") refl refl refl)
+bound_at_second s (at_second word other h) = ap At (IsInteger-unique s.integer h.integer)
+
+pub IsBound-unique : {word : List ℕ} {p q : TimePoint} → IsBound word p → IsBound word q → p ≡ q
+IsBound-unique without_beginning other = bound_at_neg other refl
+IsBound-unique without_end other = bound_at_pos other refl
+IsBound-unique (at_second word second h) other = bound_at_second h other

@@ -1,8 +1,8 @@
 -- A word ends before the first space or comma.
-use Rattle.std.proofs.Common.{◌≡◌, ℕ, suc, ◌+◌, Bool, true, false, not, cond, List, [], ◌∷◌, ◌++◌, length, take, drop, Option, Some, None, IsTrue, refl, sym, ap, ◌∙◌, subst, arith, one-add}
+use Rattle.std.proofs.Common.{◌≡◌, ℕ, suc, ◌+◌, Bool, true, false, not, cond, List, [], ◌∷◌, ◌++◌, length, get_or, take, drop, eqb, Option, Some, None, IsTrue, refl, sym, ap, ◌∙◌, subst, arith, one-add}
 use Rattle.std.specs.Prelude.{unwrap_or, position, nat_lt, ◌&&◌}
 use Rattle.std.specs.List.{list_all, position_or_len}
-use Rattle.std.proofs.lemmas.Bool.{false≢true, ltb-false}
+use Rattle.std.proofs.lemmas.Bool.{false≢true, ltb-false, eq-eqb}
 use Rattle.std.proofs.lemmas.List.Sums.{prefix_len-le-length}
 use Rattle.std.proofs.lemmas.List.{take_at, drop_at}
 use Rattle.pcfs_top.specs.Words.{is_stop, starts_with_stop, HasNoStop}
@@ -48,3 +48,7 @@ position_or_len-unwrap_or line place len place_is len_is =
     let n : ℕ = position_or_len is_stop line in
     len_is ∙ ap (λ o. unwrap_or o (length line)) place_is
     ∙ place_or_len (nat_lt n (length line)) n (length line) (λ past. omega (arith, ltb-false n (length line) past, prefix_len-le-length (λ b. not (is_stop b)) line))
+
+-- two texts that differ at a place
+pub differ : {a b : List ℕ} (place : ℕ) → eqb (get_or a place 0) (get_or b place 0) ≡ false → a ≡ b → ⊥
+differ {a} {b} place unequal same = false≢true (sym unequal ∙ eq-eqb (get_or a place 0) (get_or b place 0) (ap (λ line. get_or line place 0) same))

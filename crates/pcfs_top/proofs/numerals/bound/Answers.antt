@@ -1,11 +1,10 @@
 -- An end of an interval is `-inf`, `+inf` or a second.
-use Rattle.std.proofs.Common.{◌≡◌, ◌≢◌, sym, ap, ◌∙◌, subst, rules, Some, w64}
+use Rattle.std.proofs.Common.{◌≡◌, sym, ap, subst, rules, Some, w64}
 use Rattle.std.specs.Prelude.{codes}
 use Rattle.std.proofs.lemmas.Int.{to_z-of_z}
-use Rattle.std.proofs.lemmas.Option.{same_Some}
 use Rattle.bl_syntax.specs.declared.terms.TimePoint.TheVariants.{NegInf, At, PosInf}
 use Rattle.pcfs_top.specs.Lines.{IsBound, without_beginning, without_end, at_second}
-use Rattle.pcfs_top.proofs.NumeralLemmas.{IsBound-second}
+use Rattle.pcfs_top.proofs.NumeralLemmas.{IsBound-unique}
 use Rattle.pcfs_top.proofs.numerals.bound.Goals as goal
 
 pub returns-then-eq-clause-found : goal.returns-then-eq-clause-found
@@ -24,9 +23,7 @@ returns-clause-found c =
 
 pub returns-clause-only : goal.returns-clause-only
 returns-clause-only c point bound =
-    let not_neg : c.args.word.now ≢ codes "-inf" = search rules in
-    let not_pos : c.args.word.now ≢ codes "+inf" = search rules in
-    let found = IsBound-second bound not_neg not_pos in
-    let same = same_Some c.in_ok-second.field-0 found.0 (c.in_ok-second.ensures.only found.0 found.1) in
     let bits = to_z-of_z w64 c.in_ok-second.field-0 (search rules) in
-    ap (λ s. Some (At s)) (bits ∙ same) ∙ ap Some (sym found.2)
+    let one : At c.in_ok-second.field-0 ≡ point =
+    IsBound-unique (at_second c.args.word.now c.in_ok-second.field-0 c.in_ok-second.ensures.found) bound in
+    rw bits (ap Some one)
