@@ -32,42 +32,31 @@ impl Formula {
     ghost use Rattle.bl_syntax.specs.Formula.{formula};
 
     /// An equal formula in memory of its own.
+    #[cycle(copy)]
     pub fn copy(&self, alloc: Global) -> Result<Formula, NoMemory>
         ensures { IfOk result (λ copied. formula copied ≡ formula self.now) }
     {
         match self {
             Formula::Atom(name, terms) => Ok(Formula::Atom(*name, terms.copy(alloc)?)),
-            Formula::Cons(constraint) => Ok(Formula::Cons(*constraint)),
-            Formula::State(predicate) => Ok(Formula::State(*predicate)),
-            Formula::And(a, b) => Ok(Formula::And(
-                Box::new(alloc, a.copy(alloc)?)?,
-                Box::new(alloc, b.copy(alloc)?)?,
-            )),
-            Formula::Or(a, b) => Ok(Formula::Or(
-                Box::new(alloc, a.copy(alloc)?)?,
-                Box::new(alloc, b.copy(alloc)?)?,
-            )),
-            Formula::Imp(a, b) => Ok(Formula::Imp(
-                Box::new(alloc, a.copy(alloc)?)?,
-                Box::new(alloc, b.copy(alloc)?)?,
-            )),
+            Formula::Cons(c) => Ok(Formula::Cons(*c)),
+            Formula::State(s) => Ok(Formula::State(*s)),
+            Formula::And(a, b) => Ok(Formula::And(a.boxed_copy(alloc)?, b.boxed_copy(alloc)?)),
+            Formula::Or(a, b) => Ok(Formula::Or(a.boxed_copy(alloc)?, b.boxed_copy(alloc)?)),
+            Formula::Imp(a, b) => Ok(Formula::Imp(a.boxed_copy(alloc)?, b.boxed_copy(alloc)?)),
             Formula::True => Ok(Formula::True),
             Formula::False => Ok(Formula::False),
-            Formula::Forall(sort, a) => Ok(Formula::Forall(
-                *sort,
-                Box::new(alloc, a.copy(alloc)?)?,
-            )),
-            Formula::Exists(sort, a) => Ok(Formula::Exists(
-                *sort,
-                Box::new(alloc, a.copy(alloc)?)?,
-            )),
-            Formula::Says(who, a) => Ok(Formula::Says(*who, Box::new(alloc, a.copy(alloc)?)?)),
-            Formula::At(a, from, to) => Ok(Formula::At(
-                Box::new(alloc, a.copy(alloc)?)?,
-                *from,
-                *to,
-            )),
+            Formula::Forall(sort, a) => Ok(Formula::Forall(*sort, a.boxed_copy(alloc)?)),
+            Formula::Exists(sort, a) => Ok(Formula::Exists(*sort, a.boxed_copy(alloc)?)),
+            Formula::Says(who, a) => Ok(Formula::Says(*who, a.boxed_copy(alloc)?)),
+            Formula::At(a, from, to) => Ok(Formula::At(a.boxed_copy(alloc)?, *from, *to)),
         }
+    }
+
+    #[cycle(copy)]
+    fn boxed_copy(&self, alloc: Global) -> Result<Box<Formula>, NoMemory>
+        ensures { IfOk result (λ copied. formula copied.value ≡ formula self.now) }
+    {
+        Ok(Box::new(alloc, self.copy(alloc)?)?)
     }
 
     /// Whether it is the same formula.

@@ -8,5 +8,6 @@ ghost use Rattle.bl_syntax.specs.FirstFault.{formula_fault};
 
 /// A formula is closed and well sorted within the limits exactly where it has no first fault.
 pub fn no_fault_of_a_formula()
-    ensures { (parameters : List Sort) (f : Form) → (formula_fault parameters f ≡ None) ↔ IsFormula parameters f }
+    ensures { (parameters : List Sort) (f : Form)
+        → (formula_fault parameters f ≡ None) ↔ IsFormula parameters f }
 {}

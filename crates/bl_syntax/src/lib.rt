@@ -15,6 +15,8 @@ mod short;
 mod statement;
 mod substitution;
 mod terms;
+#[cfg(test)]
+mod tests;
 mod time;
 
 pub use check::{SyntaxFault, check_formula};

@@ -248,3 +248,60 @@ fn is_text(bytes: &[u8]) -> bool
 {
     are_text_bytes(bytes) && bytes.len() <= 128
 }
+
+#[cfg(test)]
+mod tests {
+    use super::*;
+
+    #[test]
+    fn names_are_in_the_grammar(rt: HostRuntime) {
+        for (name, is_principal, is_word) in [
+            ("", false, false),
+            ("a", true, true),
+            ("may", true, true),
+            ("a_1", true, true),
+            ("abcdefghijabcdefghijabcdefghijab", true, true),
+            ("abcdefghijabcdefghijabcdefghijabc", false, false),
+            ("1a", false, false),
+            ("_a", false, false),
+            ("Alice", false, false),
+            ("aLice", false, false),
+            ("a-b", false, false),
+            ("owner", true, false),
+            ("has_xattr", true, false),
+            ("in_dir", true, false),
+        ] {
+            assert_eq!(rt;
+                Principal::new(name.as_bytes()).is_some(),
+                is_principal,
+                "{name}"
+            );
+            assert_eq!(rt; Word::new(name.as_bytes()).is_some(), is_word, "{name}");
+        }
+        let reserved =
+            "forall exists says from to true false ctime inf read write execute identity \
+                        govern principal file perm time text";
+        for word in reserved.split(' ') {
+            assert!(rt; Principal::new(word.as_bytes()).is_none(), "{word}");
+            assert!(rt; Word::new(word.as_bytes()).is_none(), "{word}");
+        }
+    }
+
+    #[test]
+    fn texts_are_in_the_grammar(rt: HostRuntime) {
+        let long = [b' '; 129];
+        for (text, want) in [
+            (&long[..128], true),
+            (&long[..], false),
+            (b"".as_slice(), true),
+            (b"~Az09#".as_slice(), true),
+            (b"\"".as_slice(), false),
+            (b"\\".as_slice(), false),
+            (b"\x1f".as_slice(), false),
+            (b"\x7f".as_slice(), false),
+            (b"\xc3\xa9".as_slice(), false),
+        ] {
+            assert_eq!(rt; Text::new(text).is_some(), want, "{text:?}");
+        }
+    }
+}

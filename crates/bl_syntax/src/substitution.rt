@@ -18,48 +18,53 @@ pub fn instantiate(alloc: Global, body: &Formula, t: &Term) -> Result<Formula, N
 }
 
 /// The formula with t for the variable of the binder that stands so many binders further out.
+#[cycle(put_in)]
 fn put_in(alloc: Global, f: &Formula, depth: usize, t: &Term) -> Result<Formula, NoMemory>
     ensures { IfOk result (λ changed. formula changed ≡ put_in depth t.now (formula f.now)) }
 {
     match f {
-        Formula::Atom(name, terms) => Ok(Formula::Atom(
-            *name,
-            Sequence::from_vec(put_in_terms(alloc, terms.as_slice(), depth, t)?),
-        )),
+        Formula::Atom(name, terms) => {
+            let terms = put_in_terms(alloc, terms.as_slice(), depth, t)?;
+            Ok(Formula::Atom(*name, Sequence::from_vec(terms)))
+        }
         Formula::Cons(c) => Ok(Formula::Cons(put_in_constraint(c, depth, t))),
         Formula::State(s) => Ok(Formula::State(put_in_state(s, depth, t))),
         Formula::And(a, b) => Ok(Formula::And(
-            Box::new(alloc, put_in(alloc, a, depth, t)?)?,
-            Box::new(alloc, put_in(alloc, b, depth, t)?)?,
+            put_in_part(alloc, a, depth, t)?,
+            put_in_part(alloc, b, depth, t)?,
         )),
         Formula::Or(a, b) => Ok(Formula::Or(
-            Box::new(alloc, put_in(alloc, a, depth, t)?)?,
-            Box::new(alloc, put_in(alloc, b, depth, t)?)?,
+            put_in_part(alloc, a, depth, t)?,
+            put_in_part(alloc, b, depth, t)?,
         )),
         Formula::Imp(a, b) => Ok(Formula::Imp(
-            Box::new(alloc, put_in(alloc, a, depth, t)?)?,
-            Box::new(alloc, put_in(alloc, b, depth, t)?)?,
+            put_in_part(alloc, a, depth, t)?,
+            put_in_part(alloc, b, depth, t)?,
         )),
         Formula::True => Ok(Formula::True),
         Formula::False => Ok(Formula::False),
-        Formula::Forall(sort, a) => Ok(Formula::Forall(
-            *sort,
-            Box::new(alloc, put_in(alloc, a, deeper(depth)?, t)?)?,
-        )),
-        Formula::Exists(sort, a) => Ok(Formula::Exists(
-            *sort,
-            Box::new(alloc, put_in(alloc, a, deeper(depth)?, t)?)?,
-        )),
-        Formula::Says(who, a) => Ok(Formula::Says(
-            put_in_term(who, depth, t),
-            Box::new(alloc, put_in(alloc, a, depth, t)?)?,
-        )),
-        Formula::At(a, from, to) => Ok(Formula::At(
-            Box::new(alloc, put_in(alloc, a, depth, t)?)?,
-            put_in_term(from, depth, t),
-            put_in_term(to, depth, t),
-        )),
+        Formula::Forall(sort, a) => {
+            Ok(Formula::Forall(*sort, put_in_part(alloc, a, deeper(depth)?, t)?))
+        }
+        Formula::Exists(sort, a) => {
+            Ok(Formula::Exists(*sort, put_in_part(alloc, a, deeper(depth)?, t)?))
+        }
+        Formula::Says(who, a) => {
+            let a = put_in_part(alloc, a, depth, t)?;
+            Ok(Formula::Says(put_in_term(who, depth, t), a))
+        }
+        Formula::At(a, from, to) => {
+            let a = put_in_part(alloc, a, depth, t)?;
+            Ok(Formula::At(a, put_in_term(from, depth, t), put_in_term(to, depth, t)))
+        }
     }
+}
+
+#[cycle(put_in)]
+fn put_in_part(alloc: Global, f: &Formula, depth: usize, t: &Term) -> Result<Box<Formula>, NoMemory>
+    ensures { IfOk result (λ changed. formula changed.value ≡ put_in depth t.now (formula f.now)) }
+{
+    Ok(Box::new(alloc, put_in(alloc, f, depth, t)?)?)
 }
 
 /// One binder further in. No memory holds a formula with so many binders that their number does not fit.
