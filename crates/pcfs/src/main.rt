@@ -25,7 +25,9 @@ fn words_of<R: env::Env + AllocGlobal>(rt: &R) -> io::Result<Vec<String>> {
 fn main(rt: HostRuntime) -> ExitCode {
     let words = match words_of(&rt) {
         Ok(words) => words,
-        Err(fault) if fault.kind() == ErrorKind::OutOfMemory => return ExitCode::from(OUT_OF_MEMORY),
+        Err(fault) if fault.kind() == ErrorKind::OutOfMemory => return ExitCode::from(
+            OUT_OF_MEMORY,
+        ),
         Err(_) => Vec::new(rt.alloc()),
     };
     let mut input = StdSource::new(rt.reader());

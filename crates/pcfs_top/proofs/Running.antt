@@ -58,7 +58,7 @@ pub AnswersLine-at : (seated : Seated) (base : Base) (clock : ℤ) (caller : Lis
 AnswersLine-at seated base clock caller events line command second shown is asks same line_is =
     subst (λ (s : Seated). AnswersLine s.base s.standing line replies.Done (record { clock = shown; caller = caller; events = events })) (sym is)
     (subst (λ (z : ℤ). AnswersLine base (record { clock = clock; caller = caller; events = events }) line replies.Done (record { clock = z; caller = caller; events = events })) (sym same)
-      (script.sets_clock second (subst (IsLine line) asks line_is)))
+    (script.sets_clock second (subst (IsLine line) asks line_is)))
 
 -- the line sets the caller
 pub AnswersLine-as : (seated : Seated) (base : Base) (clock : ℤ) (caller : List ℕ) (events : List Event) (line : List ℕ) (command : Command) (who : List ℕ) →
@@ -197,8 +197,8 @@ pub HasRun-part : (bytes rest others line : List ℕ) (base : Base) (before afte
     IsReplied base before line reply after → HoldsSome mid new (reply_text reply ++ 10 ∷ []) → (written : List ℕ) × RunsPart bytes written × HoldsSome held new written
 HasRun-part bytes rest others line base before after reply held mid new same h first replied some =
     let out = output_of h.answers in
-    let text = reply_text reply ++ 10 ∷ [] in
-    (out ++ text,
+    let text = reply_text reply ++ 10 ∷ [] in (
+      out ++ text,
       record {
         front = h.done ++ line ∷ [];
         others = lines_of others;
@@ -207,14 +207,18 @@ HasRun-part bytes rest others line base before after reply held mid new same h f
         after = after;
         run = run-more base h.done h.answers before after line reply same h.run replied;
         written_is = sym (output-more h.answers reply);
-      }, record {
+      },
+      record {
         count = length out + some.count;
         within = omega (arith, some.within, length-append out text);
         held = some.held ∙ ap (λ t. with_back t (take some.count text)) h.output ∙ with_back-with_back held out (take some.count text) ∙ ap (with_back held) (sym (take-append-add out text some.count));
-      })
+      },
+    )
 
 -- nothing was run, and nothing written
 pub nothing_run : (bytes : List ℕ) (held : Option (List ℕ)) → (written : List ℕ) × RunsPart bytes written × HoldsSome held held written
-nothing_run bytes held =
-    ([], record { front = []; others = lines_of bytes; parts = refl; answers = []; after = beginning; run = script.begun; written_is = refl },
-      record { count = 0; within = omega arith; held = with_back-nil held })
+nothing_run bytes held = (
+  [],
+  record { front = []; others = lines_of bytes; parts = refl; answers = []; after = beginning; run = script.begun; written_is = refl },
+  record { count = 0; within = omega arith; held = with_back-nil held },
+)

@@ -10,6 +10,6 @@ use Rattle.pcfs_top.specs.Desk.{Seated}
 abbrev pub seated_code : Coded Seated
 seated_code =
     code_by (Base × (ℤ × (List ℕ × List Event))) (coded× base.the_row.coded (coded× coded_ℤ (coded× (coded_list coded_ℕ) (coded_list event.the_row.coded))))
-      (λ s. (s.base, (s.standing.clock, (s.standing.caller, s.standing.events))))
-      (λ p. record { base = p.0; standing = record { clock = p.1.0; caller = p.1.1.0; events = p.1.1.1 } })
-      (λ _. refl)
+    (λ s. (s.base, (s.standing.clock, (s.standing.caller, s.standing.events))))
+    (λ p. record { base = p.0; standing = record { clock = p.1.0; caller = p.1.1.0; events = p.1.1.1 } })
+    (λ _. refl)

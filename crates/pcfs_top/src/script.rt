@@ -84,11 +84,7 @@ fn answer_lines<O: Sink>(
 ///
 /// `Write` comes only where the output's count of faults rose. `NoMemory` comes where there was no memory for the
 /// start, or for the text of a reply. After a fault some first part of the replies was written.
-pub fn run_script<O: Sink>(
-    alloc: Global,
-    input: &[u8],
-    output: &mut O,
-) -> Result<(), ScriptFault>
+pub fn run_script<O: Sink>(alloc: Global, input: &[u8], output: &mut O) -> Result<(), ScriptFault>
     requires short { length input.now < 2 ^ 30 }
     ensures ok { OnOk result ((written : List ℕ) × RunsWhole input.now written × (O.held output.new ≡ with_back (O.held output.old) written)) }
     ensures err { OnErr result ((written : List ℕ) × RunsPart input.now written × HoldsSome (O.held output.old) (O.held output.new) written) }

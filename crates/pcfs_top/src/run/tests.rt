@@ -74,11 +74,22 @@ fn lines_are_answered_after_the_first_file(rt: HostRuntime) -> Result<(), Fail> 
                 "do create #1 notes",
                 "do create #1 other @2",
             ],
-            &["refused 5 at 3", "unproved 2 2", "absent 2", "bad 9", "absent 2"],
+            &[
+                "refused 5 at 3",
+                "unproved 2 2",
+                "absent 2",
+                "bad 9",
+                "absent 2",
+            ],
         ),
         (
             &["at 200", "do create #1 b @1", "at 201", "do create #1 c @1"],
-            &["ok", "ok node #3", "ok", "denied 1 time 2 ctime <= 200 at 4"],
+            &[
+                "ok",
+                "ok node #3",
+                "ok",
+                "denied 1 time 2 ctime <= 200 at 4",
+            ],
         ),
         (
             &[
@@ -114,7 +125,13 @@ fn lines_are_answered_after_the_first_file(rt: HostRuntime) -> Result<(), Fail> 
                 "as bob",
                 "do create #1 d @2",
             ],
-            &["ok", "ok statement 2", "ok issue 2 time 0 state 0", "ok", "ok node #3"],
+            &[
+                "ok",
+                "ok statement 2",
+                "ok issue 2 time 0 state 0",
+                "ok",
+                "ok node #3",
+            ],
         ),
     ];
     for (lines, replies) in rows {
@@ -175,7 +192,12 @@ fn a_line_of_no_form_is_bad(rt: HostRuntime) -> Result<(), Fail> {
 
 #[test]
 fn an_input_may_be_empty_or_lack_its_last_end(rt: HostRuntime) -> Result<(), Fail> {
-    for (text, want) in [("", ""), ("\n", "bad 9\n"), ("at 1", "ok\n"), ("at 1\nas bob", "ok\nok\n")] {
+    for (text, want) in [
+        ("", ""),
+        ("\n", "bad 9\n"),
+        ("at 1", "ok\n"),
+        ("at 1\nas bob", "ok\nok\n"),
+    ] {
         let mut bytes = Bytes::new(rt.alloc());
         bytes.extend(text.as_bytes())?;
         let got = run_over(&rt, &["script"], bytes, &[], &[])?;
@@ -189,12 +211,18 @@ fn an_input_may_be_empty_or_lack_its_last_end(rt: HostRuntime) -> Result<(), Fai
 fn no_more_than_4096_statements_are_kept(rt: HostRuntime) -> Result<(), Fail> {
     let mut text = Bytes::new(rt.alloc());
     for number in 1..4098u32 {
-        let line = format!(in rt.alloc(); "register - admin says may(p{number},#1,write) from 0 to 200\n")?;
+        let line = format!(in rt.alloc();
+            "register - admin says may(p{number},#1,write) from 0 to 200\n"
+        )?;
         text.extend(line.as_bytes())?;
     }
     let got = run_over(&rt, &["script"], text, &[], &[])?;
     assert_eq!(rt; got.status, 0);
-    assert!(rt; got.output.held().ends_with(b"\nok statement 4096\nrejected 2\n"));
+    assert!(rt;
+        got.output
+            .held()
+            .ends_with(b"\nok statement 4096\nrejected 2\n")
+    );
     Ok(())
 }
 
@@ -207,7 +235,11 @@ fn no_more_than_16384_nodes_are_made(rt: HostRuntime) -> Result<(), Fail> {
     }
     let got = run_over(&rt, &["script"], text, &[], &[])?;
     assert_eq!(rt; got.status, 0);
-    assert!(rt; got.output.held().ends_with(b"\nok node #16384\nrefused 9 at 16385\n"));
+    assert!(rt;
+        got.output
+            .held()
+            .ends_with(b"\nok node #16384\nrefused 9 at 16385\n")
+    );
     Ok(())
 }
 
