@@ -18,7 +18,7 @@ use Rattle.bl_syntax.specs.declared.check.SyntaxFault.TheVariants.{TooLarge}
 use Rattle.bl_syntax.specs.Formula.{Form, atom, compare, state, both, either, implies, truth, falsity, forall_, exists_, says, on}
 use Rattle.bl_syntax.specs.Terms.{sort_of}
 use Rattle.bl_syntax.specs.WellSorted.{may, sorts_of_may, HasSort, IsInScope, HaveSorts, FitsPredicate, IsSortedState, IsWellSorted, IsFormula, size, widest_atom}
-use Rattle.bl_syntax.specs.FirstFault.{Finds, first_of, is_same_sort, sort_fault, scope_fault, term_fault, scopes_fault, may_fault, state_fault, times_fault, sorting_fault, formula_fault}
+use Rattle.bl_syntax.specs.FirstFault.{Finds, first_of, sort_mismatch, sort_fault, scope_fault, term_fault, scopes_fault, may_fault, state_fault, times_fault, sorting_fault, formula_fault}
 
 -- there is no fault exactly where the fact holds
 abbrev Tells : Option SyntaxFault → Type 0 → Type 0
@@ -28,17 +28,17 @@ Tells-first_of : (a b : Option SyntaxFault) (P Q : Type 0) → Tells a P → Tel
 Tells-first_of None b P Q p q = (λ e. (p.0 refl, q.0 e), λ h. q.1 h.1)
 Tells-first_of (Some fault) b P Q p q = (λ e. cc, λ h. p.1 h.0)
 
-Tells-is_same_sort : (wanted found : Sort) → Tells (is_same_sort wanted found) (◌≡◌ {A = Option Sort} (Some found) (Some wanted))
-Tells-is_same_sort sorts.Principal sorts.Principal = (λ e. refl, λ e. refl)
-Tells-is_same_sort sorts.File sorts.File = (λ e. refl, λ e. refl)
-Tells-is_same_sort sorts.Perm sorts.Perm = (λ e. refl, λ e. refl)
-Tells-is_same_sort sorts.Time sorts.Time = (λ e. refl, λ e. refl)
-Tells-is_same_sort sorts.Text sorts.Text = (λ e. refl, λ e. refl)
-Tells-is_same_sort _ _ = (λ e. cc, λ e. cc)
+Tells-sort_mismatch : (wanted found : Sort) → Tells (sort_mismatch wanted found) (◌≡◌ {A = Option Sort} (Some found) (Some wanted))
+Tells-sort_mismatch sorts.Principal sorts.Principal = (λ e. refl, λ e. refl)
+Tells-sort_mismatch sorts.File sorts.File = (λ e. refl, λ e. refl)
+Tells-sort_mismatch sorts.Perm sorts.Perm = (λ e. refl, λ e. refl)
+Tells-sort_mismatch sorts.Time sorts.Time = (λ e. refl, λ e. refl)
+Tells-sort_mismatch sorts.Text sorts.Text = (λ e. refl, λ e. refl)
+Tells-sort_mismatch _ _ = (λ e. cc, λ e. cc)
 
 Tells-sort_fault : (wanted : Sort) (found : Option Sort) → Tells (sort_fault wanted found) (found ≡ Some wanted)
 Tells-sort_fault wanted None = (λ e. cc, λ e. cc)
-Tells-sort_fault wanted (Some found) = Tells-is_same_sort wanted found
+Tells-sort_fault wanted (Some found) = Tells-sort_mismatch wanted found
 
 Tells-scope_fault : (found : Option Sort) → Tells (scope_fault found) (IsSome found)
 Tells-scope_fault None = (λ e. cc, λ h. absurd (search rules))

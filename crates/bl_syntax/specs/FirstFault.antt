@@ -1,4 +1,4 @@
--- The first fault of a formula in preorder: each node before its parts, the parts from left to right. The order is this project's own.
+-- The first fault of a formula: of the limits, and then in preorder, each node before its parts, the parts from left to right. The order is this project's own.
 use Rattle.std.specs.Prelude.{◌≡◌, Result, MatchResult, List, [], ◌∷◌, Option, Some, None, nat_le, ◌&&◌, if◌then◌else◌}
 use Rattle.std.specs.Str.{bytes_eq}
 use Rattle.bl_syntax.specs.declared.terms.Sort.{Sort}
@@ -17,19 +17,19 @@ abbrev pub first_of : Option SyntaxFault → Option SyntaxFault → Option Synta
 first_of (Some fault) later = Some fault
 first_of None later = later
 
--- the same sort
-abbrev pub is_same_sort : Sort → Sort → Option SyntaxFault
-is_same_sort sorts.Principal sorts.Principal = None
-is_same_sort sorts.File sorts.File = None
-is_same_sort sorts.Perm sorts.Perm = None
-is_same_sort sorts.Time sorts.Time = None
-is_same_sort sorts.Text sorts.Text = None
-is_same_sort wanted found = Some WrongSort
+-- a fault where the sorts differ
+abbrev pub sort_mismatch : Sort → Sort → Option SyntaxFault
+sort_mismatch sorts.Principal sorts.Principal = None
+sort_mismatch sorts.File sorts.File = None
+sort_mismatch sorts.Perm sorts.Perm = None
+sort_mismatch sorts.Time sorts.Time = None
+sort_mismatch sorts.Text sorts.Text = None
+sort_mismatch wanted found = Some WrongSort
 
 -- a term of this sort is wanted, and one of that sort, or out of scope, is found
 abbrev pub sort_fault : Sort → Option Sort → Option SyntaxFault
 sort_fault wanted None = Some Unbound
-sort_fault wanted (Some found) = is_same_sort wanted found
+sort_fault wanted (Some found) = sort_mismatch wanted found
 
 -- any term is wanted
 abbrev pub scope_fault : Option Sort → Option SyntaxFault

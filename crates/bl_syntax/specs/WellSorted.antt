@@ -1,4 +1,4 @@
--- Which formulas are closed and well sorted, within the limits, and the first fault of one that is not. The sorts of predicates and the limits are this project's own.
+-- Which formulas are closed and well sorted, and within the limits. The sorts of predicates and the limits are this project's own.
 use Rattle.std.specs.Prelude.{◌≡◌, ◌≤◌, ℕ, ◌+◌, max, List, [], ◌∷◌, length, codes, Some, IsSome}
 use Rattle.std.specs.List.{AllByRecursion}
 use Rattle.bl_syntax.specs.declared.terms.Sort.{Sort}

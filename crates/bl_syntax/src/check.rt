@@ -13,7 +13,7 @@ use crate::formula::Formula;
 use crate::names::Word;
 use crate::terms::{Sort, StatePred, Term};
 
-/// The first fault of a formula, its nodes taken from the root with each node before its parts.
+/// The first fault of a formula: of its size, and then of its nodes from the root, each node before its parts.
 #[derive(Clone, Copy, Debug, PartialEq, Eq)]
 pub enum SyntaxFault {
     /// A term has another sort than its place asks for.

@@ -5,7 +5,7 @@ use crate::names::Word;
 use crate::terms::{Constraint, Sort, StatePred, Term, Terms, are_same};
 use std::alloc::Global;
 
-/// A formula. A binder binds the variable that counts it as 0.
+/// A formula. A variable is the number of binders between it and its own, so the innermost binder's is 0.
 #[derive(Debug, Drop)]
 pub enum Formula {
     /// A predicate and its arguments.

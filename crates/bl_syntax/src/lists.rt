@@ -39,7 +39,7 @@ impl<T> Model for Sequence<T> {
 /// Bytes.
 pub type Bytes = Sequence<u8>;
 
-/// Numbers of statements or of issues.
+/// Numbers, as of statements.
 pub type Numbers = Sequence<u32>;
 
 impl<T> Sequence<T> {
