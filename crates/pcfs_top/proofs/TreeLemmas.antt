@@ -41,8 +41,8 @@ IsTree-fresh = record {
 abbrev tree_of : List Row → ℕ → FileTree
 tree_of rows next = record { rows = rows; next = next }
 
-pub IsTree-of_fresh : (rows : List Row) → rows ≡ fresh.world.rows → IsTree (tree_of rows 2)
-IsTree-of_fresh rows same = subst (λ (found : List Row). IsTree (tree_of found 2)) (sym same) IsTree-fresh
+pub IsTree-of_fresh : (listed : List Row) → listed ≡ fresh.world.rows → IsTree (tree_of listed 2)
+IsTree-of_fresh listed same = subst (λ (found : List Row). IsTree (tree_of found 2)) (sym same) IsTree-fresh
 
 -- what leads to the root still does where nodes are added
 IsReached-append : {rows : List Row} {row : Row} (more : List Row) → IsReached rows row → IsReached (rows ++ more) row
