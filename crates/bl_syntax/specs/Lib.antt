@@ -1,4 +1,5 @@
 pub mod Binders
+pub mod Entailment
 pub mod FirstFailing
 pub mod FirstFault
 pub mod Formula
