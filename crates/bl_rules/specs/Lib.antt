@@ -1,0 +1,3 @@
+pub mod Allowed
+pub mod Derivable
+pub mod Sequent
