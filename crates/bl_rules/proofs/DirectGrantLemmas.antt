@@ -18,7 +18,7 @@ use Rattle.bl_syntax.specs.Statement.{Saying}
 use Rattle.bl_syntax.specs.Grant.{HoldsAt}
 use Rattle.bl_rules.specs.Sequent.{Known, holds, claims, speak}
 use Rattle.bl_rules.specs.Derivable.{init, says_r, claim}
-use Rattle.bl_rules.specs.Allowed.{admin, claim_of, claims_of, known_at, Allows, SoundGrant}
+use Rattle.bl_rules.specs.Allowed.{admin, claim_of, claims_of, root, Allows, SoundGrant}
 use Rattle.bl_rules.specs.DirectGrant.{wanted, SpeaksForAdmin, begun, not_ended, granted_by}
 use Rattle.bl_rules.proofs.Membership.{Contains-map, Contains-claims_among}
 
@@ -33,7 +33,7 @@ pub Allows-by_statement : (statements : List Saying) (facts : List StatePred) (m
     → Allows statements facts moment goal.who goal.file goal.perm
 Allows-by_statement statements facts moment statement goal among strong same begun_by ends_after =
     let now : Term = Time (At moment) in
-    let known : Known = speak admin now now (known_at moment statements facts) in
+    let known : Known = speak admin now now (root statements [] facts now) in
     let cited : Contains known.hypotheses (claim_of statement) =
     Contains-claims_among (claims_of statements) (claim_of statement) tt (Contains-map claim_of statements statement among) in
     let cited_goal : Contains known.hypotheses (claims (Prin statement.who) (wanted goal) (Time statement.from) (Time statement.to)) =
