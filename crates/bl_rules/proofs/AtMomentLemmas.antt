@@ -1,5 +1,5 @@
 -- A moment in the place of the current time, throughout, keeps what is derivable.
-use Rattle.std.proofs.Common.{◌≡◌, ℤ, List, [], ◌∷◌, ◌++◌, map, ⊎_elim, sym, subst}
+use Rattle.std.proofs.Common.{◌≡◌, ℤ, List, [], ◌∷◌, ◌++◌, map, ⊎_elim, subst}
 use Rattle.std.specs.Prelude.{Contains}
 use Rattle.std.proofs.lemmas.List.Elements.{Contains-append_left, Contains-push, Contains-push_cases}
 use Rattle.bl_syntax.specs.declared.terms.Sort.TheVariants.{Time}
@@ -9,11 +9,10 @@ use Rattle.bl_syntax.specs.declared.terms.Constraint.{Constraint}
 use Rattle.bl_syntax.specs.Formula.{Form}
 use Rattle.bl_syntax.specs.Terms.{term_at, constraint_at, state_at}
 use Rattle.bl_syntax.specs.Substitution.{instance_at, formula_at}
-use Rattle.bl_syntax.specs.Entailment.{Entails, EntailsAll}
+use Rattle.bl_syntax.specs.Entailment.{Entails}
 use Rattle.bl_syntax.proofs.EntailmentLemmas.{Entails-at, Entails-entailed, Entails-more, Entails-constrained}
 use Rattle.bl_rules.specs.Sequent.{Hypothesis, holds, claims, Known, claims_among, new_parameter, new_start, new_end}
 use Rattle.bl_rules.specs.Derivable.{Derivable, init, cons_r, inter_r, and_r, or_r1, or_r2, true_r, imp_r, forall_r, exists_r, says_r, at_r, cons_l, inter_l, and_l, or_l, false_l, imp_l, forall_l, exists_l, says_l, claim, at_l}
-use Rattle.bl_rules.specs.Richer.{given, Includes}
 use Rattle.bl_rules.specs.AtMoment.{hypothesis_at, view_at, known_at}
 use Rattle.bl_rules.proofs.Membership.{IsClaim, Contains-map, Contains-map_cases, Contains-claims_among, claims_among-Contains}
 use Rattle.bl_rules.proofs.MomentOfTerms.{HasSort-at, IsAtLeastAsStrong-at, instance_at-at}
@@ -40,9 +39,9 @@ module _ (moment : ℤ) where
   EntailsAllAt-push psi old c all = record {
     each = λ d among. ⊎_elim
         (λ (before : Contains old d). Entails-more psi (psi ++ constraint_at moment c ∷ []) (term_at moment d.low) (term_at moment d.high)
-          (λ e. Contains-append_left psi (constraint_at moment c ∷ []) e) (all.each d before))
+        (λ e. Contains-append_left psi (constraint_at moment c ∷ []) e) (all.each d before))
         (λ (same : c ≡ d). subst (λ (e : Constraint). Entails (psi ++ constraint_at moment c ∷ []) (term_at moment e.low) (term_at moment e.high)) same
-          (Entails-constrained (psi ++ constraint_at moment c ∷ []) (constraint_at moment c) (Contains-push psi (constraint_at moment c))))
+        (Entails-constrained (psi ++ constraint_at moment c ∷ []) (constraint_at moment c) (Contains-push psi (constraint_at moment c))))
         (Contains-push_cases old c d among);
   }
 
@@ -83,8 +82,8 @@ module _ (moment : ℤ) where
       let end : Constraint = record { low = new_end known; high = v } in
       let supposed = holds a (new_start known) (new_end known) in
       imp_r (Derivable-at premise ((psi ++ constraint_at moment start ∷ []) ++ constraint_at moment end ∷ []) facts (hs ++ hypothesis_at moment supposed ∷ [])
-        (EntailsAllAt-push (psi ++ constraint_at moment start ∷ []) (known.constraints ++ start ∷ []) end (EntailsAllAt-push psi known.constraints start p))
-        e (IncludesChanged-push (hypothesis_at moment) hs known.hypotheses supposed h))
+      (EntailsAllAt-push (psi ++ constraint_at moment start ∷ []) (known.constraints ++ start ∷ []) end (EntailsAllAt-push psi known.constraints start p))
+      e (IncludesChanged-push (hypothesis_at moment) hs known.hypotheses supposed h))
   Derivable-at {known = known} (forall_r {a = a} premise) psi facts hs p e h =
       forall_r (rw (instance_at-at moment (new_parameter known) a) at (Derivable-at premise psi facts hs p e h))
   Derivable-at {known = known} (exists_r {s = s} {a = a} t sorted premise) psi facts hs p e h =
@@ -103,8 +102,8 @@ module _ (moment : ℤ) where
       let second = holds b from to in
       and_l (formula_at moment a) (formula_at moment b) (term_at moment from) (term_at moment to) (h _ among)
       (Derivable-at premise psi facts ((hs ++ hypothesis_at moment first ∷ []) ++ hypothesis_at moment second ∷ []) p e
-        (IncludesChanged-push (hypothesis_at moment) (hs ++ hypothesis_at moment first ∷ []) (known.hypotheses ++ first ∷ []) second
-          (IncludesChanged-push (hypothesis_at moment) hs known.hypotheses first h)))
+      (IncludesChanged-push (hypothesis_at moment) (hs ++ hypothesis_at moment first ∷ []) (known.hypotheses ++ first ∷ []) second
+      (IncludesChanged-push (hypothesis_at moment) hs known.hypotheses first h)))
   Derivable-at {known = known} (or_l a b from to among left right) psi facts hs p e h =
       let first = holds a from to in
       let second = holds b from to in
@@ -124,14 +123,14 @@ module _ (moment : ℤ) where
       let instance_now = holds (instance_at (term_at moment t) (formula_at moment a)) (term_at moment from) (term_at moment to) in
       forall_l s (formula_at moment a) (term_at moment from) (term_at moment to) (term_at moment t) (h _ among) (HasSort-at moment known.sorts [] s t sorted)
       (Derivable-at premise psi facts (hs ++ instance_now ∷ []) p e
-        (rw (instance_at-at moment t a) at (IncludesChanged-push (hypothesis_at moment) hs known.hypotheses instance h)))
+      (rw (instance_at-at moment t a) at (IncludesChanged-push (hypothesis_at moment) hs known.hypotheses instance h)))
   Derivable-at {known = known} (exists_l s a from to among premise) psi facts hs p e h =
       let t = new_parameter known in
       let instance = holds (instance_at t a) from to in
       let instance_now = holds (instance_at t (formula_at moment a)) (term_at moment from) (term_at moment to) in
       exists_l s (formula_at moment a) (term_at moment from) (term_at moment to) (h _ among)
       (Derivable-at premise psi facts (hs ++ instance_now ∷ []) p e
-        (rw (instance_at-at moment t a) at (IncludesChanged-push (hypothesis_at moment) hs known.hypotheses instance h)))
+      (rw (instance_at-at moment t a) at (IncludesChanged-push (hypothesis_at moment) hs known.hypotheses instance h)))
   Derivable-at {known = known} (says_l k a from to among premise) psi facts hs p e h =
       let claimed = claims k a from to in
       says_l (term_at moment k) (formula_at moment a) (term_at moment from) (term_at moment to) (h _ among)

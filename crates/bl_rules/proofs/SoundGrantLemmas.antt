@@ -1,26 +1,24 @@
 -- What is derivable under a grant's conditions makes the grant sound, and more statements keep it sound.
-use Rattle.std.proofs.Common.{◌≡◌, ◌∙◌, ℕ, ℤ, List, [], ◌∷◌, ◌++◌, map, refl, ap, ap₂, sym, subst}
+use Rattle.std.proofs.Common.{◌≡◌, ◌∙◌, ℕ, ℤ, List, [], ◌∷◌, map, refl, ap, ap₂, sym, subst}
 use Rattle.std.specs.Prelude.{Contains}
 use Rattle.std.specs.List.{AllByRecursion}
 use Rattle.std.proofs.lemmas.List.Elements.{All-from_recursion, All-contains}
-use Rattle.bl_syntax.specs.declared.terms.TimePoint.TheVariants.{At}
 use Rattle.bl_syntax.specs.declared.terms.NodeId.{NodeId}
 use Rattle.bl_syntax.specs.declared.terms.Perm.{Perm as Permission}
 use Rattle.bl_syntax.specs.declared.terms.Term.{Term}
 use Rattle.bl_syntax.specs.declared.terms.Term.TheVariants.{Prin, File, Perm, Time, Text, Ctime, Param, Bound}
 use Rattle.bl_syntax.specs.declared.terms.StatePred.{StatePred}
 use Rattle.bl_syntax.specs.declared.terms.StatePred.TheVariants.{Owner, HasXattr, InDir}
-use Rattle.bl_syntax.specs.declared.terms.Constraint.{Constraint}
 use Rattle.bl_syntax.specs.Formula.{Form, atom, compare, state, both, either, implies, truth, falsity, forall_, exists_, says, on}
-use Rattle.bl_syntax.specs.Terms.{IsConstant, term_at, constraint_at, state_at}
+use Rattle.bl_syntax.specs.Terms.{IsConstant, term_at, state_at}
 use Rattle.bl_syntax.specs.WellSorted.{terms_of_state}
 use Rattle.bl_syntax.specs.Statement.{Saying, AllTerms, IsNotCtime, IsStatement}
 use Rattle.bl_syntax.specs.Substitution.{formula_at}
 use Rattle.bl_syntax.specs.Entailment.{constants}
-use Rattle.bl_syntax.specs.Grant.{Granted, IsStateCondition, HoldsAt, Holds}
+use Rattle.bl_syntax.specs.Grant.{Granted, IsStateCondition, HoldsAt}
 use Rattle.bl_syntax.proofs.EntailmentLemmas.{Entails-link, Entails-constrained}
-use Rattle.bl_rules.specs.Sequent.{Hypothesis, claims, Known}
-use Rattle.bl_rules.specs.Allowed.{claim_of, claims_of, root, Allows, SoundGrant, IsDerivableUnderConditions}
+use Rattle.bl_rules.specs.Sequent.{Hypothesis, claims}
+use Rattle.bl_rules.specs.Allowed.{claim_of, claims_of, Allows, SoundGrant, IsDerivableUnderConditions}
 use Rattle.bl_rules.specs.AtMoment.{hypothesis_at}
 use Rattle.bl_rules.specs.Richer.{Includes}
 use Rattle.bl_rules.proofs.Membership.{Contains-map, Contains-map_cases}
@@ -104,9 +102,9 @@ SoundGrant-from_conditions statements granted are_statements are_conditions deri
         each = λ c among. Entails-link [] (constants _ _ (All-item (HoldsAt moment) granted.times c conditions.times among));
       })
       (λ s among.
-        let constants_alone = All-item IsStateCondition granted.states s are_conditions among in
-        rw (state_at-not_ctime moment s (all_not_ctime (terms_of_state s) constants_alone.constants))
-        (All-item (Contains facts) granted.states s conditions.states among))
+      let constants_alone = All-item IsStateCondition granted.states s are_conditions among in
+      rw (state_at-not_ctime moment s (all_not_ctime (terms_of_state s) constants_alone.constants))
+      (All-item (Contains facts) granted.states s conditions.states among))
       (claims_at moment statements are_statements);
 }
 
@@ -117,12 +115,12 @@ pub Allows-more : (statements more : List Saying) (facts more_facts : List State
 Allows-more statements more facts more_facts moment who file permission includes includes_facts allowed =
     Derivable-richer allowed [] more_facts (claims_of more) (record { each = λ c among. Entails-constrained [] c among }) includes_facts
     (λ h among.
-      let was = Contains-map_cases claim_of statements h among in
-      subst (λ (g : Hypothesis). Contains (claims_of more) g) was.2 (Contains-map claim_of more was.0 (includes was.0 was.1)))
+    let was = Contains-map_cases claim_of statements h among in
+    subst (λ (g : Hypothesis). Contains (claims_of more) g) was.2 (Contains-map claim_of more was.0 (includes was.0 was.1)))
 
 -- a sound grant stays sound among more statements
 pub SoundGrant-more : (statements more : List Saying) (granted : Granted) → Includes more statements → SoundGrant statements granted → SoundGrant more granted
 SoundGrant-more statements more granted includes sound = record {
   allows = λ moment facts conditions.
-    Allows-more statements more facts facts moment granted.goal.who granted.goal.file granted.goal.perm includes (λ s among. among) (sound.allows moment facts conditions);
+      Allows-more statements more facts facts moment granted.goal.who granted.goal.file granted.goal.perm includes (λ s among. among) (sound.allows moment facts conditions);
 }
