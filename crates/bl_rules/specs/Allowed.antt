@@ -6,6 +6,7 @@ use Rattle.bl_syntax.specs.declared.terms.Term.TheVariants.{Prin, File, Perm, Ti
 use Rattle.bl_syntax.specs.declared.terms.NodeId.{NodeId}
 use Rattle.bl_syntax.specs.declared.terms.Perm.{Perm as Permission}
 use Rattle.bl_syntax.specs.declared.terms.Term.{Term}
+use Rattle.bl_syntax.specs.declared.terms.Constraint.{Constraint}
 use Rattle.bl_syntax.specs.declared.terms.StatePred.{StatePred}
 use Rattle.bl_syntax.specs.Formula.{Form, atom, says}
 use Rattle.bl_syntax.specs.WellSorted.{may}
@@ -26,6 +27,10 @@ loc = Prin (codes "loc")
 abbrev pub access : List ℕ → NodeId → Permission → Form
 access who file permission = atom may (Prin who ∷ File file ∷ Perm permission ∷ [])
 
+-- that `admin` says so: the goal at the root of a derivation
+abbrev pub admin_says : List ℕ → NodeId → Permission → Form
+admin_says who file permission = says admin (access who file permission)
+
 -- a statement, as a claim of who says it
 abbrev pub claim_of : Saying → Hypothesis
 claim_of statement = claims (Prin statement.who) statement.body (Time statement.from) (Time statement.to)
@@ -33,20 +38,21 @@ claim_of statement = claims (Prin statement.who) statement.body (Time statement.
 abbrev pub claims_of : List Saying → List Hypothesis
 claims_of statements = map claim_of statements
 
--- what the server knows at a moment: the statements as claims and the facts of the state, in its own view, without parameters or constraints
-abbrev pub known_at : ℤ → List Saying → List StatePred → Known
-known_at moment statements facts = record {
+-- what is known at the root of a derivation: the statements as claims, in the server's own view at the present time, and no parameters
+abbrev pub root : List Saying → List Constraint → List StatePred → Term → Known
+root statements constraints facts now = record {
   sorts = [];
-  constraints = [];
+  constraints = constraints;
   facts = facts;
   hypotheses = claims_of statements;
-  view = record { who = loc; from = Time (At moment); to = Time (At moment) };
+  view = record { who = loc; from = now; to = now };
 }
 
--- by the statements and over these facts of the state, `admin` says at this moment that the principal may have the permission on the file
+-- the statements allow it at this moment, over these facts of the state: it is derivable from these alone
 abbrev pub Allows : List Saying → List StatePred → ℤ → List ℕ → NodeId → Permission → Type 0
 Allows statements facts moment who file permission =
-    Derivable (known_at moment statements facts) (says admin (access who file permission)) (Time (At moment)) (Time (At moment))
+    let now = Time (At moment) in
+    Derivable (root statements [] facts now) (admin_says who file permission) now now
 
 -- at each moment and over all facts at which the grant's conditions hold, the statements allow what it grants
 pub record SoundGrant (statements : List Saying) (granted : Granted) : Type 0 where

@@ -1,3 +1,4 @@
 pub mod Allowed
 pub mod Derivable
+pub mod DirectGrant
 pub mod Sequent

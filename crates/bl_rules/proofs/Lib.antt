@@ -1,0 +1,2 @@
+pub mod DirectGrantLemmas
+pub mod Membership
