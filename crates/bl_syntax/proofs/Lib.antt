@@ -1,4 +1,5 @@
 pub mod ConditionLemmas
+pub mod EntailmentLemmas
 pub mod FaultLemmas
 pub mod GrantLemmas
 pub mod PaddingLemmas

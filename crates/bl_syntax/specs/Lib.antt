@@ -1,3 +1,4 @@
+pub mod Assignment
 pub mod Binders
 pub mod Entailment
 pub mod FirstFailing
