@@ -1,4 +1,6 @@
 pub mod Allowed
+pub mod AtMoment
 pub mod Derivable
 pub mod DirectGrant
+pub mod Richer
 pub mod Sequent
