@@ -1,5 +1,6 @@
 pub mod CodecLemmas
 pub mod ConditionLemmas
+pub mod EntailmentLemmas
 pub mod FaultLemmas
 pub mod FieldCodecs
 pub mod FieldLemmas

@@ -1,3 +1,4 @@
+pub mod Assignment
 pub mod Binders
 pub mod Codec
 pub mod Entailment
