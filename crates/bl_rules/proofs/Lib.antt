@@ -3,6 +3,7 @@ pub mod DirectGrantLemmas
 pub mod EmployeeExample
 pub mod ExampleLemmas
 pub mod FromClausesLemmas
+pub mod HeightLemmas
 pub mod Membership
 pub mod MomentOfTerms
 pub mod RicherLemmas

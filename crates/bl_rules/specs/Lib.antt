@@ -4,5 +4,6 @@ pub mod Derivable
 pub mod DirectGrant
 pub mod Examples
 pub mod FromClauses
+pub mod Height
 pub mod Richer
 pub mod Sequent

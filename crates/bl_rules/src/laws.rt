@@ -24,6 +24,7 @@ ghost use Rattle.bl_rules.specs.Allowed.{access, Allows, SoundGrant, IsDerivable
 ghost use Rattle.bl_rules.specs.DirectGrant.{wanted, SpeaksForAdmin, granted_by};
 ghost use Rattle.bl_rules.specs.FromClauses.{AssumesClauses, IsSimple, Follows, IsClause, IsYielded};
 ghost use Rattle.bl_rules.specs.Examples.{admin_name, loc_name, hr, assuming, statements_on_employees};
+ghost use Rattle.bl_rules.specs.Height.{Derives};
 ghost use Rattle.bl_rules.specs.Richer.{given, Includes};
 ghost use Rattle.bl_rules.specs.AtMoment.{known_at};
 
@@ -172,4 +173,9 @@ pub fn a_short_claim_does_not_count()
     ensures early { (name : List ℕ) (terms : List Term) (k : Term) (from to first last : Point) (x y : Term)
         → (IsUpTo last to → ⊥)
         → Derivable (assuming (claims k (atom name terms) (Time from) (Time to)) (record { who = k; from = Time first; to = Time last })) (atom name terms) x y → ⊥ }
+{}
+
+/// The calculus read from the goal, by height, derives the same: what is derivable is so by some height.
+pub fn what_is_derivable_has_a_height()
+    ensures { (known : Known) (goal : Form) (u v : Term) → Derivable known goal u v ↔ ((n : ℕ) × Derives n known goal u v) }
 {}
