@@ -1,5 +1,5 @@
 -- The size of a proof, and which proofs are kept. The limits are this project's own.
-use Rattle.std.specs.Prelude.{ℕ, ◌+◌, ◌≤◌, max}
+use Rattle.std.specs.Prelude.{◌≡◌, ℕ, ◌+◌, ◌≤◌, max}
 use Rattle.bl_syntax.specs.Terms.{HasTimeInRange}
 use Rattle.proof_term.specs.Proof.{Deduction, init, cons_r, inter_r, and_r, or_r1, or_r2, true_r, imp_r, forall_r, exists_r, says_r, at_r, cons_l, inter_l, and_l, or_l, false_l, imp_l, forall_l, exists_l, says_l, claim, at_l}
 
@@ -90,3 +90,8 @@ pub record IsWithinLimits (d : Deduction) : Type 0 where
 pub record IsKept (d : Deduction) : Type 0 where
   pub within_limits : IsWithinLimits d
   pub times_in_range : HasTimesInRange d
+
+-- it has so many nodes, and this depth
+pub record HasMeasure (d : Deduction) (nodes levels : ℕ) : Type 0 where
+  pub nodes_are : nodes ≡ size d
+  pub levels_are : levels ≡ depth d

@@ -3,6 +3,13 @@
 //! Contracts see a proof as plain data, without where it lies in memory.
 #![tactic(auto)]
 
+mod measure;
+mod premises;
 mod proof;
+mod tree;
 
 pub use proof::Proof;
+pub use tree::{LimitFault, ProofTree};
+
+#[cfg(test)]
+mod tests;

@@ -1,0 +1,2 @@
+pub mod SoundnessEntailed
+pub mod SoundnessTests
