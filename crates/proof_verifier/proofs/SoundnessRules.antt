@@ -1,18 +1,18 @@
 -- Each rule of the verdict is sound where the proofs of its premises are.
-use Rattle.std.proofs.Common.{◌≡◌, ◌∙◌, ℕ, ◌+◌, List, ap₂, subst}
+use Rattle.std.proofs.Common.{◌≡◌, ℕ, ◌+◌, List, subst}
 use Rattle.std.specs.Prelude.{Contains}
 use Rattle.bl_syntax.specs.declared.terms.Sort.TheVariants.{Time}
 use Rattle.bl_syntax.specs.declared.terms.Term.{Term}
 use Rattle.bl_syntax.specs.declared.terms.StatePred.{StatePred}
 use Rattle.bl_syntax.specs.declared.terms.Constraint.{Constraint}
-use Rattle.bl_syntax.specs.Formula.{Form, atom}
+use Rattle.bl_syntax.specs.Formula.{Form}
 use Rattle.bl_syntax.specs.Grant.{Granted}
 use Rattle.bl_syntax.specs.Substitution.{instance_at}
 use Rattle.bl_rules.specs.Sequent.{Hypothesis, holds, claims}
 use Rattle.bl_rules.specs.Derivable.{init, cons_r, inter_r, and_r, or_r1, or_r2, true_r, imp_r, forall_r, exists_r, says_r, at_r, cons_l, inter_l, and_l, or_l, false_l, imp_l, forall_l, exists_l, says_l, claim, at_l}
 use Rattle.proof_verifier.specs.Sequent.{Sequent, aim, aim_at, learn, bound, observe, declare, new_parameter, new_start, new_end, suppose, speak}
 use Rattle.proof_verifier.specs.Rules.{Answer, by_init, by_cons_r, by_inter_r, by_and_r, by_or_r1, by_or_r2, by_true_r, by_imp_r, by_forall_r, by_exists_r, by_says_r, by_at_r, by_cons_l, by_inter_l, by_and_l, by_or_l, by_false_l, by_imp_l, by_forall_l, by_exists_l, by_says_l, by_claim, by_at_l}
-use Rattle.proof_verifier.proofs.SoundnessShapes.{Gives, gives_here, gives_more, chain, gives_atom, gives_constraint, gives_state, gives_both, gives_either, gives_implies, gives_truth, gives_falsity, gives_forall, gives_exists, gives_says, gives_on, IsTruth, gives_truth_at, gives_claim_at, gives_term, gives_strength, gives_same}
+use Rattle.proof_verifier.proofs.SoundnessShapes.{Gives, gives_here, gives_more, chain, gives_constraint, gives_state, gives_both, gives_either, gives_implies, gives_truth, gives_falsity, gives_forall, gives_exists, gives_says, gives_on, IsTruth, gives_truth_at, gives_claim_at, gives_term, gives_strength, gives_same_atom}
 use Rattle.proof_verifier.proofs.SoundnessSteps.{Grows-not, Grows-twice, Covers, IsStep, gives_time, gives_state_fact, Covers-before, Covers-aim, Covers-declare, Covers-learn, Covers-bound, Covers-observe, Covers-speak}
 
 -- whatever the proof answers at a node, it grants no more than is derivable there
@@ -28,17 +28,15 @@ pub by_init-sound : (h : ℕ) → IsSound (by_init h)
 by_init-sound h = record {
   step = λ node s g.
       chain (gives_truth_at node s h) λ t among.
-      chain (gives_atom node t.0) λ known is_known.
-      chain (gives_atom node s.goal) λ wanted is_wanted.
-      chain (gives_same node known wanted) λ _ same.
+      chain (gives_same_atom node t.0 s.goal) λ _ same.
       chain (gives_time node s.constraints t.1 s.from g) λ g1 low.
       gives_more (gives_time node s.constraints s.to t.2 g1) λ new high.
       record {
         grows = Grows-twice low.grows high.grows;
         derives = λ psi facts hs c.
             let c1 = Covers-before high.grows c in
-            rw is_wanted
-            (init t.1 t.2 (cited_as t c among (is_known ∙ ap₂ atom same.0 same.1))
+            rw same.second
+            (init t.1 t.2 (cited_as t c among same.first)
             (low.entailed psi c1.constraints c1.times) (high.entailed psi c.constraints c.times));
       };
 }

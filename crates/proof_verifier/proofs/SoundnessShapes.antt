@@ -1,5 +1,5 @@
 -- What it tells that a step gives something: the forms that rules ask for, and the hypotheses that they cite.
-use Rattle.std.proofs.Common.{◌≡◌, ℕ, zero, suc, Bool, true, false, ◌&&◌, List, [], ◌∷◌, Result, Ok, Err, Option, Some, None, refl}
+use Rattle.std.proofs.Common.{◌≡◌, ◌∙◌, ap₂, ℕ, zero, suc, Bool, true, false, ◌&&◌, List, [], ◌∷◌, Result, Ok, Err, Option, Some, None, refl}
 use Rattle.std.specs.Prelude.{Contains, if◌then◌else◌}
 use Rattle.std.proofs.lemmas.Result.{IfOk-at_ok, IfOk-weaker}
 use Rattle.std.specs.Result.{IfOk}
@@ -14,10 +14,9 @@ use Rattle.bl_rules.specs.Sequent.{Hypothesis, holds, claims}
 use Rattle.bl_rules.proofs.Membership.{Contains-head, Contains-tail}
 use Rattle.proof_verifier.specs.declared.fault.CheckFault.{CheckFault}
 use Rattle.proof_verifier.specs.Sequent.{Sequent}
-use Rattle.proof_verifier.specs.Shapes.{cited, as_truth, as_claim, as_atom, as_constraint, as_state, as_both, as_either, as_implies, as_true, as_false, as_forall, as_exists, as_says, as_on}
+use Rattle.proof_verifier.specs.Shapes.{and_then, cited, as_truth, as_claim, truth_at, claim_at, as_atom, as_same_atom, as_constraint, as_state, as_both, as_either, as_implies, as_true, as_false, as_forall, as_exists, as_says, as_on}
 use Rattle.proof_verifier.specs.Tests.{are_same, is_as_strong}
-use Rattle.proof_verifier.specs.Conditions.{and_then, of_sort, term_condition, strength_condition, same_condition}
-use Rattle.proof_verifier.specs.Rules.{truth_at, claim_at}
+use Rattle.proof_verifier.specs.Conditions.{of_sort, term_condition, strength_condition}
 use Rattle.proof_verifier.proofs.SoundnessTests.{both_true, same_terms, of_its_sort, Decides-is_as_strong}
 
 -- what the step gives, if it gives anything, has the property
@@ -100,7 +99,7 @@ is_on : (node : ℕ) (f : Form) → IfOk (as_on node f) (λ x. f ≡ on x.0 x.1 
 is_on node (on a u v) = refl
 is_on node _ = tt
 
-pub gives_atom : (node : ℕ) (f : Form) → Gives (as_atom node f) (λ x. f ≡ atom x.0 x.1)
+gives_atom : (node : ℕ) (f : Form) → Gives (as_atom node f) (λ x. f ≡ atom x.0 x.1)
 gives_atom node f = gives (as_atom node f) _ (is_atom node f)
 
 pub gives_constraint : (node : ℕ) (f : Form) → Gives (as_constraint node f) (λ c. f ≡ compare c)
@@ -160,12 +159,12 @@ as_a_claim : (node : ℕ) (x : Hypothesis) → IfOk (as_claim node x) (λ t. x �
 as_a_claim node (holds a u v) = tt
 as_a_claim node (claims k a u v) = refl
 
-pub gives_truth_at : (node : ℕ) (s : Sequent) (h : ℕ) → Gives (truth_at node s h) (IsTruth s)
+pub gives_truth_at : (node : ℕ) (s : Sequent) (h : ℕ) → Gives (truth_at node s.hypotheses h) (IsTruth s)
 gives_truth_at node s h =
     chain (gives (cited node s.hypotheses h) _ (is_cited node s.hypotheses h)) (λ x among.
     gives_more (gives (as_truth node x) _ (as_a_truth node x)) (λ t same. rw same at among))
 
-pub gives_claim_at : (node : ℕ) (s : Sequent) (h : ℕ) → Gives (claim_at node s h) (IsClaim s)
+pub gives_claim_at : (node : ℕ) (s : Sequent) (h : ℕ) → Gives (claim_at node s.hypotheses h) (IsClaim s)
 gives_claim_at node s h =
     chain (gives (cited node s.hypotheses h) _ (is_cited node s.hypotheses h)) (λ x among.
     gives_more (gives (as_claim node x) _ (as_a_claim node x)) (λ t same. rw same at among))
@@ -176,7 +175,17 @@ gives_term node sorts sort t = tested (of_sort sort (sort_of sorts [] t)) _ (Has
 pub gives_strength : (node : ℕ) (k other : Term) → Gives (strength_condition node k other) (λ _. IsAtLeastAsStrong k other)
 gives_strength node k other = tested (is_as_strong k other) _ (IsAtLeastAsStrong k other) (Decides-is_as_strong k other).0
 
-pub gives_same : (node : ℕ) (a b : List ℕ × List Term) → Gives (same_condition node a b) (λ _. (a.0 ≡ b.0) × (a.1 ≡ b.1))
-gives_same node a b = tested (bytes_eq a.0 b.0 && are_same a.1 b.1) _ ((a.0 ≡ b.0) × (a.1 ≡ b.1)) (λ e.
-    let parts = both_true (bytes_eq a.0 b.0) (are_same a.1 b.1) e in
-    ((bytes_eq-Decides a.0 b.0).0 parts.0, same_terms a.1 b.1 parts.1))
+-- both are the atom with this name and these arguments
+pub record AreAtom (a b : Form) : Type 0 where
+  pub name : List ℕ
+  pub terms : List Term
+  pub first : a ≡ atom name terms
+  pub second : b ≡ atom name terms
+
+pub gives_same_atom : (node : ℕ) (a b : Form) → Gives (as_same_atom node a b) (λ _. AreAtom a b)
+gives_same_atom node a b =
+    chain (gives_atom node a) λ x is.
+    chain (gives_atom node b) λ y other_is.
+    tested (bytes_eq x.0 y.0 && are_same x.1 y.1) _ (AreAtom a b) λ e.
+    let parts = both_true (bytes_eq x.0 y.0) (are_same x.1 y.1) e in
+    record { name = y.0; terms = y.1; first = is ∙ ap₂ atom ((bytes_eq-Decides x.0 y.0).0 parts.0) (same_terms x.1 y.1 parts.1); second = other_is }
