@@ -32,3 +32,7 @@ pub record IsContradictory (constraints : List Constraint) : Type 0 where
 pub data Entails (constraints : List Constraint) (u v : Term) : Type 0 where
   chained : IsChain constraints u v → Entails constraints u v
   contradicted : IsContradictory constraints → Entails constraints u v
+
+-- the constraints entail each of the others
+pub record EntailsAll (constraints others : List Constraint) : Type 0 where
+  pub each : (c : Constraint) → Contains others c → Entails constraints c.low c.high

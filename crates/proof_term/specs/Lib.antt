@@ -1,0 +1,4 @@
+pub mod Limits
+pub mod Premises
+pub mod Proof
+pub mod ProofCode

@@ -1,0 +1,103 @@
+//! Proofs, one variant a rule.
+
+use bl_syntax::{NoMemory, Term};
+use std::alloc::Global;
+
+/// A proof: the rule at its root, the hypothesis and the terms that the rule names, and the proofs of
+/// its premises. Hypotheses are numbered from 0 in the order in which they come up.
+#[derive(Debug, Drop)]
+pub enum Proof {
+    /// The hypothesis is the goal.
+    Init(u16),
+    /// The goal is a constraint that stands.
+    ConsR,
+    /// The goal is a predicate on the server's state that stands.
+    InterR,
+    /// Both parts of a conjunction.
+    AndR(Box<Proof>, Box<Proof>),
+    /// The first part of a disjunction.
+    OrR1(Box<Proof>),
+    /// The second part of a disjunction.
+    OrR2(Box<Proof>),
+    TrueR,
+    /// What follows, from the assumption.
+    ImpR(Box<Proof>),
+    /// The instance at a new parameter.
+    ForallR(Box<Proof>),
+    /// The instance at the term.
+    ExistsR(Term, Box<Proof>),
+    /// What is said, in the view of the principal that says it.
+    SaysR(Box<Proof>),
+    /// The formula on its own interval.
+    AtR(Box<Proof>),
+    /// The hypothesis is a constraint.
+    ConsL(u16, Box<Proof>),
+    /// The hypothesis is a predicate on the server's state.
+    InterL(u16, Box<Proof>),
+    /// The hypothesis gives both parts of a conjunction.
+    AndL(u16, Box<Proof>),
+    /// The hypothesis is a disjunction: the goal from its first part, and from its second.
+    OrL(u16, Box<Proof>, Box<Proof>),
+    /// The hypothesis is false.
+    FalseL(u16),
+    /// The hypothesis is an implication: what it assumes, between the two times, and the goal from what follows there.
+    ImpL(u16, Term, Term, Box<Proof>, Box<Proof>),
+    /// The hypothesis gives its instance at the term.
+    ForallL(u16, Term, Box<Proof>),
+    /// The hypothesis gives its instance at a new parameter.
+    ExistsL(u16, Box<Proof>),
+    /// The hypothesis that a principal says something gives its claim.
+    SaysL(u16, Box<Proof>),
+    /// The claim of a principal that is strong enough is a truth.
+    Claim(u16, Box<Proof>),
+    /// The hypothesis gives the formula on its own interval.
+    AtL(u16, Box<Proof>),
+}
+
+impl Proof {
+    ghost use Rattle.std.specs.Prelude.{◌≡◌, IfOk};
+    ghost use Rattle.proof_term.specs.Proof.{deduction};
+
+    /// An equal proof in memory of its own. It calls itself as deep as the proof is.
+    #[cycle(copy)]
+    pub fn copy(&self, alloc: Global) -> Result<Proof, NoMemory>
+        ensures { IfOk result (λ copied. deduction copied ≡ deduction self.now) }
+    {
+        match self {
+            Proof::Init(h) => Ok(Proof::Init(*h)),
+            Proof::ConsR => Ok(Proof::ConsR),
+            Proof::InterR => Ok(Proof::InterR),
+            Proof::AndR(p, q) => Ok(Proof::AndR(p.boxed_copy(alloc)?, q.boxed_copy(alloc)?)),
+            Proof::OrR1(p) => Ok(Proof::OrR1(p.boxed_copy(alloc)?)),
+            Proof::OrR2(p) => Ok(Proof::OrR2(p.boxed_copy(alloc)?)),
+            Proof::TrueR => Ok(Proof::TrueR),
+            Proof::ImpR(p) => Ok(Proof::ImpR(p.boxed_copy(alloc)?)),
+            Proof::ForallR(p) => Ok(Proof::ForallR(p.boxed_copy(alloc)?)),
+            Proof::ExistsR(t, p) => Ok(Proof::ExistsR(*t, p.boxed_copy(alloc)?)),
+            Proof::SaysR(p) => Ok(Proof::SaysR(p.boxed_copy(alloc)?)),
+            Proof::AtR(p) => Ok(Proof::AtR(p.boxed_copy(alloc)?)),
+            Proof::ConsL(h, p) => Ok(Proof::ConsL(*h, p.boxed_copy(alloc)?)),
+            Proof::InterL(h, p) => Ok(Proof::InterL(*h, p.boxed_copy(alloc)?)),
+            Proof::AndL(h, p) => Ok(Proof::AndL(*h, p.boxed_copy(alloc)?)),
+            Proof::OrL(h, p, q) => {
+                Ok(Proof::OrL(*h, p.boxed_copy(alloc)?, q.boxed_copy(alloc)?))
+            }
+            Proof::FalseL(h) => Ok(Proof::FalseL(*h)),
+            Proof::ImpL(h, t1, t2, p, q) => {
+                Ok(Proof::ImpL(*h, *t1, *t2, p.boxed_copy(alloc)?, q.boxed_copy(alloc)?))
+            }
+            Proof::ForallL(h, t, p) => Ok(Proof::ForallL(*h, *t, p.boxed_copy(alloc)?)),
+            Proof::ExistsL(h, p) => Ok(Proof::ExistsL(*h, p.boxed_copy(alloc)?)),
+            Proof::SaysL(h, p) => Ok(Proof::SaysL(*h, p.boxed_copy(alloc)?)),
+            Proof::Claim(h, p) => Ok(Proof::Claim(*h, p.boxed_copy(alloc)?)),
+            Proof::AtL(h, p) => Ok(Proof::AtL(*h, p.boxed_copy(alloc)?)),
+        }
+    }
+
+    #[cycle(copy)]
+    fn boxed_copy(&self, alloc: Global) -> Result<Box<Proof>, NoMemory>
+        ensures { IfOk result (λ copied. deduction copied.value ≡ deduction self.now) }
+    {
+        Ok(Box::new(alloc, self.copy(alloc)?)?)
+    }
+}

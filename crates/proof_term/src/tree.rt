@@ -1,0 +1,105 @@
+//! Proofs within their limits.
+
+use crate::measure::{MOST_LEVELS, MOST_NODES, is_too_large, measure};
+use crate::proof::Proof;
+use bl_syntax::NoMemory;
+use std::alloc::Global;
+use std::marker::Model;
+
+/// Why a proof is not kept.
+#[derive(Clone, Copy, Debug, PartialEq, Eq)]
+pub enum LimitFault {
+    /// More than 4,096 nodes.
+    TooLarge,
+    /// At most 4,096 nodes, and a depth of more than 200.
+    TooDeep,
+}
+
+/// A proof of at most 4,096 nodes, one for each use of a rule, and of a depth of at most 200. A rule
+/// without premises has depth 1. The times that its terms name are moments. Contracts see the plain proof.
+#[derive(Debug, Drop)]
+pub struct ProofTree {
+    root: Proof,
+    nodes: u16,
+    levels: u8,
+}
+
+impl Model for ProofTree {
+    ghost use Rattle.proof_term.specs.Proof.{Deduction, deduction};
+    ghost use Rattle.proof_term.specs.Limits.{HasMeasure, IsKept};
+    ghost use Rattle.proof_term.specs.ProofCode.{proof_code};
+
+    ghost Value = { Deduction };
+
+    ghost coded = { proof_code };
+
+    ghost view = { λ t. deduction t.root };
+
+    ghost invariant = { λ t. IsKept (deduction t.root) × HasMeasure (deduction t.root) t.nodes t.levels };
+}
+
+impl ProofTree {
+    ghost use Rattle.std.specs.Prelude.{◌≡◌, ◌≤◌, ◌<◌, ◌↔◌, Err, IsOk, IfOk};
+    ghost use Rattle.proof_term.specs.Proof.{deduction};
+    ghost use Rattle.proof_term.specs.Limits.{size, depth, HasTimesInRange, IsWithinLimits, IsKept};
+
+    /// Keeps a proof whose times are moments. A proof over both limits is too large. It takes no
+    /// memory, and calls itself no deeper than 200, however deep the proof is; but a proof that is
+    /// refused is dropped, and that is as deep as the proof.
+    pub fn new(p: Proof) -> Result<ProofTree, LimitFault>
+        requires { HasTimesInRange (deduction p) }
+        ensures kept { IsOk result ↔ IsWithinLimits (deduction p) }
+        ensures same { IfOk result (λ tree. tree ≡ deduction p) }
+        ensures large { (result ≡ Err LimitFault.TooLarge) ↔ (4096 < size (deduction p)) }
+        ensures deep { (result ≡ Err LimitFault.TooDeep)
+            ↔ ((size (deduction p) ≤ 4096) × (200 < depth (deduction p))) }
+    {
+        match measure(&p, MOST_NODES, MOST_LEVELS) {
+            Some(m) => Ok(ProofTree {
+                root: p,
+                nodes: MOST_NODES - m.nodes_left,
+                levels: m.depth,
+            }),
+            None => {
+                if is_too_large(&p) {
+                    Err(LimitFault::TooLarge)
+                } else {
+                    Err(LimitFault::TooDeep)
+                }
+            }
+        }
+    }
+
+    /// The number of its nodes.
+    pub fn size(&self) -> usize
+        ensures { result ≡ size self.now }
+    {
+        self.nodes as usize
+    }
+
+    /// The number of nodes from the root down to the farthest, both counted.
+    pub fn depth(&self) -> usize
+        ensures { result ≡ depth self.now }
+    {
+        self.levels as usize
+    }
+
+    /// The proof.
+    pub fn root(&self) -> &Proof
+        ensures same { deduction result.now ≡ self.now }
+        ensures kept { IsKept self.now }
+    {
+        &self.root
+    }
+
+    /// An equal proof in memory of its own.
+    pub fn copy(&self, alloc: Global) -> Result<ProofTree, NoMemory>
+        ensures { IfOk result (λ copied. copied ≡ self.now) }
+    {
+        Ok(ProofTree {
+            root: self.root.copy(alloc)?,
+            nodes: self.nodes,
+            levels: self.levels,
+        })
+    }
+}

@@ -1,0 +1,47 @@
+//! Laws of the definitions, and verdicts that they compute. A law is the contract of an empty function, which nothing calls.
+
+ghost use Rattle.std.specs.Prelude.{◌≡◌, List, [], ◌∷◌, Ok, Err, codes};
+ghost use Rattle.std.specs.List.{AllByRecursion};
+ghost use Rattle.bl_syntax.specs.declared.grant.Goal.{Goal};
+ghost use Rattle.bl_syntax.specs.Statement.{Saying, IsStatement};
+ghost use Rattle.bl_syntax.specs.Grant.{Granted, IsGrant};
+ghost use Rattle.bl_rules.specs.Allowed.{SoundGrant};
+ghost use Rattle.proof_term.specs.Proof.{Deduction};
+ghost use Rattle.proof_verifier.specs.declared.fault.CheckFault.TheVariants.{WrongShape};
+ghost use Rattle.proof_verifier.specs.Verdict.{verdict};
+ghost use Rattle.proof_verifier.specs.Examples.{stated, may_write, writing, by_its_claim, between, employees_may_read, bob_is_employed, reading, by_employment, within_both};
+
+/// A grant that the verdict gives is sound: wherever its conditions hold, the statements allow what it grants.
+pub fn the_verdict_gives_sound_grants()
+    ensures { (statements : List Saying) (goal : Goal) (proof : Deduction) (granted : Granted)
+        → AllByRecursion IsStatement statements
+        → verdict statements goal proof ≡ Ok granted → SoundGrant statements granted }
+{}
+
+/// A grant that the verdict gives grants the goal.
+pub fn the_verdict_grants_the_goal()
+    ensures { (statements : List Saying) (goal : Goal) (proof : Deduction) (granted : Granted)
+        → verdict statements goal proof ≡ Ok granted → granted.goal ≡ goal }
+{}
+
+/// A grant that the verdict gives keeps the rules of grants: conditions of the right forms, each once, at most 64.
+pub fn the_verdict_gives_grants_within_their_rules()
+    ensures { (statements : List Saying) (goal : Goal) (proof : Deduction) (granted : Granted)
+        → verdict statements goal proof ≡ Ok granted → IsGrant granted }
+{}
+
+/// A statement of `admin` grants what it says, on its interval.
+pub fn a_statement_grants_what_it_says()
+    ensures { verdict (stated (codes "admin") may_write 0 200 ∷ []) writing by_its_claim ≡ Ok (between writing 0 200) }
+{}
+
+/// A right of all employees is granted where `hr` says that the reader is one, as long as both statements hold.
+pub fn an_employee_may_read()
+    ensures { verdict (stated (codes "admin") employees_may_read 0 200 ∷ stated (codes "hr") bob_is_employed 50 150 ∷ []) reading by_employment
+        ≡ Ok (within_both reading 0 200 50 150) }
+{}
+
+/// A statement about somebody else does not have the form of the goal.
+pub fn another_goal_is_a_wrong_shape()
+    ensures { verdict (stated (codes "admin") may_write 0 200 ∷ []) reading by_its_claim ≡ Err (WrongShape 2) }
+{}

@@ -1,0 +1,9 @@
+//! Checks proofs of the authorization logic, and answers under which conditions a proof grants its goal.
+//!
+//! The verdict on a proof is a definition, in `specs/Verdict.antt` with the table of rules in `specs/Rules.antt`.
+#![tactic(auto)]
+
+mod fault;
+pub mod laws;
+
+pub use fault::CheckFault;
