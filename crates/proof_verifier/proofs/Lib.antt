@@ -1,3 +1,4 @@
+pub mod EntailedLemmas
 pub mod SoundnessEntailed
 pub mod SoundnessRules
 pub mod SoundnessShapes
