@@ -1,5 +1,5 @@
-pub mod EntailedLemmas
 pub mod SoundnessEntailed
+pub mod SoundnessEntailment
 pub mod SoundnessRules
 pub mod SoundnessShapes
 pub mod SoundnessSteps
