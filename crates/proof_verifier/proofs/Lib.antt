@@ -1,0 +1,4 @@
+pub mod KeepLemmas
+pub mod RoomLemmas
+pub mod StandingLemmas
+pub mod TermLemmas
