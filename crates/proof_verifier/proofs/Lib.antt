@@ -1,3 +1,4 @@
+pub mod EntailedLemmas
 pub mod KeepLemmas
 pub mod RoomLemmas
 pub mod StandingLemmas

@@ -11,6 +11,7 @@ use crate::desk::Desk;
 use crate::facts::Facts;
 use crate::fault::CheckFault;
 use crate::terms::{may_stay_open, state_may_stay_open};
+use bl_constraints::entails;
 use bl_syntax::{Constraint, StatePred, Term};
 use condition_set::{Collect, CollectFault};
 
@@ -80,5 +81,5 @@ fn is_entailed(constraints: &[Constraint], u: &Term, v: &Term) -> bool
     requires { length constraints.now ≤ 512 }
     ensures { result ≡ is_entailed constraints.now u.now v.now }
 {
-    constraints.is_empty() && *u == *v
+    entails(constraints, u, v)
 }
