@@ -8,12 +8,11 @@ use Rattle.bl_syntax.specs.declared.terms.TimePoint.TheVariants.{NegInf, At, Pos
 use Rattle.bl_syntax.specs.declared.terms.Term.{Term}
 use Rattle.bl_syntax.specs.declared.terms.Term.TheVariants.{Prin, Time}
 use Rattle.bl_syntax.specs.declared.terms.StatePred.{StatePred}
-use Rattle.bl_syntax.specs.declared.terms.Constraint.{Constraint}
 use Rattle.bl_syntax.specs.declared.grant.Goal.{Goal}
 use Rattle.bl_syntax.specs.Formula.{Form}
 use Rattle.bl_syntax.specs.TimeOrder.{IsUpTo}
 use Rattle.bl_syntax.specs.Terms.{AreInOrder, in_order}
-use Rattle.bl_syntax.specs.Entailment.{link, constants, chained, Entails}
+use Rattle.bl_syntax.proofs.EntailmentLemmas.{Entails-in_order}
 use Rattle.bl_syntax.specs.Statement.{Saying}
 use Rattle.bl_syntax.specs.Grant.{HoldsAt}
 use Rattle.bl_rules.specs.Sequent.{Known, holds, claims, speak}
@@ -21,10 +20,6 @@ use Rattle.bl_rules.specs.Derivable.{init, says_r, claim}
 use Rattle.bl_rules.specs.Allowed.{admin, claim_of, claims_of, root, Allows, SoundGrant}
 use Rattle.bl_rules.specs.DirectGrant.{wanted, SpeaksForAdmin, begun, not_ended, granted_by}
 use Rattle.bl_rules.proofs.Membership.{Contains-map, Contains-claims_among}
-
--- two constants in order
-pub Entails-constants : (constraints : List Constraint) (u v : TimePoint) → IsUpTo u v → Entails constraints (Time u) (Time v)
-Entails-constants constraints u v up_to = chained (link (Time u) (Time v) (constants (Time u) (Time v) (in_order up_to)))
 
 -- a statement whose body is the goal allows it within its interval
 pub Allows-by_statement : (statements : List Saying) (facts : List StatePred) (moment : ℤ) (statement : Saying) (goal : Goal)
@@ -38,8 +33,8 @@ Allows-by_statement statements facts moment statement goal among strong same beg
     Contains-claims_among (claims_of statements) (claim_of statement) tt (Contains-map claim_of statements statement among) in
     let cited_goal : Contains known.hypotheses (claims (Prin statement.who) (wanted goal) (Time statement.from) (Time statement.to)) =
     subst (λ (body : Form). Contains known.hypotheses (claims (Prin statement.who) body (Time statement.from) (Time statement.to))) same cited in
-    let from_now = Entails-constants [] statement.from (At moment) begun_by in
-    let to_now = Entails-constants [] (At moment) statement.to ends_after in
+    let from_now = Entails-in_order [] statement.from (At moment) begun_by in
+    let to_now = Entails-in_order [] (At moment) statement.to ends_after in
     says_r (claim (Prin statement.who) (wanted goal) (Time statement.from) (Time statement.to) cited_goal strong from_now to_now
     (init (Time statement.from) (Time statement.to)
     (Contains-push known.hypotheses (holds (wanted goal) (Time statement.from) (Time statement.to))) from_now to_now))

@@ -1,7 +1,8 @@
 -- What is in a list, and which hypotheses are claims.
-use Rattle.std.proofs.Common.{◌≡◌, ◌⊎◌, inl, inr, List, [], ◌∷◌, ◌++◌, map, ap, sym, subst, ⊎_elim, arith}
+use Rattle.std.proofs.Common.{◌≡◌, ◌⊎◌, inl, inr, List, [], ◌∷◌, ◌++◌, map, refl, ap, sym, subst, ⊎_elim, arith}
 use Rattle.std.specs.Prelude.{Contains}
 use Rattle.std.proofs.lemmas.List.Elements.{Contains-append_right, Contains-append_left, Contains-append_cases, Contains-push, Contains-push_cases}
+use Rattle.bl_rules.specs.Richer.{Includes}
 use Rattle.bl_rules.specs.Sequent.{Hypothesis, holds, claims, claims_among}
 
 pub Contains-nothing : {X : Type 0} (x : X) → Contains [] x → ⊥
@@ -24,9 +25,13 @@ Contains-map f (y ∷ ys) x h = ⊎_elim
     (λ later. Contains-tail (f x) (f y) (map f ys) (Contains-map f ys x later))
     (Contains-cons_cases x y ys h)
 
--- the second list has nothing that the first lacks
-abbrev pub Includes : {X : Type 0} → List X → List X → Type 0
-Includes {X} larger smaller = (x : X) → Contains smaller x → Contains larger x
+-- what is in a list that was changed item by item was an item of the old one
+pub Contains-map_cases : {X Y : Type 0} (f : X → Y) (xs : List X) (y : Y) → Contains (map f xs) y → (x : X) × Contains xs x × (f x ≡ y)
+Contains-map_cases f [] y h = absurd (Contains-nothing y h)
+Contains-map_cases f (x ∷ xs) y h = ⊎_elim
+    (λ same. (x, Contains-head x x xs refl, same))
+    (λ later. let rest = Contains-map_cases f xs y later in (rest.0, Contains-tail rest.0 x xs rest.1, rest.2))
+    (Contains-cons_cases y (f x) (map f xs) h)
 
 pub Includes-push : {X : Type 0} (larger smaller : List X) (x : X) → Includes larger smaller → Includes (larger ++ x ∷ []) (smaller ++ x ∷ [])
 Includes-push larger smaller x includes y h = ⊎_elim

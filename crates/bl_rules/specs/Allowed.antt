@@ -2,7 +2,7 @@
 -- reading of procaps (Garg and Pfenning, A proof-carrying file system, 2010).
 use Rattle.std.specs.Prelude.{ℕ, ℤ, List, [], ◌∷◌, map, codes}
 use Rattle.bl_syntax.specs.declared.terms.TimePoint.TheVariants.{At}
-use Rattle.bl_syntax.specs.declared.terms.Term.TheVariants.{Prin, File, Perm, Time}
+use Rattle.bl_syntax.specs.declared.terms.Term.TheVariants.{Prin, File, Perm, Time, Ctime}
 use Rattle.bl_syntax.specs.declared.terms.NodeId.{NodeId}
 use Rattle.bl_syntax.specs.declared.terms.Perm.{Perm as Permission}
 use Rattle.bl_syntax.specs.declared.terms.Term.{Term}
@@ -58,3 +58,8 @@ Allows statements facts moment who file permission =
 pub record SoundGrant (statements : List Saying) (granted : Granted) : Type 0 where
   pub allows : (moment : ℤ) (facts : List StatePred) → Holds granted moment facts
       → Allows statements facts moment granted.goal.who granted.goal.file granted.goal.perm
+
+-- what the grant grants is derivable from the statements where its own conditions may be used: those on time as constraints, those on the state as facts, the current time left open
+abbrev pub IsDerivableUnderConditions : List Saying → Granted → Type 0
+IsDerivableUnderConditions statements granted =
+    Derivable (root statements granted.times granted.states Ctime) (admin_says granted.goal.who granted.goal.file granted.goal.perm) Ctime Ctime

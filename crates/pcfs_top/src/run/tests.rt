@@ -207,6 +207,31 @@ fn an_input_may_be_empty_or_lack_its_last_end(rt: HostRuntime) -> Result<(), Fai
     Ok(())
 }
 
+// Lines outside the forms change nothing: the first file stands behind them.
+#[test]
+fn bad_input_is_answered_line_by_line(rt: HostRuntime) -> Result<(), Fail> {
+    let long_line = vec![in rt.alloc(); b'a'; 1 << 20]?;
+    let empty_lines = vec![in rt.alloc(); b'\n'; 1_000_000]?;
+    let first_file = text_of(rt.alloc(), &FIRST_FILE)?;
+    let mut text = Bytes::new(rt.alloc());
+    text.extend(long_line.as_slice())?;
+    text.extend(b"\nas \xff\xfe\nas b\0\nat 1\x80\n\xc3\xa9\n")?;
+    text.extend(empty_lines.as_slice())?;
+    text.extend(first_file.as_slice())?;
+    text.extend(long_line.as_slice())?;
+    let got = run_over(&rt, &["script"], text, &[], &[])?;
+    assert_eq!(rt; got.status, 0);
+    let bad = text_of(rt.alloc(), &["bad 9"; 1])?;
+    let mut want = Bytes::new(rt.alloc());
+    for _ in 0..1_000_005u32 {
+        want.extend(bad.as_slice())?;
+    }
+    want.extend(text_of(rt.alloc(), &FIRST_REPLIES)?.as_slice())?;
+    want.extend(bad.as_slice())?;
+    assert!(rt; got.output.held() == want.as_slice());
+    Ok(())
+}
+
 #[test]
 fn no_more_than_4096_statements_are_kept(rt: HostRuntime) -> Result<(), Fail> {
     let mut text = Bytes::new(rt.alloc());
