@@ -138,17 +138,18 @@ among_cases d others c h = by (Contains-append_cases (d ∷ []) others c h)
     first : Contains [] c ⊎ (d ≡ c) → (d ≡ c) ⊎ Contains others c
     first (inl none) = absurd (none_in_nil c none)
     first (inr e) = inl e
+
     by : Contains (d ∷ []) c ⊎ Contains others c → (d ≡ c) ⊎ Contains others c
     by (inl here) = first (Contains-push_cases [] d c here)
     by (inr there) = inr there
 
 leads_constrained : (psi : List Constraint) (c : Constraint) → Contains psi c → Leads psi c.low c.high
 leads_constrained [] c among = absurd (none_in_nil c among)
-leads_constrained (d ∷ others) c among = by (among_cases d others c among)
+leads_constrained (d ∷ others) c among = by (leads_constrained others c) (among_cases d others c among)
   where
-    by : (d ≡ c) ⊎ Contains others c → Leads (d ∷ others) c.low c.high
-    by (inl e) = subst (λ (x : Constraint). Leads (d ∷ others) x.low x.high) e (inr (leads_plain others d.low d.low (same d.low), leads_plain others d.high d.high (same d.high)))
-    by (inr there) = inl (leads_constrained others c there)
+    by : (Contains others c → Leads others c.low c.high) → (d ≡ c) ⊎ Contains others c → Leads (d ∷ others) c.low c.high
+    by behind (inl e) = subst (λ (x : Constraint). Leads (d ∷ others) x.low x.high) e (inr (leads_plain others d.low d.low (same d.low), leads_plain others d.high d.high (same d.high)))
+    by behind (inr there) = inl (behind there)
 
 leads_link : (psi : List Constraint) (u v : Term) → IsLink psi u v → Leads psi u v
 leads_link psi u v (same t) = leads_plain psi t t (same t)
@@ -250,17 +251,13 @@ or_true : (a b : Bool) → a ≡ true → (a || b) ≡ true
 or_true true b e = refl
 or_true false b e = absurd (false≢true e)
 
-any_test : {X : Type 0} (p : X → Bool) (xs : List X) (cases : (y : X) (ys : List X) (x : X) → Contains (y ∷ ys) x → (y ≡ x) ⊎ Contains ys x) (none : (x : X) → Contains [] x → ⊥) (x : X)
-    → Contains xs x → p x ≡ true → list_any p xs ≡ true
-any_test p [] cases none x h e = absurd (none x h)
-any_test {X} p (y ∷ ys) cases none x h e = by (cases y ys x h)
+any_test : (p : Constraint → Bool) (psi : List Constraint) (c : Constraint) → Contains psi c → p c ≡ true → list_any p psi ≡ true
+any_test p [] c among e = absurd (none_in_nil c among)
+any_test p (d ∷ others) c among e = by (λ there. any_test p others c there e) (among_cases d others c among)
   where
-    by : (y ≡ x) ⊎ Contains ys x → (p y || list_any p ys) ≡ true
-    by (inl same_item) = or_true (p y) (list_any p ys) (ap p same_item ∙ e)
-    by (inr there) = true_or (p y) (list_any p ys) (any_test p ys cases none x there e)
-
-any_constraint : (p : Constraint → Bool) (psi : List Constraint) (c : Constraint) → Contains psi c → p c ≡ true → list_any p psi ≡ true
-any_constraint p psi c = any_test p psi among_cases none_in_nil c
+    by : (Contains others c → list_any p others ≡ true) → (d ≡ c) ⊎ Contains others c → (p d || list_any p others) ≡ true
+    by behind (inl here) = or_true (p d) (list_any p others) (ap p here ∙ e)
+    by behind (inr there) = true_or (p d) (list_any p others) (behind there)
 
 or_cases : (a b : Bool) → (a || b) ≡ true → (a ≡ true) ⊎ (b ≡ true)
 or_cases true b e = inl refl
@@ -268,11 +265,11 @@ or_cases false b e = inr e
 
 any_told : (p : Constraint → Bool) (psi : List Constraint) → list_any p psi ≡ true → (c : Constraint) × (p c ≡ true)
 any_told p [] e = absurd (false≢true e)
-any_told p (c ∷ others) e = by (or_cases (p c) (list_any p others) e)
+any_told p (c ∷ others) e = by (any_told p others) (or_cases (p c) (list_any p others) e)
   where
-    by : (p c ≡ true) ⊎ (list_any p others ≡ true) → (c : Constraint) × (p c ≡ true)
-    by (inl here) = (c, here)
-    by (inr there) = any_told p others there
+    by : (list_any p others ≡ true → (d : Constraint) × (p d ≡ true)) → (p c ≡ true) ⊎ (list_any p others ≡ true) → (d : Constraint) × (p d ≡ true)
+    by behind (inl here) = (c, here)
+    by behind (inr there) = behind there
 
 and_true : (a b : Bool) → (a && b) ≡ true → (a ≡ true) × (b ≡ true)
 and_true true b e = (refl, e)
@@ -321,9 +318,10 @@ contradiction_test psi k = by (parted psi (Time k.greater) (Time k.lesser) k.cha
     ends through (to_constant a ea ha) (of_constant b eb hb) =
         let out : IsUpTo a b → ⊥ = λ h. k.out_of_order (IsUpTo-transitive k.greater a k.lesser ha (IsUpTo-transitive a b k.lesser h hb)) in
         let led : leads psi through.first.low through.last.high ≡ true = (Decides-chain psi through.first.low through.last.high).1 through.middle in
-        any_constraint _ psi through.first through.first_among
-        (any_constraint _ psi through.last through.last_among
+        any_test _ psi through.first through.first_among
+        (any_test _ psi through.last through.last_among
         (true_and _ _ (out_test through.first.low through.last.high a b ea eb out) led))
+
     by : IsLink [] (Time k.greater) (Time k.lesser) ⊎ Through psi (Time k.greater) (Time k.lesser) → is_contradictory psi ≡ true
     by (inl plain) = absurd (k.out_of_order (plain_in_order k.greater k.lesser plain))
     by (inr through) = ends through (from_constant k.greater through.first.low through.front) (to_a_constant through.last.high k.lesser through.back)
