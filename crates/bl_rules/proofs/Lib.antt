@@ -1,6 +1,12 @@
 pub mod AtMomentLemmas
 pub mod DirectGrantLemmas
+pub mod EmployeeExample
+pub mod ExampleLemmas
+pub mod FromClausesLemmas
+pub mod HeightLemmas
 pub mod Membership
 pub mod MomentOfTerms
 pub mod RicherLemmas
+pub mod SequentExamples
 pub mod SoundGrantLemmas
+pub mod YieldLemmas

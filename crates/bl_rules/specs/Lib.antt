@@ -2,5 +2,8 @@ pub mod Allowed
 pub mod AtMoment
 pub mod Derivable
 pub mod DirectGrant
+pub mod Examples
+pub mod FromClauses
+pub mod Height
 pub mod Richer
 pub mod Sequent

@@ -1,8 +1,9 @@
 //! Laws of the definitions. A law is the contract of an empty function, which nothing calls.
 
-ghost use Rattle.std.specs.Prelude.{◌≡◌, ℤ, ℕ, List, [], Contains};
+ghost use Rattle.std.specs.Prelude.{◌≡◌, ◌↔◌, ℤ, pos, ℕ, List, [], ◌∷◌, Contains};
 ghost use Rattle.std.specs.List.{AllByRecursion};
 ghost use Rattle.bl_syntax.specs.declared.terms.TimePoint.{TimePoint as Point};
+ghost use Rattle.bl_syntax.specs.declared.terms.TimePoint.TheVariants.{NegInf, At, PosInf};
 ghost use Rattle.bl_syntax.specs.declared.terms.NodeId.{NodeId as Node};
 ghost use Rattle.bl_syntax.specs.declared.terms.Perm.{Perm as Permission};
 ghost use Rattle.bl_syntax.specs.declared.terms.Term.{Term};
@@ -10,17 +11,20 @@ ghost use Rattle.bl_syntax.specs.declared.terms.Term.TheVariants.{Time};
 ghost use Rattle.bl_syntax.specs.declared.terms.StatePred.{StatePred as Fact};
 ghost use Rattle.bl_syntax.specs.declared.terms.Constraint.{Constraint};
 ghost use Rattle.bl_syntax.specs.declared.grant.Goal.{Goal};
-ghost use Rattle.bl_syntax.specs.Formula.{Form};
+ghost use Rattle.bl_syntax.specs.Formula.{Form, atom, state, implies, says};
 ghost use Rattle.bl_syntax.specs.TimeOrder.{IsUpTo};
-ghost use Rattle.bl_syntax.specs.Terms.{term_at};
+ghost use Rattle.bl_syntax.specs.Terms.{term_at, IsAtLeastAsStrong};
 ghost use Rattle.bl_syntax.specs.Substitution.{formula_at};
-ghost use Rattle.bl_syntax.specs.Statement.{Saying, IsStatement};
+ghost use Rattle.bl_syntax.specs.Statement.{Saying, saying, IsStatement};
 ghost use Rattle.bl_syntax.specs.Entailment.{EntailsAll};
 ghost use Rattle.bl_syntax.specs.Grant.{Granted, IsStateCondition};
-ghost use Rattle.bl_rules.specs.Sequent.{Hypothesis, Known, bound};
+ghost use Rattle.bl_rules.specs.Sequent.{Hypothesis, holds, claims, View, Known, bound};
 ghost use Rattle.bl_rules.specs.Derivable.{Derivable};
-ghost use Rattle.bl_rules.specs.Allowed.{Allows, SoundGrant, IsDerivableUnderConditions};
+ghost use Rattle.bl_rules.specs.Allowed.{access, Allows, SoundGrant, IsDerivableUnderConditions};
 ghost use Rattle.bl_rules.specs.DirectGrant.{wanted, SpeaksForAdmin, granted_by};
+ghost use Rattle.bl_rules.specs.FromClauses.{AssumesClauses, IsSimple, Follows, IsClause, IsYielded};
+ghost use Rattle.bl_rules.specs.Examples.{admin_name, loc_name, hr, assuming, statements_on_employees};
+ghost use Rattle.bl_rules.specs.Height.{Derives};
 ghost use Rattle.bl_rules.specs.Richer.{given, Includes};
 ghost use Rattle.bl_rules.specs.AtMoment.{known_at};
 
@@ -83,4 +87,95 @@ pub fn a_statement_grants_on_its_interval()
     ensures { (statements : List Saying) (statement : Saying) (goal : Goal)
         → Contains statements statement → SpeaksForAdmin statement.who → statement.body ≡ wanted goal
         → SoundGrant statements (granted_by statement goal) }
+{}
+
+/// Where all hypotheses are clauses, a formula without implications and quantifiers is derivable exactly where it follows in the plain sense.
+pub fn what_follows_from_clauses_is_derivable()
+    ensures { (known : Known) (goal : Form) (u v : Term)
+        → AssumesClauses known → IsSimple goal → Derivable known goal u v ↔ Follows known goal u v }
+{}
+
+/// Statements of clauses allow exactly what one of them yields, of a principal that speaks for `admin`, at moments of its interval.
+pub fn clauses_allow_what_they_yield()
+    ensures { (statements : List Saying) (facts : List Fact) (moment : ℤ) (goal : Goal)
+        → ((s : Saying) → Contains statements s → IsClause s.body)
+        → Allows statements facts moment goal.who goal.file goal.perm ↔ IsYielded statements facts moment (wanted goal) }
+{}
+
+/// The simplest statement, by which `admin` says the permission itself, allows it exactly on its interval.
+pub fn the_simplest_statement_allows_exactly_on_its_interval()
+    ensures { (from to : Point) (facts : List Fact) (moment : ℤ) (who : List ℕ) (file : Node) (permission : Permission)
+        → Allows (saying admin_name (access who file permission) from to ∷ []) facts moment who file permission
+        ↔ (IsUpTo from (At moment) × IsUpTo (At moment) to) }
+{}
+
+/// An example: a statement from 100 to 200 allows at these two moments, and neither before nor after.
+pub fn from_100_to_200()
+    ensures first { (facts : List Fact) (who : List ℕ) (file : Node) (permission : Permission)
+        → Allows (saying admin_name (access who file permission) (At (pos 100)) (At (pos 200)) ∷ []) facts (pos 100) who file permission }
+    ensures last { (facts : List Fact) (who : List ℕ) (file : Node) (permission : Permission)
+        → Allows (saying admin_name (access who file permission) (At (pos 100)) (At (pos 200)) ∷ []) facts (pos 200) who file permission }
+    ensures before { (facts : List Fact) (who : List ℕ) (file : Node) (permission : Permission)
+        → Allows (saying admin_name (access who file permission) (At (pos 100)) (At (pos 200)) ∷ []) facts (pos 99) who file permission → ⊥ }
+    ensures after { (facts : List Fact) (who : List ℕ) (file : Node) (permission : Permission)
+        → Allows (saying admin_name (access who file permission) (At (pos 100)) (At (pos 200)) ∷ []) facts (pos 201) who file permission → ⊥ }
+{}
+
+/// An example: `loc` is heard as `admin` is, and `hr` is not.
+pub fn who_is_heard()
+    ensures strong { (facts : List Fact) (who : List ℕ) (file : Node) (permission : Permission) (moment : ℤ)
+        → Allows (saying loc_name (access who file permission) NegInf PosInf ∷ []) facts moment who file permission }
+    ensures weak { (facts : List Fact) (who : List ℕ) (file : Node) (permission : Permission) (moment : ℤ)
+        → Allows (saying hr (access who file permission) NegInf PosInf ∷ []) facts moment who file permission → ⊥ }
+{}
+
+/// An example: what `admin` says of a state, as of a file's owner, it allows exactly where that is a fact.
+pub fn a_fact_has_to_be_there()
+    ensures { (s : Fact) (from to : Point) (facts : List Fact) (moment : ℤ) (who : List ℕ) (file : Node) (permission : Permission)
+        → Allows (saying admin_name (implies (state s) (access who file permission)) from to ∷ []) facts moment who file permission
+        ↔ (Contains facts s × IsUpTo from (At moment) × IsUpTo (At moment) to) }
+{}
+
+/// An example: where `admin` lets each principal have the permission of whom `hr` says that it is an employee, and `hr` says so of one from one time to another,
+/// this one may have it exactly on that interval, and nobody else may.
+pub fn employees_alone_while_they_are()
+    ensures { (file : Node) (permission : Permission) (person : List ℕ) (from to : Point) (moment : ℤ) (facts : List Fact) (who : List ℕ)
+        → Allows (statements_on_employees file permission person from to) facts moment who file permission
+        ↔ ((who ≡ person) × IsUpTo from (At moment) × IsUpTo (At moment) to) }
+{}
+
+/// A truth is struck out where a principal speaks: it is derivable, and that anybody says it is not.
+pub fn truths_are_struck_out()
+    ensures true_ { (name : List ℕ) (terms : List Term) (u v : Term) (view : View)
+        → Derivable (assuming (holds (atom name terms) u v) view) (atom name terms) u v }
+    ensures not_said { (name : List ℕ) (terms : List Term) (u v : Term) (view : View) (k x y : Term)
+        → Derivable (assuming (holds (atom name terms) u v) view) (says k (atom name terms)) x y → ⊥ }
+{}
+
+/// A claim is kept there: who claims it says it, on the interval of the claim.
+pub fn claims_are_said()
+    ensures { (name : List ℕ) (terms : List Term) (k u v : Term) (view : View)
+        → Derivable (assuming (claims k (atom name terms) u v) view) (says k (atom name terms)) u v }
+{}
+
+/// A claim counts for nothing in the view of a principal that is stronger than who claims it.
+pub fn a_weak_claim_does_not_count()
+    ensures { (name : List ℕ) (terms : List Term) (k u v : Term) (view : View) (x y : Term)
+        → (IsAtLeastAsStrong k view.who → ⊥)
+        → Derivable (assuming (claims k (atom name terms) u v) view) (atom name terms) x y → ⊥ }
+{}
+
+/// Nor does a claim that begins after the view's interval or ends before it does, not even for who claims it.
+pub fn a_short_claim_does_not_count()
+    ensures late { (name : List ℕ) (terms : List Term) (k : Term) (from to first last : Point) (x y : Term)
+        → (IsUpTo from first → ⊥)
+        → Derivable (assuming (claims k (atom name terms) (Time from) (Time to)) (record { who = k; from = Time first; to = Time last })) (atom name terms) x y → ⊥ }
+    ensures early { (name : List ℕ) (terms : List Term) (k : Term) (from to first last : Point) (x y : Term)
+        → (IsUpTo last to → ⊥)
+        → Derivable (assuming (claims k (atom name terms) (Time from) (Time to)) (record { who = k; from = Time first; to = Time last })) (atom name terms) x y → ⊥ }
+{}
+
+/// The calculus read from the goal, by height, derives the same: what is derivable is so by some height.
+pub fn what_is_derivable_has_a_height()
+    ensures { (known : Known) (goal : Form) (u v : Term) → Derivable known goal u v ↔ ((n : ℕ) × Derives n known goal u v) }
 {}

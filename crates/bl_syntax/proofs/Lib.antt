@@ -1,7 +1,12 @@
+pub mod CodecLemmas
 pub mod ConditionLemmas
 pub mod EntailmentLemmas
 pub mod FaultLemmas
+pub mod FieldCodecs
+pub mod FieldLemmas
 pub mod GrantLemmas
 pub mod PaddingLemmas
 pub mod Same
 pub mod StatementLemmas
+pub mod TermLemmas
+pub mod WordLemmas

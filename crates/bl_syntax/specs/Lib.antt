@@ -1,5 +1,6 @@
 pub mod Assignment
 pub mod Binders
+pub mod Codec
 pub mod Entailment
 pub mod FirstFailing
 pub mod FirstFault
@@ -8,6 +9,8 @@ pub mod FormulaCode
 pub mod Grant
 pub mod Names
 pub mod Padding
+pub mod Reading
+pub mod Spelling
 pub mod Statement
 pub mod StatementCode
 pub mod Substitution

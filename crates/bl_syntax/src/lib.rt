@@ -5,12 +5,17 @@
 
 mod binders;
 mod check;
+mod codec_fault;
+#[cfg(test)]
+mod codec_tests;
 mod conditions;
+pub mod fields;
 mod formula;
 mod grant;
 pub mod laws;
 mod lists;
 mod names;
+mod reading;
 mod short;
 mod statement;
 mod substitution;
@@ -18,13 +23,16 @@ mod terms;
 #[cfg(test)]
 mod tests;
 mod time;
+mod writing;
 
 pub use check::{SyntaxFault, check_formula};
+pub use codec_fault::CodecFault;
 pub use conditions::holds_at;
 pub use formula::Formula;
 pub use grant::{Goal, Grant};
 pub use lists::{Bytes, NoMemory, Numbers, Sequence};
 pub use names::{Principal, Text, Word};
+pub use reading::{read_name, read_term, read_text, read_time};
 pub use short::Short;
 pub use statement::Statement;
 pub use substitution::instantiate;
@@ -33,3 +41,4 @@ pub use terms::{
     stronger,
 };
 pub use time::is_moment;
+pub use writing::{write_name, write_term, write_text, write_time};

@@ -10,3 +10,6 @@ mod tree;
 
 pub use proof::Proof;
 pub use tree::{LimitFault, ProofTree};
+
+#[cfg(test)]
+mod tests;

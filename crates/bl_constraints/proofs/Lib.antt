@@ -1,0 +1,4 @@
+pub mod LinkLemmas
+pub mod MarkLemmas
+pub mod ReachLemmas
+pub mod SearchLemmas

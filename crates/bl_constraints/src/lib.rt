@@ -1,0 +1,12 @@
+//! Entailment between times: whether constraints have it that one term is not after another.
+//!
+//! `entails` answers the definition exactly, in time that is at worst quadratic in the number of constraints, and takes
+//! no memory. The module `laws` says what the definition is worth.
+#![tactic(auto)]
+
+mod entailment;
+pub mod laws;
+mod links;
+mod search;
+
+pub use entailment::entails;

@@ -1,0 +1,62 @@
+//! What two terms alone tell of their order, and where a search ends.
+
+ghost use Rattle.std.specs.Prelude.{◌≡◌, ◌↔◌, IsTrue, []};
+ghost use Rattle.bl_syntax.specs.Entailment.{IsLink};
+ghost use Rattle.bl_constraints.specs.Search.{IsEnd};
+
+use bl_syntax::{Term, TimePoint};
+
+/// Whether the first term is seen not to be after the second without any constraint.
+pub(crate) fn is_linked(u: &Term, v: &Term) -> bool
+    ensures { IsTrue result ↔ IsLink [] u.now v.now }
+{
+    match u {
+        Term::Time(first) => is_linked_from(*first, v),
+        _ => is_last(v) || u.is_same(v),
+    }
+}
+
+fn is_linked_from(first: TimePoint, v: &Term) -> bool
+    ensures { IsTrue result ↔ IsLink [] (Term.Time first) v.now }
+{
+    match v {
+        Term::Time(second) => first.is_up_to(*second),
+        _ => first.is_up_to(TimePoint::NegInf),
+    }
+}
+
+fn is_last(v: &Term) -> bool
+    ensures { IsTrue result ↔ (v.now ≡ Term.Time TimePoint.PosInf) }
+{
+    matches!(v, Term::Time(TimePoint::PosInf))
+}
+
+/// Where a search ends.
+#[derive(Clone, Copy)]
+pub(crate) enum End {
+    /// At a term from which this one is linked.
+    To(Term),
+    /// At a constant before this one.
+    Before(TimePoint),
+}
+
+impl End {
+    /// Whether a search ends at the term.
+    pub(crate) fn is_at(&self, t: &Term) -> bool
+        ensures { IsTrue result ↔ IsEnd self.now t.now }
+    {
+        match self {
+            End::To(v) => is_linked(t, v),
+            End::Before(source) => is_before(t, *source),
+        }
+    }
+}
+
+fn is_before(t: &Term, source: TimePoint) -> bool
+    ensures { IsTrue result ↔ IsEnd (End.Before source) t.now }
+{
+    match t {
+        Term::Time(point) => !source.is_up_to(*point),
+        _ => false,
+    }
+}

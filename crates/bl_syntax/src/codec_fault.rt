@@ -1,0 +1,29 @@
+//! Why canonical bytes could not be read.
+
+ghost use Rattle.std.specs.Prelude.{◌≡◌};
+ghost use Rattle.bl_syntax.specs.declared.codec_fault.CodecFault.TheVariants as faults;
+
+use crate::lists::NoMemory;
+
+/// The first fault of a reading from the left. A place is a number of bytes of the input before it.
+#[derive(Clone, Copy, Debug, PartialEq, Eq)]
+pub enum CodecFault {
+    /// The input ends before the value does.
+    Short,
+    /// The byte at this place is no tag, or stands for no member of its table.
+    BadTag(usize),
+    /// The name, text or point in time that begins at this place is outside its grammar or range.
+    NotCanonical(usize),
+    /// The node at this place passes the limit of nodes, or the count the limit of arguments.
+    TooLarge(usize),
+    /// There was no memory for the value.
+    NoMemory,
+}
+
+impl From<NoMemory> for CodecFault {
+    ghost from_gives = { λ _ e. e ≡ faults.NoMemory };
+
+    fn from(_refused: NoMemory) -> CodecFault {
+        CodecFault::NoMemory
+    }
+}

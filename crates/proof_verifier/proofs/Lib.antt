@@ -1,0 +1,6 @@
+pub mod SoundnessEntailed
+pub mod SoundnessRules
+pub mod SoundnessShapes
+pub mod SoundnessSteps
+pub mod SoundnessTests
+pub mod SoundnessVerdict
