@@ -1,5 +1,5 @@
 -- The issues of a lawful history are good, and so the statements allow what an admitted operation needs.
-use Rattle.std.proofs.Common.{◌≡◌, ℕ, ℤ, zero, suc, List, [], ◌∷◌, ◌++◌, Some, sym, subst}
+use Rattle.std.proofs.Common.{◌≡◌, ℕ, ℤ, zero, suc, List, [], ◌∷◌, ◌++◌, Some, sym, subst, ⊎_elim, arith}
 use Rattle.std.specs.Prelude.{Contains}
 use Rattle.std.specs.List.{AllByRecursion, slice_get}
 use Rattle.bl_syntax.specs.declared.terms.NodeId.{NodeId}
@@ -17,10 +17,12 @@ use Rattle.pcfs_top.specs.Needs.{Need, needs}
 use Rattle.pcfs_top.specs.Answer.{Gives, IsMet, IsAdmitted}
 use Rattle.pcfs_top.specs.Replay.{replay, next_state}
 use Rattle.pcfs_top.specs.Lawful.{IsGoodIssue, IsDerived, AreDerived, MayFollow, may_register, may_issue, may_act, AreLawful, no_event, one_more}
+use Rattle.bl_rules.specs.Richer.{Includes}
 use Rattle.bl_rules.proofs.DirectGrantLemmas.{SoundGrant-granted_by}
+use Rattle.bl_rules.proofs.SoundGrantLemmas.{SoundGrant-more}
 use Rattle.pcfs_top.specs.Verdict.{grants, IsVerdict}
 use Rattle.pcfs_top.proofs.AnswerLemmas.{procap_grant}
-use Rattle.pcfs_top.proofs.ListLemmas.{AllByRecursion-push, AllByRecursion-weaker, AllByRecursion-contains}
+use Rattle.pcfs_top.proofs.ListLemmas.{AllByRecursion-push, AllByRecursion-weaker, AllByRecursion-contains, Contains-cons_cases}
 use Rattle.pcfs_top.proofs.NumberedLemmas.{Contains-numbered}
 use Rattle.pcfs_top.proofs.Replays.{replay-more}
 
@@ -59,6 +61,9 @@ AreGoodIssues-replay base events good no_event = good
 AreGoodIssues-replay base events good (one_more before event lawful follows) =
     rw (replay-more base before event) (AreGoodIssues-next (replay base before) event follows (AreGoodIssues-replay base before good lawful))
 
+Includes-one : {X : Type 0} (items : List X) (item : X) → Contains items item → Includes items (item ∷ [])
+Includes-one items item has x among = ⊎_elim (λ same. subst (Contains items) same has) (λ none. absurd (omega (arith, none.1))) (Contains-cons_cases item [] x among)
+
 -- what a sound grant grants, under the names that it has
 Allows-named : (statements : List Saying) (state : Base) (moment : ℤ) (caller : List ℕ) (need : Need) (g : Granted) → SoundGrant statements g → Gives caller need moment (facts state.world) g →
     Allows statements (facts state.world) moment caller need.file need.permission
@@ -73,8 +78,8 @@ IsDerived-met state caller procaps moment good need met g brought was =
     let same : met.grant ≡ g = procap_grant state procaps need.place met.grant g met.brought brought in
     let gives : Gives caller need moment (facts state.world) g = subst (Gives caller need moment (facts state.world)) same met.gives in
     let issue : IsGoodIssue state.statements was.issue = AllByRecursion-contains (IsGoodIssue state.statements) state.issues was.issue good was.among in
-    let sound : SoundGrant state.statements was.issue.grant =
-    SoundGrant-verdict state.statements issue.statement was.issue.grant.goal was.issue.grant (Contains-numbered state.statements issue.number issue.statement issue.registered) issue.verdict in
+    let registered : Contains state.statements issue.statement = Contains-numbered state.statements issue.number issue.statement issue.registered in
+    let sound : SoundGrant state.statements was.issue.grant = SoundGrant-more (issue.statement ∷ []) state.statements was.issue.grant (Includes-one state.statements issue.statement registered) issue.sound in
     Allows-named state.statements state moment caller need g (subst (SoundGrant state.statements) was.grant_is sound) gives
 
 -- what an admitted operation needs is derivable, where the grants were issued
