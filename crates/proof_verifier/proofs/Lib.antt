@@ -1,4 +1,5 @@
 pub mod SoundnessEntailed
+pub mod SoundnessEntailment
 pub mod SoundnessRules
 pub mod SoundnessShapes
 pub mod SoundnessSteps
