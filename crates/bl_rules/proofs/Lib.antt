@@ -4,6 +4,7 @@ pub mod EmployeeExample
 pub mod ExampleLemmas
 pub mod FromClausesLemmas
 pub mod HeightLemmas
+pub mod IdentityLemmas
 pub mod Membership
 pub mod MomentOfTerms
 pub mod RicherLemmas

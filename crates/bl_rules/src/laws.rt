@@ -19,7 +19,7 @@ ghost use Rattle.bl_syntax.specs.Statement.{Saying, saying, IsStatement};
 ghost use Rattle.bl_syntax.specs.Entailment.{EntailsAll};
 ghost use Rattle.bl_syntax.specs.Grant.{Granted, IsStateCondition};
 ghost use Rattle.bl_rules.specs.Sequent.{Hypothesis, holds, claims, View, Known, bound};
-ghost use Rattle.bl_rules.specs.Derivable.{Derivable};
+ghost use Rattle.bl_rules.specs.Derivable.{Assumes, IsNotAfter, Derivable};
 ghost use Rattle.bl_rules.specs.Allowed.{access, Allows, SoundGrant, IsDerivableUnderConditions};
 ghost use Rattle.bl_rules.specs.DirectGrant.{wanted, SpeaksForAdmin, granted_by};
 ghost use Rattle.bl_rules.specs.FromClauses.{AssumesClauses, IsSimple, Follows, IsClause, IsYielded};
@@ -54,6 +54,27 @@ pub fn a_moment_keeps_what_is_derivable()
     ensures { (moment : ℤ) (known : Known) (goal : Form) (u v : Term)
         → Derivable known goal u v
         → Derivable (known_at moment known) (formula_at moment goal) (term_at moment u) (term_at moment v) }
+{}
+
+/// What is derivable on an interval is derivable on each interval within it.
+pub fn a_shorter_interval_keeps_what_is_derivable()
+    ensures { (known : Known) (goal : Form) (u v x y : Term)
+        → IsNotAfter known u x → IsNotAfter known y v
+        → Derivable known goal u v → Derivable known goal x y }
+{}
+
+/// What is derivable in a view is derivable in the view of each principal that is no stronger, over each interval within.
+pub fn a_weaker_view_keeps_what_is_derivable()
+    ensures { (known : Known) (view : View) (goal : Form) (u v : Term)
+        → IsAtLeastAsStrong known.view.who view.who → IsNotAfter known known.view.from view.from → IsNotAfter known view.to known.view.to
+        → Derivable known goal u v → Derivable (record known { view = view }) goal u v }
+{}
+
+/// Identity: what is assumed is derivable, whatever the formula, on each interval within. So the rules for a connective on the left give what those on the right ask for.
+pub fn what_is_assumed_is_derivable()
+    ensures { (known : Known) (f : Form) (from to u v : Term)
+        → Assumes known (holds f from to) → IsNotAfter known from u → IsNotAfter known v to
+        → Derivable known f u v }
 {}
 
 /// Where nobody has stated anything, nobody may do anything.

@@ -2,6 +2,7 @@ pub mod EntailedLemmas
 pub mod KeepLemmas
 pub mod RoomLemmas
 pub mod SoundnessEntailed
+pub mod SoundnessEntailment
 pub mod SoundnessRules
 pub mod SoundnessShapes
 pub mod SoundnessSteps
