@@ -1,13 +1,17 @@
 //! Laws of the definitions, and verdicts that they compute. A law is the contract of an empty function, which nothing calls.
 
-ghost use Rattle.std.specs.Prelude.{◌≡◌, List, [], ◌∷◌, Ok, Err, codes};
+ghost use Rattle.std.specs.Prelude.{◌≡◌, ◌↔◌, true, List, [], ◌∷◌, Ok, Err, codes};
 ghost use Rattle.std.specs.List.{AllByRecursion};
+ghost use Rattle.bl_syntax.specs.declared.terms.Term.{Term};
+ghost use Rattle.bl_syntax.specs.declared.terms.Constraint.{Constraint};
 ghost use Rattle.bl_syntax.specs.declared.grant.Goal.{Goal};
 ghost use Rattle.bl_syntax.specs.Statement.{Saying, IsStatement};
+ghost use Rattle.bl_syntax.specs.Entailment.{Entails};
 ghost use Rattle.bl_syntax.specs.Grant.{Granted, IsGrant};
 ghost use Rattle.bl_rules.specs.Allowed.{SoundGrant};
 ghost use Rattle.proof_term.specs.Proof.{Deduction};
 ghost use Rattle.proof_verifier.specs.declared.fault.CheckFault.TheVariants.{WrongShape};
+ghost use Rattle.proof_verifier.specs.Entailed.{is_entailed};
 ghost use Rattle.proof_verifier.specs.Verdict.{verdict};
 ghost use Rattle.proof_verifier.specs.Examples.{stated, may_write, writing, by_its_claim, between, employees_may_read, bob_is_employed, reading, by_employment, within_both};
 
@@ -28,6 +32,11 @@ pub fn the_verdict_grants_the_goal()
 pub fn the_verdict_gives_grants_within_their_rules()
     ensures { (statements : List Saying) (goal : Goal) (proof : Deduction) (granted : Granted)
         → verdict statements goal proof ≡ Ok granted → IsGrant granted }
+{}
+
+/// The entailment between times that the verdict computes is entailment.
+pub fn the_computed_entailment_is_entailment()
+    ensures { (constraints : List Constraint) (u v : Term) → (is_entailed constraints u v ≡ true) ↔ Entails constraints u v }
 {}
 
 /// A statement of `admin` grants what it says, on its interval.
