@@ -6,5 +6,5 @@ use Rattle.procap.specs.Writing.{Begins}
 pub kept : (old middle more new : List ℕ) → middle ≡ old ++ more → Begins middle new → Begins old new
 kept old middle more new e h =
     let whole : new ≡ old ++ (more ++ drop (length middle) new) =
-        sym (take-append-drop (length middle) new) ∙ ap (λ (front : List ℕ). front ++ drop (length middle) new) (h ∙ e) ∙ append_assoc old more (drop (length middle) new) in
+    sym (take-append-drop (length middle) new) ∙ ap (λ (front : List ℕ). front ++ drop (length middle) new) (h ∙ e) ∙ append_assoc old more (drop (length middle) new) in
     ap (take (length old)) whole ∙ take_at old (more ++ drop (length middle) new) (length old) refl

@@ -118,12 +118,17 @@ conditions_at one_at may_follow most input bytes = do
   count ← count_at most input bytes
   items_at one_at may_follow count.0 input [] count.1
 
--- a grant: its byte, its version, its goal, and its conditions, at most 64 together
+-- the byte of grants, the version, and the goal
+unfoldable pub head_at : ℕ → List ℕ → Reading Goal
+head_at input bytes = do
+  version ← marker_at 71 input bytes
+  goal ← marker_at 1 input version
+  goal_at input goal
+
+-- a grant: its head, and its conditions, at most 64 together
 unfoldable pub grant_at : ℕ → List ℕ → Reading Granted
 grant_at input bytes = do
-  version ← marker_at 71 input bytes
-  goal_bytes ← marker_at 1 input version
-  goal ← goal_at input goal_bytes
+  goal ← head_at input bytes
   times ← conditions_at time_condition_at may_follow_times 64 input goal.1
   states ← conditions_at state_condition_at may_follow_states (64 - length times.0) input times.1
   Ok (record { goal = goal.0; times = times.0; states = states.0 }, states.1)

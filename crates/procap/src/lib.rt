@@ -5,11 +5,15 @@
 #![tactic(auto)]
 
 mod feeding;
+pub mod laws;
 mod procap;
 mod reading;
 mod sealing;
+#[cfg(test)]
+mod tests;
 mod writing;
 
 pub use procap::Procap;
+pub use reading::{read_grant, read_procap};
 pub use sealing::{SealKey, genuine, seal};
 pub use writing::{write_grant, write_procap};

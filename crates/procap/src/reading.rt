@@ -1,6 +1,6 @@
 //! Reading grants and procaps.
 
-ghost use Rattle.std.specs.Prelude.{◌≡◌, ◌≤◌, ◌+◌, ℕ, List, [], IsTrue, length};
+ghost use Rattle.std.specs.Prelude.{◌≡◌, ◌≤◌, ◌+◌, ◌-◌, ℕ, List, [], IsTrue, IfOk, length};
 ghost use Rattle.std.specs.List.{list_all, list_any};
 ghost use Rattle.bl_syntax.specs.Grant.{Granted};
 ghost use Rattle.bl_syntax.specs.WellSorted.{terms_of_state};
@@ -8,12 +8,22 @@ ghost use Rattle.bl_syntax.specs.Reading.{Gives, reading, term_at};
 ghost use Rattle.bl_syntax.specs.Codec.{GivesOrStops, ReadsFront};
 ghost use Rattle.bl_syntax.specs.FormulaReading.{is_formula_tag};
 ghost use Rattle.procap.specs.GrantSpelling.{grant_spelling, IsSpellableGrant};
-ghost use Rattle.procap.specs.GrantReading.{marker_at, goal_at, both_at, time_condition_at, state_terms_at, state_condition_at, is_constant, is_ctime, is_time_condition, is_state_condition, is_time_among, is_state_among, may_follow_times, may_follow_states, items_at, count_at, conditions_at, grant_at};
+ghost use Rattle.procap.specs.GrantReading.{marker_at, goal_at, both_at, time_condition_at, state_terms_at, state_condition_at, is_constant, is_ctime, is_time_condition, is_state_condition, is_time_among, is_state_among, may_follow_times, may_follow_states, items_at, count_at, conditions_at, head_at, grant_at};
+ghost use Rattle.procap.specs.Procap.{procap_spelling, IsSpellableProcap, procap_at, whole_procap, ReadsWhole};
 
 use crate::procap::Procap;
 use bl_syntax::fields::{name_at, permission_at, place, term_at, u64_at};
 use bl_syntax::{CodecFault, Constraint, Goal, Grant, NodeId, StatePred, Term};
 use std::alloc::Global;
+
+/// The version of a grant's bytes.
+const VERSION: u8 = 1;
+
+/// The most conditions of a grant, those on time and those on the server's state together.
+const MOST_CONDITIONS: usize = 64;
+
+/// The number of a tag's bytes.
+const TAG_LENGTH: usize = 32;
 
 /// A byte that has this one value.
 #[tactic(auto, unfolding(crate::specs::GrantReading::marker_at))]
@@ -52,6 +62,20 @@ fn goal_at(input: usize, bytes: &[u8]) -> Result<(Goal, &[u8]), CodecFault>
                     rest,
                 )),
             },
+        },
+    }
+}
+
+/// The byte of grants, the version, and the goal.
+#[tactic(auto, unfolding(crate::specs::GrantReading::head_at))]
+fn head_at(input: usize, bytes: &[u8]) -> Result<(Goal, &[u8]), CodecFault>
+    ensures { Gives (λ x. (x.0, x.1.now)) result (head_at input bytes.now) }
+{
+    match marker_at(b'G', input, bytes) {
+        Err(fault) => Err(fault),
+        Ok(rest) => match marker_at(VERSION, input, rest) {
+            Err(fault) => Err(fault),
+            Ok(rest) => goal_at(input, rest),
         },
     }
 }
@@ -211,7 +235,8 @@ fn may_follow_states(before: &[StatePred], s: &StatePred) -> bool
 /// The number of conditions, at most so many.
 #[tactic(auto, unfolding(crate::specs::GrantReading::count_at))]
 fn count_at(most: usize, input: usize, bytes: &[u8]) -> Result<(usize, &[u8]), CodecFault>
-    ensures { Gives (λ x. (x.0, x.1.now)) result (count_at most input bytes.now) }
+    ensures read { Gives (λ x. (x.0, x.1.now)) result (count_at most input bytes.now) }
+    ensures few { IfOk result (λ x. x.0 ≤ most) }
 {
     match bytes {
         [] => Err(CodecFault::Short),
@@ -221,6 +246,162 @@ fn count_at(most: usize, input: usize, bytes: &[u8]) -> Result<(usize, &[u8]), C
                 Err(CodecFault::NotCanonical(place(input, bytes)))
             } else {
                 Ok((count, rest))
+            }
+        }
+    }
+}
+
+/// So many conditions on time, which the grant gets behind its own.
+fn add_times_at<'a>(
+    grant: &mut Grant,
+    count: usize,
+    input: usize,
+    bytes: &'a [u8],
+) -> Result<&'a [u8], CodecFault>
+    requires { length grant.old.times + length grant.old.states + count ≤ 64 }
+    ensures read { GivesOrStops (λ rest. (grant.new.times, rest.now)) result (items_at time_condition_at may_follow_times count input grant.old.times bytes.now) }
+    ensures others { IfOk result (λ _. grant.new ≡ record grant.old { times = grant.new.times }) }
+    ensures counted { IfOk result (λ _. length grant.new.times ≡ length grant.old.times + count) }
+{
+    if count == 0 {
+        return Ok(bytes);
+    }
+    match time_condition_at(input, bytes) {
+        Err(fault) => Err(fault),
+        Ok((c, rest)) => {
+            if !may_follow_times(grant.times(), &c) {
+                return Err(CodecFault::NotCanonical(place(input, bytes)));
+            }
+            grant.push_time(c)?;
+            add_times_at(grant, count - 1, input, rest)
+        }
+    }
+}
+
+/// So many conditions on the server's state, which the grant gets behind its own.
+fn add_states_at<'a>(
+    grant: &mut Grant,
+    count: usize,
+    input: usize,
+    bytes: &'a [u8],
+) -> Result<&'a [u8], CodecFault>
+    requires { length grant.old.times + length grant.old.states + count ≤ 64 }
+    ensures read { GivesOrStops (λ rest. (grant.new.states, rest.now)) result (items_at state_condition_at may_follow_states count input grant.old.states bytes.now) }
+    ensures others { IfOk result (λ _. grant.new ≡ record grant.old { states = grant.new.states }) }
+    ensures counted { IfOk result (λ _. length grant.new.states ≡ length grant.old.states + count) }
+{
+    if count == 0 {
+        return Ok(bytes);
+    }
+    match state_condition_at(input, bytes) {
+        Err(fault) => Err(fault),
+        Ok((s, rest)) => {
+            if !may_follow_states(grant.states(), &s) {
+                return Err(CodecFault::NotCanonical(place(input, bytes)));
+            }
+            grant.push_state(s)?;
+            add_states_at(grant, count - 1, input, rest)
+        }
+    }
+}
+
+/// The conditions on time of a grant that has none yet.
+fn times_at<'a>(grant: &mut Grant, input: usize, bytes: &'a [u8]) -> Result<&'a [u8], CodecFault>
+    requires no_times { grant.old.times ≡ [] }
+    requires no_states { grant.old.states ≡ [] }
+    ensures read { GivesOrStops (λ rest. (grant.new.times, rest.now)) result (conditions_at time_condition_at may_follow_times 64 input bytes.now) }
+    ensures others { IfOk result (λ _. grant.new ≡ record grant.old { times = grant.new.times }) }
+    ensures few { IfOk result (λ _. length grant.new.times ≤ 64) }
+{
+    match count_at(MOST_CONDITIONS, input, bytes) {
+        Err(fault) => Err(fault),
+        Ok((count, rest)) => add_times_at(grant, count, input, rest),
+    }
+}
+
+/// The conditions on the server's state of a grant that has none of them yet.
+fn states_at<'a>(grant: &mut Grant, input: usize, bytes: &'a [u8]) -> Result<&'a [u8], CodecFault>
+    requires few { length grant.old.times ≤ 64 }
+    requires no_states { grant.old.states ≡ [] }
+    ensures read { GivesOrStops (λ rest. (grant.new.states, rest.now)) result (conditions_at state_condition_at may_follow_states (64 - length grant.old.times) input bytes.now) }
+    ensures others { IfOk result (λ _. grant.new ≡ record grant.old { states = grant.new.states }) }
+{
+    let left = MOST_CONDITIONS - grant.times().len();
+    match count_at(left, input, bytes) {
+        Err(fault) => Err(fault),
+        Ok((count, rest)) => add_states_at(grant, count, input, rest),
+    }
+}
+
+/// A grant.
+fn grant_at(alloc: Global, input: usize, bytes: &[u8]) -> Result<(Grant, &[u8]), CodecFault>
+    ensures { GivesOrStops (λ x. (x.0, x.1.now)) result (grant_at input bytes.now) }
+{
+    match head_at(input, bytes) {
+        Err(fault) => Err(fault),
+        Ok((goal, rest)) => {
+            let mut grant = Grant::new(alloc, goal);
+            match times_at(&mut grant, input, rest) {
+                Err(fault) => Err(fault),
+                Ok(rest) => match states_at(&mut grant, input, rest) {
+                    Err(fault) => Err(fault),
+                    Ok(rest) => Ok((grant, rest)),
+                },
+            }
+        }
+    }
+}
+
+/// The tag with these bytes.
+fn tag_of(bytes: &[u8]) -> [u8; 32]
+    requires { length bytes.now ≡ 32 }
+    ensures { result ≡ bytes.now }
+{
+    let mut tag = [0; 32];
+    tag.copy_from_slice(bytes);
+    tag
+}
+
+/// Reads a grant at the front of the bytes, and tells how many bytes it takes.
+pub fn read_grant(alloc: Global, bytes: &[u8]) -> Result<(Grant, usize), CodecFault>
+    ensures exact { GivesOrStops (λ x. (x.0, x.1)) result (reading grant_at bytes.now) }
+    ensures front { ReadsFront (λ g. g) IsSpellableGrant grant_spelling bytes.now result }
+{
+    match grant_at(alloc, bytes.len(), bytes) {
+        Err(fault) => Err(fault),
+        Ok((grant, rest)) => Ok((grant, place(bytes.len(), rest))),
+    }
+}
+
+/// A procap.
+fn procap_at(alloc: Global, input: usize, bytes: &[u8]) -> Result<(Procap, &[u8]), CodecFault>
+    ensures { GivesOrStops (λ x. (x.0, x.1.now)) result (procap_at input bytes.now) }
+{
+    match grant_at(alloc, input, bytes) {
+        Err(fault) => Err(fault),
+        Ok((grant, rest)) => {
+            if rest.len() < TAG_LENGTH {
+                return Err(CodecFault::Short);
+            }
+            let (front, behind) = rest.split_at(TAG_LENGTH);
+            let tag = tag_of(front);
+            Ok((Procap { grant, tag }, behind))
+        }
+    }
+}
+
+/// Reads a procap that is all of the bytes. Bytes behind it are `NotCanonical` at the first of them.
+pub fn read_procap(alloc: Global, bytes: &[u8]) -> Result<Procap, CodecFault>
+    ensures exact { GivesOrStops (λ p. p) result (whole_procap bytes.now) }
+    ensures whole { ReadsWhole IsSpellableProcap procap_spelling bytes.now result }
+{
+    match procap_at(alloc, bytes.len(), bytes) {
+        Err(fault) => Err(fault),
+        Ok((p, rest)) => {
+            if rest.is_empty() {
+                Ok(p)
+            } else {
+                Err(CodecFault::NotCanonical(place(bytes.len(), rest)))
             }
         }
     }
