@@ -1,0 +1,8 @@
+-- Each place is in its own place.
+use Rattle.std.proofs.Common.{◌≡◌, ℕ, ◌<◌, length, arith}
+use Rattle.std.specs.Prelude.{slice_index}
+use Rattle.bl_constraints.proofs.OrderLemmas.{IsOrder-numbered}
+use Rattle.bl_constraints.proofs.search.number_places.Goals as goal
+
+pub returns : goal.returns
+returns c = IsOrder-numbered c.args.psi.now c.loop-place.order (omega arith) (λ k lt. c.loop-place.invariant k (omega (arith, lt)))
