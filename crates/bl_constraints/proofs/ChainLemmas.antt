@@ -1,5 +1,5 @@
 -- Where chains lead, by constraints that lead only to one another.
-use Rattle.std.proofs.Common.{◌≡◌, ◌⊎◌, inl, inr, List, []}
+use Rattle.std.proofs.Common.{◌⊎◌, inl, inr, List, []}
 use Rattle.std.specs.Prelude.{Contains}
 use Rattle.bl_syntax.specs.declared.terms.Term.{Term}
 use Rattle.bl_syntax.specs.declared.terms.Constraint.{Constraint}
@@ -41,13 +41,15 @@ module _ (psi : List Constraint) (Among : Constraint → Type 0) (from : Term)
 
   into : (c : Constraint) → Contains psi c → IsLedTo psi Among from c.low → IsPassed psi Among from c.high
   into c contained (inl h) = record {
-    constraint = c; contained = contained;
+    constraint = c;
+    contained = contained;
     among = enters c contained h;
     chain = link from c.low (link_in psi h);
     onto = same c.high;
   }
   into c contained (inr p) = record {
-    constraint = c; contained = contained;
+    constraint = c;
+    contained = contained;
     among = next p.constraint c p.among contained p.onto;
     chain = onward psi from p.constraint c.low p.contained p.chain p.onto;
     onto = same c.high;

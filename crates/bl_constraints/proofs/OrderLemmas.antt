@@ -1,9 +1,8 @@
 -- The order in which a search keeps the places of the constraints.
-use Rattle.std.proofs.Common.{◌≡◌, ◌⊎◌, inl, inr, ℕ, ◌<◌, ◌≤◌, List, Some, length, get_or, take, refl, sym, subst, ap, ◌∙◌, arith}
+use Rattle.std.proofs.Common.{◌≡◌, ◌⊎◌, inl, inr, ℕ, ◌<◌, ◌≤◌, List, Some, length, get_or, refl, sym, subst, ap, ◌∙◌, arith}
 use Rattle.std.specs.Prelude.{Contains, slice_index}
 use Rattle.std.specs.List.{slice_get, swap}
 use Rattle.std.proofs.lemmas.Bool.{cases_eq, cases_lt}
-use Rattle.std.proofs.lemmas.List.{get_or-take, length-take-le}
 use Rattle.std.proofs.lemmas.List.Edits.{length-swap, Swapped, swapped_from_swap}
 use Rattle.std.proofs.lemmas.Option.{slice_get-get_or, slice_get_within, get_or_from_slice_get, same_Some}
 use Rattle.bl_syntax.specs.declared.terms.Constraint.{Constraint}
@@ -67,16 +66,16 @@ module _ (psi : List Constraint) (order : List ℕ) (is_order : IsOrder psi orde
       by_cases (cases_eq place a)
       (λ is_a. (b, b_within, second_swapped ∙ sym (ap (slice_index order) is_a)))
       (λ not_a. by_cases (cases_eq place b)
-          (λ is_b. (a, a_within, first_swapped ∙ sym (ap (slice_index order) is_b)))
-          (λ not_b. (place, lt, other_swapped place not_a not_b)))
+      (λ is_b. (a, a_within, first_swapped ∙ sym (ap (slice_index order) is_b)))
+      (λ not_b. (place, lt, other_swapped place not_a not_b)))
 
   came : (place : ℕ) → place < length order → (from : ℕ) × (from < length order) × (slice_index (swap order a b) place ≡ slice_index order from)
   came place lt =
       by_cases (cases_eq place a)
       (λ is_a. (b, b_within, ap (slice_index (swap order a b)) is_a ∙ first_swapped))
       (λ not_a. by_cases (cases_eq place b)
-          (λ is_b. (a, a_within, ap (slice_index (swap order a b)) is_b ∙ second_swapped))
-          (λ not_b. (place, lt, other_swapped place not_a not_b)))
+      (λ is_b. (a, a_within, ap (slice_index (swap order a b)) is_b ∙ second_swapped))
+      (λ not_b. (place, lt, other_swapped place not_a not_b)))
 
   pub IsOrder-swapped : IsOrder psi (swap order a b)
   IsOrder-swapped = record {

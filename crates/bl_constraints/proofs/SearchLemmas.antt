@@ -1,5 +1,5 @@
 -- The steps of a search.
-use Rattle.std.proofs.Common.{◌≡◌, ◌⊎◌, inl, inr, ℕ, ◌+◌, ◌<◌, ◌≤◌, List, [], length, refl, sym, subst, ap, ◌∙◌, arith}
+use Rattle.std.proofs.Common.{◌≡◌, ℕ, ◌+◌, ◌<◌, ◌≤◌, List, [], length, refl, sym, subst, ◌∙◌, arith}
 use Rattle.std.specs.Prelude.{Contains, slice_index}
 use Rattle.std.specs.List.{swap}
 use Rattle.std.proofs.lemmas.Bool.{cases_eq, cases_lt}
@@ -69,21 +69,21 @@ reaching_more psi t old reached now count place here so_far lt stands is_linked 
       linked = λ k c ge before stands_k.
           by_cases (cases_eq k count)
           (λ same.
-              let stood = moved psi (swap now place count) now count place c (sym (second_swapped psi now order place count lt count_lt))
-                  (subst (λ (n : ℕ). StandsAt psi (swap now place count) n c) same stands_k) in
-              subst (λ (x : Constraint). IsLink [] t x.low) (sym (one_stands psi now place here c stands stood)) is_linked)
+          let stood = moved psi (swap now place count) now count place c (sym (second_swapped psi now order place count lt count_lt))
+          (subst (λ (n : ℕ). StandsAt psi (swap now place count) n c) same stands_k) in
+          subst (λ (x : Constraint). IsLink [] t x.low) (sym (one_stands psi now place here c stands stood)) is_linked)
           (λ other. so_far.linked k c ge (omega (arith, before, other))
-              (still_stands psi (swap now place count) now k c
-                  (sym (other_swapped psi now order place count lt count_lt k (λ e. absurd (omega (arith, e, before, other, up_to))) other)) stands_k));
+          (still_stands psi (swap now place count) now k c
+          (sym (other_swapped psi now order place count lt count_lt k (λ e. absurd (omega (arith, e, before, other, up_to))) other)) stands_k));
       unlinked = λ k c ge before stands_k l.
           by_cases (cases_eq k place)
           (λ same.
-              let stood = moved psi (swap now place count) now place count c (sym (first_swapped psi now order place count lt count_lt))
-                  (subst (λ (n : ℕ). StandsAt psi (swap now place count) n c) same stands_k) in
-              so_far.unlinked count c (omega arith) (omega (arith, ge, same)) stood l)
+          let stood = moved psi (swap now place count) now place count c (sym (first_swapped psi now order place count lt count_lt))
+          (subst (λ (n : ℕ). StandsAt psi (swap now place count) n c) same stands_k) in
+          so_far.unlinked count c (omega arith) (omega (arith, ge, same)) stood l)
           (λ other. so_far.unlinked k c (omega (arith, ge)) (omega (arith, before, other))
-              (still_stands psi (swap now place count) now k c
-                  (sym (other_swapped psi now order place count lt count_lt k other (λ e. absurd (omega (arith, e, ge))))) stands_k) l);
+          (still_stands psi (swap now place count) now k c
+          (sym (other_swapped psi now order place count lt count_lt k other (λ e. absurd (omega (arith, e, ge))))) stands_k) l);
     }
 
 pub reaching_all : (psi : List Constraint) (t : Term) (old : List ℕ) (reached : ℕ) (now : List ℕ) (count place : ℕ)
@@ -161,12 +161,12 @@ module _ (psi : List Constraint) (end : End) (old : List ℕ) (done reached : �
   next_reached k c d before stands_k d_among l =
       by_cases (cases_eq k next)
       (λ is. by_cases (reached_or_rest psi new more extended.is_order d d_among)
-          (λ there. there)
-          (λ rest. absurd (extended.rest rest.0 d rest.1 rest.2 rest.3 (subst (λ (x : Constraint). IsLink [] x.high d.low) (is_here k c is stands_k) l))))
+      (λ there. there)
+      (λ rest. absurd (extended.rest rest.0 d rest.1 rest.2 rest.3 (subst (λ (x : Constraint). IsLink [] x.high d.low) (is_here k c is stands_k) l))))
       (λ other.
-          let earlier : k < next = omega (arith, before, other) in
-          still_reached psi now new count more extended.not_fewer extended.kept d
-          (so_far.gone_on.next k c d earlier (stood k c (omega (arith, earlier, lt)) stands_k) d_among l))
+      let earlier : k < next = omega (arith, before, other) in
+      still_reached psi now new count more extended.not_fewer extended.kept d
+      (so_far.gone_on.next k c d earlier (stood k c (omega (arith, earlier, lt)) stands_k) d_among l))
 
   pub searching_more : IsSearching psi end old done reached new (next + 1) more
   searching_more = record {
@@ -185,11 +185,15 @@ module _ (psi : List Constraint) (end : End) (old : List ℕ) (done reached : �
         by_cases (cases_lt k count)
         (λ earlier. so_far.comes k c ge earlier (stood k c earlier stands_k))
         (λ later.
-            let from = so_far.comes next here so_far.started lt stands in
-            record {
-              place = from.place; constraint = from.constraint; not_done = from.not_done; is_reached = from.is_reached; stands_at = from.stands_at;
-              chain = onward psi from.constraint.low here c.low (contained psi now next here stands) from.chain (extended.linked k c later before stands_k);
-            });
+        let from = so_far.comes next here so_far.started lt stands in
+        record {
+          place = from.place;
+          constraint = from.constraint;
+          not_done = from.not_done;
+          is_reached = from.is_reached;
+          stands_at = from.stands_at;
+          chain = onward psi from.constraint.low here c.low (contained psi now next here stands) from.chain (extended.linked k c later before stands_k);
+        });
   }
 
 pub searching_all : (psi : List Constraint) (end : End) (old : List ℕ) (done reached : ℕ) (now : List ℕ) (next count : ℕ)

@@ -74,7 +74,10 @@ module _ (psi : List Constraint) (order : List ℕ) (reached place : ℕ) (here 
         (λ not_here. so_far.none k c point ge (omega (arith, lt, not_here)) stands_k begins);
   }
   source_skip (Some source) other so_far = record {
-    constraint = so_far.constraint; stands_at = so_far.stands_at; not_reached = so_far.not_reached; begins = so_far.begins;
+    constraint = so_far.constraint;
+    stands_at = so_far.stands_at;
+    not_reached = so_far.not_reached;
+    begins = so_far.begins;
     within = so_far.within;
     greatest = λ k c point ge lt stands_k begins.
         by_cases (cases_eq k place)
@@ -114,33 +117,36 @@ module _ (psi : List Constraint) (order : List ℕ) (reached place : ℕ) (here 
   source_more None mine later at ge begins is_later so_far =
       later_here mine later at ge begins (by_cases is_later.either (λ e. e) (λ e. cc))
       (λ k c point from lt stands_k begins_k.
-          by_cases (cases_eq k place)
-          (λ is. up_to_here k c point mine.point later.point is stands_k begins_k begins is_later.not_before)
-          (λ not_here. absurd (so_far.none k c point from (omega (arith, lt, not_here)) stands_k begins_k)))
+      by_cases (cases_eq k place)
+      (λ is. up_to_here k c point mine.point later.point is stands_k begins_k begins is_later.not_before)
+      (λ not_here. absurd (so_far.none k c point from (omega (arith, lt, not_here)) stands_k begins_k)))
   source_more (Some other) mine later at ge begins is_later so_far =
       let bound : (k : ℕ) (c : Constraint) (point : TimePoint) → reached ≤ k → k < place + 1 → StandsAt psi order k c → c.low ≡ Time point → IsUpTo point later.point =
-          λ k c point from lt stands_k begins_k.
-              by_cases (cases_eq k place)
-              (λ is. up_to_here k c point mine.point later.point is stands_k begins_k begins is_later.not_before)
-              (λ not_here. IsUpTo-transitive point other.point later.point (so_far.greatest k c point from (omega (arith, lt, not_here)) stands_k begins_k) (is_later.not_before_other other refl)) in
+      λ k c point from lt stands_k begins_k.
+      by_cases (cases_eq k place)
+      (λ is. up_to_here k c point mine.point later.point is stands_k begins_k begins is_later.not_before)
+      (λ not_here. IsUpTo-transitive point other.point later.point (so_far.greatest k c point from (omega (arith, lt, not_here)) stands_k begins_k) (is_later.not_before_other other refl)) in
       by_cases is_later.either
       (λ same. later_here mine later at ge begins same bound)
       (λ same.
-          let is : later ≡ other = sym (same_Some other later same) in
-          record {
-            constraint = so_far.constraint;
-            stands_at = subst (λ (x : Source). StandsAt psi order x.place so_far.constraint) (sym is) so_far.stands_at;
-            not_reached = subst (λ (x : Source). reached ≤ x.place) (sym is) so_far.not_reached;
-            within = subst (λ (x : Source). x.place < length order) (sym is) so_far.within;
-            begins = subst (λ (x : Source). so_far.constraint.low ≡ Time x.point) (sym is) so_far.begins;
-            greatest = bound;
-          })
+      let is : later ≡ other = sym (same_Some other later same) in
+      record {
+        constraint = so_far.constraint;
+        stands_at = subst (λ (x : Source). StandsAt psi order x.place so_far.constraint) (sym is) so_far.stands_at;
+        not_reached = subst (λ (x : Source). reached ≤ x.place) (sym is) so_far.not_reached;
+        within = subst (λ (x : Source). x.place < length order) (sym is) so_far.within;
+        begins = subst (λ (x : Source). so_far.constraint.low ≡ Time x.point) (sym is) so_far.begins;
+        greatest = bound;
+      })
 
 pub source_all : (psi : List Constraint) (order : List ℕ) (reached place : ℕ) (greatest : Option Source) → length order ≤ place → IsGreatestSoFar psi order reached place greatest
     → MatchOption greatest (HasNoSource psi order reached) (IsGreatestSource psi order reached)
 source_all psi order reached place None end so_far = λ k c point ge lt. so_far.none k c point ge (omega (arith, lt, end))
 source_all psi order reached place (Some source) end so_far = record {
-  constraint = so_far.constraint; stands_at = so_far.stands_at; not_reached = so_far.not_reached; begins = so_far.begins;
+  constraint = so_far.constraint;
+  stands_at = so_far.stands_at;
+  not_reached = so_far.not_reached;
+  begins = so_far.begins;
   within = so_far.within;
   greatest = λ k c point ge lt. so_far.greatest k c point ge (omega (arith, lt, end));
 }
@@ -154,12 +160,12 @@ from_later : (psi : List Constraint) (order : List ℕ) (reached : ℕ) (source 
     → (a : TimePoint) → (IsUpTo a source.point → ⊥) → (c : Constraint) → Contains psi c → IsChain psi (Time a) c.low → IsReached psi order reached c
 from_later psi order reached source is_order gone_on greatest a later c among chain =
     let enters : (d : Constraint) → Contains psi d → IsLink [] (Time a) d.low → IsReached psi order reached d =
-        λ d d_among l.
-            by_cases (reached_or_rest psi order reached is_order d d_among)
-            (λ r. r)
-            (λ rest. absurd (by_cases (link_from_time a d.low l)
-                (λ first. later (subst (λ (w : TimePoint). IsUpTo w source.point) (sym first) tt))
-                (λ h. later (IsUpTo-transitive a h.0 source.point h.2 (greatest.greatest rest.0 d h.0 rest.1 rest.2 rest.3 h.1))))) in
+    λ d d_among l.
+    by_cases (reached_or_rest psi order reached is_order d d_among)
+    (λ r. r)
+    (λ rest. absurd (by_cases (link_from_time a d.low l)
+    (λ first. later (subst (λ (w : TimePoint). IsUpTo w source.point) (sym first) tt))
+    (λ h. later (IsUpTo-transitive a h.0 source.point h.2 (greatest.greatest rest.0 d h.0 rest.1 rest.2 rest.3 h.1))))) in
     by_cases (led_to psi (IsReached psi order reached) (Time a) (reached_next psi order reached gone_on) enters c.low chain)
     (λ l. enters c among l)
     (λ p. reached_next psi order reached gone_on p.constraint c p.among among p.onto)
@@ -193,7 +199,7 @@ module _ (psi : List Constraint) (order : List ℕ) (reached : ℕ) (source : So
   source_found found =
       let is : found.place ≡ reached = omega (arith, found.not_done, found.is_reached) in
       let stood = moved psi (swap order source.place reached) order found.place source.place found.constraint
-          (sym (ap (slice_index (swap order source.place reached)) is ∙ second_swapped psi order safe.is_order source.place reached greatest.within reached_within)) found.stands_at in
+      (sym (ap (slice_index (swap order source.place reached)) is ∙ second_swapped psi order safe.is_order source.place reached greatest.within reached_within)) found.stands_at in
       let same = one_stands psi order source.place greatest.constraint found.constraint greatest.stands_at stood in
       let begins = ap (λ (x : Constraint). x.low) same ∙ greatest.begins in
       record {
@@ -216,12 +222,12 @@ module _ (psi : List Constraint) (order : List ℕ) (reached : ℕ) (source : So
               by_cases (cases_lt k reached)
               (λ before. safe.no_lesser k c before (still_stands psi new order k c (sym (earlier k before)) stands_k) greater point chain ends)
               (λ behind. by_cases (upto_or_not greater source.point)
-                  (λ up_to. by_cases (upto_or_not source.point point)
-                      (λ h. IsUpTo-transitive greater source.point point up_to h)
-                      (λ before. absurd (searched.no_end k c behind lt stands_k (point, ends, before))))
-                  (λ later.
-                      let r = from_later psi order reached source safe.is_order safe.gone_on greatest greater later c (contained psi new k c stands_k) chain in
-                      safe.no_lesser r.0 c r.1 r.2 greater point chain ends));
+              (λ up_to. by_cases (upto_or_not source.point point)
+              (λ h. IsUpTo-transitive greater source.point point up_to h)
+              (λ before. absurd (searched.no_end k c behind lt stands_k (point, ends, before))))
+              (λ later.
+              let r = from_later psi order reached source safe.is_order safe.gone_on greatest greater later c (contained psi new k c stands_k) chain in
+              safe.no_lesser r.0 c r.1 r.2 greater point chain ends));
         };
       }
 
@@ -242,17 +248,17 @@ safe_none psi order is_order = record {
 pub not_contradictory : (psi : List Constraint) (order : List ℕ) (reached : ℕ) → IsSafe psi order reached → HasNoSource psi order reached → IsContradictory psi → ⊥
 not_contradictory psi order reached safe none k =
     let enters : (d : Constraint) → Contains psi d → IsLink [] (Time k.greater) d.low → IsReached psi order reached d =
-        λ d among l.
-            by_cases (reached_or_rest psi order reached safe.is_order d among)
-            (λ r. r)
-            (λ rest. absurd (by_cases (link_from_time k.greater d.low l)
-                (λ first. k.out_of_order (subst (λ (w : TimePoint). IsUpTo w k.lesser) (sym first) tt))
-                (λ h. none rest.0 d h.0 rest.1 rest.2 rest.3 h.1))) in
+    λ d among l.
+    by_cases (reached_or_rest psi order reached safe.is_order d among)
+    (λ r. r)
+    (λ rest. absurd (by_cases (link_from_time k.greater d.low l)
+    (λ first. k.out_of_order (subst (λ (w : TimePoint). IsUpTo w k.lesser) (sym first) tt))
+    (λ h. none rest.0 d h.0 rest.1 rest.2 rest.3 h.1))) in
     by_cases (led_to psi (IsReached psi order reached) (Time k.greater) (reached_next psi order reached safe.gone_on) enters (Time k.lesser) k.chain)
     (λ l. k.out_of_order ((link_of_times k.greater k.lesser).0 l))
     (λ p. by_cases (link_into_time p.constraint.high k.lesser p.onto)
-        (λ last. k.out_of_order (subst (λ (w : TimePoint). IsUpTo k.greater w) (sym last) (IsUpTo-PosInf k.greater)))
-        (λ h. k.out_of_order (IsUpTo-transitive k.greater h.0 k.lesser (safe.no_lesser p.among.0 p.constraint p.among.1 p.among.2 k.greater h.0 p.chain h.1) h.2)))
+    (λ last. k.out_of_order (subst (λ (w : TimePoint). IsUpTo k.greater w) (sym last) (IsUpTo-PosInf k.greater)))
+    (λ h. k.out_of_order (IsUpTo-transitive k.greater h.0 k.lesser (safe.no_lesser p.among.0 p.constraint p.among.1 p.among.2 k.greater h.0 p.chain h.1) h.2)))
 
 -- a search from a term to another
 module _ (psi : List Constraint) (u v : Term) (order first : List ℕ) (count : ℕ) (from : IsReachedFrom psi u order 0 first count) where
@@ -264,10 +270,10 @@ module _ (psi : List Constraint) (u v : Term) (order first : List ℕ) (count : 
   pub no_chain : (IsLink [] u v → ⊥) → (last : List ℕ) (more : ℕ) → IsSearched psi (To v) first 0 count last more → IsChain psi u v → ⊥
   no_chain unlinked last more searched chain =
       let enters : (d : Constraint) → Contains psi d → IsLink [] u d.low → IsReached psi last more d =
-          λ d among l.
-              by_cases (reached_or_rest psi first count from.is_order d among)
-              (λ r. still_reached psi first last count more searched.not_fewer searched.kept d r)
-              (λ rest. absurd (from.rest rest.0 d rest.1 rest.2 rest.3 l)) in
+      λ d among l.
+      by_cases (reached_or_rest psi first count from.is_order d among)
+      (λ r. still_reached psi first last count more searched.not_fewer searched.kept d r)
+      (λ rest. absurd (from.rest rest.0 d rest.1 rest.2 rest.3 l)) in
       by_cases (led_to psi (IsReached psi last more) u (reached_next psi last more searched.gone_on) enters v chain)
       unlinked
       (λ p. searched.no_end p.among.0 p.constraint (omega arith) p.among.1 p.among.2 p.onto)

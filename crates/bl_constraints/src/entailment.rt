@@ -56,7 +56,12 @@ fn is_contradictory(psi: &[Constraint]) -> bool
 
 /// Reaches what the source leads to, and answers how many constraints are reached then; or nothing, if it leads to a
 /// constant before it.
-fn reach_source(psi: &[Constraint], source: Source, order: &mut [usize], reached: usize) -> Option<usize>
+fn reach_source(
+    psi: &[Constraint],
+    source: Source,
+    order: &mut [usize],
+    reached: usize,
+) -> Option<usize>
     requires safe { IsSafe psi.now order.old reached }
     requires greatest { IsGreatestSource psi.now order.old reached source }
     ensures { MatchOption result (IsContradictory psi.now) (HasReachedMore psi.now reached order.new) }

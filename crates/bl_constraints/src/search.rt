@@ -35,7 +35,13 @@ pub(crate) fn reach_from(psi: &[Constraint], t: &Term, order: &mut [usize], reac
 
 /// Goes on from the constraints that are reached, but for the first `done` from which it has gone on, and answers how
 /// many are reached then; or nothing, if they lead to an end.
-pub(crate) fn search(psi: &[Constraint], end: &End, order: &mut [usize], done: usize, reached: usize) -> Option<usize>
+pub(crate) fn search(
+    psi: &[Constraint],
+    end: &End,
+    order: &mut [usize],
+    done: usize,
+    reached: usize,
+) -> Option<usize>
     requires order { IsOrder psi.now order.old }
     requires done { done ≤ reached }
     requires within { reached ≤ length order.old }

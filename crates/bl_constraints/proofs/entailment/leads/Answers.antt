@@ -16,4 +16,4 @@ returns c =
     let v = c.args.v.now in
     none_answer (IsChain psi u v) c.search.result c.is_none.result c.is_none.ensures
     (leads_answer psi u v c.number_places.new.order c.reach_from-reached.new.order c.reach_from-reached.result c.reach_from-reached.ensures
-        (λ l. absurd (false≢true (c.if-is_linked.ensures.1 l))) c.search.new.order c.search.result c.search.ensures)
+    (λ l. absurd (false≢true (c.if-is_linked.ensures.1 l))) c.search.new.order c.search.result c.search.ensures)

@@ -1,6 +1,5 @@
 -- Each place is in its own place.
-use Rattle.std.proofs.Common.{◌≡◌, ℕ, ◌<◌, length, arith}
-use Rattle.std.specs.Prelude.{slice_index}
+use Rattle.std.proofs.Common.{arith}
 use Rattle.bl_constraints.proofs.OrderLemmas.{IsOrder-numbered}
 use Rattle.bl_constraints.proofs.search.number_places.Goals as goal
 

@@ -1,7 +1,6 @@
 -- A constraint that is linked changes places with the first that is not.
-use Rattle.std.proofs.Common.{◌≡◌, ◌<◌, ◌+◌, ℕ, List, length, get_or, refl, sym, subst, ◌∙◌, arith}
+use Rattle.std.proofs.Common.{◌<◌, ◌+◌, ℕ, List, length, get_or, refl, sym, subst, ◌∙◌, arith}
 use Rattle.std.specs.Prelude.{slice_index}
-use Rattle.std.specs.List.{swap}
 use Rattle.std.proofs.lemmas.Bool.{false≢true}
 use Rattle.bl_constraints.proofs.OrderLemmas.{stands}
 use Rattle.bl_constraints.proofs.SearchLemmas.{IsReaching, reaching_skip, reaching_more, reaching_all}
@@ -23,14 +22,14 @@ loop-place-preserved c =
     let at = stands psi now place c.index-psi-order.result (so_far.is_order.within place lt) in
     let by_order : ℕ → List ℕ → Type 0 = λ n order. IsReaching psi t old reached order n (place + 1) in
     elim c.if-is_linked.branch [
-      then-is_linked w ↦
-        subst (λ (n : ℕ). by_order n c.if-is_linked.order) (sym w.count-is)
-        (subst (by_order (count + 1)) (sym (w.order-is ∙ w.swap.ensures.after))
-            (reaching_more psi t old reached now count place here so_far lt at (w.if-is_linked.ensures.0 refl)))
-    | else-is_linked w ↦
-        subst (λ (n : ℕ). by_order n c.if-is_linked.order) (sym w.count-is)
-        (subst (by_order count) (sym w.order-is)
-            (reaching_skip psi t old reached now count place here so_far lt at (λ l. absurd (false≢true (w.if-is_linked.ensures.1 l)))))
+      | then-is_linked w ↦
+          subst (λ (n : ℕ). by_order n c.if-is_linked.order) (sym w.count-is)
+          (subst (by_order (count + 1)) (sym (w.order-is ∙ w.swap.ensures.after))
+          (reaching_more psi t old reached now count place here so_far lt at (w.if-is_linked.ensures.0 refl)))
+      | else-is_linked w ↦
+          subst (λ (n : ℕ). by_order n c.if-is_linked.order) (sym w.count-is)
+          (subst (by_order count) (sym w.order-is)
+          (reaching_skip psi t old reached now count place here so_far lt at (λ l. absurd (false≢true (w.if-is_linked.ensures.1 l)))))
     ]
 
 pub returns : goal.returns

@@ -19,13 +19,13 @@ loop-place-preserved c =
     let at = stands_read psi order place here (c.requires.order.within place lt) c.index-psi-order.is in
     let so_far : Option Source → Type 0 = IsGreatestSoFar psi order c.args.reached (place + 1) in
     elim c.match-c.branch [
-      in-Time w ↦
-        let mine : Source = record { place = place; point = w.in-Time.point } in
-        subst so_far (sym w.greatest-is)
-        (source_more psi order c.args.reached place here lt at c.loop-place.greatest mine w.later.result refl c.loop-place.auto.place w.in-Time.is w.later.ensures c.loop-place.invariant)
-    | in_default w ↦
-        subst so_far (sym w.greatest-is)
-        (source_skip psi order c.args.reached place here lt at c.loop-place.greatest w.in_default.not-Time c.loop-place.invariant)
+      | in-Time w ↦
+          let mine : Source = record { place = place; point = w.in-Time.point } in
+          subst so_far (sym w.greatest-is)
+          (source_more psi order c.args.reached place here lt at c.loop-place.greatest mine w.later.result refl c.loop-place.auto.place w.in-Time.is w.later.ensures c.loop-place.invariant)
+      | in_default w ↦
+          subst so_far (sym w.greatest-is)
+          (source_skip psi order c.args.reached place here lt at c.loop-place.greatest w.in_default.not-Time c.loop-place.invariant)
     ]
 
 pub returns : goal.returns
