@@ -1,22 +1,16 @@
 -- What becomes of a rule's condition: it is met, it is left over as a condition of the grant, or it is a fault at the node. What may be left over is this project's own.
-use Rattle.std.specs.Prelude.{ℕ, ◌+◌, Bool, false, ◌&&◌, List, [], ◌∷◌, ◌++◌, length, Result, Ok, Err, ◌==◌, if◌then◌else◌, Option, Some, None}
+use Rattle.std.specs.Prelude.{ℕ, ◌+◌, Bool, false, List, [], ◌∷◌, ◌++◌, length, Result, Ok, Err, ◌==◌, if◌then◌else◌, Option, Some, None}
 use Rattle.bl_syntax.specs.declared.terms.Sort.{Sort}
 use Rattle.bl_syntax.specs.declared.terms.Term.{Term}
 use Rattle.bl_syntax.specs.declared.terms.StatePred.{StatePred}
 use Rattle.bl_syntax.specs.declared.terms.Constraint.{Constraint}
 use Rattle.bl_syntax.specs.Terms.{sort_of}
 use Rattle.bl_syntax.specs.Grant.{Granted}
-use Rattle.std.specs.Str.{bytes_eq}
 use Rattle.bl_syntax.proofs.Same.{sort_eq}
 use Rattle.proof_verifier.specs.declared.fault.CheckFault.{CheckFault}
-use Rattle.proof_verifier.specs.declared.fault.CheckFault.TheVariants.{NotEntailed, NotInState, BadTerm, ViewTooWeak, TooManyConditions, WrongShape}
-use Rattle.proof_verifier.specs.Tests.{are_same, has_constraint, has_state, is_as_strong, may_stay_open, state_may_stay_open}
+use Rattle.proof_verifier.specs.declared.fault.CheckFault.TheVariants.{NotEntailed, NotInState, BadTerm, ViewTooWeak, TooManyConditions}
+use Rattle.proof_verifier.specs.Tests.{has_constraint, has_state, is_as_strong, may_stay_open, state_may_stay_open}
 use Rattle.proof_verifier.specs.Entailed.{is_entailed}
-
--- one step, and then another that goes by what the first gave; the first fault ends both
-abbrev pub and_then : {A B : Type 0} → Result A CheckFault → (A → Result B CheckFault) → Result B CheckFault
-and_then (Ok found) later = later found
-and_then (Err fault) later = Err fault
 
 -- the grant has as many conditions as it may
 abbrev pub is_full : Granted → Bool
@@ -61,7 +55,3 @@ term_condition node sorts sort t = if of_sort sort (sort_of sorts [] t) then Ok 
 -- the first principal is at least as strong as the second
 abbrev pub strength_condition : ℕ → Term → Term → Result (Unit {0}) CheckFault
 strength_condition node k other = if is_as_strong k other then Ok tt else Err (ViewTooWeak node)
-
--- the two atoms are the same
-abbrev pub same_condition : ℕ → List ℕ × List Term → List ℕ × List Term → Result (Unit {0}) CheckFault
-same_condition node a b = if bytes_eq a.0 b.0 && are_same a.1 b.1 then Ok tt else Err (WrongShape node)

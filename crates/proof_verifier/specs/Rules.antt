@@ -11,30 +11,20 @@ use Rattle.bl_syntax.specs.Substitution.{instance_at}
 use Rattle.bl_rules.specs.Sequent.{holds, claims}
 use Rattle.proof_verifier.specs.declared.fault.CheckFault.{CheckFault}
 use Rattle.proof_verifier.specs.Sequent.{Sequent, aim, aim_at, learn, bound, observe, declare, new_parameter, new_start, new_end, suppose, speak}
-use Rattle.proof_verifier.specs.Shapes.{cited, as_truth, as_claim, as_atom, as_constraint, as_state, as_both, as_either, as_implies, as_true, as_false, as_forall, as_exists, as_says, as_on}
-use Rattle.proof_verifier.specs.Conditions.{and_then, time_condition, state_condition, term_condition, strength_condition, same_condition}
+use Rattle.proof_verifier.specs.Shapes.{and_then, truth_at, claim_at, as_same_atom, as_constraint, as_state, as_both, as_either, as_implies, as_true, as_false, as_forall, as_exists, as_says, as_on}
+use Rattle.proof_verifier.specs.Conditions.{time_condition, state_condition, term_condition, strength_condition}
 
 -- what a proof answers at a node of that number, on a sequent, with the grant so far: the grant then, or the first fault
 abbrev pub Answer : Type 0
 Answer = ℕ → Sequent → Granted → Result Granted CheckFault
 
--- the truth with that number: its formula and its interval
-abbrev pub truth_at : ℕ → Sequent → ℕ → Result (Form × Term × Term) CheckFault
-truth_at node s h = and_then (cited node s.hypotheses h) (as_truth node)
-
--- the claim with that number: who claims which formula, and its interval
-abbrev pub claim_at : ℕ → Sequent → ℕ → Result (Term × Form × Term × Term) CheckFault
-claim_at node s h = and_then (cited node s.hypotheses h) (as_claim node)
-
 -- the goal is the atom of a truth whose interval holds the goal's
 abbrev pub by_init : ℕ → Answer
 by_init h node s g =
-    and_then (truth_at node s h) (λ (a, from, to).
-    and_then (as_atom node a) (λ known.
-    and_then (as_atom node s.goal) (λ wanted.
-    and_then (same_condition node known wanted) (λ _.
+    and_then (truth_at node s.hypotheses h) (λ (a, from, to).
+    and_then (as_same_atom node a s.goal) (λ _.
     and_then (time_condition node s.constraints from s.from g) (λ g.
-    time_condition node s.constraints s.to to g)))))
+    time_condition node s.constraints s.to to g)))
 
 -- the goal is a constraint
 abbrev pub by_cons_r : Answer
@@ -88,28 +78,28 @@ by_at_r p node s g = and_then (as_on node s.goal) (λ (a, u, v). p (1 + node) (a
 -- a truth is a constraint: it is one of the constraints in p
 abbrev pub by_cons_l : ℕ → Answer → Answer
 by_cons_l h p node s g =
-    and_then (truth_at node s h) (λ (a, from, to).
+    and_then (truth_at node s.hypotheses h) (λ (a, from, to).
     and_then (as_constraint node a) (λ c.
     p (1 + node) (bound c.low c.high s) g))
 
 -- a truth is a predicate on the state: it is a fact in p
 abbrev pub by_inter_l : ℕ → Answer → Answer
 by_inter_l h p node s g =
-    and_then (truth_at node s h) (λ (a, from, to).
+    and_then (truth_at node s.hypotheses h) (λ (a, from, to).
     and_then (as_state node a) (λ fact.
     p (1 + node) (observe fact s) g))
 
 -- a truth is A & B: p has A, and then B
 abbrev pub by_and_l : ℕ → Answer → Answer
 by_and_l h p node s g =
-    and_then (truth_at node s h) (λ (ab, from, to).
+    and_then (truth_at node s.hypotheses h) (λ (ab, from, to).
     and_then (as_both node ab) (λ (a, b).
     p (1 + node) (learn (holds b from to) (learn (holds a from to) s)) g))
 
 -- a truth is A | B: p has A, and q has B; p has that many nodes
 abbrev pub by_or_l : ℕ → Answer → ℕ → Answer → Answer
 by_or_l h p nodes q node s g =
-    and_then (truth_at node s h) (λ (ab, from, to).
+    and_then (truth_at node s.hypotheses h) (λ (ab, from, to).
     and_then (as_either node ab) (λ (a, b).
     and_then (p (1 + node) (learn (holds a from to) s) g) (λ g.
     q (1 + node + nodes) (learn (holds b from to) s) g)))
@@ -117,13 +107,13 @@ by_or_l h p nodes q node s g =
 -- a truth is false
 abbrev pub by_false_l : ℕ → Answer
 by_false_l h node s g =
-    and_then (truth_at node s h) (λ (a, from, to).
+    and_then (truth_at node s.hypotheses h) (λ (a, from, to).
     and_then (as_false node a) (λ _. Ok g))
 
 -- a truth is A => B: on an interval within its own, p proves A, and q has B; p has that many nodes
 abbrev pub by_imp_l : ℕ → Term → Term → Answer → ℕ → Answer → Answer
 by_imp_l h t1 t2 p nodes q node s g =
-    and_then (truth_at node s h) (λ (ab, from, to).
+    and_then (truth_at node s.hypotheses h) (λ (ab, from, to).
     and_then (as_implies node ab) (λ (a, b).
     and_then (term_condition node s.sorts Time t1) (λ _.
     and_then (term_condition node s.sorts Time t2) (λ _.
@@ -135,7 +125,7 @@ by_imp_l h t1 t2 p nodes q node s g =
 -- a truth is a forall: p has the instance at t
 abbrev pub by_forall_l : ℕ → Term → Answer → Answer
 by_forall_l h t p node s g =
-    and_then (truth_at node s h) (λ (every, from, to).
+    and_then (truth_at node s.hypotheses h) (λ (every, from, to).
     and_then (as_forall node every) (λ (sort, a).
     and_then (term_condition node s.sorts sort t) (λ _.
     p (1 + node) (learn (holds (instance_at t a) from to) s) g)))
@@ -143,21 +133,21 @@ by_forall_l h t p node s g =
 -- a truth is an exists: p has the instance at a new parameter
 abbrev pub by_exists_l : ℕ → Answer → Answer
 by_exists_l h p node s g =
-    and_then (truth_at node s h) (λ (some, from, to).
+    and_then (truth_at node s.hypotheses h) (λ (some, from, to).
     and_then (as_exists node some) (λ (sort, a).
     p (1 + node) (learn (holds (instance_at (new_parameter s) a) from to) (declare sort s)) g))
 
 -- a truth is K says A: p has the claim
 abbrev pub by_says_l : ℕ → Answer → Answer
 by_says_l h p node s g =
-    and_then (truth_at node s h) (λ (said, from, to).
+    and_then (truth_at node s.hypotheses h) (λ (said, from, to).
     and_then (as_says node said) (λ (k, a).
     p (1 + node) (learn (claims k a from to) s) g))
 
 -- a claim, of a principal that is strong enough for the view, on an interval that holds the view's: p has the truth
 abbrev pub by_claim : ℕ → Answer → Answer
 by_claim h p node s g =
-    and_then (claim_at node s h) (λ (k, a, from, to).
+    and_then (claim_at node s.hypotheses h) (λ (k, a, from, to).
     and_then (strength_condition node k s.view.who) (λ _.
     and_then (time_condition node s.constraints from s.view.from g) (λ g.
     and_then (time_condition node s.constraints s.view.to to g) (λ g.
@@ -166,6 +156,6 @@ by_claim h p node s g =
 -- a truth is A @ [u,v]: p has A there
 abbrev pub by_at_l : ℕ → Answer → Answer
 by_at_l h p node s g =
-    and_then (truth_at node s h) (λ (placed, from, to).
+    and_then (truth_at node s.hypotheses h) (λ (placed, from, to).
     and_then (as_on node placed) (λ (a, u, v).
     p (1 + node) (learn (holds a u v) s) g))

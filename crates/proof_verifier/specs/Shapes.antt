@@ -1,15 +1,22 @@
 -- The forms that rules ask for: the parts of a formula or hypothesis that has the form, or a fault at the node.
-use Rattle.std.specs.Prelude.{ℕ, List, Option, Result, Ok, Err, option_and_then}
+use Rattle.std.specs.Prelude.{ℕ, List, Option, Result, Ok, Err, option_and_then, ◌&&◌, if◌then◌else◌}
 use Rattle.std.specs.Option.{ok_or}
 use Rattle.std.specs.List.{slice_get}
+use Rattle.std.specs.Str.{bytes_eq}
 use Rattle.bl_syntax.specs.declared.terms.Sort.{Sort}
 use Rattle.bl_syntax.specs.declared.terms.Term.{Term}
 use Rattle.bl_syntax.specs.declared.terms.StatePred.{StatePred}
 use Rattle.bl_syntax.specs.declared.terms.Constraint.{Constraint}
 use Rattle.bl_syntax.specs.Formula.{Form, atom, compare, state, both, either, implies, truth, falsity, forall_, exists_, says, on}
 use Rattle.bl_rules.specs.Sequent.{Hypothesis, holds, claims}
+use Rattle.proof_verifier.specs.Tests.{are_same}
 use Rattle.proof_verifier.specs.declared.fault.CheckFault.{CheckFault}
 use Rattle.proof_verifier.specs.declared.fault.CheckFault.TheVariants.{NoHypothesis, WrongShape}
+
+-- one step, and then another that goes by what the first gave; the first fault ends both
+abbrev pub and_then : {A B : Type 0} → Result A CheckFault → (A → Result B CheckFault) → Result B CheckFault
+and_then (Ok found) later = later found
+and_then (Err fault) later = Err fault
 
 -- the hypothesis with that number, unless it was struck out
 abbrev pub cited : ℕ → List (Option Hypothesis) → ℕ → Result Hypothesis CheckFault
@@ -25,10 +32,25 @@ abbrev pub as_claim : ℕ → Hypothesis → Result (Term × Form × Term × Ter
 as_claim node (holds a u v) = Err (WrongShape node)
 as_claim node (claims k a u v) = Ok (k, a, u, v)
 
+-- the truth with that number
+abbrev pub truth_at : ℕ → List (Option Hypothesis) → ℕ → Result (Form × Term × Term) CheckFault
+truth_at node hypotheses h = and_then (cited node hypotheses h) (as_truth node)
+
+-- the claim with that number
+abbrev pub claim_at : ℕ → List (Option Hypothesis) → ℕ → Result (Term × Form × Term × Term) CheckFault
+claim_at node hypotheses h = and_then (cited node hypotheses h) (as_claim node)
+
 -- an atom: its name and its arguments
 abbrev pub as_atom : ℕ → Form → Result (List ℕ × List Term) CheckFault
 as_atom node (atom name terms) = Ok (name, terms)
 as_atom node _ = Err (WrongShape node)
+
+-- the two formulas are one atom
+abbrev pub as_same_atom : ℕ → Form → Form → Result (Unit {0}) CheckFault
+as_same_atom node a b =
+    and_then (as_atom node a) (λ (name, terms).
+    and_then (as_atom node b) (λ (other_name, other_terms).
+    if bytes_eq name other_name && are_same terms other_terms then Ok tt else Err (WrongShape node)))
 
 abbrev pub as_constraint : ℕ → Form → Result Constraint CheckFault
 as_constraint node (compare c) = Ok c

@@ -1,7 +1,6 @@
 -- Tests on terms, constraints and predicates on the state. Each decides what its name says; the conditions that may be left over are this project's own.
-use Rattle.std.specs.Prelude.{ℤ, pos, negsuc, List, Bool, true, false, not, ◌&&◌, ◌||◌, codes}
+use Rattle.std.specs.Prelude.{ℤ, pos, negsuc, List, Bool, true, false, not, ◌&&◌, ◌||◌, codes, int_lt}
 use Rattle.std.specs.List.{list_any, list_all}
-use Rattle.std.specs.Ordering.{int_cmp, is_gt}
 use Rattle.std.specs.Cmp.Lexicographic.{pointwise}
 use Rattle.bl_syntax.specs.declared.terms.Term.{Term}
 use Rattle.bl_syntax.specs.declared.terms.Term.TheVariants.{Prin, File, Perm, Time, Text, Ctime, Param, Bound}
@@ -30,7 +29,7 @@ is_as_strong k other = term_eq k other || term_eq k (Prin (codes "loc"))
 
 -- whether the first number is at most the second
 abbrev pub is_at_most : ℤ → ℤ → Bool
-is_at_most x y = not (is_gt (int_cmp x y))
+is_at_most x y = not (int_lt y x)
 
 -- whether the first time is not after the second
 abbrev pub is_up_to : TimePoint → TimePoint → Bool

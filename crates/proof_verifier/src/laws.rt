@@ -1,9 +1,43 @@
 //! Laws of the definitions, and verdicts that they compute. A law is the contract of an empty function, which nothing calls.
 
-ghost use Rattle.std.specs.Prelude.{◌≡◌, [], ◌∷◌, Ok, Err, codes};
+ghost use Rattle.std.specs.Prelude.{◌≡◌, ◌↔◌, true, List, [], ◌∷◌, Ok, Err, codes};
+ghost use Rattle.std.specs.List.{AllByRecursion};
+ghost use Rattle.bl_syntax.specs.declared.terms.Term.{Term};
+ghost use Rattle.bl_syntax.specs.declared.terms.Constraint.{Constraint};
+ghost use Rattle.bl_syntax.specs.declared.grant.Goal.{Goal};
+ghost use Rattle.bl_syntax.specs.Statement.{Saying, IsStatement};
+ghost use Rattle.bl_syntax.specs.Entailment.{Entails};
+ghost use Rattle.bl_syntax.specs.Grant.{Granted, IsGrant};
+ghost use Rattle.bl_rules.specs.Allowed.{SoundGrant};
+ghost use Rattle.proof_term.specs.Proof.{Deduction};
 ghost use Rattle.proof_verifier.specs.declared.fault.CheckFault.TheVariants.{WrongShape};
+ghost use Rattle.proof_verifier.specs.Entailed.{is_entailed};
 ghost use Rattle.proof_verifier.specs.Verdict.{verdict};
 ghost use Rattle.proof_verifier.specs.Examples.{stated, may_write, writing, by_its_claim, between, employees_may_read, bob_is_employed, reading, by_employment, within_both};
+
+/// A grant that the verdict gives is sound: wherever its conditions hold, the statements allow what it grants.
+pub fn the_verdict_gives_sound_grants()
+    ensures { (statements : List Saying) (goal : Goal) (proof : Deduction) (granted : Granted)
+        → AllByRecursion IsStatement statements
+        → verdict statements goal proof ≡ Ok granted → SoundGrant statements granted }
+{}
+
+/// A grant that the verdict gives grants the goal.
+pub fn the_verdict_grants_the_goal()
+    ensures { (statements : List Saying) (goal : Goal) (proof : Deduction) (granted : Granted)
+        → verdict statements goal proof ≡ Ok granted → granted.goal ≡ goal }
+{}
+
+/// A grant that the verdict gives keeps the rules of grants: conditions of the right forms, each once, at most 64.
+pub fn the_verdict_gives_grants_within_their_rules()
+    ensures { (statements : List Saying) (goal : Goal) (proof : Deduction) (granted : Granted)
+        → verdict statements goal proof ≡ Ok granted → IsGrant granted }
+{}
+
+/// The entailment between times that the verdict computes is entailment.
+pub fn the_computed_entailment_is_entailment()
+    ensures { (constraints : List Constraint) (u v : Term) → (is_entailed constraints u v ≡ true) ↔ Entails constraints u v }
+{}
 
 /// A statement of `admin` grants what it says, on its interval.
 pub fn a_statement_grants_what_it_says()

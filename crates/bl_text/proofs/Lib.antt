@@ -1,0 +1,4 @@
+pub mod DateLemmas
+pub mod NumeralLemmas
+pub mod RunLemmas
+pub mod WrittenLemmas

@@ -1,0 +1,20 @@
+//! Texts of points in time, and the texts that formulas and statements of the authorization logic are written as.
+//!
+//! A text is read token by token. What is read is the value that the text writes; a text that
+//! writes none has one first fault, with its place.
+#![tactic(auto)]
+
+mod classes;
+mod dates;
+mod faults;
+mod numerals;
+mod print;
+#[cfg(test)]
+mod tests;
+mod times;
+mod tokens;
+mod words;
+
+pub use faults::TextFault;
+pub use print::{print_constraint, print_formula, print_state, print_statement};
+pub use times::parse_time;

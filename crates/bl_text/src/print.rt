@@ -1,0 +1,365 @@
+//! The text that a term, a constraint, a state predicate, a formula or a statement is written as.
+#![tactic(auto, using(crate::proofs::WrittenLemmas::writing))]
+
+ghost use Rattle.std.specs.Prelude.{◌≡◌, ◌++◌, ◌∷◌, [], ℕ, OnOk, OnErr};
+ghost use Rattle.std.specs.Fmt.{decimal, signed_decimal};
+ghost use Rattle.bl_syntax.specs.Formula.{formula};
+ghost use Rattle.bl_text.specs.Written.{BeginsWith};
+ghost use Rattle.bl_text.specs.Printed.{time_text, permission_text, sort_text, term_text, terms_text, arguments_text, constraint_text, state_text, deeper, binder_text, interval_text, rank, operand, formula_text, said_text, span_text, statement_text};
+
+use bl_syntax::{
+    Bytes, Constraint, Formula, NoMemory, Perm, Sort, StatePred, Statement, Term, TimePoint,
+};
+
+/// Writes a constraint between times, all of it or nothing.
+pub fn print_constraint(c: &Constraint, out: &mut Bytes) -> Result<(), NoMemory>
+    ensures ok { OnOk result (out.new ≡ out.old ++ constraint_text 0 c.now) }
+    ensures err { OnErr result (out.new ≡ out.old) }
+{
+    let len = out.len();
+    let written = write_constraint(out, 0, c);
+    if written.is_err() {
+        out.truncate(len);
+    }
+    written
+}
+
+/// Writes a predicate on the server's state, all of it or nothing.
+pub fn print_state(s: &StatePred, out: &mut Bytes) -> Result<(), NoMemory>
+    ensures ok { OnOk result (out.new ≡ out.old ++ state_text 0 s.now) }
+    ensures err { OnErr result (out.new ≡ out.old) }
+{
+    let len = out.len();
+    let written = write_state(out, 0, s);
+    if written.is_err() {
+        out.truncate(len);
+    }
+    written
+}
+
+/// Writes a formula, all of it or nothing. A variable is `X` and the number of binders outside its own.
+pub fn print_formula(f: &Formula, out: &mut Bytes) -> Result<(), NoMemory>
+    ensures ok { OnOk result (out.new ≡ out.old ++ formula_text 0 (formula f.now)) }
+    ensures err { OnErr result (out.new ≡ out.old) }
+{
+    let len = out.len();
+    let written = write_formula(out, 0, f);
+    if written.is_err() {
+        out.truncate(len);
+    }
+    written
+}
+
+/// Writes a statement, all of it or nothing.
+pub fn print_statement(s: &Statement, out: &mut Bytes) -> Result<(), NoMemory>
+    ensures ok { OnOk result (out.new ≡ out.old ++ statement_text s.now) }
+    ensures err { OnErr result (out.new ≡ out.old) }
+{
+    let len = out.len();
+    let written = write_statement(out, s);
+    if written.is_err() {
+        out.truncate(len);
+    }
+    written
+}
+
+fn write_statement(out: &mut Bytes, s: &Statement) -> Result<(), NoMemory>
+    ensures ok { OnOk result (out.new ≡ out.old ++ statement_text s.now) }
+    ensures err { OnErr result (BeginsWith out.new out.old) }
+{
+    out.extend(s.who().bytes())?;
+    write_said(out, s.body())?;
+    write_span(out, &s.from(), &s.to())
+}
+
+fn write_said(out: &mut Bytes, body: &Formula) -> Result<(), NoMemory>
+    ensures ok { OnOk result (out.new ≡ out.old ++ said_text (formula body.now)) }
+    ensures err { OnErr result (BeginsWith out.new out.old) }
+{
+    write(out, " says ")?;
+    write_formula(out, 0, body)
+}
+
+fn write_span(out: &mut Bytes, from: &TimePoint, to: &TimePoint) -> Result<(), NoMemory>
+    ensures ok { OnOk result (out.new ≡ out.old ++ span_text from.now to.now) }
+    ensures err { OnErr result (BeginsWith out.new out.old) }
+{
+    write(out, " from ")?;
+    write_time(out, from)?;
+    write(out, " to ")?;
+    write_time(out, to)
+}
+
+/// How tightly the sign that was put on last binds.
+fn rank(f: &Formula) -> u8
+    ensures { result ≡ rank (formula f.now) }
+{
+    match f {
+        Formula::Forall(..) | Formula::Exists(..) | Formula::Imp(..) => 0,
+        Formula::Or(..) => 1,
+        Formula::And(..) => 2,
+        Formula::Says(..) => 3,
+        Formula::At(..) => 4,
+        _ => 5,
+    }
+}
+
+/// Writes a formula within this many binders.
+#[cycle(write)]
+fn write_formula(out: &mut Bytes, depth: u64, f: &Formula) -> Result<(), NoMemory>
+    ensures ok { OnOk result (out.new ≡ out.old ++ formula_text depth (formula f.now)) }
+    ensures err { OnErr result (BeginsWith out.new out.old) }
+{
+    match f {
+        Formula::Atom(name, terms) => {
+            out.extend(name.bytes())?;
+            write_arguments(out, depth, terms.as_slice())
+        }
+        Formula::Cons(c) => write_constraint(out, depth, c),
+        Formula::State(s) => write_state(out, depth, s),
+        Formula::And(a, b) => {
+            write_operand(out, 2, depth, a)?;
+            write(out, " & ")?;
+            write_operand(out, 3, depth, b)
+        }
+        Formula::Or(a, b) => {
+            write_operand(out, 1, depth, a)?;
+            write(out, " | ")?;
+            write_operand(out, 2, depth, b)
+        }
+        Formula::Imp(a, b) => {
+            write_operand(out, 1, depth, a)?;
+            write(out, " => ")?;
+            write_operand(out, 0, depth, b)
+        }
+        Formula::True => write(out, "true"),
+        Formula::False => write(out, "false"),
+        Formula::Forall(sort, a) => {
+            write_binder(out, "forall X", depth, *sort)?;
+            write_operand(out, 0, deeper(depth), a)
+        }
+        Formula::Exists(sort, a) => {
+            write_binder(out, "exists X", depth, *sort)?;
+            write_operand(out, 0, deeper(depth), a)
+        }
+        Formula::Says(who, a) => {
+            write_term(out, depth, who)?;
+            write(out, " says ")?;
+            write_operand(out, 3, depth, a)
+        }
+        Formula::At(a, from, to) => {
+            write_operand(out, 4, depth, a)?;
+            write_interval(out, depth, from, to)
+        }
+    }
+}
+
+/// Writes a formula in a place that this rank and higher ones may take without parentheses.
+#[cycle(write)]
+fn write_operand(out: &mut Bytes, lowest: u8, depth: u64, f: &Formula) -> Result<(), NoMemory>
+    ensures ok { OnOk result (out.new ≡ out.old ++ operand lowest (rank (formula f.now)) (formula_text depth (formula f.now))) }
+    ensures err { OnErr result (BeginsWith out.new out.old) }
+{
+    if lowest <= rank(f) {
+        write_formula(out, depth, f)
+    } else {
+        write(out, "(")?;
+        write_formula(out, depth, f)?;
+        write(out, ")")
+    }
+}
+
+/// One binder more. The count stands still at its type's end.
+fn deeper(depth: u64) -> u64
+    ensures { result ≡ deeper depth }
+{
+    depth.saturating_add(1)
+}
+
+fn write_binder(out: &mut Bytes, word: &str, depth: u64, sort: Sort) -> Result<(), NoMemory>
+    ensures ok { OnOk result (out.new ≡ out.old ++ binder_text word.now depth sort) }
+    ensures err { OnErr result (BeginsWith out.new out.old) }
+{
+    write_counted(out, word, depth)?;
+    write(out, ":")?;
+    write_sort(out, sort)?;
+    write(out, ". ")
+}
+
+fn write_interval(out: &mut Bytes, depth: u64, from: &Term, to: &Term) -> Result<(), NoMemory>
+    ensures ok { OnOk result (out.new ≡ out.old ++ interval_text depth from.now to.now) }
+    ensures err { OnErr result (BeginsWith out.new out.old) }
+{
+    write_following(out, " @ [", depth, from)?;
+    write_following(out, ",", depth, to)?;
+    write(out, "]")
+}
+
+/// Writes the arguments of a predicate in parentheses; nothing where there are none.
+fn write_arguments(out: &mut Bytes, depth: u64, terms: &[Term]) -> Result<(), NoMemory>
+    ensures ok { OnOk result (out.new ≡ out.old ++ arguments_text depth terms.now) }
+    ensures err { OnErr result (BeginsWith out.new out.old) }
+{
+    match terms {
+        [] => Ok(()),
+        [first, others @ ..] => {
+            write_following(out, "(", depth, first)?;
+            write_others(out, depth, others)?;
+            write(out, ")")
+        }
+    }
+}
+
+fn write_others(out: &mut Bytes, depth: u64, terms: &[Term]) -> Result<(), NoMemory>
+    ensures ok { OnOk result (out.new ≡ out.old ++ terms_text depth terms.now) }
+    ensures err { OnErr result (BeginsWith out.new out.old) }
+{
+    for term in terms {
+        write_following(out, ",", depth, term)?;
+    }
+    Ok(())
+}
+
+fn write_constraint(out: &mut Bytes, depth: u64, constraint: &Constraint) -> Result<(), NoMemory>
+    ensures ok { OnOk result (out.new ≡ out.old ++ constraint_text depth constraint.now) }
+    ensures err { OnErr result (BeginsWith out.new out.old) }
+{
+    write_term(out, depth, &constraint.low)?;
+    write(out, " <= ")?;
+    write_term(out, depth, &constraint.high)
+}
+
+fn write_state(out: &mut Bytes, depth: u64, state: &StatePred) -> Result<(), NoMemory>
+    ensures ok { OnOk result (out.new ≡ out.old ++ state_text depth state.now) }
+    ensures err { OnErr result (BeginsWith out.new out.old) }
+{
+    match state {
+        StatePred::Owner(file, owner) => {
+            write_following(out, "owner(", depth, file)?;
+            write_following(out, ",", depth, owner)?;
+        }
+        StatePred::HasXattr(file, name, value) => {
+            write_following(out, "has_xattr(", depth, file)?;
+            write_following(out, ",", depth, name)?;
+            write_following(out, ",", depth, value)?;
+        }
+        StatePred::InDir(file, directory) => {
+            write_following(out, "in_dir(", depth, file)?;
+            write_following(out, ",", depth, directory)?;
+        }
+    }
+    write(out, ")")
+}
+
+fn write_following(out: &mut Bytes, before: &str, depth: u64, term: &Term) -> Result<(), NoMemory>
+    ensures ok { OnOk result (out.new ≡ out.old ++ (before.now ++ term_text depth term.now)) }
+    ensures err { OnErr result (BeginsWith out.new out.old) }
+{
+    write(out, before)?;
+    write_term(out, depth, term)
+}
+
+fn write_term(out: &mut Bytes, depth: u64, term: &Term) -> Result<(), NoMemory>
+    ensures ok { OnOk result (out.new ≡ out.old ++ term_text depth term.now) }
+    ensures err { OnErr result (BeginsWith out.new out.old) }
+{
+    match term {
+        Term::Prin(name) => out.extend(name.bytes()),
+        Term::File(number) => write_counted(out, "#", number.0),
+        Term::Perm(permission) => write_permission(out, permission),
+        Term::Time(point) => write_time(out, point),
+        Term::Text(constant) => {
+            write(out, "\"")?;
+            out.extend(constant.bytes())?;
+            write(out, "\"")
+        }
+        Term::Ctime => write(out, "ctime"),
+        Term::Param(number) => write_counted(out, "?", u64::from(*number)),
+        Term::Bound(inner) => write_variable(out, depth, *inner),
+    }
+}
+
+/// Writes the variable of the binder with that many others inside it.
+fn write_variable(out: &mut Bytes, depth: u64, inner: u32) -> Result<(), NoMemory>
+    ensures ok { OnOk result (out.new ≡ out.old ++ term_text depth (Term.Bound inner)) }
+    ensures err { OnErr result (BeginsWith out.new out.old) }
+{
+    write_counted(
+        out,
+        "X",
+        depth.saturating_sub(u64::from(inner)).saturating_sub(1),
+    )
+}
+
+fn write_sort(out: &mut Bytes, sort: Sort) -> Result<(), NoMemory>
+    ensures ok { OnOk result (out.new ≡ out.old ++ sort_text sort) }
+    ensures err { OnErr result (BeginsWith out.new out.old) }
+{
+    match sort {
+        Sort::Principal => write(out, "principal"),
+        Sort::File => write(out, "file"),
+        Sort::Perm => write(out, "perm"),
+        Sort::Time => write(out, "time"),
+        Sort::Text => write(out, "text"),
+    }
+}
+
+fn write_permission(out: &mut Bytes, permission: &Perm) -> Result<(), NoMemory>
+    ensures ok { OnOk result (out.new ≡ out.old ++ permission_text permission.now) }
+    ensures err { OnErr result (BeginsWith out.new out.old) }
+{
+    match permission {
+        Perm::Read => write(out, "read"),
+        Perm::Write => write(out, "write"),
+        Perm::Execute => write(out, "execute"),
+        Perm::Identity => write(out, "identity"),
+        Perm::Govern => write(out, "govern"),
+    }
+}
+
+fn write_time(out: &mut Bytes, point: &TimePoint) -> Result<(), NoMemory>
+    ensures ok { OnOk result (out.new ≡ out.old ++ time_text point.now) }
+    ensures err { OnErr result (BeginsWith out.new out.old) }
+{
+    match point {
+        TimePoint::NegInf => write(out, "-inf"),
+        TimePoint::At(second) => write_second(out, *second),
+        TimePoint::PosInf => write(out, "+inf"),
+    }
+}
+
+fn write_second(out: &mut Bytes, second: i64) -> Result<(), NoMemory>
+    ensures ok { OnOk result (out.new ≡ out.old ++ signed_decimal second) }
+    ensures err { OnErr result (BeginsWith out.new out.old) }
+{
+    if second < 0 {
+        write_counted(out, "-", second.unsigned_abs())
+    } else {
+        write_number(out, second.unsigned_abs())
+    }
+}
+
+fn write_counted(out: &mut Bytes, before: &str, number: u64) -> Result<(), NoMemory>
+    ensures ok { OnOk result (out.new ≡ out.old ++ (before.now ++ decimal number)) }
+    ensures err { OnErr result (BeginsWith out.new out.old) }
+{
+    write(out, before)?;
+    write_number(out, number)
+}
+
+fn write_number(out: &mut Bytes, number: u64) -> Result<(), NoMemory>
+    ensures ok { OnOk result (out.new ≡ out.old ++ decimal number) }
+    ensures err { OnErr result (BeginsWith out.new out.old) }
+{
+    if 10 <= number {
+        write_number(out, number / 10)?;
+    }
+    out.push(b'0' + (number % 10) as u8)
+}
+
+fn write(out: &mut Bytes, text: &str) -> Result<(), NoMemory>
+    ensures ok { OnOk result (out.new ≡ out.old ++ text.now) }
+    ensures err { OnErr result (BeginsWith out.new out.old) }
+{
+    out.extend(text.as_bytes())
+}

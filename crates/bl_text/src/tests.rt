@@ -1,0 +1,117 @@
+//! Texts and what they say.
+
+use crate::{TextFault, parse_time, print_constraint, print_formula, print_state, print_statement};
+use bl_syntax::{
+    Constraint, Formula, NodeId, Perm, Principal, Sequence, Sort, StatePred, Statement, Term, Text,
+    TimePoint, Word,
+};
+use std::test::Fail;
+
+#[test]
+fn times_are_read(rt: HostRuntime) {
+    for (text, want) in [
+        ("-inf", TimePoint::NegInf),
+        ("+inf", TimePoint::PosInf),
+        ("0", TimePoint::At(0)),
+        ("-0", TimePoint::At(0)),
+        ("-5", TimePoint::At(-5)),
+        ("007", TimePoint::At(7)),
+        ("  10  ", TimePoint::At(10)),
+        ("1970-01-01", TimePoint::At(0)),
+        ("1969-12-31T23:59:59Z", TimePoint::At(-1)),
+        ("2000-02-29", TimePoint::At(951_782_400)),
+        ("0001-01-01", TimePoint::At(-62_135_596_800)),
+        ("9999-12-31T23:59:59Z", TimePoint::At(253_402_300_799)),
+    ] {
+        assert_eq!(rt; parse_time(text.as_bytes()), Ok(want), "{text}");
+    }
+}
+
+#[test]
+fn faults_of_times_have_their_places(rt: HostRuntime) {
+    for (text, want) in [
+        ("", TextFault::Unexpected(0)),
+        ("   ", TextFault::Unexpected(3)),
+        ("ctime", TextFault::Unexpected(0)),
+        ("-", TextFault::Unexpected(0)),
+        ("inf", TextFault::Unexpected(0)),
+        ("1 2", TextFault::Unexpected(2)),
+        ("10x", TextFault::Unexpected(2)),
+        ("1234567890123456789", TextFault::Unexpected(0)),
+        ("2026-1-01", TextFault::Unexpected(4)),
+        ("0000-01-01", TextFault::BadDate(0)),
+        (" 2026-02-30", TextFault::BadDate(1)),
+        ("1900-02-29", TextFault::BadDate(0)),
+        ("2026-13-01", TextFault::BadDate(0)),
+        ("2026-00-01", TextFault::BadDate(0)),
+        ("2026-01-01T24:00:00Z", TextFault::BadDate(0)),
+        ("2026-01-01T23:60:00Z", TextFault::BadDate(0)),
+        ("2026-01-01T23:59:60Z", TextFault::BadDate(0)),
+        ("253402300800", TextFault::BadDate(0)),
+        ("-62135596801", TextFault::BadDate(0)),
+    ] {
+        assert_eq!(rt; parse_time(text.as_bytes()), Err(want), "{text}");
+    }
+}
+
+#[test]
+fn conditions_are_written(rt: HostRuntime) -> Result<(), Fail> {
+    let mut out = Sequence::new(rt.alloc());
+    let since = Constraint {
+        low: Term::Time(TimePoint::At(-5)),
+        high: Term::Ctime,
+    };
+    print_constraint(&since, &mut out)?;
+    assert_eq!(rt; out.as_slice(), b"-5 <= ctime".as_slice());
+    out.clear();
+    let owned = StatePred::Owner(Term::File(NodeId(7)), Term::Param(0));
+    print_state(&owned, &mut out)?;
+    assert_eq!(rt; out.as_slice(), b"owner(#7,?0)".as_slice());
+    Ok(())
+}
+
+#[test]
+fn operands_are_in_parentheses_where_they_need_them(rt: HostRuntime) -> Result<(), Fail> {
+    let alloc = rt.alloc();
+    let either = Formula::Or(
+        Box::new(alloc, Formula::True)?,
+        Box::new(alloc, Formula::False)?,
+    );
+    let both = Formula::And(Box::new(alloc, either)?, Box::new(alloc, Formula::True)?);
+    let said = Formula::Says(Term::Ctime, Box::new(alloc, both)?);
+    let on = Formula::At(Box::new(alloc, said)?, Term::Ctime, Term::Ctime);
+    let mut out = Sequence::new(alloc);
+    print_formula(&on, &mut out)?;
+    let want = b"(ctime says ((true | false) & true)) @ [ctime,ctime]";
+    assert_eq!(rt; out.as_slice(), want.as_slice());
+    Ok(())
+}
+
+#[test]
+fn statements_are_written(rt: HostRuntime) -> Result<(), Fail> {
+    let alloc = rt.alloc();
+    let admin = Principal::new(b"admin").ok_or("admin")?;
+    let may = Word::new(b"may").ok_or("may")?;
+    let mut terms = Sequence::new(alloc);
+    terms.extend(&[Term::Bound(1), Term::Bound(0), Term::Perm(Perm::Read)])?;
+    let public = StatePred::HasXattr(
+        Term::Bound(0),
+        Term::Text(Text::new(b"pcfs.class").ok_or("name")?),
+        Term::Text(Text::new(b"public").ok_or("value")?),
+    );
+    let rule = Formula::Imp(
+        Box::new(alloc, Formula::State(public))?,
+        Box::new(alloc, Formula::Atom(may, terms))?,
+    );
+    let files = Formula::Forall(Sort::File, Box::new(alloc, rule)?);
+    let all = Formula::Forall(Sort::Principal, Box::new(alloc, files)?);
+    let statement = Statement::new(admin, all, TimePoint::NegInf, TimePoint::PosInf).ok_or(
+        "statement",
+    )?;
+    let mut out = Sequence::new(alloc);
+    print_statement(&statement, &mut out)?;
+    let want = b"admin says forall X0:principal. forall X1:file. \
+        has_xattr(X1,\"pcfs.class\",\"public\") => may(X0,X1,read) from -inf to +inf";
+    assert_eq!(rt; out.as_slice(), want.as_slice());
+    Ok(())
+}

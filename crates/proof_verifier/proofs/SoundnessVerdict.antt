@@ -1,0 +1,78 @@
+-- A grant that the verdict gives is sound.
+use Rattle.std.proofs.Common.{◌≡◌, List, Ok, Some, subst, arith}
+use Rattle.std.specs.Prelude.{Contains}
+use Rattle.std.specs.List.{AllByRecursion}
+use Rattle.std.proofs.lemmas.Option.{same_Some}
+use Rattle.bl_syntax.specs.declared.grant.Goal.{Goal}
+use Rattle.bl_syntax.specs.Statement.{Saying, IsStatement}
+use Rattle.bl_syntax.specs.Grant.{Granted, IsGrant}
+use Rattle.bl_syntax.proofs.EntailmentLemmas.{Entails-constrained}
+use Rattle.bl_rules.specs.Sequent.{Hypothesis}
+use Rattle.bl_rules.specs.Allowed.{claim_of, claims_of, SoundGrant, IsDerivableUnderConditions}
+use Rattle.bl_rules.proofs.Membership.{Contains-nothing, Contains-map, Contains-map_cases}
+use Rattle.bl_rules.proofs.SoundGrantLemmas.{SoundGrant-from_conditions}
+use Rattle.proof_term.specs.Proof.{Deduction, init, cons_r, inter_r, and_r, or_r1, or_r2, true_r, imp_r, forall_r, exists_r, says_r, at_r, cons_l, inter_l, and_l, or_l, false_l, imp_l, forall_l, exists_l, says_l, claim, at_l}
+use Rattle.proof_term.specs.Limits.{size}
+use Rattle.condition_set.specs.Conditions.{without_conditions}
+use Rattle.proof_verifier.specs.Verdict.{answer, root, verdict}
+use Rattle.proof_verifier.proofs.SoundnessSteps.{Covers, IsStep}
+use Rattle.proof_verifier.proofs.SoundnessRules.{IsSound, by_init-sound, by_cons_r-sound, by_inter_r-sound, by_and_r-sound, by_or_r1-sound, by_or_r2-sound, by_true_r-sound, by_imp_r-sound, by_forall_r-sound, by_exists_r-sound, by_says_r-sound, by_at_r-sound, by_cons_l-sound, by_inter_l-sound, by_and_l-sound, by_or_l-sound, by_false_l-sound, by_imp_l-sound, by_forall_l-sound, by_exists_l-sound, by_says_l-sound, by_claim-sound, by_at_l-sound}
+
+pub answer-sound : (d : Deduction) → IsSound (answer d)
+unfolding answer
+answer-sound (init h) = by_init-sound h
+answer-sound cons_r = by_cons_r-sound
+answer-sound inter_r = by_inter_r-sound
+answer-sound (and_r p q) = by_and_r-sound (answer p) (size p) (answer q) (answer-sound p) (answer-sound q)
+answer-sound (or_r1 p) = by_or_r1-sound (answer p) (answer-sound p)
+answer-sound (or_r2 p) = by_or_r2-sound (answer p) (answer-sound p)
+answer-sound true_r = by_true_r-sound
+answer-sound (imp_r p) = by_imp_r-sound (answer p) (answer-sound p)
+answer-sound (forall_r p) = by_forall_r-sound (answer p) (answer-sound p)
+answer-sound (exists_r t p) = by_exists_r-sound t (answer p) (answer-sound p)
+answer-sound (says_r p) = by_says_r-sound (answer p) (answer-sound p)
+answer-sound (at_r p) = by_at_r-sound (answer p) (answer-sound p)
+answer-sound (cons_l h p) = by_cons_l-sound h (answer p) (answer-sound p)
+answer-sound (inter_l h p) = by_inter_l-sound h (answer p) (answer-sound p)
+answer-sound (and_l h p) = by_and_l-sound h (answer p) (answer-sound p)
+answer-sound (or_l h p q) = by_or_l-sound h (answer p) (size p) (answer q) (answer-sound p) (answer-sound q)
+answer-sound (false_l h) = by_false_l-sound h
+answer-sound (imp_l h t1 t2 p q) = by_imp_l-sound h t1 t2 (answer p) (size p) (answer q) (answer-sound p) (answer-sound q)
+answer-sound (forall_l h t p) = by_forall_l-sound h t (answer p) (answer-sound p)
+answer-sound (exists_l h p) = by_exists_l-sound h (answer p) (answer-sound p)
+answer-sound (says_l h p) = by_says_l-sound h (answer p) (answer-sound p)
+answer-sound (claim h p) = by_claim-sound h (answer p) (answer-sound p)
+answer-sound (at_l h p) = by_at_l-sound h (answer p) (answer-sound p)
+
+IsGrant-without_conditions : (goal : Goal) → IsGrant (without_conditions goal)
+IsGrant-without_conditions goal = record { time_conditions = tt; state_conditions = tt; distinct_times = tt; distinct_states = tt; count = omega arith }
+
+-- a grant's own conditions and the statements cover the root
+root_covered : (statements : List Saying) (goal : Goal) (g : Granted) → Covers g.times g.states (claims_of statements) (root statements goal) g
+root_covered statements goal g = record {
+  constraints = record { each = λ c among. absurd (Contains-nothing c among) };
+  times = record { each = λ c among. Entails-constrained g.times c among };
+  observed = λ s among. absurd (Contains-nothing s among);
+  states = λ s among. among;
+  hypotheses = λ h among.
+      let was = Contains-map_cases (λ (statement : Saying). Some (claim_of statement)) statements (Some h) among in
+      subst (λ (x : Hypothesis). Contains (claims_of statements) x) (same_Some (claim_of was.0) h was.2) (Contains-map claim_of statements was.0 was.1);
+}
+
+root_step : (statements : List Saying) (goal : Goal) (d : Deduction) (g : Granted) → verdict statements goal d ≡ Ok g → IsStep (root statements goal) (without_conditions goal) g
+root_step statements goal d g e = ((answer-sound d).step 0 (root statements goal) (without_conditions goal)).gives g e
+
+pub goal-verdict : (statements : List Saying) (goal : Goal) (d : Deduction) (g : Granted) → verdict statements goal d ≡ Ok g → g.goal ≡ goal
+goal-verdict statements goal d g e = (root_step statements goal d g e).grows.same_goal
+
+pub IsGrant-verdict : (statements : List Saying) (goal : Goal) (d : Deduction) (g : Granted) → verdict statements goal d ≡ Ok g → IsGrant g
+IsGrant-verdict statements goal d g e = (root_step statements goal d g e).grows.keeps (IsGrant-without_conditions goal)
+
+derivable : (statements : List Saying) (goal : Goal) (d : Deduction) (g : Granted) → verdict statements goal d ≡ Ok g → IsDerivableUnderConditions statements g
+derivable statements goal d g e =
+    rw (goal-verdict statements goal d g e) ((root_step statements goal d g e).derives g.times g.states (claims_of statements) (root_covered statements goal g))
+
+pub SoundGrant-verdict : (statements : List Saying) (goal : Goal) (d : Deduction) (g : Granted) → AllByRecursion IsStatement statements
+    → verdict statements goal d ≡ Ok g → SoundGrant statements g
+SoundGrant-verdict statements goal d g are_statements e =
+    SoundGrant-from_conditions statements g are_statements (IsGrant-verdict statements goal d g e).state_conditions (derivable statements goal d g e)
