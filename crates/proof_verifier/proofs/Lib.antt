@@ -1,3 +1,6 @@
+pub mod EntailedLemmas
+pub mod KeepLemmas
+pub mod RoomLemmas
 pub mod SoundnessEntailed
 pub mod SoundnessEntailment
 pub mod SoundnessRules
@@ -5,3 +8,5 @@ pub mod SoundnessShapes
 pub mod SoundnessSteps
 pub mod SoundnessTests
 pub mod SoundnessVerdict
+pub mod StandingLemmas
+pub mod TermLemmas

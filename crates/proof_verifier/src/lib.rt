@@ -3,7 +3,16 @@
 //! The verdict on a proof is a definition, in `specs/Verdict.antt` with the table of rules in `specs/Rules.antt`.
 #![tactic(auto)]
 
+mod conditions;
+mod desk;
+mod facts;
 mod fault;
+mod hypotheses;
 pub mod laws;
+mod left;
+mod place;
+mod right;
+mod shapes;
+mod terms;
 
 pub use fault::CheckFault;
