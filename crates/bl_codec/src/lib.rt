@@ -5,5 +5,8 @@
 #![tactic(auto)]
 
 mod formula_reading;
+mod formula_writing;
+pub mod laws;
 
 pub use formula_reading::{read_formula, whole_formula_at};
+pub use formula_writing::write_formula;

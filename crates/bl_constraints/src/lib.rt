@@ -8,5 +8,6 @@ mod entailment;
 pub mod laws;
 mod links;
 mod search;
+mod sources;
 
 pub use entailment::entails;
