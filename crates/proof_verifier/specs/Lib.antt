@@ -1,3 +1,6 @@
+pub mod Checking
+pub mod CheckingCode
+pub mod Cited
 pub mod Conditions
 pub mod Entailed
 pub mod Examples
