@@ -6,5 +6,7 @@ pub mod FormulaMemory
 pub mod FoundLemmas
 pub mod KeptLemmas
 pub mod NodeLemmas
+pub mod StatementCodec
+pub mod StatementTest
 pub mod StopLemmas
 pub mod TermLoop
