@@ -4,6 +4,7 @@ ghost use Rattle.std.specs.Prelude.{◌≡◌, Err};
 ghost use Rattle.bl_syntax.specs.Formula.{formula};
 ghost use Rattle.bl_syntax.specs.Reading.{Gives, reading};
 ghost use Rattle.bl_syntax.specs.Codec.{GivesOrStops, ReadsFront};
+ghost use Rattle.bl_syntax.specs.FormulaSpelling.{IsSpellableFormula, formula_spelling};
 ghost use Rattle.bl_syntax.specs.FormulaReading.{is_term_tag, is_formula_tag, node_term_at, two_terms_at, three_terms_at, terms_at, count_at, atom_at, pair_at, bound_at, says_at, on_at, fields_at, no_more, node_at, formula_at, whole_formula_at};
 
 use bl_syntax::fields::{place, predicate_at, sort_at, term_at};
@@ -394,6 +395,7 @@ pub fn whole_formula_at(
 #[tactic(auto, using(crate::proofs::StopLemmas::hands_on))]
 pub fn read_formula(alloc: Global, bytes: &[u8]) -> Result<(Formula, usize), CodecFault>
     ensures exact { GivesOrStops (λ x. (formula x.0, x.1)) result (reading whole_formula_at bytes.now) }
+    ensures front { ReadsFront formula IsSpellableFormula formula_spelling bytes.now result }
 {
     match whole_formula_at(alloc, bytes.len(), bytes) {
         Err(fault) => Err(fault),

@@ -20,4 +20,6 @@ pub use tree::{LimitFault, ProofTree};
 pub use writing::write_proof;
 
 #[cfg(test)]
+mod byte_tests;
+#[cfg(test)]
 mod tests;

@@ -1,5 +1,9 @@
+pub mod Checking
+pub mod CheckingCode
+pub mod Cited
 pub mod Conditions
 pub mod Entailed
+pub mod ExampleTable
 pub mod Examples
 pub mod Known
 pub mod Rules

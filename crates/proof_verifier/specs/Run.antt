@@ -1,10 +1,12 @@
 -- How a run of the program over a proof follows the rules.
-use Rattle.std.specs.Prelude.{◌≡◌, ◌≤◌, ◌+◌, ◌*◌, ◌⊎◌, ℕ, [], ◌∷◌, ◌++◌, length, Result, Ok, Err, MatchResult}
+use Rattle.std.specs.Prelude.{◌≡◌, ◌≤◌, ◌+◌, ◌*◌, ◌⊎◌, ℕ, List, [], ◌∷◌, ◌++◌, length, map, Some, Result, Ok, Err, MatchResult}
 use Rattle.bl_syntax.specs.declared.terms.Sort.{Sort}
 use Rattle.bl_syntax.specs.declared.terms.Term.{Term}
 use Rattle.bl_syntax.specs.declared.terms.Term.TheVariants.{Param}
 use Rattle.bl_syntax.specs.Formula.{formula}
+use Rattle.bl_syntax.specs.Statement.{Saying}
 use Rattle.bl_syntax.specs.Grant.{Granted}
+use Rattle.bl_rules.specs.Allowed.{claim_of}
 use Rattle.proof_term.specs.Proof.{Deduction}
 use Rattle.proof_term.specs.Limits.{size, depth}
 use Rattle.proof_verifier.specs.declared.fault.CheckFault.{CheckFault}
@@ -35,6 +37,20 @@ pub record HasRoom (desk : Desk) (place : Place) (proof_size proof_depth : ℕ) 
   pub constraints : length desk.constraints + 2 * proof_depth ≤ 400
   pub sorts : length desk.sorts + 2 * proof_depth ≤ 400
   pub nodes : place.node + proof_size ≤ 4096
+
+-- the sequent with statements as further claims
+abbrev pub with_claims : List Saying → Sequent → Sequent
+with_claims statements s = record s { hypotheses = s.hypotheses ++ map (λ (said : Saying). Some (claim_of said)) statements }
+
+-- room for a proof that is kept, behind so many further claims at its root
+pub record HasRoomForClaims (desk : Desk) (place : Place) (claims : ℕ) (proof : Deduction) : Type 0 where
+  pub counted : place.count ≡ length (standing place.hypotheses.now)
+  pub hypotheses : place.count + claims ≤ 64
+  pub constraints : desk.constraints ≡ []
+  pub sorts : desk.sorts ≡ []
+  pub node : place.node ≡ 0
+  pub proof_size : size proof ≤ 4096
+  pub proof_depth : depth proof ≤ 200
 
 -- the proof was followed to its end: this is the grant, the next node has that number, and what had grown is cut back
 pub record IsPassed (before after : Desk) (next reached : ℕ) (expected : Result Granted CheckFault) : Type 0 where
