@@ -1,5 +1,5 @@
 -- The tests of conditions, and the rules of grants that they decide.
-use Rattle.std.proofs.Common.{◌≡◌, ◌≢◌, ℕ, zero, suc, ◌<◌, ◌⊎◌, inl, inr, List, [], ◌∷◌, ◌++◌, length, Bool, true, false, cond, refl, sym, ap, subst, ◌∙◌, append_assoc, arith}
+use Rattle.std.proofs.Common.{◌≡◌, zero, suc, ◌⊎◌, inl, inr, List, [], ◌∷◌, ◌++◌, Bool, true, false, refl, sym, ap, subst, append_assoc, arith}
 use Rattle.std.specs.Prelude.{Contains, not, ◌&&◌, ◌||◌}
 use Rattle.std.specs.Bool.{Decides}
 use Rattle.std.specs.List.{AllByRecursion, list_all, list_any}
@@ -8,10 +8,9 @@ use Rattle.bl_syntax.specs.declared.terms.Term.{Term}
 use Rattle.bl_syntax.specs.declared.terms.Term.TheVariants.{Prin, File, Perm, Time, Text, Ctime, Param, Bound}
 use Rattle.bl_syntax.specs.declared.terms.Constraint.{Constraint}
 use Rattle.bl_syntax.specs.declared.terms.StatePred.{StatePred}
-use Rattle.bl_syntax.specs.declared.terms.StatePred.TheVariants.{Owner, HasXattr, InDir}
 use Rattle.bl_syntax.specs.Terms.{IsConstant, HasTimeInRange}
 use Rattle.bl_syntax.specs.WellSorted.{terms_of_state}
-use Rattle.bl_syntax.specs.Grant.{IsTimeCondition, IsStateCondition, IsCtimeOrConstant, AreDistinct}
+use Rattle.bl_syntax.specs.Grant.{IsTimeCondition, IsStateCondition, AreDistinct}
 use Rattle.bl_syntax.specs.Spelling.{IsSpellable}
 use Rattle.bl_syntax.proofs.GrantLemmas.{AreDistinct-push, AllByRecursion-push}
 use Rattle.bl_syntax.proofs.Same.{constraint_eq, Decides-constraint_eq, state_eq, Decides-state_eq}

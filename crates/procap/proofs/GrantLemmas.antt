@@ -1,24 +1,19 @@
 -- Grants and procaps: what is read is spelled so, and what is spelled so is read.
-use Rattle.std.proofs.Common.{◌≡◌, ℕ, ◌≤◌, ◌<◌, ◌+◌, ◌-◌, Bool, true, false, cond, eqb, ltb, List, [], ◌∷◌, ◌++◌, length, take, drop, Result, Ok, Err, refl, sym, ap, subst, ◌∙◌, append_assoc, arith}
-use Rattle.std.specs.Prelude.{IfOk, IfErr}
+use Rattle.std.proofs.Common.{◌≡◌, ℕ, ◌≤◌, ◌+◌, ◌-◌, eqb, List, [], ◌∷◌, ◌++◌, length, Ok, Err, refl, sym, ap, subst, ◌∙◌, append_assoc, arith}
 use Rattle.std.specs.List.{AllByRecursion}
-use Rattle.std.proofs.lemmas.Bool.{eqb-true, ltb-false, le-ltb}
-use Rattle.std.proofs.lemmas.List.{append-nil, take_at, drop_at, take-append-drop, length-append, length-take}
-use Rattle.bl_syntax.specs.declared.codec_fault.CodecFault.{CodecFault}
+use Rattle.std.proofs.lemmas.Bool.{eqb-true}
 use Rattle.bl_syntax.specs.declared.codec_fault.CodecFault.TheVariants as faults
 use Rattle.bl_syntax.specs.declared.terms.Constraint.{Constraint}
 use Rattle.bl_syntax.specs.declared.terms.StatePred.{StatePred}
 use Rattle.bl_syntax.specs.declared.grant.Goal.{Goal}
 use Rattle.bl_syntax.specs.Grant.{Granted, IsGrant, IsTimeCondition, IsStateCondition, AreDistinct}
 use Rattle.bl_syntax.specs.FormulaSpelling.{state_spelling}
-use Rattle.bl_syntax.specs.Reading.{◌>>=◌, Reading, place}
+use Rattle.bl_syntax.specs.Reading.{◌>>=◌}
 use Rattle.bl_syntax.specs.Codec.{AreBytes, IsCodec}
-use Rattle.bl_syntax.proofs.CodecLemmas.{bind_ok, by_test, ok_is, bind_memoryless, AreBytes-rest, AreBytes-behind, codec}
+use Rattle.bl_syntax.proofs.CodecLemmas.{bind_ok, by_test, ok_is, bind_memoryless, AreBytes-behind, codec}
 use Rattle.bl_syntax.proofs.GrantLemmas.{granted}
-use Rattle.procap.specs.declared.procap.Procap.{Procap}
 use Rattle.procap.specs.GrantSpelling.{goal_spelling, time_condition_spelling, list_spelling, grant_spelling, IsSpellableGoal, IsSpellableTime, IsSpellableState, IsSpellableGrant}
 use Rattle.procap.specs.GrantReading.{marker_at, goal_at, head_at, time_condition_at, state_condition_at, may_follow_times, may_follow_states, conditions_at, grant_at}
-use Rattle.procap.specs.Procap.{procap_spelling, IsSpellableProcap, tag_at, procap_at, at_end, whole_procap}
 use Rattle.procap.proofs.ItemsLemmas.{AllFollow, FoundConditions, test_memoryless, conditions_found, conditions_again, conditions_memoryless}
 use Rattle.procap.proofs.ConditionLemmas.{time_may_follow, may_follow_time, state_may_follow, may_follow_state, follow_means, means_follow}
 use Rattle.procap.proofs.PartLemmas.{time_codec, state_codec, goal_codec}

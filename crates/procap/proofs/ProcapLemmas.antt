@@ -1,13 +1,13 @@
 -- Procaps: what is read is spelled so, and what is spelled so is read.
-use Rattle.std.proofs.Common.{◌≡◌, ℕ, ◌≤◌, ◌<◌, Bool, true, false, cond, eqb, ltb, List, [], ◌∷◌, ◌++◌, length, take, drop, Result, Ok, Err, refl, sym, ap, subst, ◌∙◌, append_assoc, arith}
+use Rattle.std.proofs.Common.{◌≡◌, ℕ, ◌≤◌, ◌<◌, true, false, eqb, ltb, List, [], ◌∷◌, ◌++◌, length, take, drop, Result, Ok, Err, refl, sym, ap, subst, ◌∙◌, append_assoc, arith}
 use Rattle.std.proofs.lemmas.Bool.{ltb-false, le-ltb, lt-ltb, eqb-true}
 use Rattle.std.proofs.lemmas.List.{append-nil, take_at, drop_at, take-append-drop, length-append, length-take}
 use Rattle.bl_syntax.specs.declared.codec_fault.CodecFault.{CodecFault}
 use Rattle.bl_syntax.specs.declared.codec_fault.CodecFault.TheVariants as faults
 use Rattle.bl_syntax.specs.Grant.{Granted}
-use Rattle.bl_syntax.specs.Reading.{◌>>=◌, Reading, place}
+use Rattle.bl_syntax.specs.Reading.{◌>>=◌, place}
 use Rattle.bl_syntax.specs.Codec.{AreBytes, IsCodec, StopsWith}
-use Rattle.bl_syntax.proofs.CodecLemmas.{bind_ok, by_test, ok_is, bind_memoryless, AreBytes-behind, codec}
+use Rattle.bl_syntax.proofs.CodecLemmas.{bind_ok, by_test, ok_is, bind_memoryless, codec}
 use Rattle.procap.specs.declared.procap.Procap.{Procap}
 use Rattle.procap.specs.GrantSpelling.{grant_spelling}
 use Rattle.procap.specs.GrantReading.{grant_at}

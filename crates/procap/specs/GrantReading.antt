@@ -1,6 +1,6 @@
 -- Reading grants from their canonical bytes, from the left: the value and the bytes behind it, or the first fault. The order of the faults is this project's
 -- own. A condition is read whole, and then tested as one field; the number of conditions is tested as soon as it is there.
-use Rattle.std.specs.Prelude.{ℕ, zero, suc, ◌-◌, List, [], ◌∷◌, ◌++◌, length, Bool, true, false, not, ◌&&◌, ◌||◌, nat_le, nat_lt, ◌==◌, if◌then◌else◌, Result, Ok, Err}
+use Rattle.std.specs.Prelude.{ℕ, zero, suc, ◌-◌, List, [], ◌∷◌, ◌++◌, length, Bool, true, false, not, ◌&&◌, ◌||◌, nat_lt, ◌==◌, if◌then◌else◌, Result, Ok, Err}
 use Rattle.std.specs.List.{list_all, list_any}
 use Rattle.std.specs.Int.{w64}
 use Rattle.bl_syntax.specs.declared.codec_fault.CodecFault.{CodecFault}

@@ -1,11 +1,9 @@
 -- Procaps: a grant with its tag; their one spelling, and their reading (after procaps: Garg and Pfenning, A proof-carrying file system, 2010). The format is this
 -- project's own.
-use Rattle.std.specs.Prelude.{◌≡◌, ◌<◌, ℕ, List, [], ◌∷◌, ◌++◌, length, slice_index, take, drop, nat_lt, if◌then◌else◌, Result, Ok, Err, IfOk, IfErr}
+use Rattle.std.specs.Prelude.{◌≡◌, ℕ, List, [], ◌∷◌, ◌++◌, length, take, drop, nat_lt, if◌then◌else◌, Result, Ok, Err, IfOk, IfErr}
 use Rattle.bl_syntax.specs.declared.codec_fault.CodecFault.{CodecFault}
 use Rattle.bl_syntax.specs.declared.codec_fault.CodecFault.TheVariants as faults
-use Rattle.bl_syntax.specs.Grant.{Granted}
 use Rattle.bl_syntax.specs.Reading.{◌>>=◌, Reading, place}
-use Rattle.bl_syntax.specs.Codec.{AreBytes}
 use Rattle.procap.specs.GrantSpelling.{grant_spelling, IsSpellableGrant}
 use Rattle.procap.specs.GrantReading.{grant_at}
 use Rattle.procap.specs.declared.procap.Procap.{Procap}

@@ -4,10 +4,10 @@ ghost use Rattle.std.specs.Prelude.{◌≡◌, ◌≤◌, ◌++◌, length};
 ghost use Rattle.bl_syntax.specs.Terms.{HasTimeInRange};
 ghost use Rattle.bl_syntax.specs.Grant.{IsTimeCondition, IsStateCondition};
 ghost use Rattle.bl_syntax.specs.WellSorted.{terms_of_state};
-ghost use Rattle.bl_syntax.specs.Spelling.{term_spelling, time_spelling};
+ghost use Rattle.bl_syntax.specs.Spelling.{term_spelling, time_spelling, IsSpellable};
 ghost use Rattle.bl_syntax.specs.FormulaSpelling.{state_spelling};
 ghost use Rattle.std.specs.List.{AllByRecursion, flat_map};
-ghost use Rattle.procap.specs.GrantSpelling.{goal_spelling, time_condition_spelling, list_spelling, grant_spelling};
+ghost use Rattle.procap.specs.GrantSpelling.{goal_spelling, time_condition_spelling, list_spelling, grant_spelling, IsSpellableGoal, IsSpellableTime, IsSpellableState, IsSpellableGrant};
 
 use bl_syntax::fields::{permission_code, second_bytes, u32_bytes, u64_bytes};
 use bl_syntax::{Constraint, Goal, Grant, StatePred, Term, TimePoint};
@@ -17,7 +17,8 @@ use pcfs_hmac::Mac;
 #[tactic(auto, unfolding(bl_syntax::specs::Spelling::term_spelling, bl_syntax::specs::Spelling::time_spelling))]
 fn feed_term(text: &mut Mac, t: &Term)
     requires { HasTimeInRange t.now }
-    ensures { text.new ≡ record text.old { text = text.old.text ++ term_spelling t.now } }
+    ensures fed { text.new ≡ record text.old { text = text.old.text ++ term_spelling t.now } }
+    ensures spelled { IsSpellable t.now }
 {
     match t {
         Term::Prin(name) => {
@@ -58,7 +59,8 @@ fn feed_term(text: &mut Mac, t: &Term)
 fn feed_time(text: &mut Mac, c: &Constraint)
     requires low { HasTimeInRange c.now.low }
     requires high { HasTimeInRange c.now.high }
-    ensures { text.new ≡ record text.old { text = text.old.text ++ time_condition_spelling c.now } }
+    ensures fed { text.new ≡ record text.old { text = text.old.text ++ time_condition_spelling c.now } }
+    ensures spelled { IsSpellableTime c.now }
 {
     feed_term(text, &c.low);
     feed_term(text, &c.high);
@@ -68,7 +70,8 @@ fn feed_time(text: &mut Mac, c: &Constraint)
 #[tactic(auto, unfolding(bl_syntax::specs::FormulaSpelling::state_spelling))]
 fn feed_state(text: &mut Mac, s: &StatePred)
     requires { AllByRecursion HasTimeInRange (terms_of_state s.now) }
-    ensures { text.new ≡ record text.old { text = text.old.text ++ state_spelling s.now } }
+    ensures fed { text.new ≡ record text.old { text = text.old.text ++ state_spelling s.now } }
+    ensures spelled { IsSpellableState s.now }
 {
     match s {
         StatePred::Owner(file, owner) => {
@@ -93,7 +96,8 @@ fn feed_state(text: &mut Mac, s: &StatePred)
 /// Adds the bytes of a goal.
 #[tactic(auto, unfolding(crate::specs::GrantSpelling::goal_spelling))]
 fn feed_goal(text: &mut Mac, goal: &Goal)
-    ensures { text.new ≡ record text.old { text = text.old.text ++ goal_spelling goal.now } }
+    ensures fed { text.new ≡ record text.old { text = text.old.text ++ goal_spelling goal.now } }
+    ensures spelled { IsSpellableGoal goal.now }
 {
     let name = goal.who.bytes();
     text.update(&[name.len() as u8]);
@@ -106,7 +110,8 @@ fn feed_goal(text: &mut Mac, goal: &Goal)
 fn feed_times(text: &mut Mac, times: &[Constraint])
     requires few { length times.now ≤ 64 }
     requires conditions { AllByRecursion IsTimeCondition times.now }
-    ensures { text.new ≡ record text.old { text = text.old.text ++ list_spelling time_condition_spelling times.now } }
+    ensures fed { text.new ≡ record text.old { text = text.old.text ++ list_spelling time_condition_spelling times.now } }
+    ensures spelled { AllByRecursion IsSpellableTime times.now }
 {
     text.update(&[times.len() as u8]);
     feed_each_time(text, times);
@@ -115,7 +120,8 @@ fn feed_times(text: &mut Mac, times: &[Constraint])
 /// Adds the bytes of each condition.
 fn feed_each_time(text: &mut Mac, times: &[Constraint])
     requires { AllByRecursion IsTimeCondition times.now }
-    ensures { text.new ≡ record text.old { text = text.old.text ++ flat_map time_condition_spelling times.now } }
+    ensures fed { text.new ≡ record text.old { text = text.old.text ++ flat_map time_condition_spelling times.now } }
+    ensures spelled { AllByRecursion IsSpellableTime times.now }
 {
     match times {
         [] => {}
@@ -130,7 +136,8 @@ fn feed_each_time(text: &mut Mac, times: &[Constraint])
 fn feed_states(text: &mut Mac, states: &[StatePred])
     requires few { length states.now ≤ 64 }
     requires conditions { AllByRecursion IsStateCondition states.now }
-    ensures { text.new ≡ record text.old { text = text.old.text ++ list_spelling state_spelling states.now } }
+    ensures fed { text.new ≡ record text.old { text = text.old.text ++ list_spelling state_spelling states.now } }
+    ensures spelled { AllByRecursion IsSpellableState states.now }
 {
     text.update(&[states.len() as u8]);
     feed_each_state(text, states);
@@ -139,7 +146,8 @@ fn feed_states(text: &mut Mac, states: &[StatePred])
 /// Adds the bytes of each condition.
 fn feed_each_state(text: &mut Mac, states: &[StatePred])
     requires { AllByRecursion IsStateCondition states.now }
-    ensures { text.new ≡ record text.old { text = text.old.text ++ flat_map state_spelling states.now } }
+    ensures fed { text.new ≡ record text.old { text = text.old.text ++ flat_map state_spelling states.now } }
+    ensures spelled { AllByRecursion IsSpellableState states.now }
 {
     match states {
         [] => {}
@@ -153,7 +161,8 @@ fn feed_each_state(text: &mut Mac, states: &[StatePred])
 /// Adds the bytes of a grant.
 #[tactic(auto, unfolding(crate::specs::GrantSpelling::grant_spelling))]
 pub(crate) fn feed_grant(text: &mut Mac, g: &Grant)
-    ensures { text.new ≡ record text.old { text = text.old.text ++ grant_spelling g.now } }
+    ensures fed { text.new ≡ record text.old { text = text.old.text ++ grant_spelling g.now } }
+    ensures spelled { IsSpellableGrant g.now }
 {
     text.update(&[71, 1]);
     feed_goal(text, &g.goal());

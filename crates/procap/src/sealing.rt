@@ -1,6 +1,8 @@
 //! The seal: made under the store's key, and tested.
 
 ghost use Rattle.std.specs.Prelude.{◌≡◌, ◌↔◌, IsTrue};
+ghost use Rattle.procap.specs.GrantSpelling.{IsSpellableGrant};
+ghost use Rattle.procap.specs.Procap.{IsSpellableProcap};
 ghost use Rattle.procap.specs.Genuine.{seal_of, IsGenuine};
 
 use crate::feeding::feed_grant;
@@ -41,6 +43,7 @@ impl SealKey {
     pub fn seal(&self, grant: Grant) -> Procap
         ensures grant { result.grant ≡ grant }
         ensures genuine { IsGenuine self.now result }
+        ensures spelled { IsSpellableProcap result }
     {
         let tag = self.tag(&grant);
         Procap { grant, tag }
@@ -48,14 +51,16 @@ impl SealKey {
 
     /// Whether all bytes of the tag are those of the grant's. It takes no memory.
     pub fn is_genuine(&self, p: &Procap) -> bool
-        ensures { IsTrue result ↔ IsGenuine self.now p.now }
+        ensures exact { IsTrue result ↔ IsGenuine self.now p.now }
+        ensures spelled { IsSpellableProcap p.now }
     {
         self.tag(&p.grant) == p.tag
     }
 
     /// The tag of a grant under the key.
     fn tag(&self, grant: &Grant) -> [u8; 32]
-        ensures { result ≡ seal_of self.now grant.now }
+        ensures same { result ≡ seal_of self.now grant.now }
+        ensures spelled { IsSpellableGrant grant.now }
     {
         let mut text = self.empty.copy();
         feed_grant(&mut text, grant);
@@ -67,13 +72,15 @@ impl SealKey {
 pub fn seal(key: &[u8], grant: Grant) -> Procap
     ensures grant { result.grant ≡ grant }
     ensures genuine { IsGenuine key.now result }
+    ensures spelled { IsSpellableProcap result }
 {
     SealKey::new(key).seal(grant)
 }
 
 /// Whether all bytes of the tag are those of the grant's under the key. It takes no memory.
 pub fn genuine(p: &Procap, key: &[u8]) -> bool
-    ensures { IsTrue result ↔ IsGenuine key.now p.now }
+    ensures exact { IsTrue result ↔ IsGenuine key.now p.now }
+    ensures spelled { IsSpellableProcap p.now }
 {
     SealKey::new(key).is_genuine(p)
 }

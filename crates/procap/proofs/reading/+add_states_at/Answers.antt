@@ -1,6 +1,6 @@
-use Rattle.std.proofs.Common.{◌≡◌, ◌<◌, [], ◌∷◌, ◌++◌, true, false, ap, sym, ◌∙◌, arith}
+use Rattle.std.proofs.Common.{◌≡◌, [], ◌∷◌, ◌++◌, true, false, ap, arith}
 use Rattle.bl_syntax.specs.Grant.{Granted}
-use Rattle.procap.specs.GrantReading.{state_condition_at, may_follow_states, items_at}
+use Rattle.procap.specs.GrantReading.{state_condition_at, may_follow_states}
 use Rattle.procap.proofs.ReadingLemmas.{stops, items_none, items_fault, items_refused, items_more, state_is_kept}
 use Rattle.procap.proofs.reading.+add_states_at.Goals as goal
 

@@ -1,4 +1,4 @@
-use Rattle.std.proofs.Common.{◌≡◌, ◌≤◌, ◌<◌, length, take, drop, arith, rules}
+use Rattle.std.proofs.Common.{rules}
 use Rattle.procap.proofs.ProcapLemmas.{grant_stops, tag_is_short, procap_is_read}
 use Rattle.procap.proofs.reading.procap_at.Goals as goal
 

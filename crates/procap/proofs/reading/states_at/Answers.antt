@@ -1,5 +1,5 @@
 use Rattle.std.proofs.Common.{◌≡◌, ◌-◌, [], length}
-use Rattle.procap.specs.GrantReading.{state_condition_at, may_follow_states, conditions_at, items_at}
+use Rattle.procap.specs.GrantReading.{state_condition_at, may_follow_states}
 use Rattle.procap.proofs.ReadingLemmas.{stops, conditions_fault, conditions_more}
 use Rattle.procap.proofs.reading.states_at.Goals as goal
 

@@ -1,5 +1,5 @@
-use Rattle.std.proofs.Common.{◌≡◌, ◌-◌, [], length}
-use Rattle.procap.specs.GrantReading.{time_condition_at, may_follow_times, conditions_at, items_at}
+use Rattle.std.proofs.Common.{◌≡◌, []}
+use Rattle.procap.specs.GrantReading.{time_condition_at, may_follow_times}
 use Rattle.procap.proofs.ReadingLemmas.{stops, conditions_fault, conditions_more}
 use Rattle.procap.proofs.reading.times_at.Goals as goal
 
