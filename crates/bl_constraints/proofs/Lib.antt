@@ -1,4 +1,5 @@
+pub mod ChainLemmas
 pub mod LinkLemmas
-pub mod MarkLemmas
-pub mod ReachLemmas
+pub mod OrderLemmas
 pub mod SearchLemmas
+pub mod SourceLemmas

@@ -1,175 +1,208 @@
 -- The steps of a search.
-use Rattle.std.proofs.Common.{◌≡◌, ◌⊎◌, inl, inr, ℕ, ◌<◌, List, [], Bool, true, false, length, set, refl, sym, subst, ap, ◌∙◌}
-use Rattle.std.proofs.lemmas.Bool.{cases_eq, false≢true}
+use Rattle.std.proofs.Common.{◌≡◌, ℕ, ◌+◌, ◌<◌, ◌≤◌, List, [], length, refl, sym, subst, ◌∙◌, arith}
+use Rattle.std.specs.Prelude.{Contains, slice_index}
+use Rattle.std.specs.List.{swap}
+use Rattle.std.proofs.lemmas.Bool.{cases_eq, cases_lt}
+use Rattle.std.proofs.lemmas.List.Edits.{length-swap}
 use Rattle.bl_syntax.specs.declared.terms.Term.{Term}
 use Rattle.bl_syntax.specs.declared.terms.Constraint.{Constraint}
-use Rattle.bl_syntax.specs.Entailment.{IsLink, constrained, IsChain, link}
+use Rattle.bl_syntax.specs.Entailment.{IsLink, same, IsChain, link}
 use Rattle.bl_syntax.proofs.EntailmentLemmas.{IsChain-joined}
 use Rattle.bl_constraints.specs.declared.links.End.{End}
-use Rattle.bl_constraints.specs.declared.search.Mark.{Mark}
-use Rattle.bl_constraints.specs.declared.search.Mark.TheVariants.{Unreached, Open, Closed}
-use Rattle.bl_constraints.specs.Search.{IsEnd, IsAt, mark_at, IsReached, IsOpened, IsClosed, IsFound, IsSearched}
-use Rattle.bl_constraints.proofs.LinkLemmas.{link_in}
-use Rattle.bl_constraints.proofs.MarkLemmas.{by_cases, one_at_same, mark_written, mark_elsewhere, reached_within, mark_or_not, count_where, count_falls}
-use Rattle.bl_constraints.proofs.ReachLemmas.{Contains-from_at}
+use Rattle.bl_constraints.specs.Search.{IsEnd, IsOrder, StandsAt, IsReached, IsGoneOnFrom, IsReachedFrom, IsFound, IsSearched}
+use Rattle.bl_constraints.proofs.ChainLemmas.{by_cases, through, onward}
+use Rattle.bl_constraints.proofs.OrderLemmas.{one_stands, contained, reached_or_rest, moved, still_stands, still_reached, first_swapped, second_swapped, other_swapped, IsOrder-swapped}
 
--- so far in a search: what is closed, and what is open
-pub record IsUnderWay (psi : List Constraint) (from : Term) (end : End) (old now : List Mark) : Type 0 where
-  pub same_length : length now ≡ length psi
-  pub kept : (k : ℕ) → IsReached old k → IsReached now k
-  pub next : (k j : ℕ) (c d : Constraint) → IsAt psi k c → IsAt psi j d → mark_at now k ≡ Closed → IsLink [] c.high d.low → IsReached now j
-  pub first : (k : ℕ) (c : Constraint) → IsAt psi k c → IsLink [] from c.low → IsReached now k
-  pub chain : (k : ℕ) (c : Constraint) → IsAt psi k c → mark_at now k ≡ Open → IsChain psi from c.low
-  pub no_end : (k : ℕ) (c : Constraint) → IsAt psi k c → mark_at now k ≡ Closed → IsReached old k ⊎ (IsEnd end c.high → ⊥)
+-- those that are reached so far, in the places before this one
+pub record IsReaching (psi : List Constraint) (t : Term) (old : List ℕ) (reached : ℕ) (now : List ℕ) (count place : ℕ) : Type 0 where
+  pub is_order : IsOrder psi now
+  pub not_fewer : reached ≤ count
+  pub up_to : count ≤ place
+  pub within : place ≤ length now
+  pub kept : (k : ℕ) → k < reached → slice_index now k ≡ slice_index old k
+  pub linked : (k : ℕ) (c : Constraint) → reached ≤ k → k < count → StandsAt psi now k c → IsLink [] t c.low
+  pub unlinked : (k : ℕ) (c : Constraint) → count ≤ k → k < place → StandsAt psi now k c → IsLink [] t c.low → ⊥
 
-closed≢unreached : Closed ≡ Unreached → ⊥
-closed≢unreached e = cc
-
-open≢unreached : Open ≡ Unreached → ⊥
-open≢unreached e = cc
-
-closed≢open : Closed ≡ Open → ⊥
-closed≢open e = cc
-
-pub open_is_reached : (marks : List Mark) (k : ℕ) → mark_at marks k ≡ Open → IsReached marks k
-open_is_reached marks k is_open e = open≢unreached (sym is_open ∙ e)
-
-closed_is_reached : (marks : List Mark) (k : ℕ) → mark_at marks k ≡ Closed → IsReached marks k
-closed_is_reached marks k closed e = closed≢unreached (sym closed ∙ e)
-
--- what was reached stays so
-opened_reached : (psi : List Constraint) (t : Term) (old new : List Mark) → IsOpened psi t old new → (k : ℕ) → IsReached old k → IsReached new k
-opened_reached psi t old new opened k reached e = reached (sym (opened.kept k reached) ∙ e)
-
--- what is closed was so
-opened_closed : (psi : List Constraint) (t : Term) (old new : List Mark) → IsOpened psi t old new → (k : ℕ) (c : Constraint) → IsAt psi k c → mark_at new k ≡ Closed → mark_at old k ≡ Closed
-opened_closed psi t old new opened k c at closed =
-    by_cases (mark_or_not (mark_at old k))
-    (λ unreached. absurd (closed≢open (sym closed ∙ (opened.opened k c at unreached (closed_is_reached new k closed)).1)))
-    (λ reached. sym (opened.kept k reached) ∙ closed)
-
--- the first step
-pub under_way : (psi : List Constraint) (from : Term) (end : End) (old new : List Mark) → length new ≡ length psi → IsClosed psi old → IsOpened psi from old new → IsUnderWay psi from end old new
-under_way psi from end old new same_length closed opened = record {
-  same_length = same_length;
-  kept = opened_reached psi from old new opened;
-  next = λ k j c d at_c at_d is_closed l.
-      opened_reached psi from old new opened j
-      (closed.next k j c d at_c at_d (closed_is_reached old k (opened_closed psi from old new opened k c at_c is_closed)) l);
-  first = opened.linked;
-  chain = λ k c at is_open.
-      by_cases (mark_or_not (mark_at old k))
-      (λ unreached. link from c.low (link_in psi (opened.opened k c at unreached (open_is_reached new k is_open)).0))
-      (λ reached. absurd (closed.none_open k (sym (opened.kept k reached) ∙ is_open)));
-  no_end = λ k c at is_closed. inl (closed_is_reached old k (opened_closed psi from old new opened k c at is_closed));
+pub reaching_none : (psi : List Constraint) (t : Term) (order : List ℕ) (reached : ℕ) → IsOrder psi order → reached ≤ length order → IsReaching psi t order reached order reached reached
+reaching_none psi t order reached is_order within = record {
+  is_order = is_order;
+  not_fewer = omega arith;
+  up_to = omega arith;
+  within = within;
+  kept = λ k lt. refl;
+  linked = λ k c ge lt. absurd (omega (arith, ge, lt));
+  unlinked = λ k c ge lt. absurd (omega (arith, ge, lt));
 }
 
--- from a constraint on
-onward : (psi : List Constraint) (from : Term) (k : ℕ) (c : Constraint) → IsAt psi k c → IsChain psi from c.low → IsChain psi from c.high
-onward psi from k c at chain = IsChain-joined psi chain (link c.low c.high (constrained c (Contains-from_at psi k c at)))
-
-pub found_here : (psi : List Constraint) (from : Term) (end : End) (old now : List Mark) → IsUnderWay psi from end old now
-    → (place : ℕ) (c : Constraint) → IsAt psi place c → mark_at now place ≡ Open → IsEnd end c.high → IsFound psi from end
-found_here psi from end old now so_far place c at is_open is_end = record {
-  last = c.high;
-  chain = onward psi from place c at (so_far.chain place c at is_open);
-  is_end = is_end;
+pub reaching_skip : (psi : List Constraint) (t : Term) (old : List ℕ) (reached : ℕ) (now : List ℕ) (count place : ℕ) (here : Constraint)
+    → IsReaching psi t old reached now count place → place < length now → StandsAt psi now place here → (IsLink [] t here.low → ⊥)
+    → IsReaching psi t old reached now count (place + 1)
+reaching_skip psi t old reached now count place here so_far lt stands not_linked = record {
+  is_order = so_far.is_order;
+  not_fewer = so_far.not_fewer;
+  up_to = omega (arith, so_far.up_to);
+  within = omega (arith, lt);
+  kept = so_far.kept;
+  linked = so_far.linked;
+  unlinked = λ k c ge before stands_k l.
+      by_cases (cases_eq k place)
+      (λ same. not_linked (subst (λ (x : Constraint). IsLink [] t x.low) (one_stands psi now place here c stands (subst (λ (n : ℕ). StandsAt psi now n c) same stands_k)) l))
+      (λ other. so_far.unlinked k c ge (omega (arith, before, other)) stands_k l);
 }
 
--- it is yet to be closed
-abbrev pub is_pending : Mark → Bool
-is_pending Unreached = true
-is_pending Open = true
-is_pending Closed = false
+pub reaching_more : (psi : List Constraint) (t : Term) (old : List ℕ) (reached : ℕ) (now : List ℕ) (count place : ℕ) (here : Constraint)
+    → IsReaching psi t old reached now count place → place < length now → StandsAt psi now place here → IsLink [] t here.low
+    → IsReaching psi t old reached (swap now place count) (count + 1) (place + 1)
+reaching_more psi t old reached now count place here so_far lt stands is_linked =
+    let up_to = so_far.up_to in
+    let not_fewer = so_far.not_fewer in
+    let count_lt : count < length now = omega (arith, up_to, lt) in
+    let order = so_far.is_order in
+    record {
+      is_order = IsOrder-swapped psi now order place count lt count_lt;
+      not_fewer = omega (arith, not_fewer);
+      up_to = omega (arith, up_to);
+      within = subst (λ (n : ℕ). place + 1 ≤ n) (sym (length-swap now place count)) (omega (arith, lt));
+      kept = λ k before.
+          other_swapped psi now order place count lt count_lt k (λ e. absurd (omega (arith, e, before, not_fewer, up_to))) (λ e. absurd (omega (arith, e, before, not_fewer)))
+          ∙ so_far.kept k before;
+      linked = λ k c ge before stands_k.
+          by_cases (cases_eq k count)
+          (λ same.
+          let stood = moved psi (swap now place count) now count place c (sym (second_swapped psi now order place count lt count_lt))
+          (subst (λ (n : ℕ). StandsAt psi (swap now place count) n c) same stands_k) in
+          subst (λ (x : Constraint). IsLink [] t x.low) (sym (one_stands psi now place here c stands stood)) is_linked)
+          (λ other. so_far.linked k c ge (omega (arith, before, other))
+          (still_stands psi (swap now place count) now k c
+          (sym (other_swapped psi now order place count lt count_lt k (λ e. absurd (omega (arith, e, before, other, up_to))) other)) stands_k));
+      unlinked = λ k c ge before stands_k l.
+          by_cases (cases_eq k place)
+          (λ same.
+          let stood = moved psi (swap now place count) now place count c (sym (first_swapped psi now order place count lt count_lt))
+          (subst (λ (n : ℕ). StandsAt psi (swap now place count) n c) same stands_k) in
+          so_far.unlinked count c (omega arith) (omega (arith, ge, same)) stood l)
+          (λ other. so_far.unlinked k c (omega (arith, ge)) (omega (arith, before, other))
+          (still_stands psi (swap now place count) now k c
+          (sym (other_swapped psi now order place count lt count_lt k other (λ e. absurd (omega (arith, e, ge))))) stands_k) l);
+    }
 
-pending_or_closed : (m : Mark) → (is_pending m ≡ true) ⊎ (m ≡ Closed)
-pending_or_closed Unreached = inl refl
-pending_or_closed Open = inl refl
-pending_or_closed Closed = inr refl
+pub reaching_all : (psi : List Constraint) (t : Term) (old : List ℕ) (reached : ℕ) (now : List ℕ) (count place : ℕ)
+    → IsReaching psi t old reached now count place → length now ≤ place → IsReachedFrom psi t old reached now count
+reaching_all psi t old reached now count place so_far end = record {
+  is_order = so_far.is_order;
+  not_fewer = so_far.not_fewer;
+  within = omega (arith, so_far.up_to, so_far.within);
+  kept = so_far.kept;
+  linked = so_far.linked;
+  rest = λ k c ge lt stands_k. so_far.unlinked k c ge (omega (arith, lt, end)) stands_k;
+}
 
--- a constraint is closed, and what comes after it opened
-module _ (psi : List Constraint) (from : Term) (end : End) (old now new : List Mark) (so_far : IsUnderWay psi from end old now)
-    (place : ℕ) (here : Constraint) (at_here : IsAt psi place here) (open_here : mark_at now place ≡ Open)
-    (no_end_here : IsEnd end here.high → ⊥) (opened : IsOpened psi here.high (set now place Closed) new) where
-  within : place < length now
-  within = reached_within now place (open_is_reached now place open_here)
+-- a chain leads to the term from a constraint that was reached, but not gone on from
+pub record Comes (psi : List Constraint) (order : List ℕ) (done reached : ℕ) (t : Term) : Type 0 where
+  pub place : ℕ
+  pub constraint : Constraint
+  pub not_done : done ≤ place
+  pub is_reached : place < reached
+  pub stands_at : StandsAt psi order place constraint
+  pub chain : IsChain psi constraint.low t
 
-  still_reached : (k : ℕ) → IsReached now k → IsReached (set now place Closed) k
-  still_reached k reached e =
-      by_cases (cases_eq k place)
-      (λ same. closed≢unreached (sym (mark_written now place Closed within) ∙ sym (ap (mark_at (set now place Closed)) same) ∙ e))
-      (λ other. reached (sym (mark_elsewhere now place k Closed other) ∙ e))
+-- how far a search has come: it went on from those before `next`
+pub record IsSearching (psi : List Constraint) (end : End) (old : List ℕ) (done reached : ℕ) (now : List ℕ) (next count : ℕ) : Type 0 where
+  pub is_order : IsOrder psi now
+  pub started : done ≤ next
+  pub up_to : next ≤ count
+  pub not_fewer : reached ≤ count
+  pub within : count ≤ length now
+  pub kept : (k : ℕ) → k < reached → slice_index now k ≡ slice_index old k
+  pub gone_on : IsGoneOnFrom psi now next count
+  pub no_end : (k : ℕ) (c : Constraint) → done ≤ k → k < next → StandsAt psi now k c → IsEnd end c.high → ⊥
+  pub comes : (k : ℕ) (c : Constraint) → done ≤ k → k < count → StandsAt psi now k c → Comes psi old done reached c.low
 
-  reached_now : (k : ℕ) → IsReached now k → IsReached new k
-  reached_now k reached = opened_reached psi here.high (set now place Closed) new opened k (still_reached k reached)
+pub searching_none : (psi : List Constraint) (end : End) (order : List ℕ) (done reached : ℕ) → IsOrder psi order → done ≤ reached → reached ≤ length order → IsGoneOnFrom psi order done reached
+    → IsSearching psi end order done reached order done reached
+searching_none psi end order done reached is_order le within gone_on = record {
+  is_order = is_order;
+  started = omega arith;
+  up_to = le;
+  not_fewer = omega arith;
+  within = within;
+  kept = λ k lt. refl;
+  gone_on = gone_on;
+  no_end = λ k c ge lt. absurd (omega (arith, ge, lt));
+  comes = λ k c ge lt stands_k. record { place = k; constraint = c; not_done = ge; is_reached = lt; stands_at = stands_k; chain = link c.low c.low (same c.low) };
+}
 
-  closed_now : (k : ℕ) (c : Constraint) → IsAt psi k c → mark_at new k ≡ Closed → (c ≡ here) ⊎ (mark_at now k ≡ Closed)
-  closed_now k c at closed =
-      let before = opened_closed psi here.high (set now place Closed) new opened k c at closed in
-      by_cases (cases_eq k place)
-      (λ same. inl (one_at_same psi k place c here same at at_here))
-      (λ other. inr (sym (mark_elsewhere now place k Closed other) ∙ before))
+pub searching_found : (psi : List Constraint) (end : End) (old : List ℕ) (done reached : ℕ) (now : List ℕ) (next count : ℕ) (here : Constraint)
+    → IsSearching psi end old done reached now next count → next < count → StandsAt psi now next here → IsEnd end here.high → IsFound psi end old done reached
+searching_found psi end old done reached now next count here so_far lt stands is_end =
+    let from = so_far.comes next here so_far.started lt stands in
+    record {
+      place = from.place;
+      constraint = from.constraint;
+      last = here.high;
+      not_done = from.not_done;
+      is_reached = from.is_reached;
+      stands_at = from.stands_at;
+      chain = IsChain-joined psi from.chain (through psi here (contained psi now next here stands));
+      is_end = is_end;
+    }
 
-  open_now : (k : ℕ) → mark_at (set now place Closed) k ≡ Open → mark_at now k ≡ Open
-  open_now k is_open =
-      by_cases (cases_eq k place)
-      (λ same. absurd (closed≢open (sym (mark_written now place Closed within) ∙ sym (ap (mark_at (set now place Closed)) same) ∙ is_open)))
-      (λ other. sym (mark_elsewhere now place k Closed other) ∙ is_open)
+-- what follows a constraint is reached
+module _ (psi : List Constraint) (end : End) (old : List ℕ) (done reached : ℕ) (now : List ℕ) (next count : ℕ) (here : Constraint)
+    (so_far : IsSearching psi end old done reached now next count) (lt : next < count) (stands : StandsAt psi now next here) (no_end : IsEnd end here.high → ⊥)
+    (new : List ℕ) (more : ℕ) (extended : IsReachedFrom psi here.high now count new more) where
+  stood : (k : ℕ) (c : Constraint) → k < count → StandsAt psi new k c → StandsAt psi now k c
+  stood k c before stands_k = still_stands psi new now k c (sym (extended.kept k before)) stands_k
 
-  pub closes : length new ≡ length psi → IsUnderWay psi from end old new
-  closes same_length = record {
-    same_length = same_length;
-    kept = λ k reached. reached_now k (so_far.kept k reached);
-    next = λ k j c d at_c at_d closed l.
-        by_cases (closed_now k c at_c closed)
-        (λ same. opened.linked j d at_d (subst (λ (x : Constraint). IsLink [] x.high d.low) same l))
-        (λ before. reached_now j (so_far.next k j c d at_c at_d before l));
-    first = λ k c at l. reached_now k (so_far.first k c at l);
-    chain = λ k c at is_open.
-        by_cases (mark_or_not (mark_at (set now place Closed) k))
-        (λ unreached.
-        IsChain-joined psi (onward psi from place here at_here (so_far.chain place here at_here open_here))
-        (link here.high c.low (link_in psi (opened.opened k c at unreached (open_is_reached new k is_open)).0)))
-        (λ reached. so_far.chain k c at (open_now k (sym (opened.kept k reached) ∙ is_open)));
-    no_end = λ k c at closed.
-        by_cases (closed_now k c at closed)
-        (λ same. inr (subst (λ (x : Constraint). IsEnd end x.high → ⊥) (sym same) no_end_here))
-        (λ before. so_far.no_end k c at before);
+  is_here : (k : ℕ) (c : Constraint) → k ≡ next → StandsAt psi new k c → c ≡ here
+  is_here k c is stands_k = one_stands psi now next here c stands (stood next c lt (subst (λ (n : ℕ). StandsAt psi new n c) is stands_k))
+
+  next_reached : (k : ℕ) (c d : Constraint) → k < next + 1 → StandsAt psi new k c → Contains psi d → IsLink [] c.high d.low → IsReached psi new more d
+  next_reached k c d before stands_k d_among l =
+      by_cases (cases_eq k next)
+      (λ is. by_cases (reached_or_rest psi new more extended.is_order d d_among)
+      (λ there. there)
+      (λ rest. absurd (extended.rest rest.0 d rest.1 rest.2 rest.3 (subst (λ (x : Constraint). IsLink [] x.high d.low) (is_here k c is stands_k) l))))
+      (λ other.
+      let earlier : k < next = omega (arith, before, other) in
+      still_reached psi now new count more extended.not_fewer extended.kept d
+      (so_far.gone_on.next k c d earlier (stood k c (omega (arith, earlier, lt)) stands_k) d_among l))
+
+  pub searching_more : IsSearching psi end old done reached new (next + 1) more
+  searching_more = record {
+    is_order = extended.is_order;
+    started = omega (arith, so_far.started);
+    up_to = omega (arith, lt, extended.not_fewer);
+    not_fewer = omega (arith, so_far.not_fewer, extended.not_fewer);
+    within = extended.within;
+    kept = λ k before. extended.kept k (omega (arith, before, so_far.not_fewer)) ∙ so_far.kept k before;
+    gone_on = record { next = next_reached };
+    no_end = λ k c ge before stands_k.
+        by_cases (cases_eq k next)
+        (λ is. subst (λ (x : Constraint). IsEnd end x.high → ⊥) (sym (is_here k c is stands_k)) no_end)
+        (λ other. let earlier : k < next = omega (arith, before, other) in so_far.no_end k c ge earlier (stood k c (omega (arith, earlier, lt)) stands_k));
+    comes = λ k c ge before stands_k.
+        by_cases (cases_lt k count)
+        (λ earlier. so_far.comes k c ge earlier (stood k c earlier stands_k))
+        (λ later.
+        let from = so_far.comes next here so_far.started lt stands in
+        record {
+          place = from.place;
+          constraint = from.constraint;
+          not_done = from.not_done;
+          is_reached = from.is_reached;
+          stands_at = from.stands_at;
+          chain = onward psi from.constraint.low here c.low (contained psi now next here stands) from.chain (extended.linked k c later before stands_k);
+        });
   }
 
-  stays_closed : (k : ℕ) → mark_at (set now place Closed) k ≡ Closed → mark_at new k ≡ Closed
-  stays_closed k closed = opened.kept k (closed_is_reached (set now place Closed) k closed) ∙ closed
-
-  pending_before : (k : ℕ) → is_pending (mark_at new k) ≡ true → is_pending (mark_at now k) ≡ true
-  pending_before k pending =
-      by_cases (pending_or_closed (mark_at now k))
-      (λ before. before)
-      (λ closed.
-      let stayed : mark_at (set now place Closed) k ≡ Closed =
-      by_cases (cases_eq k place)
-      (λ same. ap (mark_at (set now place Closed)) same ∙ mark_written now place Closed within)
-      (λ other. mark_elsewhere now place k Closed other ∙ closed) in
-      absurd (false≢true (sym (ap is_pending (stays_closed k stayed)) ∙ pending)))
-
-  pub fewer_pending : length new ≡ length psi → count_where is_pending new < count_where is_pending now
-  fewer_pending same_length =
-      count_falls is_pending now new (so_far.same_length ∙ sym same_length) pending_before place within
-      (ap is_pending open_here)
-      (ap is_pending (stays_closed place (mark_written now place Closed within)))
-
-closed_or_not : (m : Mark) → (m ≡ Unreached → ⊥) → (m ≡ Open → ⊥) → m ≡ Closed
-closed_or_not Unreached reached not_open = absurd (reached refl)
-closed_or_not Open reached not_open = absurd (not_open refl)
-closed_or_not Closed reached not_open = refl
-
--- none is open
-pub searched_all : (psi : List Constraint) (from : Term) (end : End) (old now : List Mark) → IsUnderWay psi from end old now → ((k : ℕ) → mark_at now k ≡ Open → ⊥) → IsSearched psi from end old now
-searched_all psi from end old now so_far none_open = record {
+pub searching_all : (psi : List Constraint) (end : End) (old : List ℕ) (done reached : ℕ) (now : List ℕ) (next count : ℕ)
+    → IsSearching psi end old done reached now next count → count ≤ next → IsSearched psi end old done reached now count
+searching_all psi end old done reached now next count so_far ended = record {
+  is_order = so_far.is_order;
+  not_fewer = so_far.not_fewer;
+  within = so_far.within;
   kept = so_far.kept;
-  closed = record {
-    none_open = none_open;
-    next = λ k j c d at_c at_d reached l. so_far.next k j c d at_c at_d (closed_or_not (mark_at now k) reached (none_open k)) l;
-  };
-  first = so_far.first;
-  no_end = λ k c at reached. so_far.no_end k c at (closed_or_not (mark_at now k) reached (none_open k));
+  gone_on = record { next = λ k c d before stands_k. so_far.gone_on.next k c d (omega (arith, before, ended)) stands_k };
+  no_end = λ k c ge before stands_k. so_far.no_end k c ge (omega (arith, before, ended)) stands_k;
 }

@@ -1,10 +1,12 @@
 //! Whether constraints entail that one term is not after another.
 
-ghost use Rattle.std.specs.Prelude.{◌≡◌, ◌≤◌, ◌↔◌, IsTrue, length, replicate};
+ghost use Rattle.std.specs.Prelude.{◌≡◌, ◌≤◌, ◌↔◌, IsTrue, MatchOption, length};
 ghost use Rattle.bl_syntax.specs.Entailment.{IsChain, IsContradictory, Entails};
+ghost use Rattle.bl_constraints.specs.Sources.{IsSafe, IsGreatestSource, HasReachedMore};
 
 use crate::links::{End, is_linked};
-use crate::search::{Mark, greatest_source, search};
+use crate::search::{number_places, reach_from, search};
+use crate::sources::{Source, greatest_source};
 use bl_syntax::{Constraint, Term};
 
 /// The most constraints of one question.
@@ -18,13 +20,6 @@ pub fn entails(psi: &[Constraint], u: &Term, v: &Term) -> bool
     leads(psi, u, v) || is_contradictory(psi)
 }
 
-/// The marks of the most constraints, before a search.
-fn unreached_marks() -> [Mark; MOST_CONSTRAINTS]
-    ensures { result ≡ replicate 512 Mark.Unreached }
-{
-    [Mark::Unreached; MOST_CONSTRAINTS]
-}
-
 /// Whether a chain of links leads from `u` to `v`.
 fn leads(psi: &[Constraint], u: &Term, v: &Term) -> bool
     requires { length psi.now ≤ 512 }
@@ -33,8 +28,11 @@ fn leads(psi: &[Constraint], u: &Term, v: &Term) -> bool
     if is_linked(u, v) {
         return true;
     }
-    let mut marks = unreached_marks();
-    search(psi, u, &End::To(*v), &mut marks[..psi.len()])
+    let mut table = [0; MOST_CONSTRAINTS];
+    let order = &mut table[..psi.len()];
+    number_places(psi, order);
+    let reached = reach_from(psi, u, order, 0);
+    search(psi, &End::To(*v), order, 0, reached).is_none()
 }
 
 /// Whether a chain leads from a constant to a lesser one. The constants with which constraints begin are taken from the
@@ -43,12 +41,31 @@ fn is_contradictory(psi: &[Constraint]) -> bool
     requires { length psi.now ≤ 512 }
     ensures { IsTrue result ↔ IsContradictory psi.now }
 {
-    let mut table = unreached_marks();
-    let marks = &mut table[..psi.len()];
-    while let Some(source) = greatest_source(psi, marks) {
-        if search(psi, &Term::Time(source), &End::Before(source), marks) {
-            return true;
+    let mut table = [0; MOST_CONSTRAINTS];
+    let order = &mut table[..psi.len()];
+    number_places(psi, order);
+    let mut reached = 0;
+    while let Some(source) = greatest_source(psi, order, reached) {
+        match reach_source(psi, source, order, reached) {
+            Some(count) => reached = count,
+            None => return true,
         }
     }
     false
+}
+
+/// Reaches what the source leads to, and answers how many constraints are reached then; or nothing, if it leads to a
+/// constant before it.
+fn reach_source(
+    psi: &[Constraint],
+    source: Source,
+    order: &mut [usize],
+    reached: usize,
+) -> Option<usize>
+    requires safe { IsSafe psi.now order.old reached }
+    requires greatest { IsGreatestSource psi.now order.old reached source }
+    ensures { MatchOption result (IsContradictory psi.now) (HasReachedMore psi.now reached order.new) }
+{
+    order.swap(source.place, reached);
+    search(psi, &End::Before(source.point), order, reached, reached + 1)
 }

@@ -8,5 +8,9 @@ mod entailment;
 pub mod laws;
 mod links;
 mod search;
+mod sources;
 
 pub use entailment::entails;
+
+#[cfg(test)]
+mod tests;

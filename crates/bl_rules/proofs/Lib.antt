@@ -4,7 +4,11 @@ pub mod EmployeeExample
 pub mod ExampleLemmas
 pub mod FromClausesLemmas
 pub mod HeightLemmas
+pub mod IdentityLemmas
 pub mod Membership
+pub mod ModelExamples
+pub mod ModelLemmas
+pub mod ModelTerms
 pub mod MomentOfTerms
 pub mod RicherLemmas
 pub mod SequentExamples

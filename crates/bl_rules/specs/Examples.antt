@@ -4,13 +4,14 @@ use Rattle.bl_syntax.specs.declared.terms.TimePoint.{TimePoint}
 use Rattle.bl_syntax.specs.declared.terms.TimePoint.TheVariants.{NegInf, PosInf}
 use Rattle.bl_syntax.specs.declared.terms.Sort.TheVariants as sorts
 use Rattle.bl_syntax.specs.declared.terms.Term.{Term}
-use Rattle.bl_syntax.specs.declared.terms.Term.TheVariants.{Prin, File, Perm, Bound}
+use Rattle.bl_syntax.specs.declared.terms.Term.TheVariants.{Prin, File, Perm, Time, Bound}
 use Rattle.bl_syntax.specs.declared.terms.NodeId.{NodeId}
 use Rattle.bl_syntax.specs.declared.terms.Perm.{Perm as Permission}
 use Rattle.bl_syntax.specs.Formula.{Form, atom, implies, forall_, says}
 use Rattle.bl_syntax.specs.WellSorted.{may}
 use Rattle.bl_syntax.specs.Statement.{Saying, saying}
-use Rattle.bl_rules.specs.Sequent.{Hypothesis, Known, View}
+use Rattle.bl_rules.specs.Sequent.{Hypothesis, holds, Known, View}
+use Rattle.bl_rules.specs.Derivable.{Derivable}
 
 -- `admin`, `loc`, and a principal who speaks for itself alone
 abbrev pub admin_name : List ℕ
@@ -39,3 +40,22 @@ policy_for_employees file permission =
 abbrev pub statements_on_employees : NodeId → Permission → List ℕ → TimePoint → TimePoint → List Saying
 statements_on_employees file permission person from to =
     saying admin_name (policy_for_employees file permission) NegInf PosInf ∷ saying hr (employee (Prin person)) from to ∷ []
+
+-- the view of `admin`, for all times
+abbrev pub admins_view : View
+admins_view = record { who = Prin admin_name; from = Time NegInf; to = Time PosInf }
+
+-- what is true at all times, and nothing else
+abbrev pub always : Form → Known
+always a = assuming (holds a (Time NegInf) (Time PosInf)) admins_view
+
+-- it is derivable from this for all times
+abbrev pub Gives : Form → Form → Type 0
+Gives a b = Derivable (always a) b (Time NegInf) (Time PosInf)
+
+-- two atoms without arguments
+abbrev pub rain : Form
+rain = atom (codes "rain") []
+
+abbrev pub snow : Form
+snow = atom (codes "snow") []

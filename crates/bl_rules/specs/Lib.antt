@@ -5,5 +5,6 @@ pub mod DirectGrant
 pub mod Examples
 pub mod FromClauses
 pub mod Height
+pub mod Model
 pub mod Richer
 pub mod Sequent

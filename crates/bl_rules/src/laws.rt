@@ -7,11 +7,12 @@ ghost use Rattle.bl_syntax.specs.declared.terms.TimePoint.TheVariants.{NegInf, A
 ghost use Rattle.bl_syntax.specs.declared.terms.NodeId.{NodeId as Node};
 ghost use Rattle.bl_syntax.specs.declared.terms.Perm.{Perm as Permission};
 ghost use Rattle.bl_syntax.specs.declared.terms.Term.{Term};
-ghost use Rattle.bl_syntax.specs.declared.terms.Term.TheVariants.{Time};
+ghost use Rattle.bl_syntax.specs.declared.terms.Term.TheVariants.{Prin, Time, Bound};
+ghost use Rattle.bl_syntax.specs.declared.terms.Sort.TheVariants as sorts;
 ghost use Rattle.bl_syntax.specs.declared.terms.StatePred.{StatePred as Fact};
 ghost use Rattle.bl_syntax.specs.declared.terms.Constraint.{Constraint};
 ghost use Rattle.bl_syntax.specs.declared.grant.Goal.{Goal};
-ghost use Rattle.bl_syntax.specs.Formula.{Form, atom, state, implies, says};
+ghost use Rattle.bl_syntax.specs.Formula.{Form, atom, state, either, implies, truth, falsity, forall_, exists_, says};
 ghost use Rattle.bl_syntax.specs.TimeOrder.{IsUpTo};
 ghost use Rattle.bl_syntax.specs.Terms.{term_at, IsAtLeastAsStrong};
 ghost use Rattle.bl_syntax.specs.Substitution.{formula_at};
@@ -19,11 +20,12 @@ ghost use Rattle.bl_syntax.specs.Statement.{Saying, saying, IsStatement};
 ghost use Rattle.bl_syntax.specs.Entailment.{EntailsAll};
 ghost use Rattle.bl_syntax.specs.Grant.{Granted, IsStateCondition};
 ghost use Rattle.bl_rules.specs.Sequent.{Hypothesis, holds, claims, View, Known, bound};
-ghost use Rattle.bl_rules.specs.Derivable.{Derivable};
+ghost use Rattle.bl_rules.specs.Derivable.{Assumes, IsNotAfter, Derivable};
 ghost use Rattle.bl_rules.specs.Allowed.{access, Allows, SoundGrant, IsDerivableUnderConditions};
 ghost use Rattle.bl_rules.specs.DirectGrant.{wanted, SpeaksForAdmin, granted_by};
 ghost use Rattle.bl_rules.specs.FromClauses.{AssumesClauses, IsSimple, Follows, IsClause, IsYielded};
-ghost use Rattle.bl_rules.specs.Examples.{admin_name, loc_name, hr, assuming, statements_on_employees};
+ghost use Rattle.bl_rules.specs.Examples.{admin_name, loc_name, hr, employee, assuming, statements_on_employees, Gives, rain, snow};
+ghost use Rattle.bl_rules.specs.Model.{Model, Values, time_value, IsTrueIn, IsTrueKnown, IsDeclared, IsGoalDeclared};
 ghost use Rattle.bl_rules.specs.Height.{Derives};
 ghost use Rattle.bl_rules.specs.Richer.{given, Includes};
 ghost use Rattle.bl_rules.specs.AtMoment.{known_at};
@@ -54,6 +56,46 @@ pub fn a_moment_keeps_what_is_derivable()
     ensures { (moment : ℤ) (known : Known) (goal : Form) (u v : Term)
         → Derivable known goal u v
         → Derivable (known_at moment known) (formula_at moment goal) (term_at moment u) (term_at moment v) }
+{}
+
+/// What is derivable on an interval is derivable on each interval within it.
+pub fn a_shorter_interval_keeps_what_is_derivable()
+    ensures { (known : Known) (goal : Form) (u v x y : Term)
+        → IsNotAfter known u x → IsNotAfter known y v
+        → Derivable known goal u v → Derivable known goal x y }
+{}
+
+/// What is derivable in a view is derivable in the view of each principal that is no stronger, over each interval within.
+pub fn a_weaker_view_keeps_what_is_derivable()
+    ensures { (known : Known) (view : View) (goal : Form) (u v : Term)
+        → IsAtLeastAsStrong known.view.who view.who → IsNotAfter known known.view.from view.from → IsNotAfter known view.to known.view.to
+        → Derivable known goal u v → Derivable (record known { view = view }) goal u v }
+{}
+
+/// Identity: what is assumed is derivable, whatever the formula, on each interval within. So the rules for a connective on the left give what those on the right ask for.
+pub fn what_is_assumed_is_derivable()
+    ensures { (known : Known) (f : Form) (from to u v : Term)
+        → Assumes known (holds f from to) → IsNotAfter known from u → IsNotAfter known v to
+        → Derivable known f u v }
+{}
+
+/// What is derivable is true in each model, in each world in which all that is known is true, where all parameters are declared.
+pub fn what_is_derivable_is_true_in_each_model()
+    ensures { (m : Model) (params : Values) (world : ℕ) (known : Known) (goal : Form) (u v : Term)
+        → IsDeclared known → IsGoalDeclared known goal u v → Derivable known goal u v
+        → IsTrueKnown m params world known
+        → IsTrueIn m params [] world goal (time_value m params [] u) (time_value m params [] v) }
+{}
+
+/// So these are not derivable: falsity; one of two from either; what an implication concludes; a certain one from some; all from one; and a truth from what somebody says
+/// who is not heard.
+pub fn what_does_not_follow()
+    ensures falsity { Gives truth falsity → ⊥ }
+    ensures either { Gives (either rain snow) rain → ⊥ }
+    ensures implication { Gives (implies rain rain) rain → ⊥ }
+    ensures some { Gives (exists_ sorts.Principal (employee (Bound 0))) (employee (Prin admin_name)) → ⊥ }
+    ensures all { Gives (employee (Prin hr)) (forall_ sorts.Principal (employee (Bound 0))) → ⊥ }
+    ensures word { Gives (says (Prin hr) rain) rain → ⊥ }
 {}
 
 /// Where nobody has stated anything, nobody may do anything.

@@ -29,15 +29,15 @@ pub bind_memoryless : {A B : Type 0} (r : Result A CodecFault) (f : A → Result
 bind_memoryless (Ok x) f first second e = second x e
 bind_memoryless (Err d) f first second e = first cc
 
-pub made_memoryless : {A B : Type 0} (f : A → B) (r : Reading A) → (r ≡ Err faults.NoMemory → ⊥) → made f r ≡ Err faults.NoMemory → ⊥
+pub made_memoryless : {A B R : Type 0} (f : A → B) (r : Result (A × R) CodecFault) → (r ≡ Err faults.NoMemory → ⊥) → made f r ≡ Err faults.NoMemory → ⊥
 made_memoryless f (Ok x) first e = cc
 made_memoryless f (Err d) first e = first cc
 
 -- what is made of something that is read
-pub made_ok : {A B : Type 0} (f : A → B) (r : Reading A) (y : B) (rest : List ℕ) → made f r ≡ Ok (y, rest) → (x : A) × (r ≡ Ok (x, rest)) × (f x ≡ y)
-made_ok {B = B} f (Ok x) y rest e =
+pub made_ok : {A B R : Type 0} (f : A → B) (r : Result (A × R) CodecFault) (y : B) (rest : R) → made f r ≡ Ok (y, rest) → (x : A) × (r ≡ Ok (x, rest)) × (f x ≡ y)
+made_ok {B = B} {R = R} f (Ok x) y rest e =
     let pair = ok_is (f x.0, x.1) (y, rest) e in
-    (x.0, ap (λ (end : List ℕ). Ok (x.0, end)) (ap (λ (p : B × List ℕ). p.1) pair), ap (λ (p : B × List ℕ). p.0) pair)
+    (x.0, ap (λ (end : R). Ok (x.0, end)) (ap (λ (p : B × R). p.1) pair), ap (λ (p : B × R). p.0) pair)
 made_ok f (Err d) y rest e = absurd cc
 
 pub AreBytes-rest : (byte : ℕ) (bytes : List ℕ) → AreBytes (byte ∷ bytes) → AreBytes bytes

@@ -30,3 +30,16 @@ pub record ReadsFront {X A : Type 0} (view : X → A) (IsSpelled : A → Type 0)
 -- the call was not refused for want of memory
 abbrev pub TakesNoMemory : {X : Type 0} → Result X CodecFault → Type 0
 TakesNoMemory result = IfErr result (λ fault. fault ≡ faults.NoMemory → ⊥)
+
+-- a fault of a call is what is read, unless there was no memory
+abbrev pub StopsWith : {Y : Type 0} → CodecFault → Result Y CodecFault → Type 0
+StopsWith faults.NoMemory read = Unit {0}
+StopsWith faults.Short read = read ≡ Err faults.Short
+StopsWith (faults.BadTag place) read = read ≡ Err (faults.BadTag place)
+StopsWith (faults.NotCanonical place) read = read ≡ Err (faults.NotCanonical place)
+StopsWith (faults.TooLarge place) read = read ≡ Err (faults.TooLarge place)
+
+-- what a call returned, seen by view, is what is read, unless there was no memory
+abbrev pub GivesOrStops : {X Y : Type 0} → (X → Y) → Result X CodecFault → Result Y CodecFault → Type 0
+GivesOrStops view (Ok x) read = read ≡ Ok (view x)
+GivesOrStops view (Err fault) read = StopsWith fault read

@@ -6,6 +6,8 @@ pub mod FirstFailing
 pub mod FirstFault
 pub mod Formula
 pub mod FormulaCode
+pub mod FormulaReading
+pub mod FormulaSpelling
 pub mod Grant
 pub mod Names
 pub mod Padding

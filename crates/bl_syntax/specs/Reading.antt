@@ -30,9 +30,9 @@ Reading A = Result (A × List ℕ) CodecFault
 abbrev pub place : ℕ → List ℕ → ℕ
 place input rest = input - length rest
 
--- the value that f makes of what is read
-abbrev pub made : {A B : Type 0} → (A → B) → Reading A → Reading B
-made f reading = reading >>= λ x. Ok (f x.0, x.1)
+-- the value that f makes of what is read, and what is behind it
+abbrev pub made : {A B R : Type 0} → (A → B) → Result (A × R) CodecFault → Result (B × R) CodecFault
+made f read = read >>= λ x. Ok (f x.0, x.1)
 
 -- a big-endian number
 abbrev pub number_at : Width → List ℕ → Reading ℕ

@@ -4,6 +4,7 @@ ghost use Rattle.std.specs.Prelude.{◌≡◌};
 ghost use Rattle.bl_syntax.specs.declared.codec_fault.CodecFault.TheVariants as faults;
 
 use crate::lists::NoMemory;
+use std::alloc::{AllocError, AllocFailed};
 
 /// The first fault of a reading from the left. A place is a number of bytes of the input before it.
 #[derive(Clone, Copy, Debug, PartialEq, Eq)]
@@ -24,6 +25,22 @@ impl From<NoMemory> for CodecFault {
     ghost from_gives = { λ _ e. e ≡ faults.NoMemory };
 
     fn from(_refused: NoMemory) -> CodecFault {
+        CodecFault::NoMemory
+    }
+}
+
+impl From<AllocError> for CodecFault {
+    ghost from_gives = { λ _ e. e ≡ faults.NoMemory };
+
+    fn from(_refused: AllocError) -> CodecFault {
+        CodecFault::NoMemory
+    }
+}
+
+impl<T: Drop> From<AllocFailed<T>> for CodecFault {
+    ghost from_gives = { λ _ e. e ≡ faults.NoMemory };
+
+    fn from(_refused: AllocFailed<T>) -> CodecFault {
         CodecFault::NoMemory
     }
 }

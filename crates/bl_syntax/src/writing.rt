@@ -1,18 +1,20 @@
 //! Writers of canonical bytes. Each adds the one spelling of its value at the end, or nothing.
 
-ghost use Rattle.std.specs.Prelude.{◌≡◌, ◌++◌, OnOk, OnErr};
+ghost use Rattle.std.specs.Prelude.{◌≡◌, ◌++◌, OnOk, OnErr, IsTrue};
+ghost use Rattle.bl_syntax.specs.Names.{is_principal_name, is_text};
 ghost use Rattle.bl_syntax.specs.TimeOrder.{IsInRange};
 ghost use Rattle.bl_syntax.specs.Terms.{HasTimeInRange};
-ghost use Rattle.bl_syntax.specs.Spelling.{counted, time_spelling, term_spelling};
+ghost use Rattle.bl_syntax.specs.Spelling.{IsSpellable, counted, time_spelling, term_spelling};
 
 use crate::fields::{permission_code, put, second_bytes, u32_bytes, u64_bytes};
 use crate::lists::{Bytes, NoMemory};
 use crate::names::{Principal, Text};
-use crate::terms::{Term, TimePoint};
+use crate::terms::{NodeId, Term, TimePoint};
 
 /// Adds a name with its length byte.
 pub fn write_name(p: &Principal, out: &mut Bytes) -> Result<(), NoMemory>
     ensures ok { OnOk result (out.new ≡ out.old ++ counted p.now) }
+    ensures spelled { OnOk result (IsTrue (is_principal_name p.now)) }
     ensures err { OnErr result (out.new ≡ out.old) }
 {
     let name = p.bytes();
@@ -22,6 +24,7 @@ pub fn write_name(p: &Principal, out: &mut Bytes) -> Result<(), NoMemory>
 /// Adds a text with its length byte.
 pub fn write_text(t: &Text, out: &mut Bytes) -> Result<(), NoMemory>
     ensures ok { OnOk result (out.new ≡ out.old ++ counted t.now) }
+    ensures spelled { OnOk result (IsTrue (is_text t.now)) }
     ensures err { OnErr result (out.new ≡ out.old) }
 {
     let text = t.bytes();
@@ -47,6 +50,7 @@ pub fn write_time(t: &TimePoint, out: &mut Bytes) -> Result<(), NoMemory>
 pub fn write_term(t: &Term, out: &mut Bytes) -> Result<(), NoMemory>
     requires { HasTimeInRange t.now }
     ensures ok { OnOk result (out.new ≡ out.old ++ term_spelling t.now) }
+    ensures spelled { OnOk result (IsSpellable t.now) }
     ensures err { OnErr result (out.new ≡ out.old) }
 {
     match t {
@@ -54,7 +58,7 @@ pub fn write_term(t: &Term, out: &mut Bytes) -> Result<(), NoMemory>
             let name = name.bytes();
             put(&[1, name.len() as u8], name, out)
         }
-        Term::File(node) => put(&[2], &u64_bytes(node.0), out),
+        Term::File(NodeId(number)) => put(&[2], &u64_bytes(*number), out),
         Term::Perm(permission) => put(&[3, permission_code(*permission)], &[], out),
         Term::Time(TimePoint::NegInf) => put(&[4, 0], &[], out),
         Term::Time(TimePoint::At(second)) => put(&[4, 1], &second_bytes(*second), out),

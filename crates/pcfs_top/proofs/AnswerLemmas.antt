@@ -30,7 +30,7 @@ use Rattle.pcfs_top.specs.Answer.{moment_of, IsProcapAt, NamesMatch, Gives, Fail
 use Rattle.pcfs_top.proofs.NumberedLemmas.{Contains-numbered, numbered_item, distinct_number, none_fails, first_failing, HasNumber-item}
 
 -- the procap in a place stands for one grant
-procap_grant : (state : Base) (procaps : List ℕ) (place : ℕ) (g h : Granted) → IsProcapAt state procaps place g → IsProcapAt state procaps place h → g ≡ h
+pub procap_grant : (state : Base) (procaps : List ℕ) (place : ℕ) (g h : Granted) → IsProcapAt state procaps place g → IsProcapAt state procaps place h → g ≡ h
 procap_grant state procaps place g h one other =
     let number : one.number ≡ other.number = numbered_item procaps place one.number other.number one.brought other.brought in
     let brought : IsNumbered state.issues other.number one.issue = rw number at one.issued in

@@ -1,5 +1,5 @@
 -- The history before the first event.
-use Rattle.std.proofs.Common.{◌≡◌, ◌≤◌, ◌<◌, ◌+◌, ◌-◌, ◌^◌, ℕ, List, [], ◌∷◌, ◌++◌, length, refl, ap, subst, sym, ◌∙◌, arith}
+use Rattle.std.proofs.Common.{◌≡◌, ℕ, List, [], refl, ap, subst, sym, ◌∙◌, arith}
 use Rattle.std.specs.Prelude.{ℤ}
 use Rattle.std.specs.Int.{w64}
 use mir.Val.{to_z, of_z}
@@ -12,7 +12,7 @@ use Rattle.bl_syntax.specs.TimeOrder.{IsMoment}
 use Rattle.pcfs_top.specs.declared.event.Base.{Base}
 use Rattle.pcfs_top.specs.declared.event.Event.{Event}
 use Rattle.pcfs_top.specs.declared.history.History.TheInside.{Inside}
-use Rattle.pcfs_top.specs.Lawful.{IsLawful, IsLawfulBase, no_event}
+use Rattle.pcfs_top.specs.Lawful.{IsLawful, no_event}
 use Rattle.pcfs_top.specs.Replay.{fresh, replay}
 use Rattle.pcfs_top.specs.HistoryParts.{shown_state, IsKeeping}
 use Rattle.pcfs_top.proofs.TreeLemmas.{IsTree-of_fresh}
@@ -20,7 +20,7 @@ use Rattle.pcfs_top.proofs.TreeLemmas.{IsTree-of_fresh}
 first_moment : IsMoment fresh.moment
 first_moment = record { not_before = omega (arith, ints); not_after = omega (arith, ints) }
 
-IsLawful-fresh : IsLawful fresh []
+pub IsLawful-fresh : IsLawful fresh []
 IsLawful-fresh = record {
   lawful_base = record { tree = IsTree-of_fresh fresh.world.rows refl; statements_differ = tt; statements_fit = omega arith; moment_in_range = first_moment; good_issues = tt };
   counted = omega arith;

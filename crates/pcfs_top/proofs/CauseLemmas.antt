@@ -1,7 +1,6 @@
 -- Facts of a list of nodes, and why a grant does not give what is needed.
-use Rattle.std.proofs.Common.{◌≡◌, ◌≢◌, ◌≤◌, ◌<◌, ◌+◌, ◌-◌, ◌^◌, ℕ, suc, zero, List, [], ◌∷◌, ◌++◌, length, get_or, refl, ap, subst, sym, ◌∙◌, arith, None, Some, Option, inl, inr}
+use Rattle.std.proofs.Common.{◌≡◌, ◌<◌, ℕ, suc, zero, List, [], ◌∷◌, ◌++◌, length, get_or, refl, ap, subst, sym, ◌∙◌, arith, inl, inr}
 use Rattle.std.specs.Prelude.{ℤ, Contains, map, drop, ◌⊎◌}
-use Rattle.std.specs.List.{AllByRecursion}
 use Rattle.std.proofs.lemmas.List.{length-append}
 use Rattle.std.specs.Prelude.{Bool, true, false, IsTrue, ◌↔◌}
 use Rattle.bl_syntax.specs.declared.terms.NodeId.{NodeId}
@@ -11,16 +10,14 @@ use Rattle.bl_syntax.specs.declared.terms.Term.TheVariants as terms
 use Rattle.bl_syntax.specs.declared.terms.StatePred.TheVariants.{Owner, HasXattr, InDir}
 use Rattle.pcfs_top.specs.declared.world.Row.{Row}
 use Rattle.pcfs_top.specs.Facts.{facts_of, ownership, containment}
-use Rattle.bl_syntax.specs.declared.terms.Constraint.{Constraint}
 use Rattle.bl_syntax.specs.declared.terms.StatePred.{StatePred}
 use Rattle.bl_syntax.specs.declared.grant.Goal.{Goal}
 use Rattle.bl_syntax.specs.FirstFailing.{IsFirstFailing}
-use Rattle.bl_syntax.specs.Grant.{Granted, Holds, HoldsAt}
+use Rattle.bl_syntax.specs.Grant.{Granted}
 use Rattle.pcfs_top.specs.declared.reply.Cause.{Cause}
-use Rattle.pcfs_top.specs.declared.reply.Cause.TheVariants as causes
 use Rattle.pcfs_top.specs.Differs.{Differs, in_principal, in_file, in_permission}
 use Rattle.pcfs_top.specs.Needs.{Need}
-use Rattle.pcfs_top.specs.Answer.{NamesMatch, Gives, Fails, other_principal, other_file, other_permission, time_passed, state_differs}
+use Rattle.pcfs_top.specs.Answer.{NamesMatch, Fails, other_principal, other_file, other_permission}
 
 -- an image of an item is among the images
 pub Contains-map-at : {A B : Type 0} (f : A → B) (xs : List A) (y : B) (k : ℕ) (x : A) → k < length xs → x ≡ get_or xs k x → f x ≡ y → Contains (map f xs) y

@@ -1,5 +1,5 @@
 -- What was decided is an answer, over plain values.
-use Rattle.std.proofs.Common.{◌≡◌, ◌≤◌, ◌<◌, ◌+◌, ◌-◌, ℕ, suc, zero, List, [], ◌∷◌, ◌++◌, length, get_or, refl, ap, subst, sym, ◌∙◌, arith, None, Some, Option}
+use Rattle.std.proofs.Common.{◌≡◌, ◌≤◌, ◌<◌, ◌+◌, ◌-◌, ℕ, List, [], ◌∷◌, length, get_or, refl, ap, subst, sym, arith, Some}
 use Rattle.std.specs.Prelude.{ℤ, Contains}
 use Rattle.std.specs.Prelude.{Result, Ok, Err, IfOk}
 use Rattle.std.specs.List.{slice_get}
@@ -8,18 +8,16 @@ use Rattle.bl_syntax.specs.declared.grant.Goal.{Goal}
 use Rattle.bl_syntax.specs.Statement.{Saying}
 use Rattle.bl_syntax.specs.Grant.{Granted}
 use Rattle.pcfs_top.specs.declared.event.Base.{Base}
-use Rattle.pcfs_top.specs.declared.event.Event.TheVariants.{Registered, Issued, Acted}
+use Rattle.pcfs_top.specs.declared.event.Event.TheVariants.{Registered, Issued}
 use Rattle.pcfs_top.specs.declared.request.StepRequest.TheVariants as requests
 use Rattle.pcfs_top.specs.declared.reply.Reply.TheVariants as replies
 use Rattle.pcfs_top.specs.declared.step.Step.{Step}
 use Rattle.pcfs_top.specs.declared.step.Change.{Change}
 use Rattle.pcfs_top.specs.declared.step.Change.TheVariants as changes
-use Rattle.pcfs_top.specs.declared.decide.Decided.{Decided}
 use Rattle.pcfs_top.specs.Numbered.{IsNumbered, HasNumber}
-use Rattle.pcfs_top.specs.Verdict.{IsVerdict, grants, faults}
+use Rattle.pcfs_top.specs.Verdict.{IsVerdict, grants}
 use Rattle.pcfs_top.specs.History.{Brings}
-use Rattle.pcfs_top.specs.Decision.{IsDecided}
-use Rattle.pcfs_top.specs.Answer.{Answers, registered, issued, unproved, no_statement}
+use Rattle.pcfs_top.specs.Answer.{Answers, registered, issued}
 
 -- a statement is registered, from two copies of it
 pub registered_decided : (state : Base) (pass : ℕ) (clock : ℤ) (statement one other : Saying) (statements : List Saying) → one ≡ statement → other ≡ statement → statements ≡ state.statements → (Contains statements statement → ⊥) → length statements < 4096 →

@@ -1,5 +1,5 @@
 -- An event that an answer keeps may come next.
-use Rattle.std.proofs.Common.{◌≡◌, ◌≤◌, ◌<◌, ◌+◌, ◌-◌, ℕ, suc, zero, List, [], ◌∷◌, ◌++◌, length, refl, ap, subst, sym, ◌∙◌, arith, None, Some, Option}
+use Rattle.std.proofs.Common.{◌≡◌, ◌≤◌, ℕ, [], ◌∷◌, refl, ap, subst, sym, arith, None, Some, Option}
 use Rattle.std.specs.Prelude.{Result, Ok, Err, OnOk, false, ℤ, ◌≤ℤ◌, ⊤, MatchOption}
 use Rattle.std.specs.Int.{int_max}
 use Rattle.std.specs.Option.{option_map}
@@ -23,7 +23,9 @@ use Rattle.pcfs_top.specs.Answer.{Answers, registered, issued, acted, moment_of}
 use Rattle.pcfs_top.specs.History.{Kept, state_of}
 use Rattle.pcfs_top.specs.Decision.{IsDecided, CanKeep}
 use Rattle.pcfs_top.proofs.Replays.{moment_in_range}
-use Rattle.pcfs_top.specs.Lawful.{IsLawful, MayFollow, may_register, may_issue, may_act, IsGoodIssue}
+use Rattle.pcfs_top.proofs.ListLemmas.{Contains-head}
+use Rattle.pcfs_top.proofs.Backing.{SoundGrant-verdict, AreGoodIssues, AreGoodIssues-replay, AreDerived-admitted}
+use Rattle.pcfs_top.specs.Lawful.{IsLawful, MayFollow, may_register, may_issue, may_act}
 
 -- the greater of two moments is a moment, and not before the second
 max_in_range : (a b : ℤ) → IsMoment a → IsMoment b → IsMoment (int_max a b)
@@ -39,12 +41,12 @@ few_bytes (Create directory name) = omega arith
 good : (goal : Goal) (g : Granted) (statement : Saying) → IsVerdict statement goal (grants g) → IsVerdict statement g.goal (grants g)
 good goal g statement verdict = subst (λ (x : Goal). IsVerdict statement x (grants g)) (sym (ap (λ (y : Granted). y.goal) verdict.grant_is)) verdict
 
-pub MayFollow-answered : (state : Base) (pass : ℕ) (clock : ℤ) (request : StepRequest) (reply : Reply) (event : Event) → IsMoment clock → IsMoment state.moment → IsWellFormed request → Answers state pass clock request reply (Some event) → MayFollow state event
-MayFollow-answered state pass clock request reply event at last formed (registered statement new room) = may_register pass statement new room
-MayFollow-answered state pass clock request reply event at last formed (issued number goal statement g numbered verdict) =
-    may_issue pass (number ∷ []) g (record { number = number; statement = statement; cites = refl; registered = numbered; verdict = good goal g statement verdict })
-MayFollow-answered state pass clock request reply event at last formed (acted caller op procaps made after issues admitted does) =
-    may_act pass caller op procaps (moment_of state clock) made after (last_up_to_max clock state.moment) (max_in_range clock state.moment at last) formed (few_bytes op) issues admitted does
+pub MayFollow-answered : (state : Base) (pass : ℕ) (clock : ℤ) (request : StepRequest) (reply : Reply) (event : Event) → IsMoment clock → IsMoment state.moment → AreGoodIssues state → IsWellFormed request → Answers state pass clock request reply (Some event) → MayFollow state event
+MayFollow-answered state pass clock request reply event at last issues_good formed (registered statement new room) = may_register pass statement new room
+MayFollow-answered state pass clock request reply event at last issues_good formed (issued number goal statement g numbered verdict) =
+    may_issue pass (number ∷ []) g (record { number = number; statement = statement; cites = refl; registered = numbered; verdict = good goal g statement verdict; sound = SoundGrant-verdict (statement ∷ []) statement goal g (Contains-head statement statement [] refl) verdict })
+MayFollow-answered state pass clock request reply event at last issues_good formed (acted caller op procaps made after issues admitted does) =
+    may_act pass caller op procaps (moment_of state clock) made after (last_up_to_max clock state.moment) (max_in_range clock state.moment at last) formed (few_bytes op) issues admitted does (AreDerived-admitted state caller op procaps (moment_of state clock) issues_good admitted)
 
 -- nothing is pending
 pub nothing : (p : Option Step) (f : Step → Event) (P : Step → Type 0) → option_map f p ≡ None → MatchOption p ⊤ P
@@ -58,7 +60,7 @@ CanKeep-decided h pass clock request reply decided step is room lawful at formed
     let there : IsDecided (state_of h) pass clock request reply (Some step) = subst (λ (d : Option Step). IsDecided (state_of h) pass clock request reply d) is answered in
     record {
       room = room;
-      lawful = MayFollow-answered (state_of h) pass clock request reply step.event at (moment_in_range h.base h.events lawful.lawful_base.moment_in_range lawful.each) formed there.0;
+      lawful = MayFollow-answered (state_of h) pass clock request reply step.event at (moment_in_range h.base h.events lawful.lawful_base.moment_in_range lawful.each) (AreGoodIssues-replay h.base h.events lawful.lawful_base.good_issues lawful.each) formed there.0;
       brings = there.1;
     }
 

@@ -1,18 +1,17 @@
 -- A history that keeps one more event.
-use Rattle.std.proofs.Common.{◌≡◌, ◌≢◌, ℕ, zero, suc, ◌+◌, ◌-◌, ◌^◌, ◌≤◌, ◌<◌, Bool, true, false, cond, not, List, [], ◌∷◌, ◌++◌, length, Option, Some, None, refl, sym, ap, subst, ◌∙◌, arith}
-use Rattle.std.specs.Prelude.{Vec, Result, Ok, is_ok, ℤ, ◌&&◌, ◌||◌, nat_le, ◌==◌}
+use Rattle.std.proofs.Common.{◌≡◌, ◌+◌, ◌-◌, ◌^◌, ◌<◌, Bool, false, cond, List, [], ◌∷◌, ◌++◌, Some, None, refl, sym, ap, subst, ◌∙◌, arith}
+use Rattle.std.specs.Prelude.{Vec, Result, Ok, is_ok, ℤ}
 use Rattle.std.proofs.lemmas.List.{length-append}
 use Rattle.std.proofs.lemmas.Bool.Decides.{nat_tests}
 use Rattle.std.specs.declared.alloc.Global.{Global}
 use Rattle.std.specs.Int.{w64}
-use Rattle.std.proofs.lemmas.Int.{ints, to_z-of_z}
+use Rattle.std.proofs.lemmas.Int.{ints}
 use mir.Val.{SFits}
 use Rattle.bl_syntax.specs.TimeOrder.{IsMoment}
 use Rattle.bl_syntax.specs.Statement.{Saying}
 use Rattle.pcfs_top.specs.declared.world.Row.{Row}
 use Rattle.pcfs_top.specs.declared.event.Issue.{Issue}
 use Rattle.pcfs_top.specs.declared.event.Event.{Event}
-use Rattle.pcfs_top.specs.declared.event.Event.TheVariants.{Registered, Issued, Acted}
 use Rattle.pcfs_top.specs.declared.event.Op.TheVariants.{Create}
 use Rattle.pcfs_top.specs.declared.event.Base.{Base}
 use Rattle.pcfs_top.specs.declared.step.Change.{Change}
@@ -20,12 +19,12 @@ use Rattle.pcfs_top.specs.declared.step.Change.TheVariants as changes
 use Rattle.pcfs_top.specs.declared.step.AddedNode.{AddedNode}
 use Rattle.pcfs_top.specs.declared.history.History.TheInside.{Inside}
 use Rattle.pcfs_top.specs.World.{FileTree}
-use Rattle.pcfs_top.specs.Effect.{Outcome, refusal, replied, OpReply, is_full, create_refusal, create_outcome}
-use Rattle.pcfs_top.specs.Lawful.{IsLawful, AreLawful, one_more, MayFollow, may_register, may_issue, may_act}
-use Rattle.pcfs_top.specs.Replay.{replay, next_state}
-use Rattle.pcfs_top.specs.History.{Kept, state_of, changed, Brings}
+use Rattle.pcfs_top.specs.Effect.{replied, is_full, create_refusal, create_outcome}
+use Rattle.pcfs_top.specs.Lawful.{IsLawful, one_more, MayFollow, may_register, may_issue, may_act}
+use Rattle.pcfs_top.specs.Replay.{replay}
+use Rattle.pcfs_top.specs.History.{state_of, changed, Brings}
 use Rattle.pcfs_top.specs.HistoryParts.{kept_by, shown_state, IsKeeping}
-use Rattle.pcfs_top.proofs.Replays.{replay-more, count-replay, IsFree, IsFree-create}
+use Rattle.pcfs_top.proofs.Replays.{replay-more, count-replay, IsFree-create}
 
 -- the fields show the state after the change, and the events have one more at their end
 pub IsKeeping-more : (h after : Inside) (event : Event) (change : Change) → IsKeeping h → MayFollow (state_of (kept_by h)) event → Brings (state_of (kept_by h)) event change → (state_of (kept_by h)).count < 2 ^ 48 - 1 →
@@ -73,7 +72,7 @@ next_fits state event added (may_register pass statement new room) brings fits =
     let e : state.world.next + 1 ≡ state.world.next = ap (λ (s : Base). s.world.next) brings in omega (arith, e)
 next_fits state event added (may_issue pass cited g good) brings fits =
     let e : state.world.next + 1 ≡ state.world.next = ap (λ (s : Base). s.world.next) brings in omega (arith, e)
-next_fits state event added (may_act pass caller (Create directory name) procaps moment reply after later in_range slots bytes issued admitted does) brings fits =
+next_fits state event added (may_act pass caller (Create directory name) procaps moment reply after later in_range slots bytes issued admitted does derived) brings fits =
     elim (create_refusal directory.0 name state.world) as (λ r. create_refusal directory.0 name state.world ≡ r → create_outcome r caller directory.0 name state.world ≡ replied reply after → state.world.next + 1 < 2 ^ 64) [
       | Some number ↦ λ e d. absurd cc
       | None ↦ λ e d. below_last state.world fits (IsFree-create directory.0 name state.world e).not_full
@@ -87,5 +86,5 @@ SFits-moment moment m = omega (arith, ints, m.not_before, m.not_after)
 pub IsMoment-added : (state : Base) (event : Event) (added : AddedNode) → MayFollow state event → Brings state event (changes.Node added) → IsMoment added.moment
 IsMoment-added state event added (may_register pass statement new room) brings = absurd (let e : state.world.next + 1 ≡ state.world.next = ap (λ (s : Base). s.world.next) brings in omega (arith, e))
 IsMoment-added state event added (may_issue pass cited g good) brings = absurd (let e : state.world.next + 1 ≡ state.world.next = ap (λ (s : Base). s.world.next) brings in omega (arith, e))
-IsMoment-added state event added (may_act pass caller op procaps moment reply after later in_range slots bytes issued admitted does) brings =
+IsMoment-added state event added (may_act pass caller op procaps moment reply after later in_range slots bytes issued admitted does derived) brings =
     subst IsMoment (sym (ap (λ (s : Base). s.moment) brings)) in_range

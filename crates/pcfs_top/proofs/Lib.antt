@@ -1,7 +1,9 @@
+pub mod Backing
 pub mod Beginning
 pub mod CauseLemmas
 pub mod Deciding
 pub mod Ending
+pub mod HeadlineLemmas
 pub mod Keeping
 pub mod Making
 pub mod Replays
@@ -11,6 +13,7 @@ pub mod ListLemmas
 pub mod NumberedLemmas
 pub mod OptionLemmas
 pub mod LineLemmas
+pub mod RunLemmas
 pub mod Running
 pub mod TreeLemmas
 pub mod WrittenLemmas

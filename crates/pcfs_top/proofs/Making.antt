@@ -1,10 +1,8 @@
 -- The making of a file, over plain values.
-use Rattle.std.proofs.Common.{◌≡◌, ◌≤◌, ◌<◌, ◌+◌, ◌-◌, ℕ, suc, zero, List, [], ◌∷◌, ◌++◌, length, get_or, refl, ap, subst, sym, ◌∙◌, arith, None, Some, Option}
+use Rattle.std.proofs.Common.{◌≡◌, ◌≤◌, ◌+◌, ℕ, List, [], ◌∷◌, length, refl, ap, subst, sym, ◌∙◌, None, Some, Option}
 use Rattle.std.specs.Prelude.{ℤ}
-use Rattle.std.specs.Int.{int_max}
 use Rattle.bl_syntax.specs.declared.terms.NodeId.{NodeId}
 use Rattle.bl_syntax.specs.declared.terms.Perm.TheVariants.{Write}
-use Rattle.bl_syntax.specs.Grant.{Granted}
 use Rattle.pcfs_top.specs.declared.world.Row.{Row}
 use Rattle.pcfs_top.specs.declared.event.Base.{Base}
 use Rattle.pcfs_top.specs.declared.event.Issue.{Issue}
@@ -15,7 +13,6 @@ use Rattle.pcfs_top.specs.declared.request.StepRequest.TheVariants as requests
 use Rattle.pcfs_top.specs.declared.reply.Cause.{Cause}
 use Rattle.pcfs_top.specs.declared.reply.Reply.{Reply}
 use Rattle.pcfs_top.specs.declared.reply.Reply.TheVariants as replies
-use Rattle.pcfs_top.specs.declared.step.AddedNode.{AddedNode}
 use Rattle.pcfs_top.specs.declared.step.Step.{Step}
 use Rattle.pcfs_top.specs.declared.step.Change.{Change}
 use Rattle.pcfs_top.specs.declared.step.Change.TheVariants as changes
@@ -23,11 +20,11 @@ use Rattle.pcfs_top.specs.Numbered.{IsNumbered, HasNumber}
 use Rattle.pcfs_top.specs.World.{FileTree}
 use Rattle.pcfs_top.specs.Facts.{facts, facts_of}
 use Rattle.pcfs_top.specs.Needs.{need_of}
-use Rattle.pcfs_top.specs.Effect.{Outcome, OpReply, node, refusal, replied, created_row, with_row, create_refusal, create_outcome, effect}
-use Rattle.pcfs_top.specs.Replay.{next_state, tree_after}
+use Rattle.pcfs_top.specs.Effect.{Outcome, OpReply, node, replied, created_row, with_row, create_refusal, create_outcome, effect}
+use Rattle.pcfs_top.specs.Replay.{tree_after}
 use Rattle.pcfs_top.specs.History.{Brings}
 use Rattle.pcfs_top.specs.Decision.{IsDecided, IsMade}
-use Rattle.pcfs_top.specs.Answer.{Answers, IsProcapAt, Gives, Fails, IsMet, AreIssued, IsAdmitted, reply_of, moment_of, no_issue, denied, here, refused, acted}
+use Rattle.pcfs_top.specs.Answer.{Answers, IsProcapAt, Gives, Fails, IsMet, reply_of, moment_of, no_issue, denied, here, refused, acted}
 
 abbrev next_from : Base → ℤ → FileTree → Base
 next_from state moment world = record state { world = world; moment = moment; count = state.count + 1 }

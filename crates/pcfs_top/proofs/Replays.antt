@@ -1,13 +1,11 @@
 -- The state after one more event, and what an operation that is not refused found.
-use Rattle.std.proofs.Common.{◌≡◌, ◌≢◌, ℕ, zero, suc, ◌+◌, ◌-◌, ◌^◌, ◌≤◌, ◌<◌, Bool, true, false, cond, not, List, [], ◌∷◌, ◌++◌, length, Option, Some, None, refl, sym, ap, ◌∙◌, arith}
-use Rattle.std.specs.Prelude.{ℤ, ◌&&◌, ◌||◌, nat_le, ◌==◌}
+use Rattle.std.proofs.Common.{◌≡◌, ℕ, ◌+◌, ◌≤◌, Bool, true, false, cond, not, List, [], ◌∷◌, ◌++◌, length, Option, Some, None, refl, arith}
 use Rattle.std.proofs.lemmas.List.{length-append}
 use Rattle.pcfs_top.specs.declared.event.Event.{Event}
 use Rattle.pcfs_top.specs.declared.event.Event.TheVariants.{Registered, Issued, Acted}
-use Rattle.pcfs_top.specs.declared.event.Op.TheVariants.{Create}
 use Rattle.pcfs_top.specs.declared.event.Base.{Base}
 use Rattle.pcfs_top.specs.World.{FileTree, is_node_name}
-use Rattle.pcfs_top.specs.Effect.{has_node, has_directory, has_entry, is_full, create_refusal, create_outcome}
+use Rattle.pcfs_top.specs.Effect.{has_node, has_directory, has_entry, is_full, create_refusal}
 use Rattle.bl_syntax.specs.TimeOrder.{IsMoment}
 use Rattle.pcfs_top.specs.Lawful.{AreLawful, no_event, one_more, MayFollow, may_register, may_issue, may_act}
 use Rattle.pcfs_top.specs.Replay.{replay, next_state}
@@ -30,7 +28,7 @@ count-replay base (e ∷ events) = let now = count-replay (next_state base e) ev
 next_statements : (state : Base) (event : Event) → MayFollow state event → length state.statements ≤ 4096 → length (next_state state event).statements ≤ 4096
 next_statements state event (may_register pass statement new room) few = omega (arith, length-append state.statements (statement ∷ []))
 next_statements state event (may_issue pass cited g good) few = few
-next_statements state event (may_act pass caller op procaps moment reply after later in_range slots bytes issued admitted does) few = few
+next_statements state event (may_act pass caller op procaps moment reply after later in_range slots bytes issued admitted does derived) few = few
 
 -- no lawful history has more than 4,096 statements
 pub few_statements : (base : Base) (events : List Event) → length base.statements ≤ 4096 → AreLawful base events → length (replay base events).statements ≤ 4096
@@ -41,7 +39,7 @@ few_statements base events few (one_more before event lawful follows) =
 next_moment : (state : Base) (event : Event) → MayFollow state event → IsMoment state.moment → IsMoment (next_state state event).moment
 next_moment state event (may_register pass statement new room) m = m
 next_moment state event (may_issue pass cited g good) m = m
-next_moment state event (may_act pass caller op procaps moment reply after later in_range slots bytes issued admitted does) m = in_range
+next_moment state event (may_act pass caller op procaps moment reply after later in_range slots bytes issued admitted does derived) m = in_range
 
 -- the moment of a lawful history's state lies in the range
 pub moment_in_range : (base : Base) (events : List Event) → IsMoment base.moment → AreLawful base events → IsMoment (replay base events).moment

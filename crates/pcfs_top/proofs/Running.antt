@@ -1,8 +1,6 @@
 -- A script that was run as far as some rest of its input.
-use Rattle.std.proofs.Common.{◌≡◌, ℕ, ℤ, zero, suc, ◌+◌, ◌-◌, ◌^◌, ◌≤◌, ◌<◌, Bool, true, false, cond, List, [], ◌∷◌, ◌++◌, length, take, Option, Some, None, refl, sym, ap, subst, ◌∙◌, arith, append_assoc, append-nil, length-append}
+use Rattle.std.proofs.Common.{◌≡◌, ℕ, ℤ, suc, ◌+◌, ◌-◌, ◌^◌, ◌≤◌, ◌<◌, Bool, true, false, cond, List, [], ◌∷◌, ◌++◌, length, take, Option, Some, None, refl, sym, ap, subst, ◌∙◌, arith, append_assoc, append-nil, length-append}
 use Rattle.std.specs.Prelude.{◌==◌, IfSome, MatchOption}
-use Rattle.std.specs.Option.{option_to_list}
-use Rattle.std.specs.List.{flat_map}
 use Rattle.std.proofs.lemmas.Grind.{flat_map-append}
 use Rattle.std.proofs.Math.Seq.{take-append-add}
 use Rattle.bl_syntax.specs.declared.grant.Goal.{Goal}
@@ -22,27 +20,22 @@ use Rattle.pcfs_top.specs.Answer.{Answers}
 use Rattle.pcfs_top.specs.Decision.{Gated}
 use Rattle.pcfs_top.specs.Replay.{replay, fresh}
 use Rattle.pcfs_top.specs.Lines.{lines_of, with_byte, IsLine}
-use Rattle.pcfs_top.specs.Lines as lines
 use Rattle.pcfs_top.specs.ReplyText.{reply_text, output_of}
 use Rattle.pcfs_top.specs.Script.{Standing, beginning, AnswersLine, script_pass, IsRun}
 use Rattle.pcfs_top.specs.Script as script
 use Rattle.pcfs_top.specs.Desk.{Seated, IsAsked, IsReplied, IsAllowed}
 use Rattle.pcfs_top.specs.Desk as desk
 use Rattle.pcfs_top.specs.Run.{RunsWhole, RunsPart}
+use Rattle.pcfs_top.specs.Headline.{Headline}
 use Rattle.pcfs_top.proofs.Replays.{count-replay}
+use Rattle.pcfs_top.proofs.Beginning.{IsLawful-fresh}
+use Rattle.pcfs_top.proofs.HeadlineLemmas.{Headline-lawful}
+use Rattle.pcfs_top.proofs.RunLemmas.{run_events, IsLawful-run}
 
 -- no byte behind what is held is no change
 pub with_back-nil : (told : Option (List ℕ)) → told ≡ with_back told []
 with_back-nil None = refl
 with_back-nil (Some first) = ap Some (sym (append-nil first))
-
--- what a line asks for is allowed
-pub IsAllowed-line : (line : List ℕ) (command : Command) → IsLine line command → IsAllowed command
-IsAllowed-line line command (lines.sets_clock word second is) = is.in_range
-IsAllowed-line line command (lines.sets_caller who is) = tt
-IsAllowed-line line command (lines.registers who lower upper from to is l u) = tt
-IsAllowed-line line command (lines.verifies who word number is n) = tt
-IsAllowed-line line command (lines.creates name word number is n) = refl
 
 -- what is decided and kept is answered
 pub IsAsked-keep : (seated : Seated) (base : Base) (clock shown : ℤ) (caller : List ℕ) (events : List Event) (decided kept : Gated) (request : StepRequest) (reply : Reply) →
@@ -106,30 +99,6 @@ AnswersLine-do seated base clock caller events after line command op procaps rep
 pub IsReplied-without_memory : (before after : Seated) (line : List ℕ) → after ≡ before → IsReplied before.base before.standing line replies.NoMemory after.standing
 IsReplied-without_memory before after line same = subst (λ (s : Seated). IsReplied before.base before.standing line replies.NoMemory s.standing) (sym same) desk.without_memory
 
--- a line adds at most one event
-length-option : (event : Option Event) → length (option_to_list event) ≤ 1
-length-option None = omega arith
-length-option (Some event) = omega arith
-
-more_events : (events : List Event) (event : Option Event) → length (events ++ option_to_list event) ≤ length events + 1
-more_events events event = omega (arith, length-append events (option_to_list event), length-option event)
-
-one_event : (base : Base) (before after : Standing) (line : List ℕ) (reply : Reply) → AnswersLine base before line reply after → length after.events ≤ length before.events + 1
-one_event base before after line reply (script.outside none) = omega arith
-one_event base before after line reply (script.sets_clock second is) = omega arith
-one_event base before after line reply (script.sets_caller who is) = omega arith
-one_event base before after line reply (script.registers statement r event is answer) = more_events before.events event
-one_event base before after line reply (script.verifies goal number r event is answer) = more_events before.events event
-one_event base before after line reply (script.acts op procaps r event is answer) = more_events before.events event
-
--- so there are no more events than lines
-run_events : (base : Base) (done : List (List ℕ)) (answers : List Reply) (standing : Standing) → IsRun base done answers standing → length standing.events ≤ length done
-run_events base done answers standing script.begun = omega arith
-run_events base done answers standing (script.answered before_lines before_answers line reply before after run answer) =
-    omega (arith, length-append before_lines (line ∷ []), run_events base before_lines before_answers before run, one_event base before after line reply answer)
-run_events base done answers standing (script.without_memory before_lines before_answers line before run) =
-    omega (arith, length-append before_lines (line ∷ []), run_events base before_lines before_answers before run)
-
 -- and no more lines than bytes
 length-with_byte : (byte : ℕ) (ls : List (List ℕ)) → length (with_byte byte ls) ≤ length ls + 1
 length-with_byte byte [] = omega arith
@@ -142,6 +111,14 @@ few_lines_step false byte ls n few = omega (arith, length-with_byte byte ls)
 pub few_lines : (bytes : List ℕ) → length (lines_of bytes) ≤ length bytes
 few_lines [] = omega arith
 few_lines (byte ∷ bytes) = few_lines_step (byte == 10) byte (lines_of bytes) (length bytes) (few_lines bytes)
+
+-- the headline holds of the history after the lines so far
+Headline-run : (bytes : List ℕ) (done others : List (List ℕ)) (answers : List Reply) (standing : Standing) → length bytes < 2 ^ 30 → lines_of bytes ≡ done ++ others → IsRun fresh done answers standing →
+    Headline fresh standing.events (replay fresh standing.events).world
+Headline-run bytes done others answers standing short parts run =
+    let lines_are : length (lines_of bytes) ≡ length (done ++ others) = ap length parts in
+    let few : fresh.count + length done ≤ 2 ^ 48 - 1 = omega (arith, short, lines_are, length-append done others, few_lines bytes) in
+    Headline-lawful fresh standing.events (IsLawful-run fresh done answers standing IsLawful-fresh.lawful_base few run)
 
 -- the lines before the rest were run, their replies stand behind what was held, and the script stands there
 pub record HasRun (bytes rest : List ℕ) (standing : Standing) (held held_now : Option (List ℕ)) : Type 0 where
@@ -192,25 +169,40 @@ HasRun-more bytes rest others line base before after reply held mid new same h f
   output = written ∙ ap (λ t. with_back t (reply_text reply ++ 10 ∷ [])) h.output ∙ with_back-with_back held (output_of h.answers) (reply_text reply ++ 10 ∷ []) ∙ ap (with_back held) (sym (output-more h.answers reply));
 }
 
-pub HasRun-whole : (bytes rest : List ℕ) (standing : Standing) (held held_now : Option (List ℕ)) → HasRun bytes rest standing held held_now → rest ≡ [] →
+pub HasRun-whole : (bytes rest : List ℕ) (standing : Standing) (held held_now : Option (List ℕ)) → length bytes < 2 ^ 30 → HasRun bytes rest standing held held_now → rest ≡ [] →
     (written : List ℕ) × RunsWhole bytes written × (held_now ≡ with_back held written)
-HasRun-whole bytes rest standing held held_now h end =
+HasRun-whole bytes rest standing held held_now short h end =
     let all : lines_of bytes ≡ h.done = h.parts ∙ ap (λ (r : List ℕ). h.done ++ lines_of r) end ∙ append-nil h.done in
-    (output_of h.answers, record { answers = h.answers; after = standing; run = subst (λ (ls : List (List ℕ)). IsRun fresh ls h.answers standing) (sym all) h.run; written_is = refl }, h.output)
+    let run : IsRun fresh (lines_of bytes) h.answers standing = subst (λ (ls : List (List ℕ)). IsRun fresh ls h.answers standing) (sym all) h.run in (
+      output_of h.answers,
+      record {
+        answers = h.answers;
+        after = standing;
+        run = run;
+        tree = (replay fresh standing.events).world;
+        headline = Headline-run bytes h.done (lines_of rest) h.answers standing short h.parts h.run;
+        written_is = refl;
+      },
+      h.output,
+    )
 
-pub HasRun-part : (bytes rest others line : List ℕ) (base : Base) (before after : Standing) (reply : Reply) (held mid new : Option (List ℕ)) → base ≡ fresh → HasRun bytes rest before held mid → lines_of rest ≡ line ∷ lines_of others →
+pub HasRun-part : (bytes rest others line : List ℕ) (base : Base) (before after : Standing) (reply : Reply) (held mid new : Option (List ℕ)) → length bytes < 2 ^ 30 → base ≡ fresh → HasRun bytes rest before held mid → lines_of rest ≡ line ∷ lines_of others →
     IsReplied base before line reply after → HoldsSome mid new (reply_text reply ++ 10 ∷ []) → (written : List ℕ) × RunsPart bytes written × HoldsSome held new written
-HasRun-part bytes rest others line base before after reply held mid new same h first replied some =
+HasRun-part bytes rest others line base before after reply held mid new short same h first replied some =
+    let parts = parts-more bytes rest others line h.done h.parts first in
+    let run = run-more base h.done h.answers before after line reply same h.run replied in
     let out = output_of h.answers in
     let text = reply_text reply ++ 10 ∷ [] in (
       out ++ text,
       record {
         front = h.done ++ line ∷ [];
         others = lines_of others;
-        parts = parts-more bytes rest others line h.done h.parts first;
+        parts = parts;
         answers = h.answers ++ reply ∷ [];
         after = after;
-        run = run-more base h.done h.answers before after line reply same h.run replied;
+        run = run;
+        tree = (replay fresh after.events).world;
+        headline = Headline-run bytes (h.done ++ line ∷ []) (lines_of others) (h.answers ++ reply ∷ []) after short parts run;
         written_is = sym (output-more h.answers reply);
       },
       record {
@@ -224,6 +216,16 @@ HasRun-part bytes rest others line base before after reply held mid new same h f
 pub nothing_run : (bytes : List ℕ) (held : Option (List ℕ)) → (written : List ℕ) × RunsPart bytes written × HoldsSome held held written
 nothing_run bytes held = (
   [],
-  record { front = []; others = lines_of bytes; parts = refl; answers = []; after = beginning; run = script.begun; written_is = refl },
+  record {
+    front = [];
+    others = lines_of bytes;
+    parts = refl;
+    answers = [];
+    after = beginning;
+    run = script.begun;
+    tree = fresh.world;
+    headline = Headline-lawful fresh [] IsLawful-fresh;
+    written_is = refl;
+  },
   record { count = 0; within = omega arith; held = with_back-nil held },
 )

@@ -1,9 +1,6 @@
 -- What a history keeps, and what its parts are for (this project's own).
-use Rattle.std.specs.Prelude.{◌≡◌, ◌≤◌, ◌-◌, ◌+◌, ◌++◌, ℕ, ℤ, List, [], ◌∷◌, Vec, vec_len, vec_capacity, min}
+use Rattle.std.specs.Prelude.{◌≡◌, ◌-◌, ◌+◌, ◌++◌, ℕ, List, [], ◌∷◌, Vec, vec_len, vec_capacity}
 use Rattle.std.specs.declared.alloc.Global.{Global}
-use Rattle.bl_syntax.specs.Statement.{Saying}
-use Rattle.pcfs_top.specs.declared.world.Row.{Row}
-use Rattle.pcfs_top.specs.declared.event.Issue.{Issue}
 use Rattle.pcfs_top.specs.declared.event.Event.{Event}
 use Rattle.pcfs_top.specs.declared.event.Base.{Base}
 use Rattle.pcfs_top.specs.declared.step.Change.{Change}

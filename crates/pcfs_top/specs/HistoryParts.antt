@@ -1,5 +1,5 @@
 -- What the fields of a history stand for.
-use Rattle.std.specs.Prelude.{◌≡◌, ◌≤◌, ◌-◌, ◌+◌, ℕ, List, min}
+use Rattle.std.specs.Prelude.{◌≡◌, min}
 use Rattle.pcfs_top.specs.declared.event.Base.{Base}
 use Rattle.pcfs_top.specs.declared.history.History.TheInside.{Inside}
 use Rattle.pcfs_top.specs.History.{Kept, spare}

@@ -1,5 +1,5 @@
--- Laws of the definitions: a tree stays a tree, also along a whole history, and an answer is determined.
-use Rattle.std.specs.Prelude.{◌≡◌, ℕ, ℤ, List, Option, Some}
+-- Laws of the definitions: a tree stays a tree, also along a whole history; an answer is determined; runs are lawful, and the headline holds of what is lawful.
+use Rattle.std.specs.Prelude.{◌≡◌, ◌≤◌, ◌+◌, ◌-◌, ◌^◌, ℕ, ℤ, List, length, Option, Some}
 use Rattle.bl_syntax.specs.Grant.{AreDistinct}
 use Rattle.pcfs_top.specs.declared.event.Op.{Op}
 use Rattle.pcfs_top.specs.declared.event.Event.{Event}
@@ -9,7 +9,9 @@ use Rattle.pcfs_top.specs.declared.reply.Reply.{Reply}
 use Rattle.pcfs_top.specs.World.{FileTree, IsTree}
 use Rattle.pcfs_top.specs.Effect.{OpReply, replied, effect}
 use Rattle.pcfs_top.specs.Replay.{replay}
-use Rattle.pcfs_top.specs.Lawful.{IsLawful}
+use Rattle.pcfs_top.specs.Lawful.{IsLawfulBase, IsLawful}
+use Rattle.pcfs_top.specs.Headline.{Headline}
+use Rattle.pcfs_top.specs.Script.{Standing, IsRun}
 use Rattle.pcfs_top.specs.declared.event.Event.TheVariants.{Acted}
 use Rattle.pcfs_top.specs.declared.request.StepRequest.TheVariants.{Act}
 use Rattle.pcfs_top.specs.Answer.{Answers, AreIssued, IsAdmitted, moment_of, reply_of}
@@ -33,3 +35,11 @@ abbrev pub AdmittedAreKept : Type 0
 AdmittedAreKept = (state : Base) (pass : ℕ) (clock : ℤ) (caller : List ℕ) (op : Op) (procaps : List ℕ) (made : OpReply) (after : FileTree) (reply : Reply) (event : Option Event)
     → AreIssued state procaps → IsAdmitted state caller op procaps (moment_of state clock) → effect caller op state.world ≡ replied made after
     → Answers state pass clock (Act caller op procaps) reply event → (reply_of made ≡ reply) × (Some (Acted pass caller op procaps (moment_of state clock)) ≡ event)
+
+-- the headline holds of each lawful history and the tree to which it leads
+abbrev pub LawfulIsRightful : Type 0
+LawfulIsRightful = (base : Base) (events : List Event) → IsLawful base events → Headline base events (replay base events).world
+
+-- the events of a run of a script are lawful, where there are numbers for as many events as it has lines
+abbrev pub RunsAreLawful : Type 0
+RunsAreLawful = (base : Base) (lines : List (List ℕ)) (answers : List Reply) (after : Standing) → IsLawfulBase base → base.count + length lines ≤ 2 ^ 48 - 1 → IsRun base lines answers after → IsLawful base after.events

@@ -7,6 +7,7 @@ pub mod Desk
 pub mod DeskCode
 pub mod Effect
 pub mod Facts
+pub mod Headline
 pub mod History
 pub mod HistoryCode
 pub mod HistoryParts

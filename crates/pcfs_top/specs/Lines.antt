@@ -14,7 +14,8 @@ use Rattle.pcfs_top.specs.declared.event.Op.TheVariants.{Create}
 use Rattle.pcfs_top.specs.declared.command.Command.{Command}
 use Rattle.pcfs_top.specs.declared.command.Command.TheVariants.{At, As, Register, Verify, Do}
 use Rattle.pcfs_top.specs.World.{is_node_name}
-use Rattle.pcfs_top.specs.Verdict.{admin, wanted}
+use Rattle.bl_rules.specs.DirectGrant.{wanted}
+use Rattle.pcfs_top.specs.Verdict.{admin}
 
 -- the byte before the first of these lines
 abbrev pub with_byte : ℕ → List (List ℕ) → List (List ℕ)

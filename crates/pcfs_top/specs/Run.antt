@@ -1,6 +1,6 @@
 -- How a run of the program ends: its status, and what it took and wrote. Where the input does not tell what it has, or the output what it holds, nothing is said of that
 -- (this project's own).
-use Rattle.std.specs.Prelude.{◌≡◌, ◌⊎◌, ◌^◌, ℕ, List, [], ◌∷◌, ◌++◌, Option, String, map, codes}
+use Rattle.std.specs.Prelude.{◌≡◌, ℕ, List, [], ◌∷◌, ◌++◌, Option, String, map, codes}
 use Rattle.std.specs.String.{string_bytes}
 use Rattle.std.specs.declared.alloc.Global.{Global}
 use Rattle.pcfs_ports.specs.Faults.{HasRisen}
@@ -10,6 +10,8 @@ use Rattle.pcfs_top.specs.Replay.{fresh}
 use Rattle.pcfs_top.specs.Lines.{lines_of}
 use Rattle.pcfs_top.specs.ReplyText.{output_of}
 use Rattle.pcfs_top.specs.Script.{Standing, IsRun}
+use Rattle.pcfs_top.specs.World.{FileTree}
+use Rattle.pcfs_top.specs.Headline.{Headline}
 
 -- the words are the one word `script`
 abbrev pub IsScript : List (String Global) → Type 0
@@ -19,14 +21,16 @@ IsScript words = map string_bytes words ≡ codes "script" ∷ []
 abbrev pub ended : List ℕ → List ℕ
 ended line = line ++ 10 ∷ []
 
--- the script was run over these bytes: each line of them was answered
+-- the script was run over these bytes: each line of them was answered, and the headline holds of the history and the tree at the end
 pub record RunsWhole (bytes written : List ℕ) : Type 0 where
   pub answers : List Reply
   pub after : Standing
   pub run : IsRun fresh (lines_of bytes) answers after
+  pub tree : FileTree
+  pub headline : Headline fresh after.events tree
   pub written_is : written ≡ output_of answers
 
--- the script was run over the first lines of these bytes
+-- the script was run over the first lines of these bytes, and the headline holds of the history and the tree then
 pub record RunsPart (bytes written : List ℕ) : Type 0 where
   pub front : List (List ℕ)
   pub others : List (List ℕ)
@@ -34,6 +38,8 @@ pub record RunsPart (bytes written : List ℕ) : Type 0 where
   pub answers : List Reply
   pub after : Standing
   pub run : IsRun fresh front answers after
+  pub tree : FileTree
+  pub headline : Headline fresh after.events tree
   pub written_is : written ≡ output_of answers
 
 -- status 0: the input was read to its end, and the output has one line more for each reply of the run over it

@@ -1,17 +1,10 @@
 -- The verdict on the proof that derives what `admin` says from the claim of one cited statement, whose body has to be the goal: by the rules for `says` on the right, for a claim,
 -- and the initial rule, as this project's profile of BL has them.
-use Rattle.std.specs.Prelude.{◌≡◌, ◌≢◌, ◌⊎◌, ℕ, List, [], ◌∷◌, ◌++◌, codes}
-use Rattle.bl_syntax.specs.declared.terms.TimePoint.{TimePoint}
-use Rattle.bl_syntax.specs.declared.terms.TimePoint.TheVariants.{NegInf, At, PosInf}
-use Rattle.bl_syntax.specs.declared.terms.Term.{Term}
-use Rattle.bl_syntax.specs.declared.terms.Term.TheVariants.{Prin, File, Perm, Time, Ctime}
-use Rattle.bl_syntax.specs.declared.terms.Constraint.{Constraint}
+use Rattle.std.specs.Prelude.{◌≡◌, ◌≢◌, ◌⊎◌, ℕ, List, codes}
 use Rattle.bl_syntax.specs.declared.grant.Goal.{Goal}
-use Rattle.bl_syntax.specs.Formula.{Form, atom}
-use Rattle.bl_syntax.specs.WellSorted.{may}
-use Rattle.bl_syntax.specs.Terms.{IsAtLeastAsStrong}
 use Rattle.bl_syntax.specs.Statement.{Saying}
 use Rattle.bl_syntax.specs.Grant.{Granted}
+use Rattle.bl_rules.specs.DirectGrant.{wanted, SpeaksForAdmin, granted_by}
 
 -- a grant; or the number of a fault, and that of the rule that has it, from 0, each rule before its premises
 pub data Verdict : Type 0 where
@@ -21,30 +14,6 @@ pub data Verdict : Type 0 where
 -- the principal whose word decides
 abbrev pub admin : List ℕ
 admin = codes "admin"
-
--- what is to be derived: the principal may have the permission on the file
-abbrev pub wanted : Goal → Form
-wanted goal = atom may (Prin goal.who ∷ File goal.file ∷ Perm goal.perm ∷ [])
-
--- that the interval has begun: left open, but for an interval without a beginning
-abbrev pub begun : TimePoint → List Constraint
-begun NegInf = []
-begun (At second) = record { low = Time (At second); high = Ctime } ∷ []
-begun PosInf = record { low = Time PosInf; high = Ctime } ∷ []
-
--- that it has not ended: left open, but for an interval without an end
-abbrev pub not_ended : TimePoint → List Constraint
-not_ended NegInf = record { low = Ctime; high = Time NegInf } ∷ []
-not_ended (At second) = record { low = Ctime; high = Time (At second) } ∷ []
-not_ended PosInf = []
-
--- the goal, under the condition that the statement's interval holds the current time
-abbrev pub granted_by : Saying → Goal → Granted
-granted_by statement goal = record { goal = goal; times = begun statement.from ++ not_ended statement.to; states = [] }
-
--- the principal speaks for `admin`
-abbrev pub SpeaksForAdmin : List ℕ → Type 0
-SpeaksForAdmin who = IsAtLeastAsStrong (Prin who) (Prin admin)
 
 -- the claim is of a principal that does not speak for `admin`: fault 5 at the claim, which is rule 1
 pub record IsTooWeak (statement : Saying) (fault rule : ℕ) : Type 0 where

@@ -1,11 +1,10 @@
 -- The file tree as plain data, and what keeps it a tree. The limits and the grammar of names are this project's own.
-use Rattle.std.specs.Prelude.{◌≡◌, ◌≢◌, ◌<◌, ◌≤◌, ◌^◌, ◌-◌, ℕ, List, [], ◌∷◌, length, map, Bool, IsTrue, not, nat_le, ◌&&◌, ◌||◌, ◌==◌, Contains, codes}
+use Rattle.std.specs.Prelude.{◌≡◌, ◌<◌, ◌≤◌, ◌^◌, ◌-◌, ℕ, List, [], ◌∷◌, length, map, Bool, IsTrue, not, nat_le, ◌&&◌, ◌||◌, ◌==◌, Contains, codes}
 use Rattle.std.specs.List.{list_all, AllByRecursion}
 use Rattle.std.specs.Str.{bytes_eq}
-use Rattle.bl_syntax.specs.Names.{is_lower_case, is_digit, is_principal_name}
+use Rattle.bl_syntax.specs.Names.{is_lower_case, is_digit}
 use Rattle.bl_syntax.specs.Grant.{AreDistinct}
-use Rattle.pcfs_top.specs.declared.world.Kind.{Kind}
-use Rattle.pcfs_top.specs.declared.world.Kind.TheVariants.{File, Directory}
+use Rattle.pcfs_top.specs.declared.world.Kind.TheVariants.{Directory}
 use Rattle.pcfs_top.specs.declared.world.Row.{Row}
 
 -- the nodes in the order in which they were made, and the number of the next one

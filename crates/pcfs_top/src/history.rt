@@ -41,6 +41,7 @@ impl History {
     ghost use Rattle.pcfs_top.specs.History.{state_of, Brings};
     ghost use Rattle.pcfs_top.specs.Lawful.{IsLawful, MayFollow};
     ghost use Rattle.pcfs_top.specs.Replay.{fresh};
+    ghost use Rattle.pcfs_top.specs.Headline.{Headline};
 
     /// The history of a store before its first event.
     pub fn fresh(alloc: Global) -> Result<History, NoMemory>
@@ -79,7 +80,8 @@ impl History {
 
     /// The nodes of the tree.
     pub fn rows(&self) -> &[Row]
-        ensures { result.now ≡ (state_of self.now).world.rows }
+        ensures same { result.now ≡ (state_of self.now).world.rows }
+        ensures headline { Headline self.now.base self.now.events (state_of self.now).world }
     {
         self.rows.as_slice()
     }

@@ -1,6 +1,6 @@
 //! Laws of the definitions. The functions do nothing: each contract is a law.
 
-ghost use Rattle.pcfs_top.specs.Laws.{EffectKeepsTrees, HistoriesKeepTrees, AnswersAreDetermined, AdmittedAreKept};
+ghost use Rattle.pcfs_top.specs.Laws.{EffectKeepsTrees, HistoriesKeepTrees, AnswersAreDetermined, AdmittedAreKept, LawfulIsRightful, RunsAreLawful};
 
 /// Whoever calls, an operation that is not refused leaves a tree a tree.
 pub fn effect_keeps_trees()
@@ -20,4 +20,15 @@ pub fn answers_are_determined()
 /// An operation that is admitted and not refused gets its reply and is kept.
 pub fn admitted_operations_are_kept()
     ensures { AdmittedAreKept }
+{}
+
+/// Of each lawful history the headline holds: it replays to a tree, and every operation in it was admitted with a
+/// procap for each permission that it needs, whose grant the logic derives then and there if it was issued.
+pub fn lawful_histories_are_rightful()
+    ensures { LawfulIsRightful }
+{}
+
+/// The events of a run of a script are lawful.
+pub fn runs_are_lawful()
+    ensures { RunsAreLawful }
 {}

@@ -35,6 +35,7 @@ pub use gate::{Decision, Gate};
 pub use history::History;
 pub use laws::{
     admitted_operations_are_kept, answers_are_determined, effect_keeps_trees, histories_keep_trees,
+    lawful_histories_are_rightful, runs_are_lawful,
 };
 pub use node_name::is_node_name;
 pub use reply::{Cause, Denial, RegisterFault, Reply};

@@ -3,7 +3,8 @@
 ghost use Rattle.std.specs.Prelude.{◌≡◌, ◌↔◌, ◌<◌, ◌+◌, ◌∷◌, ◌++◌, [], IsTrue, IfOk, OnOk, Contains, length};
 ghost use Rattle.bl_syntax.specs.Formula.{formula};
 ghost use Rattle.bl_syntax.specs.TimeOrder.{IsInRange};
-ghost use Rattle.pcfs_top.specs.Verdict.{wanted, begun, not_ended, granted_by, IsVerdict, SpeaksForAdmin};
+ghost use Rattle.bl_rules.specs.DirectGrant.{wanted, begun, not_ended, granted_by, SpeaksForAdmin};
+ghost use Rattle.pcfs_top.specs.Verdict.{IsVerdict};
 ghost use Rattle.pcfs_top.specs.Verified.{verdict_of};
 
 use bl_syntax::{

@@ -1,4 +1,12 @@
+pub mod Faults
 pub mod Limits
+pub mod Parts
 pub mod Premises
 pub mod Proof
 pub mod ProofCode
+pub mod ProofCodec
+pub mod ProofReading
+pub mod ProofSpelling
+pub mod RuleTimes
+pub mod Rules
+pub mod Writing

@@ -3,13 +3,23 @@
 //! Contracts see a proof as plain data, without where it lies in memory.
 #![tactic(auto)]
 
+mod fault;
+pub mod laws;
 mod measure;
 mod premises;
 mod proof;
+mod reading;
+mod rule;
 mod tree;
+mod writing;
 
+pub use fault::ProofFault;
 pub use proof::Proof;
+pub use reading::read_proof;
 pub use tree::{LimitFault, ProofTree};
+pub use writing::write_proof;
 
+#[cfg(test)]
+mod byte_tests;
 #[cfg(test)]
 mod tests;

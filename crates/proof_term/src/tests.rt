@@ -13,7 +13,7 @@ use std::test::Fail;
 const PLACES: u8 = 21;
 
 /// A rule with the proof in that place.
-fn above(alloc: Global, place: u8, p: Proof) -> Result<Proof, AllocError>
+pub fn above(alloc: Global, place: u8, p: Proof) -> Result<Proof, AllocError>
     requires { HasTimesInRange (deduction p) }
     ensures { IfOk result (λ q. HasTimesInRange (deduction q)) }
 {
@@ -68,7 +68,7 @@ fn tower(alloc: Global, place: u8, levels: u16, top: Proof) -> Result<Proof, All
 }
 
 /// A proof of 4,095 nodes and depth 12.
-fn full(alloc: Global) -> Result<Proof, Fail>
+pub fn full(alloc: Global) -> Result<Proof, Fail>
     ensures { IfOk result (λ p. HasTimesInRange (deduction p)) }
 {
     let mut p = Proof::TrueR;

@@ -70,6 +70,19 @@ impl ProofTree {
         }
     }
 
+    /// Keeps a proof that is known to be within the limits. It takes no memory.
+    pub(crate) fn keep(p: Proof) -> ProofTree
+        requires { IsKept (deduction p) }
+        ensures { result ≡ deduction p }
+    {
+        let m = measure(&p, MOST_NODES, MOST_LEVELS).unwrap();
+        ProofTree {
+            root: p,
+            nodes: MOST_NODES - m.nodes_left,
+            levels: m.depth,
+        }
+    }
+
     /// The number of its nodes.
     pub fn size(&self) -> usize
         ensures { result ≡ size self.now }

@@ -1,6 +1,12 @@
+pub mod EntailedLemmas
+pub mod KeepLemmas
+pub mod RoomLemmas
 pub mod SoundnessEntailed
+pub mod SoundnessEntailment
 pub mod SoundnessRules
 pub mod SoundnessShapes
 pub mod SoundnessSteps
 pub mod SoundnessTests
 pub mod SoundnessVerdict
+pub mod StandingLemmas
+pub mod TermLemmas

@@ -12,13 +12,12 @@ use Rattle.bl_syntax.specs.declared.terms.StatePred.{StatePred}
 use Rattle.bl_syntax.specs.Formula.{Form}
 use Rattle.bl_syntax.specs.Entailment.{Entails, EntailsAll}
 use Rattle.bl_syntax.specs.Grant.{Granted, IsGrant, IsTimeCondition, IsStateCondition}
-use Rattle.bl_syntax.proofs.EntailmentLemmas.{Entails-entailed, Entails-more}
+use Rattle.bl_syntax.proofs.EntailmentLemmas.{Entails-constrained, Entails-entailed, Entails-more}
 use Rattle.bl_syntax.proofs.GrantLemmas.{IsGrant-push_time, IsGrant-push_state}
 use Rattle.bl_rules.specs.Sequent.{Hypothesis, holds, claims, Known, claims_among}
 use Rattle.bl_rules.specs.Derivable.{Derivable}
 use Rattle.bl_rules.specs.Richer.{Includes}
 use Rattle.bl_rules.proofs.Membership.{Includes-push, IsClaim, Contains-claims_among, Contains-map_cases}
-use Rattle.bl_rules.proofs.RicherLemmas.{EntailsAll-push}
 use Rattle.proof_verifier.specs.declared.fault.CheckFault.TheVariants.{NotEntailed, NotInState, TooManyConditions}
 use Rattle.proof_verifier.specs.Sequent.{Sequent, aim_at, learn, bound, observe, declare, speak, unless_truth}
 use Rattle.proof_verifier.specs.Tests.{has_constraint, has_state, may_stay_open, state_may_stay_open}
@@ -137,6 +136,14 @@ pub record MeetsTime (constraints : List Constraint) (u v : Term) (old new : Gra
 pub record MeetsState (facts : List StatePred) (s : StatePred) (old new : Granted) : Type 0 where
   pub grows : Grows old new
   pub known : (more : List StatePred) → Includes more facts → Includes more new.states → Contains more s
+
+EntailsAll-push : (psi old : List Constraint) (c : Constraint) → EntailsAll psi old → EntailsAll (psi ++ c ∷ []) (old ++ c ∷ [])
+EntailsAll-push psi old c all = record {
+  each = λ d among. ⊎_elim
+      (λ (before : Contains old d). Entails-more psi (psi ++ c ∷ []) d.low d.high (λ e. Contains-append_left psi (c ∷ []) e) (all.each d before))
+      (λ (here : c ≡ d). Entails-constrained (psi ++ c ∷ []) d (subst (λ (e : Constraint). Contains (psi ++ c ∷ []) e) here (Contains-push psi c)))
+      (Contains-push_cases old c d among);
+}
 
 between : Term → Term → Constraint
 between u v = record { low = u; high = v }

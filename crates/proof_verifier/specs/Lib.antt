@@ -1,8 +1,15 @@
+pub mod Checking
+pub mod CheckingCode
+pub mod Cited
 pub mod Conditions
 pub mod Entailed
+pub mod ExampleTable
 pub mod Examples
+pub mod Known
 pub mod Rules
+pub mod Run
 pub mod Sequent
 pub mod Shapes
+pub mod Standing
 pub mod Tests
 pub mod Verdict

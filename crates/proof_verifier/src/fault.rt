@@ -1,5 +1,10 @@
 //! Why a proof is refused.
 
+ghost use Rattle.std.specs.Prelude.{◌≡◌};
+ghost use Rattle.proof_verifier.specs.declared.fault.CheckFault.TheVariants.{NoMemory as OutOfMemory};
+
+use bl_syntax::NoMemory;
+
 /// Why a proof is refused: the first test that fails, and the node at which it fails. Nodes are numbered from 0,
 /// each before those of its premises.
 #[derive(Clone, Copy, Debug, PartialEq, Eq)]
@@ -20,4 +25,12 @@ pub enum CheckFault {
     TooManyConditions(usize),
     /// A growth was refused.
     NoMemory,
+}
+
+impl From<NoMemory> for CheckFault {
+    ghost from_gives = { λ _ fault. fault ≡ OutOfMemory };
+
+    fn from(_refused: NoMemory) -> CheckFault {
+        CheckFault::NoMemory
+    }
 }

@@ -1,14 +1,19 @@
 //! Laws of the definitions, and verdicts that they compute. A law is the contract of an empty function, which nothing calls.
 
-ghost use Rattle.std.specs.Prelude.{◌≡◌, List, [], ◌∷◌, Ok, Err, codes};
+ghost use Rattle.std.specs.Prelude.{◌≡◌, ◌↔◌, true, List, [], ◌∷◌, Ok, Err, codes};
 ghost use Rattle.std.specs.List.{AllByRecursion};
+ghost use Rattle.bl_syntax.specs.declared.terms.Term.{Term};
+ghost use Rattle.bl_syntax.specs.declared.terms.Constraint.{Constraint};
 ghost use Rattle.bl_syntax.specs.declared.grant.Goal.{Goal};
 ghost use Rattle.bl_syntax.specs.Statement.{Saying, IsStatement};
+ghost use Rattle.bl_syntax.specs.Entailment.{Entails};
 ghost use Rattle.bl_syntax.specs.Grant.{Granted, IsGrant};
 ghost use Rattle.bl_rules.specs.Allowed.{SoundGrant};
 ghost use Rattle.proof_term.specs.Proof.{Deduction};
 ghost use Rattle.proof_verifier.specs.declared.fault.CheckFault.TheVariants.{WrongShape};
+ghost use Rattle.proof_verifier.specs.Entailed.{is_entailed};
 ghost use Rattle.proof_verifier.specs.Verdict.{verdict};
+ghost use Rattle.proof_verifier.specs.ExampleTable.{Computes, accepted, refused};
 ghost use Rattle.proof_verifier.specs.Examples.{stated, may_write, writing, by_its_claim, between, employees_may_read, bob_is_employed, reading, by_employment, within_both};
 
 /// A grant that the verdict gives is sound: wherever its conditions hold, the statements allow what it grants.
@@ -30,6 +35,11 @@ pub fn the_verdict_gives_grants_within_their_rules()
         → verdict statements goal proof ≡ Ok granted → IsGrant granted }
 {}
 
+/// The entailment between times that the verdict computes is entailment.
+pub fn the_computed_entailment_is_entailment()
+    ensures { (constraints : List Constraint) (u v : Term) → (is_entailed constraints u v ≡ true) ↔ Entails constraints u v }
+{}
+
 /// A statement of `admin` grants what it says, on its interval.
 pub fn a_statement_grants_what_it_says()
     ensures { verdict (stated (codes "admin") may_write 0 200 ∷ []) writing by_its_claim ≡ Ok (between writing 0 200) }
@@ -44,4 +54,14 @@ pub fn an_employee_may_read()
 /// A statement about somebody else does not have the form of the goal.
 pub fn another_goal_is_a_wrong_shape()
     ensures { verdict (stated (codes "admin") may_write 0 200 ∷ []) reading by_its_claim ≡ Err (WrongShape 2) }
+{}
+
+/// Each rule accepts a proof.
+pub fn each_rule_accepts_a_proof()
+    ensures { AllByRecursion Computes accepted }
+{}
+
+/// Each rule has its faults, each at its node.
+pub fn each_rule_has_its_faults()
+    ensures { AllByRecursion Computes refused }
 {}

@@ -3,7 +3,21 @@
 //! The verdict on a proof is a definition, in `specs/Verdict.antt` with the table of rules in `specs/Rules.antt`.
 #![tactic(auto)]
 
+mod checked;
+mod cites;
+mod conditions;
+mod desk;
+mod facts;
 mod fault;
+mod hypotheses;
 pub mod laws;
+mod left;
+mod place;
+mod right;
+mod root;
+mod shapes;
+mod terms;
 
+pub use checked::{Checked, check};
+pub use cites::{Cite, Cites};
 pub use fault::CheckFault;

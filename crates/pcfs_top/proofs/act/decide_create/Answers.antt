@@ -2,12 +2,12 @@ use Rattle.std.specs.Prelude.{ℤ}
 use Rattle.std.specs.Int.{w64, int_max}
 use mir.Val.{SFits, to_z, of_z}
 use Rattle.std.proofs.lemmas.Int.{to_z-of_z}
-use Rattle.std.proofs.Common.{◌-◌, get_or, rules, ◌≡◌, ◌≤◌, ◌<◌, ℕ, List, ◌∷◌, [], length, refl, ap, subst, sym, ◌∙◌, arith, None, Some}
+use Rattle.std.proofs.Common.{◌-◌, get_or, rules, ◌≡◌, ◌∷◌, [], ap, subst, sym, ◌∙◌}
 use Rattle.pcfs_top.specs.declared.decide.Decided.{Decided}
 use Rattle.pcfs_top.specs.declared.event.Issue.{Issue}
 use Rattle.pcfs_top.specs.declared.event.Op.TheVariants.{Create}
 use Rattle.pcfs_top.specs.declared.request.StepRequest.TheVariants.{Act}
-use Rattle.pcfs_top.specs.Numbered.{IsNumbered, HasNumber}
+use Rattle.pcfs_top.specs.Numbered.{IsNumbered}
 use Rattle.pcfs_top.specs.History.{state_of}
 use Rattle.pcfs_top.specs.Decision.{IsDecided}
 use Rattle.pcfs_top.proofs.Deciding.{ok_so, no_zero, none_beyond, has_at, numbered_in}
@@ -40,7 +40,7 @@ returns-in-Some c =
     (to_z w64 (of_z w64 c.max-moment.result)) c.in-Some.cause c.count.result c.rows.result.now
     has (subst (λ (i : Issue). IsNumbered (state_of c.args.history.now).issues c.args.procap i) c.index-issues-procap.is numbered)
     (step_moment c.args.clock (state_of c.args.history.now).moment c.moment.result c.max-moment.result c.ranges.clock last_fits max_fits c.moment.ensures c.max-moment.ensures.value)
-    c.rows.ensures c.in-Some.ensures c.count.ensures.count)
+    c.rows.ensures.same c.in-Some.ensures c.count.ensures.count)
 
 pub returns : goal.returns
 returns c =
@@ -53,4 +53,4 @@ returns c =
     (to_z w64 (of_z w64 c.max-moment.result)) c.rows.result.now d.reply d.step
     has (subst (λ (i : Issue). IsNumbered (state_of c.args.history.now).issues c.args.procap i) c.index-issues-procap.is numbered)
     (step_moment c.args.clock (state_of c.args.history.now).moment c.moment.result c.max-moment.result c.ranges.clock last_fits max_fits c.moment.ensures c.max-moment.ensures.value)
-    c.rows.ensures gives made) c.make.ensures
+    c.rows.ensures.same gives made) c.make.ensures

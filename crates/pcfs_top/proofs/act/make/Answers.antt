@@ -1,4 +1,4 @@
-use Rattle.std.proofs.Common.{◌≡◌, ℕ, List, ◌∷◌, [], refl, ap, subst, sym, ◌∙◌, None, Some}
+use Rattle.std.proofs.Common.{ℕ, ◌∷◌, [], ap, subst, sym, ◌∙◌, None, Some}
 use Rattle.pcfs_top.specs.declared.decide.Decided.{Decided}
 use Rattle.pcfs_top.specs.declared.world.Row.{Row}
 use Rattle.std.specs.Prelude.{ℤ}
@@ -8,20 +8,19 @@ use Rattle.pcfs_top.specs.declared.event.Event.TheVariants.{Acted}
 use Rattle.pcfs_top.specs.declared.event.Op.TheVariants.{Create}
 use Rattle.pcfs_top.specs.declared.step.Change.TheVariants as changes
 use Rattle.pcfs_top.specs.History.{state_of}
-use Rattle.pcfs_top.specs.Effect.{create_refusal, created_row}
 use Rattle.pcfs_top.specs.Decision.{IsMade}
 use Rattle.pcfs_top.proofs.Making.{refusal_over, created_over, made_refused, made_kept}
 use Rattle.pcfs_top.proofs.act.make.Goals as goal
 
 pub returns-in-Some : goal.returns-in-Some
 returns-in-Some c =
-    let found = refusal_over c.args.directory.0 c.args.name.now c.as_slice.result.now (state_of c.args.history.now).world c.rows.result.now c.next_number-next.result (Some c.in-Some.refusal) (sym c.in-Some.is ∙ c.create_refusal.ensures) c.as_slice.ensures c.rows.ensures c.next_number-next.ensures in
+    let found = refusal_over c.args.directory.0 c.args.name.now c.as_slice.result.now (state_of c.args.history.now).world c.rows.result.now c.next_number-next.result (Some c.in-Some.refusal) (sym c.in-Some.is ∙ c.create_refusal.ensures) c.as_slice.ensures c.rows.ensures.same c.next_number-next.ensures in
     subst (λ (d : Decided). IsMade (state_of c.args.history.now) c.args.pass c.args.caller.now c.args.directory c.args.name.now (c.args.procap ∷ []) c.args.moment d.reply d.step) (sym c.told.ensures)
     (made_refused (state_of c.args.history.now) c.args.pass c.args.caller.now c.args.directory c.args.name.now (c.args.procap ∷ []) c.args.moment c.in-Some.refusal c.count.result found c.count.ensures.count)
 
 pub returns : goal.returns
 returns c =
-    let found = refusal_over c.args.directory.0 c.args.name.now c.as_slice.result.now (state_of c.args.history.now).world c.rows.result.now c.next_number-next.result None (sym c.in_default.is ∙ c.create_refusal.ensures) c.as_slice.ensures c.rows.ensures c.next_number-next.ensures in
+    let found = refusal_over c.args.directory.0 c.args.name.now c.as_slice.result.now (state_of c.args.history.now).world c.rows.result.now c.next_number-next.result None (sym c.in_default.is ∙ c.create_refusal.ensures) c.as_slice.ensures c.rows.ensures.same c.next_number-next.ensures in
     let row_is = created_over c.args.caller.now c.args.directory.0 c.args.name.now c.as_slice-2.result.now (state_of c.args.history.now).world c.next_number-next.result c.created_row-row.result c.created_row-row.ensures c.as_slice-2.ensures c.next_number-next.ensures in
     let moment_is = to_z-of_z w64 c.args.moment c.ranges.moment in
     let parent_is = ap (λ (r : Row). r.parent) row_is in

@@ -1,5 +1,5 @@
-use Rattle.std.proofs.Common.{◌≡◌, ◌≤◌, ◌+◌, subst, sym, ap, refl, arith, length, List, get_or}
-use Rattle.std.specs.Prelude.{ℤ, Contains}
+use Rattle.std.proofs.Common.{◌≡◌, subst, refl, arith, List, get_or}
+use Rattle.std.specs.Prelude.{ℤ}
 use Rattle.std.specs.List.{AllByRecursion}
 use Rattle.std.specs.Int.{w64}
 use Rattle.std.proofs.lemmas.Int.{to_z-of_z}
@@ -9,7 +9,7 @@ use Rattle.bl_syntax.specs.FirstFailing.{IsFirstFailing}
 use Rattle.bl_syntax.specs.Grant.{HoldsAt}
 use Rattle.pcfs_top.specs.Needs.{need_of}
 use Rattle.pcfs_top.specs.Facts.{facts_of}
-use Rattle.pcfs_top.specs.Answer.{Fails, NamesMatch, time_passed, state_differs}
+use Rattle.pcfs_top.specs.Answer.{NamesMatch, time_passed, state_differs}
 use Rattle.pcfs_top.proofs.CauseLemmas.{Fails-names, NamesMatch-same, place_within, failing_read}
 use Rattle.pcfs_top.proofs.cause.cause_of.Goals as goal
 

@@ -1,7 +1,7 @@
 use Rattle.std.proofs.Common.{arith}
 use Rattle.bl_syntax.specs.declared.terms.StatePred.TheVariants.{Owner}
 use Rattle.pcfs_top.specs.Facts.{ownership}
-use Rattle.pcfs_top.proofs.CauseLemmas.{Contains-map-at, Contains-map-none}
+use Rattle.pcfs_top.proofs.CauseLemmas.{Contains-map-none}
 use Rattle.pcfs_top.proofs.cause.is_owned.Goals as goal
 
 pub returns : goal.returns

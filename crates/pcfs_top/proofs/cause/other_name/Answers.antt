@@ -1,7 +1,7 @@
-use Rattle.std.proofs.Common.{◌≡◌, ap}
+use Rattle.std.proofs.Common.{ap}
 use Rattle.bl_syntax.specs.declared.terms.Term.TheVariants as terms
 use Rattle.pcfs_top.specs.Differs.{in_principal, in_file, in_permission}
-use Rattle.pcfs_top.proofs.CauseLemmas.{is_so, is_not_so, file_same, perm_same}
+use Rattle.pcfs_top.proofs.CauseLemmas.{is_so, is_not_so, file_same}
 use Rattle.pcfs_top.proofs.cause.other_name.Goals as goal
 
 pub returns-then-not-is_same : goal.returns-then-not-is_same

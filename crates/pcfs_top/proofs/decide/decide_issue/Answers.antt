@@ -1,18 +1,12 @@
-use Rattle.std.proofs.Common.{◌≡◌, ◌≤◌, ◌<◌, ◌+◌, ◌-◌, ℕ, List, length, get_or, refl, ap, subst, sym, ◌∙◌, arith, None, Some}
-use Rattle.std.specs.Prelude.{Contains}
-use Rattle.std.specs.List.{slice_get}
-use Rattle.std.proofs.lemmas.Option.{slice_get_read}
-use Rattle.bl_syntax.specs.Statement.{Saying}
-use Rattle.pcfs_top.specs.declared.event.Base.{Base}
+use Rattle.std.proofs.Common.{length, ap, subst, sym}
 use Rattle.pcfs_top.specs.declared.decide.Decided.{Decided}
 use Rattle.pcfs_top.specs.declared.request.StepRequest.TheVariants.{Issue}
 use Rattle.pcfs_top.specs.declared.verdict.Verified.{Verified}
 use Rattle.pcfs_top.specs.Verified.{verdict_of}
 use Rattle.pcfs_top.specs.Verdict.{IsVerdict}
-use Rattle.pcfs_top.specs.Numbered.{IsNumbered, HasNumber}
-use Rattle.pcfs_top.specs.History.{Kept, state_of}
+use Rattle.pcfs_top.specs.History.{state_of}
 use Rattle.pcfs_top.specs.Decision.{IsDecided}
-use Rattle.pcfs_top.specs.Answer.{no_statement, unproved, issued}
+use Rattle.pcfs_top.specs.Answer.{no_statement, unproved}
 use Rattle.pcfs_top.proofs.Deciding.{issued_decided, no_zero, none_beyond, numbered_in}
 use Rattle.pcfs_top.proofs.decide.decide_issue.Goals as goal
 use Rattle.pcfs_top.proofs.decide.decide_issue.Goals.{then-number-eq0-via-then-number-eq0, then-number-eq0-via-else-number-eq0+then-statements-number}

@@ -1,13 +1,12 @@
-use Rattle.std.proofs.Common.{◌≡◌, ◌≤◌, ◌+◌, ℕ, List, length, refl, ap, subst, sym, ◌∙◌, arith, None, Some}
+use Rattle.std.proofs.Common.{◌≡◌, ◌≤◌, ◌+◌, List, length, refl, subst, sym, Some}
 use Rattle.std.specs.Prelude.{Contains}
 use Rattle.std.specs.List.{slice_get}
 use Rattle.bl_syntax.specs.Statement.{Saying}
-use Rattle.pcfs_top.specs.declared.event.Base.{Base}
 use Rattle.pcfs_top.specs.declared.decide.Decided.{Decided}
 use Rattle.pcfs_top.specs.declared.request.StepRequest.TheVariants.{Register}
-use Rattle.pcfs_top.specs.History.{Kept, state_of}
+use Rattle.pcfs_top.specs.History.{state_of}
 use Rattle.pcfs_top.specs.Decision.{IsDecided}
-use Rattle.pcfs_top.specs.Answer.{duplicate, registry_full, registered}
+use Rattle.pcfs_top.specs.Answer.{duplicate, registry_full}
 use Rattle.pcfs_top.proofs.Deciding.{registered_decided}
 use Rattle.pcfs_top.proofs.decide.decide_register.Goals as goal
 

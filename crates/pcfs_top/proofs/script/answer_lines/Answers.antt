@@ -2,7 +2,7 @@
 use Rattle.std.proofs.Common.{ap, ◌∙◌, arith}
 use Rattle.pcfs_ports.proofs.ToldLemmas.{on_err}
 use Rattle.pcfs_top.specs.Desk.{Seated}
-use Rattle.pcfs_top.proofs.Running.{HasRun-start, HasRun-counted, HasRun-more, HasRun-part}
+use Rattle.pcfs_top.proofs.Running.{HasRun-start, HasRun-counted, HasRun-more, HasRun-part, HasRun-whole}
 use Rattle.pcfs_top.proofs.script.answer_lines.Goals as goal
 
 pub loop-line-init : goal.loop-line-init
@@ -17,7 +17,7 @@ reply_to-reply-requires g c = record { counted = HasRun-counted _ _ _ _ _ _ c.lo
 
 pub returns-in_err-send-clause-err : goal.returns-in_err-send-clause-err
 returns-in_err-send-clause-err g c =
-    on_err c.from_residual.result (HasRun-part _ _ c.in-Some.others.now _ _ _ _ _ _ _ _ c.loop-line.invariant.base c.loop-line.invariant.run c.in-Some.ensures.lines c.reply_to-reply.ensures.reply c.in_err-send.ensures.err)
+    on_err c.from_residual.result (HasRun-part _ _ c.in-Some.others.now _ _ _ _ _ _ _ _ c.requires.short c.loop-line.invariant.base c.loop-line.invariant.run c.in-Some.ensures.lines c.reply_to-reply.ensures.reply c.in_err-send.ensures.err)
 
 pub loop-line-preserved : goal.loop-line-preserved
 loop-line-preserved g c = record {
@@ -25,3 +25,6 @@ loop-line-preserved g c = record {
   run = HasRun-more _ _ c.in-Some.others.now _ _ _ _ _ _ _ _ c.loop-line.invariant.base c.loop-line.invariant.run c.in-Some.ensures.lines c.reply_to-reply.ensures.reply c.in_ok-send.ensures.ok;
   never_falls = omega (arith, c.in_ok-send.ensures.never_falls);
 }
+
+pub returns-clause-ok : goal.returns-clause-ok
+returns-clause-ok g c = HasRun-whole _ _ _ _ _ c.requires.short c.loop-line.invariant.run c.in_default.ensures.lines

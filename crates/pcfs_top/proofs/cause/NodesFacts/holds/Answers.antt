@@ -1,4 +1,4 @@
-use Rattle.std.proofs.Common.{◌≡◌, subst, sym, ap}
+use Rattle.std.proofs.Common.{subst, sym}
 use Rattle.std.specs.Prelude.{IsTrue, Contains, ◌↔◌, map, drop, List, ◌++◌}
 use Rattle.bl_syntax.specs.declared.terms.StatePred.TheVariants.{InDir}
 use Rattle.pcfs_top.specs.declared.world.Row.{Row}

@@ -1,5 +1,6 @@
 use Rattle.pcfs_top.specs.Script.{outside}
-use Rattle.pcfs_top.proofs.Running.{IsAllowed-line, IsLine-found, IsLine-none}
+use Rattle.pcfs_top.proofs.RunLemmas.{IsAllowed-line}
+use Rattle.pcfs_top.proofs.Running.{IsLine-found, IsLine-none}
 use Rattle.pcfs_top.proofs.desk.Desk.answer_line.Goals as goal
 
 pub follow-requires-clause-allowed : goal.follow-requires-clause-allowed

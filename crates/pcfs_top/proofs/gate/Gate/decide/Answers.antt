@@ -1,5 +1,5 @@
 -- What was decided can be kept.
-use Rattle.std.proofs.Common.{◌≡◌, ◌≤◌, ◌∙◌, subst, sym, Some, Option}
+use Rattle.std.proofs.Common.{◌≤◌, ◌∙◌, subst, sym, Option}
 use Rattle.std.specs.Prelude.{ℤ, ⊤, MatchOption}
 use Rattle.std.specs.Int.{w64}
 use Rattle.std.proofs.lemmas.Int.{to_z-of_z}

@@ -1,4 +1,4 @@
-use Rattle.std.proofs.Common.{◌≡◌, ap, sym, ◌∙◌, refl}
+use Rattle.std.proofs.Common.{◌∙◌}
 use Rattle.pcfs_top.proofs.Beginning.{IsKeeping-fresh, shown_fresh, first_moment_kept}
 use Rattle.pcfs_top.proofs.history.History.fresh.Goals as goal
 

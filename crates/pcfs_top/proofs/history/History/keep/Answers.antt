@@ -1,11 +1,10 @@
 -- The step's event comes next, and the fields show the state after it.
 use Rattle.std.specs.Int.{w64}
 use Rattle.std.proofs.lemmas.Int.{to_z-of_z}
-use Rattle.std.proofs.Common.{◌<◌, ◌^◌, ◌≡◌, ap, subst, sym, ◌∙◌, ◌+◌, arith}
+use Rattle.std.proofs.Common.{◌<◌, ◌^◌, ap, subst, sym, ◌∙◌, ◌+◌, arith}
 use Rattle.pcfs_top.specs.declared.history.History.TheInside.{Inside}
 use Rattle.pcfs_top.specs.declared.event.Base.{Base}
 use Rattle.pcfs_top.specs.declared.step.Change.{Change}
-use Rattle.pcfs_top.specs.declared.step.Change.TheVariants as changes
 use Rattle.pcfs_top.specs.History.{Kept, state_of, Brings}
 use Rattle.pcfs_top.specs.HistoryParts.{kept_by, shown_state}
 use Rattle.pcfs_top.specs.Lawful.{MayFollow}

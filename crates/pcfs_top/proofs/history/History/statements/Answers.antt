@@ -1,7 +1,6 @@
 -- A lawful history has few statements.
-use Rattle.std.proofs.Common.{◌≡◌, ◌≤◌, List, length, ap, subst, sym, ◌∙◌, arith}
+use Rattle.std.proofs.Common.{length, ap, arith}
 use Rattle.pcfs_top.specs.declared.event.Base.{Base}
-use Rattle.pcfs_top.specs.History.{Kept, state_of}
 use Rattle.pcfs_top.proofs.Replays.{few_statements}
 use Rattle.pcfs_top.proofs.history.History.statements.Goals as goal
 

@@ -1,0 +1,12 @@
+pub mod DepthLemmas
+pub mod FormulaAgain
+pub mod FormulaCodec
+pub mod FormulaLemmas
+pub mod FormulaMemory
+pub mod FoundLemmas
+pub mod KeptLemmas
+pub mod NodeLemmas
+pub mod StatementCodec
+pub mod StatementTest
+pub mod StopLemmas
+pub mod TermLoop

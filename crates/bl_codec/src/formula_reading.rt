@@ -1,0 +1,404 @@
+//! Reading formulas.
+
+ghost use Rattle.std.specs.Prelude.{◌≡◌, Err};
+ghost use Rattle.bl_syntax.specs.Formula.{formula};
+ghost use Rattle.bl_syntax.specs.Reading.{Gives, reading};
+ghost use Rattle.bl_syntax.specs.Codec.{GivesOrStops, ReadsFront};
+ghost use Rattle.bl_syntax.specs.FormulaSpelling.{IsSpellableFormula, formula_spelling};
+ghost use Rattle.bl_syntax.specs.FormulaReading.{is_term_tag, is_formula_tag, node_term_at, two_terms_at, three_terms_at, terms_at, count_at, atom_at, pair_at, bound_at, says_at, on_at, fields_at, no_more, node_at, formula_at, whole_formula_at};
+
+use bl_syntax::fields::{place, predicate_at, sort_at, term_at};
+use bl_syntax::{CodecFault, Constraint, Formula, Sequence, Sort, StatePred, Term, Terms};
+use std::alloc::Global;
+
+/// The greatest number of nodes of a formula: its formulas and terms.
+const MOST_NODES: u16 = 512;
+
+/// The greatest number of arguments of an atom.
+const MOST_ARGUMENTS: u8 = 8;
+
+fn is_term_tag(tag: u8) -> bool
+    ensures { result ≡ is_term_tag tag }
+{
+    1 <= tag && tag <= 8
+}
+
+/// A term as one of the nodes that are left.
+#[tactic(auto, unfolding(bl_syntax::specs::FormulaReading::node_term_at))]
+fn node_term_at(input: usize, left: u16, bytes: &[u8]) -> Result<(Term, u16, &[u8]), CodecFault>
+    ensures { Gives (λ x. (x.0, (x.1, x.2.now))) result (node_term_at input left bytes.now) }
+{
+    match bytes {
+        [] => Err(CodecFault::Short),
+        [tag, ..] => {
+            if !is_term_tag(*tag) {
+                return Err(CodecFault::BadTag(place(input, bytes)));
+            }
+            if left == 0 {
+                return Err(CodecFault::TooLarge(place(input, bytes)));
+            }
+            match term_at(input, bytes) {
+                Ok((t, rest)) => Ok((t, left - 1, rest)),
+                Err(fault) => Err(fault),
+            }
+        }
+    }
+}
+
+#[tactic(auto, unfolding(bl_syntax::specs::FormulaReading::two_terms_at))]
+fn two_terms_at(
+    input: usize,
+    left: u16,
+    bytes: &[u8],
+) -> Result<(Term, Term, u16, &[u8]), CodecFault>
+    ensures { Gives (λ x. ((x.0, x.1), (x.2, x.3.now))) result (two_terms_at input left bytes.now) }
+{
+    match node_term_at(input, left, bytes) {
+        Err(fault) => Err(fault),
+        Ok((first, left, rest)) => match node_term_at(input, left, rest) {
+            Err(fault) => Err(fault),
+            Ok((second, left, rest)) => Ok((first, second, left, rest)),
+        },
+    }
+}
+
+#[tactic(auto, unfolding(bl_syntax::specs::FormulaReading::three_terms_at))]
+fn three_terms_at(
+    input: usize,
+    left: u16,
+    bytes: &[u8],
+) -> Result<(Term, Term, Term, u16, &[u8]), CodecFault>
+    ensures { Gives (λ x. ((x.0, (x.1, x.2)), (x.3, x.4.now))) result (three_terms_at input left bytes.now) }
+{
+    match node_term_at(input, left, bytes) {
+        Err(fault) => Err(fault),
+        Ok((first, left, rest)) => match two_terms_at(input, left, rest) {
+            Err(fault) => Err(fault),
+            Ok((second, third, left, rest)) => Ok((first, second, third, left, rest)),
+        },
+    }
+}
+
+/// The number of an atom's terms.
+#[tactic(auto, unfolding(bl_syntax::specs::FormulaReading::count_at))]
+fn count_at(input: usize, bytes: &[u8]) -> Result<(u8, &[u8]), CodecFault>
+    ensures { Gives (λ x. (x.0, x.1.now)) result (count_at input bytes.now) }
+{
+    match bytes {
+        [] => Err(CodecFault::Short),
+        [count, rest @ ..] => {
+            if MOST_ARGUMENTS < *count {
+                return Err(CodecFault::TooLarge(place(input, bytes)));
+            }
+            Ok((*count, rest))
+        }
+    }
+}
+
+/// So many terms.
+fn terms_at(
+    alloc: Global,
+    count: u8,
+    input: usize,
+    left: u16,
+    bytes: &[u8],
+) -> Result<(Terms, u16, &[u8]), CodecFault>
+    ensures { GivesOrStops (λ x. (x.0, (x.1, x.2.now))) result (terms_at count input left bytes.now) }
+{
+    let mut terms = Sequence::new(alloc);
+    let mut still = left;
+    let mut rest = bytes;
+    for _ in 0..count {
+        match node_term_at(input, still, rest) {
+            Err(fault) => return Err(fault),
+            Ok((t, after, behind)) => {
+                terms.extend(&[t])?;
+                still = after;
+                rest = behind;
+            }
+        }
+    }
+    Ok((terms, still, rest))
+}
+
+/// The fields of an atom.
+#[tactic(auto, unfolding(bl_syntax::specs::FormulaReading::atom_at))]
+fn atom_at(
+    alloc: Global,
+    input: usize,
+    left: u16,
+    bytes: &[u8],
+) -> Result<(Formula, u16, &[u8]), CodecFault>
+    ensures { GivesOrStops (λ x. (formula x.0, (x.1, x.2.now))) result (atom_at input left bytes.now) }
+{
+    match predicate_at(input, bytes) {
+        Err(fault) => Err(fault),
+        Ok((name, rest)) => {
+            let (count, rest) = count_at(input, rest)?;
+            match terms_at(alloc, count, input, left, rest) {
+                Err(fault) => Err(fault),
+                Ok((terms, left, rest)) => Ok((Formula::Atom(name, terms), left, rest)),
+            }
+        }
+    }
+}
+
+/// Two formulas in memory of their own.
+#[cycle(formula)]
+#[tactic(auto, using(crate::proofs::StopLemmas::hands_on, crate::proofs::StopLemmas::stops), unfolding(bl_syntax::specs::FormulaReading::pair_at))]
+fn pair_at(
+    alloc: Global,
+    input: usize,
+    depth: u16,
+    left: u16,
+    bytes: &[u8],
+) -> Result<(Box<Formula>, Box<Formula>, u16, &[u8]), CodecFault>
+    ensures { GivesOrStops (λ x. ((formula x.0.value, formula x.1.value), (x.2, x.3.now))) result (pair_at (λ n rest. formula_at input depth n rest) left bytes.now) }
+{
+    match formula_at(alloc, input, depth, left, bytes) {
+        Err(fault) => Err(fault),
+        Ok((first, left, rest)) => match formula_at(alloc, input, depth, left, rest) {
+            Err(fault) => Err(fault),
+            Ok((second, left, rest)) => {
+                let first = Box::new(alloc, first)?;
+                let second = Box::new(alloc, second)?;
+                Ok((first, second, left, rest))
+            }
+        },
+    }
+}
+
+/// A binder's sort, and the formula inside it.
+#[cycle(formula)]
+#[tactic(auto, using(crate::proofs::StopLemmas::hands_on, crate::proofs::StopLemmas::stops), unfolding(bl_syntax::specs::FormulaReading::bound_at))]
+fn bound_at(
+    alloc: Global,
+    input: usize,
+    depth: u16,
+    left: u16,
+    bytes: &[u8],
+) -> Result<(Sort, Box<Formula>, u16, &[u8]), CodecFault>
+    ensures { GivesOrStops (λ x. ((x.0, formula x.1.value), (x.2, x.3.now))) result (bound_at (λ n rest. formula_at input depth n rest) input left bytes.now) }
+{
+    let (sort, rest) = sort_at(input, bytes)?;
+    match formula_at(alloc, input, depth, left, rest) {
+        Err(fault) => Err(fault),
+        Ok((body, left, rest)) => Ok((sort, Box::new(alloc, body)?, left, rest)),
+    }
+}
+
+/// Who says a formula, and the formula.
+#[cycle(formula)]
+#[tactic(auto, using(crate::proofs::StopLemmas::hands_on, crate::proofs::StopLemmas::stops), unfolding(bl_syntax::specs::FormulaReading::says_at))]
+fn says_at(
+    alloc: Global,
+    input: usize,
+    depth: u16,
+    left: u16,
+    bytes: &[u8],
+) -> Result<(Formula, u16, &[u8]), CodecFault>
+    ensures { GivesOrStops (λ x. (formula x.0, (x.1, x.2.now))) result (says_at (λ n rest. formula_at input depth n rest) input left bytes.now) }
+{
+    match node_term_at(input, left, bytes) {
+        Err(fault) => Err(fault),
+        Ok((who, left, rest)) => match formula_at(alloc, input, depth, left, rest) {
+            Err(fault) => Err(fault),
+            Ok((body, left, rest)) => {
+                let body = Box::new(alloc, body)?;
+                Ok((Formula::Says(who, body), left, rest))
+            }
+        },
+    }
+}
+
+/// A formula, and the interval on which it holds.
+#[cycle(formula)]
+#[tactic(auto, using(crate::proofs::StopLemmas::hands_on, crate::proofs::StopLemmas::stops), unfolding(bl_syntax::specs::FormulaReading::on_at))]
+fn on_at(
+    alloc: Global,
+    input: usize,
+    depth: u16,
+    left: u16,
+    bytes: &[u8],
+) -> Result<(Formula, u16, &[u8]), CodecFault>
+    ensures { GivesOrStops (λ x. (formula x.0, (x.1, x.2.now))) result (on_at (λ n rest. formula_at input depth n rest) input left bytes.now) }
+{
+    match formula_at(alloc, input, depth, left, bytes) {
+        Err(fault) => Err(fault),
+        Ok((body, left, rest)) => match two_terms_at(input, left, rest) {
+            Err(fault) => Err(fault),
+            Ok((from, to, left, rest)) => {
+                let body = Box::new(alloc, body)?;
+                Ok((Formula::At(body, from, to), left, rest))
+            }
+        },
+    }
+}
+
+fn is_formula_tag(tag: u8) -> bool
+    ensures { result ≡ is_formula_tag tag }
+{
+    16 <= tag && tag <= 29
+}
+
+/// The fields of a formula with that tag, which are its terms and formulas.
+#[cycle(formula)]
+#[tactic(auto, using(crate::proofs::StopLemmas::hands_on, crate::proofs::StopLemmas::stops), unfolding(bl_syntax::specs::FormulaReading::fields_at))]
+fn fields_at(
+    alloc: Global,
+    input: usize,
+    depth: u16,
+    left: u16,
+    tag: u8,
+    rest: &[u8],
+) -> Result<(Formula, u16, &[u8]), CodecFault>
+    ensures { GivesOrStops (λ x. (formula x.0, (x.1, x.2.now))) result (fields_at (λ n rest. formula_at input depth n rest) input left tag rest.now) }
+{
+    match tag {
+        16 => atom_at(alloc, input, left, rest),
+        17 => match two_terms_at(input, left, rest) {
+            Err(fault) => Err(fault),
+            Ok((low, high, left, rest)) => {
+                Ok((Formula::Cons(Constraint { low, high }), left, rest))
+            }
+        },
+        18 => match two_terms_at(input, left, rest) {
+            Err(fault) => Err(fault),
+            Ok((file, owner, left, rest)) => {
+                Ok((Formula::State(StatePred::Owner(file, owner)), left, rest))
+            }
+        },
+        19 => match three_terms_at(input, left, rest) {
+            Err(fault) => Err(fault),
+            Ok((file, name, value, left, rest)) => {
+                Ok((
+                    Formula::State(StatePred::HasXattr(file, name, value)),
+                    left,
+                    rest,
+                ))
+            }
+        },
+        20 => match two_terms_at(input, left, rest) {
+            Err(fault) => Err(fault),
+            Ok((file, directory, left, rest)) => {
+                Ok((
+                    Formula::State(StatePred::InDir(file, directory)),
+                    left,
+                    rest,
+                ))
+            }
+        },
+        21 => match pair_at(alloc, input, depth, left, rest) {
+            Err(fault) => Err(fault),
+            Ok((a, b, left, rest)) => Ok((Formula::And(a, b), left, rest)),
+        },
+        22 => match pair_at(alloc, input, depth, left, rest) {
+            Err(fault) => Err(fault),
+            Ok((a, b, left, rest)) => Ok((Formula::Or(a, b), left, rest)),
+        },
+        23 => match pair_at(alloc, input, depth, left, rest) {
+            Err(fault) => Err(fault),
+            Ok((a, b, left, rest)) => Ok((Formula::Imp(a, b), left, rest)),
+        },
+        24 => Ok((Formula::True, left, rest)),
+        25 => Ok((Formula::False, left, rest)),
+        26 => match bound_at(alloc, input, depth, left, rest) {
+            Err(fault) => Err(fault),
+            Ok((sort, body, left, rest)) => Ok((Formula::Forall(sort, body), left, rest)),
+        },
+        27 => match bound_at(alloc, input, depth, left, rest) {
+            Err(fault) => Err(fault),
+            Ok((sort, body, left, rest)) => Ok((Formula::Exists(sort, body), left, rest)),
+        },
+        28 => says_at(alloc, input, depth, left, rest),
+        _ => on_at(alloc, input, depth, left, rest),
+    }
+}
+
+/// A formula as one of the nodes that are left, whose formulas are nested at most so deep.
+#[cycle(formula)]
+#[tactic(auto, using(crate::proofs::StopLemmas::hands_on, crate::proofs::StopLemmas::stops), unfolding(bl_syntax::specs::FormulaReading::node_at))]
+fn node_at(
+    alloc: Global,
+    input: usize,
+    depth: u16,
+    left: u16,
+    bytes: &[u8],
+) -> Result<(Formula, u16, &[u8]), CodecFault>
+    ensures { GivesOrStops (λ x. (formula x.0, (x.1, x.2.now))) result (node_at (λ n rest. formula_at input depth n rest) input left bytes.now) }
+{
+    match bytes {
+        [] => Err(CodecFault::Short),
+        [tag, rest @ ..] => {
+            if !is_formula_tag(*tag) {
+                return Err(CodecFault::BadTag(place(input, bytes)));
+            }
+            if left == 0 {
+                return Err(CodecFault::TooLarge(place(input, bytes)));
+            }
+            fields_at(alloc, input, depth, left - 1, *tag, rest)
+        }
+    }
+}
+
+/// The fault of a formula that would be nested too deep.
+#[tactic(auto, unfolding(bl_syntax::specs::FormulaReading::node_at))]
+fn too_deep(input: usize, bytes: &[u8]) -> CodecFault
+    ensures { node_at no_more input 0 bytes.now ≡ Err result }
+{
+    match bytes {
+        [] => CodecFault::Short,
+        [tag, ..] => {
+            if is_formula_tag(*tag) {
+                CodecFault::TooLarge(place(input, bytes))
+            } else {
+                CodecFault::BadTag(place(input, bytes))
+            }
+        }
+    }
+}
+
+/// A formula that is nested at most so deep, as one of the nodes that are left.
+#[cycle(formula)]
+fn formula_at(
+    alloc: Global,
+    input: usize,
+    depth: u16,
+    left: u16,
+    bytes: &[u8],
+) -> Result<(Formula, u16, &[u8]), CodecFault>
+    ensures { GivesOrStops (λ x. (formula x.0, (x.1, x.2.now))) result (formula_at input depth left bytes.now) }
+{
+    if depth == 0 {
+        return Err(too_deep(input, bytes));
+    }
+    node_at(alloc, input, depth - 1, left, bytes)
+}
+
+/// A formula within the limits: the reader that formats with formulas in them are made of. It reads at the front of
+/// `bytes`, the rest of an input of `input` bytes, and gives the formula and the bytes behind it, or the first fault.
+#[tactic(auto, using(crate::proofs::StopLemmas::hands_on), unfolding(bl_syntax::specs::FormulaReading::whole_formula_at))]
+pub fn whole_formula_at(
+    alloc: Global,
+    input: usize,
+    bytes: &[u8],
+) -> Result<(Formula, &[u8]), CodecFault>
+    ensures { GivesOrStops (λ x. (formula x.0, x.1.now)) result (whole_formula_at input bytes.now) }
+{
+    match formula_at(alloc, input, MOST_NODES, MOST_NODES, bytes) {
+        Err(fault) => Err(fault),
+        Ok((f, _, rest)) => Ok((f, rest)),
+    }
+}
+
+/// The formula whose spelling begins the bytes, and how many bytes it takes, or the first fault. Bytes may follow it.
+#[tactic(auto, using(crate::proofs::StopLemmas::hands_on))]
+pub fn read_formula(alloc: Global, bytes: &[u8]) -> Result<(Formula, usize), CodecFault>
+    ensures exact { GivesOrStops (λ x. (formula x.0, x.1)) result (reading whole_formula_at bytes.now) }
+    ensures front { ReadsFront formula IsSpellableFormula formula_spelling bytes.now result }
+{
+    match whole_formula_at(alloc, bytes.len(), bytes) {
+        Err(fault) => Err(fault),
+        Ok((f, rest)) => Ok((f, place(bytes.len(), rest))),
+    }
+}

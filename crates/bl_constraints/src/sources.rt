@@ -1,0 +1,41 @@
+//! The constants with which constraints begin, from the greatest down.
+
+ghost use Rattle.std.specs.Prelude.{◌≡◌, ◌≤◌, MatchOption, length};
+ghost use Rattle.bl_syntax.specs.declared.terms.TimePoint.{TimePoint};
+ghost use Rattle.bl_constraints.specs.Search.{IsOrder};
+ghost use Rattle.bl_constraints.specs.Sources.{HasNoSource, IsGreatestSource, IsLater};
+
+use bl_syntax::{Constraint, Term, TimePoint};
+
+/// A constant with which a constraint begins, and where in the order that constraint stands.
+#[derive(Clone, Copy)]
+pub(crate) struct Source {
+    pub(crate) place: usize,
+    pub(crate) point: TimePoint,
+}
+
+/// The greatest constant with which a constraint begins that was not reached.
+pub(crate) fn greatest_source(psi: &[Constraint], order: &[usize], reached: usize) -> Option<Source>
+    requires order { IsOrder psi.now order.now }
+    requires within { reached ≤ length order.now }
+    ensures { MatchOption result (HasNoSource psi.now order.now reached) (IsGreatestSource psi.now order.now reached) }
+{
+    let mut greatest = None;
+    for place in reached..order.len() {
+        let c = &psi[order[place]];
+        if let Term::Time(point) = c.low {
+            greatest = Some(later(greatest, Source { place, point }));
+        }
+    }
+    greatest
+}
+
+/// The later of two, of which there may be but the second.
+fn later(greatest: Option<Source>, source: Source) -> Source
+    ensures { IsLater greatest source result }
+{
+    match greatest {
+        Some(other) if !other.point.is_up_to(source.point) => other,
+        _ => source,
+    }
+}

@@ -1,0 +1,7 @@
+-- What is signed. The first byte tells the kinds of message apart. This project's own.
+use Rattle.std.specs.Prelude.{ℕ, List, ◌∷◌, ◌++◌}
+use Rattle.bl_syntax.specs.Spelling.{counted}
+
+-- of a login: the byte `L`, the name with its length byte, and the nonce
+unfoldable pub login_message : List ℕ → List ℕ → List ℕ
+login_message who nonce = 76 ∷ (counted who ++ nonce)

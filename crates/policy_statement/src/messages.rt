@@ -1,0 +1,19 @@
+//! What is signed.
+
+ghost use Rattle.std.specs.Prelude.{◌≡◌, IfOk};
+ghost use Rattle.policy_statement.specs.Messages.{login_message};
+
+use bl_syntax::{Bytes, NoMemory, Principal, write_name};
+use std::alloc::Global;
+
+/// The message that is signed to log in as `who` where the server gave this nonce.
+#[tactic(auto, unfolding(crate::specs::Messages::login_message))]
+pub fn login_message(alloc: Global, who: &Principal, nonce: &[u8; 16]) -> Result<Bytes, NoMemory>
+    ensures { IfOk result (λ message. message ≡ login_message who.now nonce.now) }
+{
+    let mut message = Bytes::new(alloc);
+    message.push(b'L')?;
+    write_name(who, &mut message)?;
+    message.extend(nonce)?;
+    Ok(message)
+}

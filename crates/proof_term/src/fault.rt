@@ -1,0 +1,53 @@
+//! Why the bytes of a proof could not be read.
+
+ghost use Rattle.std.specs.Prelude.{◌≡◌};
+ghost use Rattle.proof_term.specs.Faults.{of_field};
+ghost use Rattle.proof_term.specs.declared.fault.ProofFault.TheVariants as faults;
+
+use bl_syntax::CodecFault;
+use std::alloc::{AllocError, AllocFailed};
+
+/// The first fault of a reading from the left. A place is a number of bytes of the input before it.
+#[derive(Clone, Copy, Debug, PartialEq, Eq)]
+pub enum ProofFault {
+    /// The input ends before the proof does.
+    Short,
+    /// The byte at this place is the tag of no rule.
+    BadTag(usize),
+    /// The node at this place is one more than 4,096.
+    TooLarge(usize),
+    /// The node at this place lies deeper than 200.
+    TooDeep(usize),
+    /// A term has this fault: a bad tag, or a name, text or point in time outside its grammar or range.
+    BadTerm(CodecFault),
+    /// There was no memory for the proof.
+    NoMemory,
+}
+
+impl From<CodecFault> for ProofFault {
+    ghost from_gives = { λ fault e. e ≡ of_field fault };
+
+    fn from(fault: CodecFault) -> ProofFault {
+        match fault {
+            CodecFault::Short => ProofFault::Short,
+            CodecFault::NoMemory => ProofFault::NoMemory,
+            _ => ProofFault::BadTerm(fault),
+        }
+    }
+}
+
+impl From<AllocError> for ProofFault {
+    ghost from_gives = { λ _ e. e ≡ faults.NoMemory };
+
+    fn from(_refused: AllocError) -> ProofFault {
+        ProofFault::NoMemory
+    }
+}
+
+impl<T: Drop> From<AllocFailed<T>> for ProofFault {
+    ghost from_gives = { λ _ e. e ≡ faults.NoMemory };
+
+    fn from(_refused: AllocFailed<T>) -> ProofFault {
+        ProofFault::NoMemory
+    }
+}

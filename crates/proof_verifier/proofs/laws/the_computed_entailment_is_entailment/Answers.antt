@@ -1,0 +1,5 @@
+use Rattle.proof_verifier.proofs.SoundnessEntailment.{Decides-is_entailed}
+use Rattle.proof_verifier.proofs.laws.the_computed_entailment_is_entailment.Goals as goal
+
+pub returns : goal.returns
+returns c = Decides-is_entailed

@@ -1,0 +1,83 @@
+-- How a run of the program over a proof follows the rules.
+use Rattle.std.specs.Prelude.{◌≡◌, ◌≤◌, ◌+◌, ◌*◌, ◌⊎◌, ℕ, List, [], ◌∷◌, ◌++◌, length, map, Some, Result, Ok, Err, MatchResult}
+use Rattle.bl_syntax.specs.declared.terms.Sort.{Sort}
+use Rattle.bl_syntax.specs.declared.terms.Term.{Term}
+use Rattle.bl_syntax.specs.declared.terms.Term.TheVariants.{Param}
+use Rattle.bl_syntax.specs.Formula.{formula}
+use Rattle.bl_syntax.specs.Statement.{Saying}
+use Rattle.bl_syntax.specs.Grant.{Granted}
+use Rattle.bl_rules.specs.Allowed.{claim_of}
+use Rattle.proof_term.specs.Proof.{Deduction}
+use Rattle.proof_term.specs.Limits.{size, depth}
+use Rattle.proof_verifier.specs.declared.fault.CheckFault.{CheckFault}
+use Rattle.proof_verifier.specs.declared.fault.CheckFault.TheVariants.{NoMemory}
+use Rattle.proof_verifier.specs.declared.desk.Desk.{Desk}
+use Rattle.proof_verifier.specs.declared.place.Place.{Place}
+use Rattle.proof_verifier.specs.Sequent.{Sequent}
+use Rattle.proof_verifier.specs.Standing.{standing}
+use Rattle.proof_verifier.specs.Known.{known}
+
+-- the sequent of a node
+abbrev pub sequent : Desk → Place → Sequent
+sequent desk place = record {
+  sorts = desk.sorts;
+  constraints = desk.constraints;
+  facts = known place.facts.now;
+  hypotheses = standing place.hypotheses.now;
+  view = record { who = place.who.now; from = place.begins.now; to = place.ends.now };
+  goal = formula place.goal.now;
+  from = place.from.now;
+  to = place.to.now;
+}
+
+-- the numbers at a node leave room for a proof of that size and depth, and the hypotheses are counted
+pub record HasRoom (desk : Desk) (place : Place) (proof_size proof_depth : ℕ) : Type 0 where
+  pub counted : place.count ≡ length (standing place.hypotheses.now)
+  pub hypotheses : place.count + 2 * proof_depth ≤ 464
+  pub constraints : length desk.constraints + 2 * proof_depth ≤ 400
+  pub sorts : length desk.sorts + 2 * proof_depth ≤ 400
+  pub nodes : place.node + proof_size ≤ 4096
+
+-- the sequent with statements as further claims
+abbrev pub with_claims : List Saying → Sequent → Sequent
+with_claims statements s = record s { hypotheses = s.hypotheses ++ map (λ (said : Saying). Some (claim_of said)) statements }
+
+-- room for a proof that is kept, behind so many further claims at its root
+pub record HasRoomForClaims (desk : Desk) (place : Place) (claims : ℕ) (proof : Deduction) : Type 0 where
+  pub counted : place.count ≡ length (standing place.hypotheses.now)
+  pub hypotheses : place.count + claims ≤ 64
+  pub constraints : desk.constraints ≡ []
+  pub sorts : desk.sorts ≡ []
+  pub node : place.node ≡ 0
+  pub proof_size : size proof ≤ 4096
+  pub proof_depth : depth proof ≤ 200
+
+-- the proof was followed to its end: this is the grant, the next node has that number, and what had grown is cut back
+pub record IsPassed (before after : Desk) (next reached : ℕ) (expected : Result Granted CheckFault) : Type 0 where
+  pub granted : expected ≡ Ok after.grant
+  pub counted : reached ≡ next
+  pub sorts : after.sorts ≡ before.sorts
+  pub constraints : after.constraints ≡ before.constraints
+
+-- the parameter is the next one, and now has its sort
+pub record IsDeclared (before after : Desk) (sort : Sort) (parameter : Term) : Type 0 where
+  pub next : parameter ≡ Param (length before.sorts)
+  pub sorts : after.sorts ≡ before.sorts ++ sort ∷ []
+  pub constraints : after.constraints ≡ before.constraints
+  pub grant : after.grant ≡ before.grant
+
+-- the condition is met or kept: this is the grant, and all else is as before
+pub record IsMet (before after : Desk) (expected : Result Granted CheckFault) : Type 0 where
+  pub granted : expected ≡ Ok after.grant
+  pub sorts : after.sorts ≡ before.sorts
+  pub constraints : after.constraints ≡ before.constraints
+
+-- the fault is the first one, or a growth was refused
+abbrev pub IsFault : CheckFault → Result Granted CheckFault → Type 0
+IsFault fault expected = (fault ≡ NoMemory) ⊎ (expected ≡ Err fault)
+
+abbrev pub Follows : Desk → Desk → ℕ → Result ℕ CheckFault → Result Granted CheckFault → Type 0
+Follows before after next result expected = MatchResult result (λ reached. IsPassed before after next reached expected) (λ fault. IsFault fault expected)
+
+abbrev pub Meets : Desk → Desk → Result (Unit {0}) CheckFault → Result Granted CheckFault → Type 0
+Meets before after result expected = MatchResult result (λ _. IsMet before after expected) (λ fault. IsFault fault expected)

@@ -1,0 +1,118 @@
+//! Proofs that were checked.
+
+ghost use Rattle.std.specs.Prelude.{◌≡◌, IfOk, IfErr};
+ghost use Rattle.proof_verifier.specs.Checking.{checking, IsChecked};
+ghost use Rattle.proof_verifier.specs.Cited.{statements_of};
+ghost use Rattle.proof_verifier.specs.Run.{IsFault};
+ghost use Rattle.proof_verifier.specs.Verdict.{verdict};
+
+use crate::cites::Cites;
+use crate::fault::CheckFault;
+use crate::root::grant_of;
+use bl_syntax::{Goal, Grant, NoMemory};
+use proof_term::ProofTree;
+use std::alloc::Global;
+use std::marker::Model;
+
+/// A checked proof: the cited statements, the goal, the proof, and the grant. The grant is the verdict
+/// on the other three, and sound for the cited statements.
+#[derive(Debug, Drop)]
+pub struct Checked {
+    cited: Cites,
+    goal: Goal,
+    proof: ProofTree,
+    grant: Grant,
+}
+
+impl Model for Checked {
+    ghost use Rattle.proof_verifier.specs.Checking.{Checking, checking, IsChecked};
+    ghost use Rattle.proof_verifier.specs.CheckingCode.{checking_code};
+
+    ghost Value = { Checking };
+
+    ghost coded = { checking_code };
+
+    ghost view = { λ c. checking c.cited c.goal c.proof c.grant };
+
+    ghost invariant = { λ c. IsChecked (checking c.cited c.goal c.proof c.grant) };
+}
+
+impl Checked {
+    ghost use Rattle.std.specs.Prelude.{◌≡◌, IfOk};
+    ghost use Rattle.proof_verifier.specs.Checking.{IsChecked};
+
+    /// What the proof grants.
+    pub fn grant(&self) -> &Grant
+        ensures same { result.now ≡ self.now.grant }
+        ensures kept { IsChecked self.now }
+    {
+        &self.grant
+    }
+
+    /// The cited statements.
+    pub fn cited(&self) -> &Cites
+        ensures same { result.now ≡ self.now.cited }
+        ensures kept { IsChecked self.now }
+    {
+        &self.cited
+    }
+
+    /// The proof.
+    pub fn proof(&self) -> &ProofTree
+        ensures same { result.now ≡ self.now.proof }
+        ensures kept { IsChecked self.now }
+    {
+        &self.proof
+    }
+
+    /// The goal.
+    pub fn goal(&self) -> Goal
+        ensures same { result ≡ self.now.goal }
+        ensures kept { IsChecked self.now }
+    {
+        self.goal
+    }
+
+    /// The cited statements, the proof and the grant.
+    pub fn into_parts(self) -> (Cites, ProofTree, Grant)
+        ensures cited { result.0 ≡ self.cited }
+        ensures proof { result.1 ≡ self.proof }
+        ensures grant { result.2 ≡ self.grant }
+        ensures kept { IsChecked self }
+    {
+        (self.cited, self.proof, self.grant)
+    }
+
+    /// An equal value in memory of its own.
+    pub fn copy(&self, alloc: Global) -> Result<Checked, NoMemory>
+        ensures { IfOk result (λ copied. copied ≡ self.now) }
+    {
+        Ok(Checked {
+            cited: self.cited.copy(alloc)?,
+            goal: self.goal,
+            proof: self.proof.copy(alloc)?,
+            grant: self.grant.copy(alloc)?,
+        })
+    }
+}
+
+/// Checks a proof of the goal from the cited statements. The grant is the verdict on them, and a fault
+/// is the verdict's; but want of memory is answered where a growth was refused.
+pub fn check(
+    alloc: Global,
+    cited: Cites,
+    goal: Goal,
+    proof: ProofTree,
+) -> Result<Checked, CheckFault>
+    ensures ok { IfOk result (λ checked. checked ≡ checking cited goal proof checked.grant) }
+    ensures granted { IfOk result (λ checked. IsChecked checked) }
+    ensures fault { IfErr result (λ fault. IsFault fault (verdict (statements_of cited) goal proof)) }
+{
+    let grant = grant_of(alloc, cited.as_slice(), &goal, &proof)?;
+    Ok(Checked {
+        cited,
+        goal,
+        proof,
+        grant,
+    })
+}

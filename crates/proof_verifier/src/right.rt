@@ -1,0 +1,254 @@
+//! Right rules: they prove the goal from its form.
+
+ghost use Rattle.std.specs.Prelude.{◌≡◌, ◌+◌};
+ghost use Rattle.proof_term.specs.Proof.{deduction, cons_r, inter_r, and_r, or_r1, or_r2, true_r, imp_r, forall_r, exists_r, says_r, at_r};
+ghost use Rattle.proof_term.specs.Limits.{size, depth};
+ghost use Rattle.proof_verifier.specs.Rules.{by_cons_r, by_inter_r, by_and_r, by_or_r1, by_or_r2, by_true_r, by_imp_r, by_forall_r, by_exists_r, by_says_r, by_at_r};
+ghost use Rattle.proof_verifier.specs.Verdict.{answer};
+ghost use Rattle.proof_verifier.specs.Run.{sequent, HasRoom, Follows};
+
+use crate::desk::Desk;
+use crate::fault::CheckFault;
+use crate::hypotheses::{Held, Hypotheses};
+use crate::place::Place;
+use crate::shapes::{
+    as_both, as_constraint, as_either, as_exists, as_forall, as_implies, as_on, as_says, as_state,
+    as_true,
+};
+use crate::terms::test_term;
+use bl_syntax::{Sort, Term, instantiate};
+use proof_term::Proof;
+use std::alloc::Global;
+
+impl Desk {
+    /// The goal is a constraint.
+    pub fn cons_r(&mut self, place: &Place<'_>) -> Result<usize, CheckFault>
+        requires { HasRoom self.old place.now (size (cons_r)) (depth (cons_r)) }
+        ensures { Follows self.old self.new (place.now.node + size (cons_r)) result
+            (by_cons_r place.now.node (sequent self.old place.now) self.old.grant) }
+    {
+        let c = as_constraint(place.goal, place.node)?;
+        self.time_condition(&c.low, &c.high, place.node)?;
+        Ok(place.node + 1)
+    }
+
+    /// The goal is a predicate on the server's state.
+    pub fn inter_r(&mut self, place: &Place<'_>) -> Result<usize, CheckFault>
+        requires { HasRoom self.old place.now (size (inter_r)) (depth (inter_r)) }
+        ensures { Follows self.old self.new (place.now.node + size (inter_r)) result
+            (by_inter_r place.now.node (sequent self.old place.now) self.old.grant) }
+    {
+        let fact = as_state(place.goal, place.node)?;
+        self.state_condition(fact, place.facts, place.node)?;
+        Ok(place.node + 1)
+    }
+
+    /// The goal is a conjunction: p proves the first part, and q the second.
+    #[cycle(follow)]
+    pub fn and_r(
+        &mut self,
+        alloc: Global,
+        place: &Place<'_>,
+        p: &Proof,
+        q: &Proof,
+    ) -> Result<usize, CheckFault>
+        requires { HasRoom self.old place.now (size (and_r (deduction p.now) (deduction q.now))) (depth (and_r (deduction p.now) (deduction q.now))) }
+        ensures { Follows self.old self.new (place.now.node + size (and_r (deduction p.now) (deduction q.now))) result
+            (by_and_r (answer (deduction p.now)) (size (deduction p.now)) (answer (deduction q.now)) place.now.node (sequent self.old place.now) self.old.grant) }
+    {
+        let (a, b) = as_both(place.goal, place.node)?;
+        let first = Place {
+            node: place.node + 1,
+            goal: a,
+            ..*place
+        };
+        let node = self.follow(alloc, &first, p)?;
+        let second = Place {
+            node,
+            goal: b,
+            ..*place
+        };
+        self.follow(alloc, &second, q)
+    }
+
+    /// The goal is a disjunction: p proves its first part.
+    #[cycle(follow)]
+    pub fn or_r1(
+        &mut self,
+        alloc: Global,
+        place: &Place<'_>,
+        p: &Proof,
+    ) -> Result<usize, CheckFault>
+        requires { HasRoom self.old place.now (size (or_r1 (deduction p.now))) (depth (or_r1 (deduction p.now))) }
+        ensures { Follows self.old self.new (place.now.node + size (or_r1 (deduction p.now))) result
+            (by_or_r1 (answer (deduction p.now)) place.now.node (sequent self.old place.now) self.old.grant) }
+    {
+        let (a, _) = as_either(place.goal, place.node)?;
+        let premise = Place {
+            node: place.node + 1,
+            goal: a,
+            ..*place
+        };
+        self.follow(alloc, &premise, p)
+    }
+
+    /// The goal is a disjunction: p proves its second part.
+    #[cycle(follow)]
+    pub fn or_r2(
+        &mut self,
+        alloc: Global,
+        place: &Place<'_>,
+        p: &Proof,
+    ) -> Result<usize, CheckFault>
+        requires { HasRoom self.old place.now (size (or_r2 (deduction p.now))) (depth (or_r2 (deduction p.now))) }
+        ensures { Follows self.old self.new (place.now.node + size (or_r2 (deduction p.now))) result
+            (by_or_r2 (answer (deduction p.now)) place.now.node (sequent self.old place.now) self.old.grant) }
+    {
+        let (_, b) = as_either(place.goal, place.node)?;
+        let premise = Place {
+            node: place.node + 1,
+            goal: b,
+            ..*place
+        };
+        self.follow(alloc, &premise, p)
+    }
+
+    /// The goal is true.
+    pub fn true_r(&mut self, place: &Place<'_>) -> Result<usize, CheckFault>
+        requires { HasRoom self.old place.now (size (true_r)) (depth (true_r)) }
+        ensures { Follows self.old self.new (place.now.node + size (true_r)) result
+            (by_true_r place.now.node (sequent self.old place.now) self.old.grant) }
+    {
+        as_true(place.goal, place.node)?;
+        Ok(place.node + 1)
+    }
+
+    /// The goal is an implication: p proves what follows, on a new interval within the goal's, from the assumption there.
+    #[cycle(follow)]
+    pub fn imp_r(
+        &mut self,
+        alloc: Global,
+        place: &Place<'_>,
+        p: &Proof,
+    ) -> Result<usize, CheckFault>
+        requires { HasRoom self.old place.now (size (imp_r (deduction p.now))) (depth (imp_r (deduction p.now))) }
+        ensures { Follows self.old self.new (place.now.node + size (imp_r (deduction p.now))) result
+            (by_imp_r (answer (deduction p.now)) place.now.node (sequent self.old place.now) self.old.grant) }
+    {
+        let (a, b) = as_implies(place.goal, place.node)?;
+        let sorts = self.sorts.len();
+        let constraints = self.constraints.len();
+        let start = self.declare(Sort::Time)?;
+        let end = self.declare(Sort::Time)?;
+        self.bound(place.from, &start)?;
+        self.bound(&end, place.to)?;
+        let hypotheses = Hypotheses::More(place.hypotheses, Held::Truth(a, &start, &end));
+        let premise = Place {
+            node: place.node + 1,
+            hypotheses: &hypotheses,
+            count: place.count + 1,
+            goal: b,
+            from: &start,
+            to: &end,
+            ..*place
+        };
+        let node = self.follow(alloc, &premise, p)?;
+        self.sorts.truncate(sorts);
+        self.constraints.truncate(constraints);
+        Ok(node)
+    }
+
+    /// The goal is about all: p proves the instance at a new parameter.
+    #[cycle(follow)]
+    pub fn forall_r(
+        &mut self,
+        alloc: Global,
+        place: &Place<'_>,
+        p: &Proof,
+    ) -> Result<usize, CheckFault>
+        requires { HasRoom self.old place.now (size (forall_r (deduction p.now))) (depth (forall_r (deduction p.now))) }
+        ensures { Follows self.old self.new (place.now.node + size (forall_r (deduction p.now))) result
+            (by_forall_r (answer (deduction p.now)) place.now.node (sequent self.old place.now) self.old.grant) }
+    {
+        let (sort, a) = as_forall(place.goal, place.node)?;
+        let sorts = self.sorts.len();
+        let parameter = self.declare(sort)?;
+        let instance = instantiate(alloc, a, &parameter)?;
+        let premise = Place {
+            node: place.node + 1,
+            goal: &instance,
+            ..*place
+        };
+        let node = self.follow(alloc, &premise, p)?;
+        self.sorts.truncate(sorts);
+        Ok(node)
+    }
+
+    /// The goal is about one: p proves the instance at t.
+    #[cycle(follow)]
+    pub fn exists_r(
+        &mut self,
+        alloc: Global,
+        place: &Place<'_>,
+        t: &Term,
+        p: &Proof,
+    ) -> Result<usize, CheckFault>
+        requires { HasRoom self.old place.now (size (exists_r t.now (deduction p.now))) (depth (exists_r t.now (deduction p.now))) }
+        ensures { Follows self.old self.new (place.now.node + size (exists_r t.now (deduction p.now))) result
+            (by_exists_r t.now (answer (deduction p.now)) place.now.node (sequent self.old place.now) self.old.grant) }
+    {
+        let (sort, a) = as_exists(place.goal, place.node)?;
+        test_term(t, sort, self.sorts.as_slice(), place.node)?;
+        let instance = instantiate(alloc, a, t)?;
+        let premise = Place {
+            node: place.node + 1,
+            goal: &instance,
+            ..*place
+        };
+        self.follow(alloc, &premise, p)
+    }
+
+    /// The goal is what a principal says: p proves it from the claims alone, in the view of that principal.
+    #[cycle(follow)]
+    pub fn says_r(
+        &mut self,
+        alloc: Global,
+        place: &Place<'_>,
+        p: &Proof,
+    ) -> Result<usize, CheckFault>
+        requires { HasRoom self.old place.now (size (says_r (deduction p.now))) (depth (says_r (deduction p.now))) }
+        ensures { Follows self.old self.new (place.now.node + size (says_r (deduction p.now))) result
+            (by_says_r (answer (deduction p.now)) place.now.node (sequent self.old place.now) self.old.grant) }
+    {
+        let (who, a) = as_says(place.goal, place.node)?;
+        let hypotheses = Hypotheses::Struck(place.hypotheses);
+        let premise = Place {
+            node: place.node + 1,
+            hypotheses: &hypotheses,
+            who,
+            begins: place.from,
+            ends: place.to,
+            goal: a,
+            ..*place
+        };
+        self.follow(alloc, &premise, p)
+    }
+
+    /// The goal is a formula on its own interval: p proves it there.
+    #[cycle(follow)]
+    pub fn at_r(&mut self, alloc: Global, place: &Place<'_>, p: &Proof) -> Result<usize, CheckFault>
+        requires { HasRoom self.old place.now (size (at_r (deduction p.now))) (depth (at_r (deduction p.now))) }
+        ensures { Follows self.old self.new (place.now.node + size (at_r (deduction p.now))) result
+            (by_at_r (answer (deduction p.now)) place.now.node (sequent self.old place.now) self.old.grant) }
+    {
+        let (a, from, to) = as_on(place.goal, place.node)?;
+        let premise = Place {
+            node: place.node + 1,
+            goal: a,
+            from,
+            to,
+            ..*place
+        };
+        self.follow(alloc, &premise, p)
+    }
+}
