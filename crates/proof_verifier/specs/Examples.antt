@@ -14,11 +14,11 @@ use Rattle.bl_syntax.specs.Grant.{Granted}
 use Rattle.bl_rules.specs.Allowed.{access}
 use Rattle.proof_term.specs.Proof.{Deduction, init, says_r, claim, imp_l, forall_l}
 
-abbrev number : ℕ → NodeId
+abbrev pub number : ℕ → NodeId
 number n = record { 0 = n }
 
 -- a constant time
-abbrev second : ℕ → Term
+abbrev pub second : ℕ → Term
 second n = Time (At (pos n))
 
 -- who says it from one second to another

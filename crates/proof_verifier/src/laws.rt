@@ -13,6 +13,7 @@ ghost use Rattle.proof_term.specs.Proof.{Deduction};
 ghost use Rattle.proof_verifier.specs.declared.fault.CheckFault.TheVariants.{WrongShape};
 ghost use Rattle.proof_verifier.specs.Entailed.{is_entailed};
 ghost use Rattle.proof_verifier.specs.Verdict.{verdict};
+ghost use Rattle.proof_verifier.specs.ExampleTable.{Computes, accepted, refused};
 ghost use Rattle.proof_verifier.specs.Examples.{stated, may_write, writing, by_its_claim, between, employees_may_read, bob_is_employed, reading, by_employment, within_both};
 
 /// A grant that the verdict gives is sound: wherever its conditions hold, the statements allow what it grants.
@@ -53,4 +54,14 @@ pub fn an_employee_may_read()
 /// A statement about somebody else does not have the form of the goal.
 pub fn another_goal_is_a_wrong_shape()
     ensures { verdict (stated (codes "admin") may_write 0 200 ∷ []) reading by_its_claim ≡ Err (WrongShape 2) }
+{}
+
+/// Each rule accepts a proof.
+pub fn each_rule_accepts_a_proof()
+    ensures { AllByRecursion Computes accepted }
+{}
+
+/// Each rule has its faults, each at its node.
+pub fn each_rule_has_its_faults()
+    ensures { AllByRecursion Computes refused }
 {}
