@@ -73,7 +73,7 @@ list_in_range : (ts : List Term) → AllByRecursion IsSpellable ts → AllByRecu
 list_in_range [] h = tt
 list_in_range (t ∷ ts) h = (in_range t h.0, list_in_range ts h.1)
 
-terms_in_range : (f : Form) → AllTerms IsSpellable f → AllTerms HasTimeInRange f
+pub terms_in_range : (f : Form) → AllTerms IsSpellable f → AllTerms HasTimeInRange f
 terms_in_range (atom name terms) h = list_in_range terms h
 terms_in_range (compare c) h = (in_range c.low h.0, in_range c.high h.1)
 terms_in_range (state s) h = list_in_range (terms_of_state s) h
