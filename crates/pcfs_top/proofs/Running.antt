@@ -17,7 +17,6 @@ use Rattle.pcfs_top.specs.declared.reply.Reply.{Reply}
 use Rattle.pcfs_top.specs.declared.reply.Reply.TheVariants as replies
 use Rattle.pcfs_top.specs.declared.command.Command.{Command}
 use Rattle.pcfs_top.specs.declared.command.Command.TheVariants as commands
-use Rattle.bl_syntax.specs.Grant.{Granted}
 use Rattle.proof_term.specs.Proof.{Deduction}
 use Rattle.proof_verifier.specs.declared.cites.Cite.{Cite}
 use Rattle.proof_verifier.specs.declared.fault.CheckFault.{CheckFault}

@@ -8,6 +8,7 @@ ghost use Rattle.pcfs_top.specs.declared.event.Op.TheVariants.{Create};
 ghost use Rattle.pcfs_top.specs.Lines.{IsLine, says_may, writes_root, by_claim};
 
 use crate::command::Command;
+use crate::decide::citing;
 use crate::event::Op;
 use crate::node_name::is_node_name;
 use crate::numerals::{bound, number, second};
@@ -108,18 +109,24 @@ fn verifies(alloc: Global, rest: &[u8]) -> Result<Option<Command>, NoMemory>
 {
     match principal_and_statement(rest) {
         Some((who, number)) => {
-            let goal = Goal {
-                who,
-                file: ROOT,
-                perm: Perm::Write,
-            };
-            let mut numbers = Numbers::new(alloc);
-            numbers.extend(&[number])?;
-            let proof = proof_by_claim(alloc)?;
-            Ok(Some(Command::Verify(goal, numbers, proof)))
+            let verify = verify_command(alloc, who, number)?;
+            Ok(Some(verify))
         }
         None => Ok(None),
     }
+}
+
+fn verify_command(alloc: Global, who: Principal, number: u32) -> Result<Command, NoMemory>
+    ensures { IfOk result (λ command. command ≡ Verify (writes_root who) (number ∷ []) by_claim) }
+{
+    let goal = Goal {
+        who,
+        file: ROOT,
+        perm: Perm::Write,
+    };
+    let numbers = citing(alloc, number)?;
+    let proof = proof_by_claim(alloc)?;
+    Ok(Command::Verify(goal, numbers, proof))
 }
 
 // The proof that is the claim of the statement that is cited first.
