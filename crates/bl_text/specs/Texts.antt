@@ -1,5 +1,5 @@
 -- The texts of formulas and of statements, and their first faults (this project's own).
-use Rattle.std.specs.Prelude.{◌≡◌, ℕ, List, [], Bool, true, false, Result, Ok, Err, if◌then◌else◌}
+use Rattle.std.specs.Prelude.{◌≡◌, ◌⊎◌, ℕ, List, [], Bool, true, false, Result, Ok, Err, if◌then◌else◌}
 use Rattle.bl_syntax.specs.declared.terms.TimePoint.{TimePoint}
 use Rattle.bl_syntax.specs.declared.terms.Term.TheVariants.{Time}
 use Rattle.bl_syntax.specs.Formula.{Form}
@@ -24,6 +24,10 @@ beginning text = token_from text 0 512
 abbrev pub is_end : Token → Bool
 is_end End = true
 is_end _ = false
+
+-- two faults are one and the same, or memory was refused
+abbrev pub AreOneFault : TextFault → TextFault → Type 0
+AreOneFault e f = (e ≡ faults.NoMemory) ⊎ ((f ≡ faults.NoMemory) ⊎ (e ≡ f))
 
 -- the whole text is one of the formula
 pub data IsFormulaText (text : List ℕ) (f : Form) : Type 0 where

@@ -9,6 +9,7 @@ mod classes;
 mod dates;
 mod faults;
 mod formulas;
+pub mod laws;
 mod numerals;
 mod parse;
 mod pieces;

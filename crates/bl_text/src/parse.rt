@@ -1,8 +1,10 @@
 //! The texts of formulas and of statements.
 
 ghost use Rattle.std.specs.Prelude.{◌≡◌, ◌≤◌, length, Ok, Err, IfOk, IfErr, OnOk, MatchResult};
-ghost use Rattle.bl_syntax.specs.Formula.{formula};
-ghost use Rattle.bl_text.specs.Texts.{IsFormulaText, FormulaFault, IsStatementText, StatementFault, beginning, is_end, word_expected, time_constant, principal_name, opening, ended, span};
+ghost use Rattle.bl_syntax.specs.Formula.{Form, formula};
+ghost use Rattle.bl_syntax.specs.Statement.{Saying};
+ghost use Rattle.bl_text.specs.declared.faults.TextFault.{TextFault};
+ghost use Rattle.bl_text.specs.Texts.{IsFormulaText, FormulaFault, IsStatementText, StatementFault, AreOneFault, beginning, is_end, word_expected, time_constant, principal_name, opening, ended, span};
 
 use crate::faults::TextFault;
 use crate::formulas::formula_at;
@@ -15,8 +17,19 @@ use std::alloc::Global;
 /// The greatest number of nodes of a formula.
 const MOST_NODES: u16 = 512;
 
-/// The formula that the text writes, or the first fault of the text.
+/// The formula that the text writes, or the first fault of the text; or `NoMemory`.
 pub fn parse_formula(alloc: Global, text: &[u8]) -> Result<Formula, TextFault>
+    ensures read { IfOk result (λ f. IsFormulaText text.now (formula f)) }
+    ensures fault { IfErr result (FormulaFault text.now) }
+    ensures every_formula { (f : Form) → IsFormulaText text.now f
+        → MatchResult result (λ g. formula g ≡ f) (λ e. e ≡ TextFault.NoMemory) }
+    ensures every_fault { (e : TextFault) → FormulaFault text.now e
+        → MatchResult result (λ _. e ≡ TextFault.NoMemory) (λ d. AreOneFault d e) }
+{
+    read_formula(alloc, text)
+}
+
+fn read_formula(alloc: Global, text: &[u8]) -> Result<Formula, TextFault>
     ensures read { IfOk result (λ f. IsFormulaText text.now (formula f)) }
     ensures fault { IfErr result (FormulaFault text.now) }
 {
@@ -125,8 +138,19 @@ fn span(text: &[u8], here: &mut Here) -> Result<(TimePoint, TimePoint), TextFaul
     Ok((from, to))
 }
 
-/// The statement that the text writes, or the first fault of the text.
+/// The statement that the text writes, or the first fault of the text; or `NoMemory`.
 pub fn parse_statement(alloc: Global, text: &[u8]) -> Result<Statement, TextFault>
+    ensures read { IfOk result (IsStatementText text.now) }
+    ensures fault { IfErr result (StatementFault text.now) }
+    ensures every_statement { (s : Saying) → IsStatementText text.now s
+        → MatchResult result (λ t. t ≡ s) (λ e. e ≡ TextFault.NoMemory) }
+    ensures every_fault { (e : TextFault) → StatementFault text.now e
+        → MatchResult result (λ _. e ≡ TextFault.NoMemory) (λ d. AreOneFault d e) }
+{
+    read_statement(alloc, text)
+}
+
+fn read_statement(alloc: Global, text: &[u8]) -> Result<Statement, TextFault>
     ensures read { IfOk result (IsStatementText text.now) }
     ensures fault { IfErr result (StatementFault text.now) }
 {

@@ -14,14 +14,13 @@ ghost use Rattle.bl_syntax.specs.Terms.{sort_of, IsAtLeastAsStrong};
 ghost use Rattle.bl_syntax.specs.WellSorted.{HasSort};
 ghost use Rattle.bl_rules.specs.Allowed.{SoundGrant};
 ghost use Rattle.proof_term.specs.Proof.{Deduction};
-ghost use Rattle.proof_verifier.specs.declared.fault.CheckFault.TheVariants.{WrongShape};
-ghost use Rattle.proof_verifier.specs.declared.fault.CheckFault.TheVariants.{NoMemory};
+ghost use Rattle.proof_verifier.specs.declared.fault.CheckFault.TheVariants.{WrongShape, NotEntailed, ViewTooWeak, TooManyConditions, NoMemory};
 ghost use Rattle.proof_verifier.specs.Conditions.{of_sort, is_full};
 ghost use Rattle.proof_verifier.specs.Tests.{are_same, has_constraint, has_state, is_as_strong, may_stay_open, state_may_stay_open};
 ghost use Rattle.proof_verifier.specs.Entailed.{is_entailed};
 ghost use Rattle.proof_verifier.specs.Verdict.{verdict};
 ghost use Rattle.proof_verifier.specs.ExampleTable.{Computes, accepted, refused};
-ghost use Rattle.proof_verifier.specs.Examples.{stated, may_write, writing, by_its_claim, between, employees_may_read, bob_is_employed, reading, by_employment, within_both};
+ghost use Rattle.proof_verifier.specs.Examples.{stated, may_write, writing, by_its_claim, between, employees_may_read, bob_is_employed, reading, by_employment, within_both, bob_may_read_if_employed, by_word, q_of_bob, bob_may_read_if_it_follows, by_new_interval, may_write_if_placed, by_places, within_places};
 
 /// A grant that the verdict gives is sound: wherever its conditions hold, the statements allow what it grants.
 pub fn the_verdict_gives_sound_grants()
@@ -88,4 +87,24 @@ pub fn each_rule_accepts_a_proof()
 /// Each rule has its faults, each at its node.
 pub fn each_rule_has_its_faults()
     ensures { AllByRecursion Computes refused }
+{}
+
+/// `loc` is as strong as anybody, and `admin` is not.
+pub fn loc_speaks_for_all()
+    ensures loc { verdict (stated (codes "admin") bob_may_read_if_employed 0 200 ∷ stated (codes "loc") bob_is_employed 0 200 ∷ []) reading by_word
+        ≡ Ok (between reading 0 200) }
+    ensures admin { verdict (stated (codes "admin") bob_may_read_if_employed 0 200 ∷ stated (codes "admin") bob_is_employed 0 200 ∷ []) reading by_word
+        ≡ Err (ViewTooWeak 4) }
+{}
+
+/// A condition that names a parameter is not left over.
+pub fn a_condition_on_a_parameter_is_a_fault()
+    ensures { verdict (stated (codes "admin") bob_may_read_if_it_follows 0 200 ∷ stated (codes "admin") q_of_bob 0 200 ∷ []) reading by_new_interval
+        ≡ Err (NotEntailed 5) }
+{}
+
+/// 2 conditions on time and 62 on the state are kept, and not 63.
+pub fn a_grant_keeps_64_conditions()
+    ensures kept { verdict (stated (codes "admin") (may_write_if_placed 61) 0 200 ∷ []) writing (by_places 61) ≡ Ok (within_places 61) }
+    ensures fault { verdict (stated (codes "admin") (may_write_if_placed 62) 0 200 ∷ []) writing (by_places 62) ≡ Err (TooManyConditions 127) }
 {}
