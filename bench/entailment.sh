@@ -1,8 +1,9 @@
 #!/usr/bin/env bash
-# Times entailment at its limit of 512 constraints: one chain that leads from the last constraint to the first, and a
-# chain from a constant to a lesser one that only its last constraint makes contradict. Beside it a search in C over
-# numbers in place of terms, which keeps a queue of what it has reached. It makes its own input, works in a folder of
-# its own, prints microseconds and ratios, and decides nothing. The C program is timed where a C compiler is there.
+# Times entailment at its limit of 512 constraints, in the orders that take longest: a chain that is given from its end,
+# asked for its end and for a term that it does not reach; a chain from a constant to a lesser one, which its last
+# constraint makes contradict; and 512 constants that each lead elsewhere, of which the last contradicts. Beside it the
+# same search in C over pairs of numbers in place of terms, one after another in one run. It makes its own input, works in
+# a folder of its own, prints microseconds and ratios, and decides nothing. C is timed where a compiler is there.
 set -euo pipefail
 here=$(cd "$(dirname "$0")" && pwd)
 work=$(mktemp -d)
@@ -19,6 +20,7 @@ cat > "$work/crates/bench_entailment/src/main.rt" << 'END'
 
 use bl_constraints::entails;
 use bl_syntax::{Constraint, Term, TimePoint};
+use std::alloc::{AllocError, Global};
 use std::io;
 use std::rt::Clock;
 use std::time::{Duration, Instant};
@@ -27,78 +29,243 @@ const ROUNDS: usize = 20;
 
 const COUNT: usize = 50;
 
-const NUMBER: usize = 512;
-
-// Tenths of a microsecond for one of `count`.
-fn tenths(time: Duration, count: usize) -> u128 {
-    if count > 0 {
-        time.as_nanos() / 100 / count as u128
-    } else {
-        0
-    }
+// Nanoseconds for one question.
+fn each(time: Duration) -> u128 {
+    time.as_nanos() / 50
 }
 
 fn time_at(second: u32) -> Term {
     Term::Time(TimePoint::At(i64::from(second)))
 }
 
-// `from` up to the first parameter, each parameter up to the next, and the last up to `to`, from the last constraint to
-// the first.
-fn chain(from: Term, to: Term) -> [Constraint; NUMBER] {
-    let mut constraints = [Constraint { low: from, high: to }; NUMBER];
-    for place in 0..NUMBER {
-        let step = (NUMBER - 1 - place) as u32;
-        let low = if step == 0 { from } else { Term::Param(step) };
-        let high = if place == 0 { to } else { Term::Param(step + 1) };
-        constraints[place] = Constraint { low, high };
+// The term at a step of a chain.
+fn at_step(step: u32, from: &Term, to: &Term) -> Term {
+    match step {
+        0 => *from,
+        512 => *to,
+        _ => Term::Param(step),
     }
-    constraints
 }
 
-// Constants in order, each up to a parameter of its own, in the order of the constants; the least, which is taken last,
-// leads back before itself.
-fn fan() -> [Constraint; NUMBER] {
-    let mut constraints = [Constraint { low: time_at(0), high: time_at(0) }; NUMBER];
-    for place in 0..NUMBER {
-        let low = time_at(place as u32 + 1);
-        let high = if place == 0 { time_at(0) } else { Term::Param(place as u32) };
-        constraints[place] = Constraint { low, high };
+// `from` up to the first parameter, each parameter up to the next, and the last up to `to`, from the end.
+fn chain(alloc: Global, from: &Term, to: &Term) -> Result<Vec<Constraint>, AllocError> {
+    let mut constraints = Vec::new(alloc);
+    for step in (0..512u32).rev() {
+        constraints.push(Constraint {
+            low: at_step(step, from, to),
+            high: at_step(step + 1, from, to),
+        })?;
     }
-    constraints
+    Ok(constraints)
+}
+
+// Constants, each up to a parameter of its own, but the least, which is before itself.
+fn fan(alloc: Global) -> Result<Vec<Constraint>, AllocError> {
+    let mut constraints = Vec::new(alloc);
+    for step in 0..512u32 {
+        constraints.push(Constraint {
+            low: time_at(step),
+            high: at_step(step, &Term::Time(TimePoint::NegInf), &Term::Ctime),
+        })?;
+    }
+    Ok(constraints)
 }
 
 #[inline(never)]
 fn ask(psi: &[Constraint], u: &Term, v: &Term) -> bool {
-    psi.len() == NUMBER && entails(psi, u, v)
+    psi.len() <= 512 && entails(psi, u, v)
 }
 
+// The time of one question, or the longest where an answer was not the expected one.
 fn time(rt: &impl Clock, psi: &[Constraint], u: &Term, v: &Term, expected: bool) -> io::Result<u128> {
-    let mut right = 0;
+    let mut right = true;
     let start = Instant::now(rt)?;
     for _ in 0..COUNT {
-        if ask(psi, u, v) == expected && right < COUNT {
-            right += 1;
-        }
+        right = ask(psi, u, v) == expected && right;
     }
-    let time = tenths(start.elapsed(rt)?, COUNT);
-    Ok(if right == COUNT { time } else { u128::MAX })
+    let time = each(start.elapsed(rt)?);
+    Ok(if right { time } else { u128::MAX })
 }
 
 fn main(rt: HostRuntime) -> io::Result<()> {
-    let entailed = chain(Term::Param(0), Term::Ctime);
-    let contradicted = chain(time_at(1), time_at(0));
-    let fanned = fan();
     let (first, other) = (Term::Param(0), Term::Param(9999));
+    let entailed = chain(rt.alloc(), &first, &Term::Ctime)?;
+    let contradicted = chain(rt.alloc(), &time_at(1), &time_at(0))?;
+    let fanned = fan(rt.alloc())?;
     let mut least = [u128::MAX; 4];
     for _ in 0..ROUNDS {
         least[0] = least[0].min(time(&rt, &entailed, &first, &Term::Ctime, true)?);
         least[1] = least[1].min(time(&rt, &entailed, &first, &other, false)?);
         least[2] = least[2].min(time(&rt, &contradicted, &time_at(1), &other, true)?);
-        least[3] = least[3].min(time(&rt, &fanned, &time_at(1), &other, true)?);
+        least[3] = least[3].min(time(&rt, &fanned, &first, &other, true)?);
     }
     let [entailed, open, contradicted, fanned] = least;
     println!(rt; "{entailed} {open} {contradicted} {fanned}")
 }
 END
 (cd "$work/crates/bench_entailment" && rt run > "$work/rt.log" 2>&1) || { tail -n 20 "$work/rt.log"; exit 2; }
-tail -3 "$work/rt.log"
+
+cat > "$work/peer.c" << 'END'
+/* The same questions of terms that are pairs of numbers: a kind (0: the first time, 1: a time, 2: other) and a number. */
+#include <stdio.h>
+#include <string.h>
+#include <time.h>
+
+enum { ROUNDS = 20, COUNT = 50, NUMBER = 512 };
+
+struct term { int kind; long number; };
+struct constraint { struct term low, high; };
+
+static int order[NUMBER];
+
+static int linked(const struct term *u, const struct term *v)
+{
+    if (u->kind == 0)
+        return 1;
+    if (u->kind == 1 && v->kind == 1)
+        return u->number <= v->number;
+    return u->kind == v->kind && u->number == v->number;
+}
+
+static int reach(const struct constraint *psi, const struct term *t, int reached)
+{
+    for (int place = reached; place < NUMBER; place++)
+        if (linked(t, &psi[order[place]].low)) {
+            int held = order[place];
+            order[place] = order[reached];
+            order[reached++] = held;
+        }
+    return reached;
+}
+
+static void number_places(void)
+{
+    for (int place = 0; place < NUMBER; place++)
+        order[place] = place;
+}
+
+static int leads(const struct constraint *psi, const struct term *u, const struct term *v)
+{
+    if (linked(u, v))
+        return 1;
+    number_places();
+    int reached = reach(psi, u, 0);
+    for (int next = 0; next < reached; next++) {
+        const struct term *high = &psi[order[next]].high;
+        if (linked(high, v))
+            return 1;
+        reached = reach(psi, high, reached);
+    }
+    return 0;
+}
+
+static int before(const struct term *t, long number)
+{
+    return t->kind == 0 || (t->kind == 1 && t->number < number);
+}
+
+static int contradictory(const struct constraint *psi)
+{
+    number_places();
+    int reached = 0, next = 0;
+    for (;;) {
+        int source = -1;
+        for (int place = reached; place < NUMBER; place++) {
+            const struct term *low = &psi[order[place]].low;
+            if (low->kind == 1 && (source < 0 || low->number >= psi[order[source]].low.number))
+                source = place;
+        }
+        if (source < 0)
+            return 0;
+        int held = order[source];
+        order[source] = order[reached];
+        order[reached++] = held;
+        long number = psi[held].low.number;
+        for (; next < reached; next++) {
+            const struct term *high = &psi[order[next]].high;
+            if (before(high, number))
+                return 1;
+            reached = reach(psi, high, reached);
+        }
+    }
+}
+
+__attribute__((noinline)) static int ask(const struct constraint *psi, struct term u, struct term v)
+{
+    return leads(psi, &u, &v) || contradictory(psi);
+}
+
+static struct term at_step(int step, struct term from, struct term to)
+{
+    struct term other = { 2, step };
+    return step == 0 ? from : step == NUMBER ? to : other;
+}
+
+static double now(void)
+{
+    struct timespec t;
+    clock_gettime(CLOCK_MONOTONIC, &t);
+    return t.tv_sec * 1e9 + t.tv_nsec;
+}
+
+static struct constraint sets[3][NUMBER];
+
+int main(void)
+{
+    struct term first = { 2, 0 }, current = { 2, -1 }, other = { 2, 9999 }, one = { 1, 1 }, zero = { 1, 0 }, start = { 0, 0 };
+    for (int place = 0; place < NUMBER; place++) {
+        int step = NUMBER - 1 - place;
+        struct constraint a = { at_step(step, first, current), at_step(step + 1, first, current) };
+        struct constraint b = { at_step(step, one, zero), at_step(step + 1, one, zero) };
+        struct constraint c = { { 1, place }, at_step(place, start, current) };
+        sets[0][place] = a;
+        sets[1][place] = b;
+        sets[2][place] = c;
+    }
+    struct { struct constraint *psi; struct term u, v; int expected; } questions[4] = {
+        { sets[0], first, current, 1 }, { sets[0], first, other, 0 }, { sets[1], one, other, 1 }, { sets[2], first, other, 1 },
+    };
+    for (int i = 0; i < 4; i++) {
+        double least = 1e18;
+        for (int round = 0; round < ROUNDS; round++) {
+            double begin = now();
+            for (int k = 0; k < COUNT; k++)
+                if (ask(questions[i].psi, questions[i].u, questions[i].v) != questions[i].expected)
+                    return 1;
+            double time = (now() - begin) / COUNT;
+            if (time < least)
+                least = time;
+        }
+        printf("%.0f ", least);
+    }
+    printf("\n");
+    return 0;
+}
+END
+peer=
+if cc -O2 -o "$work/peer" "$work/peer.c" 2> "$work/cc.log"; then
+    peer="$work/peer"
+fi
+
+for _ in 1 2 3 4 5; do
+    "$work/crates/bench_entailment/out/bench_entailment" >> "$work/ours"
+    [ -z "$peer" ] || "$peer" >> "$work/theirs"
+done
+touch "$work/theirs"
+
+echo "processor: $(sed -n 's/^model name[^:]*: //p' /proc/cpuinfo | head -n 1)"
+echo "microseconds for one question of 512 constraints, the least of 100 rounds"
+awk '
+    function keep(i, x) { if (!(i in least) || x < least[i]) least[i] = x }
+    FILENAME ~ /ours$/ { for (i = 1; i <= 4; i++) keep("ours" i, $i / 1000) }
+    FILENAME ~ /theirs$/ { for (i = 1; i <= 4; i++) keep("theirs" i, $i / 1000) }
+    END {
+        name[1] = "a chain from its end to its end"
+        name[2] = "a chain that does not reach the term"
+        name[3] = "a chain that its last makes contradict"
+        name[4] = "constants, of which the last contradicts"
+        for (i = 1; i <= 4; i++) {
+            more = ("theirs" i) in least ? sprintf("%.2f of C over numbers, %.1f", least["ours" i] / least["theirs" i], least["theirs" i]) : "C was not built here"
+            printf "%-44s %8.1f  %s\n", name[i], least["ours" i], more
+        }
+    }' "$work/ours" "$work/theirs"

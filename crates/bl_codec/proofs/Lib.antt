@@ -5,6 +5,9 @@ pub mod FormulaLemmas
 pub mod FormulaMemory
 pub mod FoundLemmas
 pub mod KeptLemmas
+pub mod LeafLemmas
 pub mod NodeLemmas
+pub mod StatementCodec
+pub mod StatementTest
 pub mod StopLemmas
 pub mod TermLoop

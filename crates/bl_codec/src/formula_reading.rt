@@ -1,10 +1,12 @@
 //! Reading formulas.
 
-ghost use Rattle.std.specs.Prelude.{◌≡◌, Err};
-ghost use Rattle.bl_syntax.specs.Formula.{formula};
+ghost use Rattle.std.specs.Prelude.{◌≡◌, Err, IfOk, IfErr};
+ghost use Rattle.bl_syntax.specs.declared.codec_fault.CodecFault.TheVariants.{NoMemory};
+ghost use Rattle.bl_syntax.specs.Formula.{formula, says, on};
 ghost use Rattle.bl_syntax.specs.Reading.{Gives, reading};
 ghost use Rattle.bl_syntax.specs.Codec.{GivesOrStops, ReadsFront};
 ghost use Rattle.bl_syntax.specs.FormulaSpelling.{IsSpellableFormula, formula_spelling};
+ghost use Rattle.bl_codec.specs.Leaves.{is_leaf_tag, leaf_at, joined, bound_by};
 ghost use Rattle.bl_syntax.specs.FormulaReading.{is_term_tag, is_formula_tag, node_term_at, two_terms_at, three_terms_at, terms_at, count_at, atom_at, pair_at, bound_at, says_at, on_at, fields_at, no_more, node_at, formula_at, whole_formula_at};
 
 use bl_syntax::fields::{place, predicate_at, sort_at, term_at};
@@ -143,116 +145,16 @@ fn atom_at(
     }
 }
 
-/// Two formulas in memory of their own.
-#[cycle(formula)]
-#[tactic(auto, using(crate::proofs::StopLemmas::hands_on, crate::proofs::StopLemmas::stops), unfolding(bl_syntax::specs::FormulaReading::pair_at))]
-fn pair_at(
+/// The fields of a formula that has no formulas in it.
+#[tactic(auto, using(crate::proofs::StopLemmas::hands_on, crate::proofs::StopLemmas::stops), unfolding(crate::specs::Leaves::leaf_at))]
+fn leaf_at(
     alloc: Global,
     input: usize,
-    depth: u16,
-    left: u16,
-    bytes: &[u8],
-) -> Result<(Box<Formula>, Box<Formula>, u16, &[u8]), CodecFault>
-    ensures { GivesOrStops (λ x. ((formula x.0.value, formula x.1.value), (x.2, x.3.now))) result (pair_at (λ n rest. formula_at input depth n rest) left bytes.now) }
-{
-    match formula_at(alloc, input, depth, left, bytes) {
-        Err(fault) => Err(fault),
-        Ok((first, left, rest)) => match formula_at(alloc, input, depth, left, rest) {
-            Err(fault) => Err(fault),
-            Ok((second, left, rest)) => {
-                let first = Box::new(alloc, first)?;
-                let second = Box::new(alloc, second)?;
-                Ok((first, second, left, rest))
-            }
-        },
-    }
-}
-
-/// A binder's sort, and the formula inside it.
-#[cycle(formula)]
-#[tactic(auto, using(crate::proofs::StopLemmas::hands_on, crate::proofs::StopLemmas::stops), unfolding(bl_syntax::specs::FormulaReading::bound_at))]
-fn bound_at(
-    alloc: Global,
-    input: usize,
-    depth: u16,
-    left: u16,
-    bytes: &[u8],
-) -> Result<(Sort, Box<Formula>, u16, &[u8]), CodecFault>
-    ensures { GivesOrStops (λ x. ((x.0, formula x.1.value), (x.2, x.3.now))) result (bound_at (λ n rest. formula_at input depth n rest) input left bytes.now) }
-{
-    let (sort, rest) = sort_at(input, bytes)?;
-    match formula_at(alloc, input, depth, left, rest) {
-        Err(fault) => Err(fault),
-        Ok((body, left, rest)) => Ok((sort, Box::new(alloc, body)?, left, rest)),
-    }
-}
-
-/// Who says a formula, and the formula.
-#[cycle(formula)]
-#[tactic(auto, using(crate::proofs::StopLemmas::hands_on, crate::proofs::StopLemmas::stops), unfolding(bl_syntax::specs::FormulaReading::says_at))]
-fn says_at(
-    alloc: Global,
-    input: usize,
-    depth: u16,
-    left: u16,
-    bytes: &[u8],
-) -> Result<(Formula, u16, &[u8]), CodecFault>
-    ensures { GivesOrStops (λ x. (formula x.0, (x.1, x.2.now))) result (says_at (λ n rest. formula_at input depth n rest) input left bytes.now) }
-{
-    match node_term_at(input, left, bytes) {
-        Err(fault) => Err(fault),
-        Ok((who, left, rest)) => match formula_at(alloc, input, depth, left, rest) {
-            Err(fault) => Err(fault),
-            Ok((body, left, rest)) => {
-                let body = Box::new(alloc, body)?;
-                Ok((Formula::Says(who, body), left, rest))
-            }
-        },
-    }
-}
-
-/// A formula, and the interval on which it holds.
-#[cycle(formula)]
-#[tactic(auto, using(crate::proofs::StopLemmas::hands_on, crate::proofs::StopLemmas::stops), unfolding(bl_syntax::specs::FormulaReading::on_at))]
-fn on_at(
-    alloc: Global,
-    input: usize,
-    depth: u16,
-    left: u16,
-    bytes: &[u8],
-) -> Result<(Formula, u16, &[u8]), CodecFault>
-    ensures { GivesOrStops (λ x. (formula x.0, (x.1, x.2.now))) result (on_at (λ n rest. formula_at input depth n rest) input left bytes.now) }
-{
-    match formula_at(alloc, input, depth, left, bytes) {
-        Err(fault) => Err(fault),
-        Ok((body, left, rest)) => match two_terms_at(input, left, rest) {
-            Err(fault) => Err(fault),
-            Ok((from, to, left, rest)) => {
-                let body = Box::new(alloc, body)?;
-                Ok((Formula::At(body, from, to), left, rest))
-            }
-        },
-    }
-}
-
-fn is_formula_tag(tag: u8) -> bool
-    ensures { result ≡ is_formula_tag tag }
-{
-    16 <= tag && tag <= 29
-}
-
-/// The fields of a formula with that tag, which are its terms and formulas.
-#[cycle(formula)]
-#[tactic(auto, using(crate::proofs::StopLemmas::hands_on, crate::proofs::StopLemmas::stops), unfolding(bl_syntax::specs::FormulaReading::fields_at))]
-fn fields_at(
-    alloc: Global,
-    input: usize,
-    depth: u16,
     left: u16,
     tag: u8,
     rest: &[u8],
 ) -> Result<(Formula, u16, &[u8]), CodecFault>
-    ensures { GivesOrStops (λ x. (formula x.0, (x.1, x.2.now))) result (fields_at (λ n rest. formula_at input depth n rest) input left tag rest.now) }
+    ensures { GivesOrStops (λ x. (formula x.0, (x.1, x.2.now))) result (leaf_at input left tag rest.now) }
 {
     match tag {
         16 => atom_at(alloc, input, left, rest),
@@ -288,27 +190,213 @@ fn fields_at(
                 ))
             }
         },
-        21 => match pair_at(alloc, input, depth, left, rest) {
-            Err(fault) => Err(fault),
-            Ok((a, b, left, rest)) => Ok((Formula::And(a, b), left, rest)),
-        },
-        22 => match pair_at(alloc, input, depth, left, rest) {
-            Err(fault) => Err(fault),
-            Ok((a, b, left, rest)) => Ok((Formula::Or(a, b), left, rest)),
-        },
-        23 => match pair_at(alloc, input, depth, left, rest) {
-            Err(fault) => Err(fault),
-            Ok((a, b, left, rest)) => Ok((Formula::Imp(a, b), left, rest)),
-        },
         24 => Ok((Formula::True, left, rest)),
-        25 => Ok((Formula::False, left, rest)),
-        26 => match bound_at(alloc, input, depth, left, rest) {
+        _ => Ok((Formula::False, left, rest)),
+    }
+}
+
+/// The same in memory of its own, so that what calls itself below keeps no formula on the stack.
+#[inline(never)]
+fn boxed_leaf_at(
+    alloc: Global,
+    input: usize,
+    left: u16,
+    tag: u8,
+    rest: &[u8],
+) -> Result<(Box<Formula>, u16, &[u8]), CodecFault>
+    ensures { GivesOrStops (λ x. (formula x.0.value, (x.1, x.2.now))) result (leaf_at input left tag rest.now) }
+{
+    match leaf_at(alloc, input, left, tag, rest) {
+        Err(fault) => Err(fault),
+        Ok((f, left, rest)) => Ok((Box::new(alloc, f)?, left, rest)),
+    }
+}
+
+/// Whether a formula with that tag has no formulas in it.
+fn is_leaf_tag(tag: u8) -> bool
+    ensures { result ≡ is_leaf_tag tag }
+{
+    (16 <= tag && tag <= 20) || tag == 24 || tag == 25
+}
+
+#[inline(never)]
+fn boxed(alloc: Global, f: Formula) -> Result<Box<Formula>, CodecFault>
+    ensures ok { IfOk result (λ b. formula b.value ≡ formula f) }
+    ensures err { IfErr result (λ fault. fault ≡ NoMemory) }
+{
+    Ok(Box::new(alloc, f)?)
+}
+
+/// Two formulas joined by the connective of that tag.
+#[inline(never)]
+fn boxed_pair(
+    alloc: Global,
+    tag: u8,
+    a: Box<Formula>,
+    b: Box<Formula>,
+) -> Result<Box<Formula>, CodecFault>
+    ensures ok { IfOk result (λ f. formula f.value ≡ joined tag (formula a.value) (formula b.value)) }
+    ensures err { IfErr result (λ fault. fault ≡ NoMemory) }
+{
+    match tag {
+        21 => boxed(alloc, Formula::And(a, b)),
+        22 => boxed(alloc, Formula::Or(a, b)),
+        _ => boxed(alloc, Formula::Imp(a, b)),
+    }
+}
+
+/// A formula inside the binder of that tag.
+#[inline(never)]
+fn boxed_bound(
+    alloc: Global,
+    tag: u8,
+    sort: Sort,
+    body: Box<Formula>,
+) -> Result<Box<Formula>, CodecFault>
+    ensures ok { IfOk result (λ f. formula f.value ≡ bound_by tag sort (formula body.value)) }
+    ensures err { IfErr result (λ fault. fault ≡ NoMemory) }
+{
+    match tag {
+        26 => boxed(alloc, Formula::Forall(sort, body)),
+        _ => boxed(alloc, Formula::Exists(sort, body)),
+    }
+}
+
+/// What a principal says.
+#[inline(never)]
+fn boxed_says(alloc: Global, who: &Term, body: Box<Formula>) -> Result<Box<Formula>, CodecFault>
+    ensures ok { IfOk result (λ f. formula f.value ≡ says who.now (formula body.value)) }
+    ensures err { IfErr result (λ fault. fault ≡ NoMemory) }
+{
+    boxed(alloc, Formula::Says(*who, body))
+}
+
+/// A formula on an interval.
+#[inline(never)]
+fn boxed_on(
+    alloc: Global,
+    body: Box<Formula>,
+    from: &Term,
+    to: &Term,
+) -> Result<Box<Formula>, CodecFault>
+    ensures ok { IfOk result (λ f. formula f.value ≡ on (formula body.value) from.now to.now) }
+    ensures err { IfErr result (λ fault. fault ≡ NoMemory) }
+{
+    boxed(alloc, Formula::At(body, *from, *to))
+}
+
+/// Two formulas.
+#[cycle(formula)]
+#[tactic(auto, using(crate::proofs::StopLemmas::hands_on, crate::proofs::StopLemmas::stops), unfolding(bl_syntax::specs::FormulaReading::pair_at))]
+fn pair_at(
+    alloc: Global,
+    input: usize,
+    depth: u16,
+    left: u16,
+    bytes: &[u8],
+) -> Result<(Box<Formula>, Box<Formula>, u16, &[u8]), CodecFault>
+    ensures { GivesOrStops (λ x. ((formula x.0.value, formula x.1.value), (x.2, x.3.now))) result (pair_at (λ n rest. formula_at input depth n rest) left bytes.now) }
+{
+    match formula_at(alloc, input, depth, left, bytes) {
+        Err(fault) => Err(fault),
+        Ok((first, left, rest)) => match formula_at(alloc, input, depth, left, rest) {
             Err(fault) => Err(fault),
-            Ok((sort, body, left, rest)) => Ok((Formula::Forall(sort, body), left, rest)),
+            Ok((second, left, rest)) => Ok((first, second, left, rest)),
         },
-        27 => match bound_at(alloc, input, depth, left, rest) {
+    }
+}
+
+/// A binder's sort, and the formula inside it.
+#[cycle(formula)]
+#[tactic(auto, using(crate::proofs::StopLemmas::hands_on, crate::proofs::StopLemmas::stops), unfolding(bl_syntax::specs::FormulaReading::bound_at))]
+fn bound_at(
+    alloc: Global,
+    input: usize,
+    depth: u16,
+    left: u16,
+    bytes: &[u8],
+) -> Result<(Sort, Box<Formula>, u16, &[u8]), CodecFault>
+    ensures { GivesOrStops (λ x. ((x.0, formula x.1.value), (x.2, x.3.now))) result (bound_at (λ n rest. formula_at input depth n rest) input left bytes.now) }
+{
+    let (sort, rest) = sort_at(input, bytes)?;
+    match formula_at(alloc, input, depth, left, rest) {
+        Err(fault) => Err(fault),
+        Ok((body, left, rest)) => Ok((sort, body, left, rest)),
+    }
+}
+
+/// Who says a formula, and the formula.
+#[cycle(formula)]
+#[tactic(auto, using(crate::proofs::StopLemmas::hands_on, crate::proofs::StopLemmas::stops), unfolding(bl_syntax::specs::FormulaReading::says_at))]
+fn says_at(
+    alloc: Global,
+    input: usize,
+    depth: u16,
+    left: u16,
+    bytes: &[u8],
+) -> Result<(Box<Formula>, u16, &[u8]), CodecFault>
+    ensures { GivesOrStops (λ x. (formula x.0.value, (x.1, x.2.now))) result (says_at (λ n rest. formula_at input depth n rest) input left bytes.now) }
+{
+    match node_term_at(input, left, bytes) {
+        Err(fault) => Err(fault),
+        Ok((who, left, rest)) => match formula_at(alloc, input, depth, left, rest) {
             Err(fault) => Err(fault),
-            Ok((sort, body, left, rest)) => Ok((Formula::Exists(sort, body), left, rest)),
+            Ok((body, left, rest)) => Ok((boxed_says(alloc, &who, body)?, left, rest)),
+        },
+    }
+}
+
+/// A formula, and the interval on which it holds.
+#[cycle(formula)]
+#[tactic(auto, using(crate::proofs::StopLemmas::hands_on, crate::proofs::StopLemmas::stops), unfolding(bl_syntax::specs::FormulaReading::on_at))]
+fn on_at(
+    alloc: Global,
+    input: usize,
+    depth: u16,
+    left: u16,
+    bytes: &[u8],
+) -> Result<(Box<Formula>, u16, &[u8]), CodecFault>
+    ensures { GivesOrStops (λ x. (formula x.0.value, (x.1, x.2.now))) result (on_at (λ n rest. formula_at input depth n rest) input left bytes.now) }
+{
+    match formula_at(alloc, input, depth, left, bytes) {
+        Err(fault) => Err(fault),
+        Ok((body, left, rest)) => match two_terms_at(input, left, rest) {
+            Err(fault) => Err(fault),
+            Ok((from, to, left, rest)) => Ok((boxed_on(alloc, body, &from, &to)?, left, rest)),
+        },
+    }
+}
+
+fn is_formula_tag(tag: u8) -> bool
+    ensures { result ≡ is_formula_tag tag }
+{
+    16 <= tag && tag <= 29
+}
+
+/// The fields of a formula with that tag, which are its terms and formulas.
+#[cycle(formula)]
+#[tactic(auto, using(crate::proofs::StopLemmas::hands_on, crate::proofs::StopLemmas::stops), unfolding(bl_syntax::specs::FormulaReading::fields_at))]
+fn fields_at(
+    alloc: Global,
+    input: usize,
+    depth: u16,
+    left: u16,
+    tag: u8,
+    rest: &[u8],
+) -> Result<(Box<Formula>, u16, &[u8]), CodecFault>
+    ensures { GivesOrStops (λ x. (formula x.0.value, (x.1, x.2.now))) result (fields_at (λ n rest. formula_at input depth n rest) input left tag rest.now) }
+{
+    if is_leaf_tag(tag) {
+        return boxed_leaf_at(alloc, input, left, tag, rest);
+    }
+    match tag {
+        21 | 22 | 23 => match pair_at(alloc, input, depth, left, rest) {
+            Err(fault) => Err(fault),
+            Ok((a, b, left, rest)) => Ok((boxed_pair(alloc, tag, a, b)?, left, rest)),
+        },
+        26 | 27 => match bound_at(alloc, input, depth, left, rest) {
+            Err(fault) => Err(fault),
+            Ok((sort, body, left, rest)) => Ok((boxed_bound(alloc, tag, sort, body)?, left, rest)),
         },
         28 => says_at(alloc, input, depth, left, rest),
         _ => on_at(alloc, input, depth, left, rest),
@@ -324,8 +412,8 @@ fn node_at(
     depth: u16,
     left: u16,
     bytes: &[u8],
-) -> Result<(Formula, u16, &[u8]), CodecFault>
-    ensures { GivesOrStops (λ x. (formula x.0, (x.1, x.2.now))) result (node_at (λ n rest. formula_at input depth n rest) input left bytes.now) }
+) -> Result<(Box<Formula>, u16, &[u8]), CodecFault>
+    ensures { GivesOrStops (λ x. (formula x.0.value, (x.1, x.2.now))) result (node_at (λ n rest. formula_at input depth n rest) input left bytes.now) }
 {
     match bytes {
         [] => Err(CodecFault::Short),
@@ -366,8 +454,8 @@ fn formula_at(
     depth: u16,
     left: u16,
     bytes: &[u8],
-) -> Result<(Formula, u16, &[u8]), CodecFault>
-    ensures { GivesOrStops (λ x. (formula x.0, (x.1, x.2.now))) result (formula_at input depth left bytes.now) }
+) -> Result<(Box<Formula>, u16, &[u8]), CodecFault>
+    ensures { GivesOrStops (λ x. (formula x.0.value, (x.1, x.2.now))) result (formula_at input depth left bytes.now) }
 {
     if depth == 0 {
         return Err(too_deep(input, bytes));
@@ -387,7 +475,7 @@ pub fn whole_formula_at(
 {
     match formula_at(alloc, input, MOST_NODES, MOST_NODES, bytes) {
         Err(fault) => Err(fault),
-        Ok((f, _, rest)) => Ok((f, rest)),
+        Ok((f, _, rest)) => Ok((Box::into_inner(f), rest)),
     }
 }
 

@@ -1,13 +1,14 @@
 //! Writing formulas.
 
-ghost use Rattle.std.specs.Prelude.{◌≡◌, ◌≤◌, ◌++◌, ◌∷◌, OnOk, OnErr, length};
+ghost use Rattle.std.specs.Prelude.{◌≡◌, ◌≤◌, ◌++◌, ◌∷◌, OnOk, OnErr, IsTrue, length};
 ghost use Rattle.std.specs.List.{flat_map, AllByRecursion};
+ghost use Rattle.bl_syntax.specs.Names.{is_predicate_name};
 ghost use Rattle.bl_syntax.specs.Terms.{HasTimeInRange};
 ghost use Rattle.bl_syntax.specs.Formula.{formula};
 ghost use Rattle.bl_syntax.specs.WellSorted.{IsWithinLimits, widest_atom, terms_of_state};
 ghost use Rattle.bl_syntax.specs.Statement.{AllTerms};
-ghost use Rattle.bl_syntax.specs.Spelling.{counted, term_spelling};
-ghost use Rattle.bl_syntax.specs.FormulaSpelling.{state_spelling, formula_spelling};
+ghost use Rattle.bl_syntax.specs.Spelling.{IsSpellable, counted, term_spelling};
+ghost use Rattle.bl_syntax.specs.FormulaSpelling.{AreNamed, IsSpellableFormula, state_spelling, formula_spelling};
 ghost use Rattle.bl_codec.specs.Kept.{Keeps};
 
 use bl_syntax::fields::{put, sort_code};
@@ -18,6 +19,7 @@ pub fn write_formula(f: &Formula, out: &mut Bytes) -> Result<(), NoMemory>
     requires limits { IsWithinLimits (formula f.now) }
     requires times { AllTerms HasTimeInRange (formula f.now) }
     ensures ok { OnOk result (out.new ≡ out.old ++ formula_spelling (formula f.now)) }
+    ensures spelled { OnOk result (IsSpellableFormula (formula f.now)) }
     ensures err { OnErr result (out.new ≡ out.old) }
 {
     let len = out.len();
@@ -34,6 +36,8 @@ fn put_formula(f: &Formula, out: &mut Bytes) -> Result<(), NoMemory>
     requires arguments { widest_atom (formula f.now) ≤ 8 }
     requires times { AllTerms HasTimeInRange (formula f.now) }
     ensures ok { OnOk result (out.new ≡ out.old ++ formula_spelling (formula f.now)) }
+    ensures names { OnOk result (AreNamed (formula f.now)) }
+    ensures terms { OnOk result (AllTerms IsSpellable (formula f.now)) }
     ensures err { OnErr result (Keeps out.old out.new) }
 {
     match f {
@@ -84,6 +88,8 @@ fn put_two_terms(front: &[u8], low: &Term, high: &Term, out: &mut Bytes) -> Resu
     requires low { HasTimeInRange low.now }
     requires high { HasTimeInRange high.now }
     ensures ok { OnOk result (out.new ≡ out.old ++ (front.now ++ (term_spelling low.now ++ term_spelling high.now))) }
+    ensures low_spelled { OnOk result (IsSpellable low.now) }
+    ensures high_spelled { OnOk result (IsSpellable high.now) }
     ensures err { OnErr result (Keeps out.old out.new) }
 {
     put(front, &[], out)?;
@@ -96,6 +102,7 @@ fn put_two_terms(front: &[u8], low: &Term, high: &Term, out: &mut Bytes) -> Resu
 fn put_state(s: &StatePred, out: &mut Bytes) -> Result<(), NoMemory>
     requires { AllByRecursion HasTimeInRange (terms_of_state s.now) }
     ensures ok { OnOk result (out.new ≡ out.old ++ state_spelling s.now) }
+    ensures spelled { OnOk result (AllByRecursion IsSpellable (terms_of_state s.now)) }
     ensures err { OnErr result (Keeps out.old out.new) }
 {
     match s {
@@ -115,6 +122,8 @@ fn put_atom(name: &Word, terms: &[Term], out: &mut Bytes) -> Result<(), NoMemory
     requires arguments { length terms.now ≤ 8 }
     requires times { AllByRecursion HasTimeInRange terms.now }
     ensures ok { OnOk result (out.new ≡ out.old ++ 16 ∷ (counted name.now ++ length terms.now ∷ flat_map term_spelling terms.now)) }
+    ensures named { OnOk result (IsTrue (is_predicate_name name.now)) }
+    ensures spelled { OnOk result (AllByRecursion IsSpellable terms.now) }
     ensures err { OnErr result (Keeps out.old out.new) }
 {
     let bytes = name.bytes();
@@ -128,6 +137,7 @@ fn put_atom(name: &Word, terms: &[Term], out: &mut Bytes) -> Result<(), NoMemory
 fn put_terms(terms: &[Term], out: &mut Bytes) -> Result<(), NoMemory>
     requires { AllByRecursion HasTimeInRange terms.now }
     ensures ok { OnOk result (out.new ≡ out.old ++ flat_map term_spelling terms.now) }
+    ensures spelled { OnOk result (AllByRecursion IsSpellable terms.now) }
     ensures err { OnErr result (Keeps out.old out.new) }
 {
     match terms {

@@ -7,6 +7,10 @@
 mod formula_reading;
 mod formula_writing;
 pub mod laws;
+mod statement;
+#[cfg(test)]
+mod tests;
 
 pub use formula_reading::{read_formula, whole_formula_at};
 pub use formula_writing::write_formula;
+pub use statement::{read_statement, statement_at, write_statement};

@@ -1,6 +1,6 @@
 //! Whether constraints entail that one term is not after another.
 
-ghost use Rattle.std.specs.Prelude.{◌≡◌, ◌≤◌, ◌<◌, ◌↔◌, IsTrue, MatchOption, length};
+ghost use Rattle.std.specs.Prelude.{◌≡◌, ◌≤◌, ◌↔◌, IsTrue, MatchOption, length};
 ghost use Rattle.bl_syntax.specs.Entailment.{IsChain, IsContradictory, Entails};
 ghost use Rattle.bl_constraints.specs.Sources.{IsSafe, IsGreatestSource, HasReachedMore};
 

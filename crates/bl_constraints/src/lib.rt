@@ -11,3 +11,6 @@ mod search;
 mod sources;
 
 pub use entailment::entails;
+
+#[cfg(test)]
+mod tests;

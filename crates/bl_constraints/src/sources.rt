@@ -1,6 +1,6 @@
 //! The constants with which constraints begin, from the greatest down.
 
-ghost use Rattle.std.specs.Prelude.{◌≡◌, ◌≤◌, MatchOption, IfNone, IfSome, length};
+ghost use Rattle.std.specs.Prelude.{◌≡◌, ◌≤◌, MatchOption, length};
 ghost use Rattle.bl_syntax.specs.declared.terms.TimePoint.{TimePoint};
 ghost use Rattle.bl_constraints.specs.Search.{IsOrder};
 ghost use Rattle.bl_constraints.specs.Sources.{HasNoSource, IsGreatestSource, IsLater};

@@ -23,7 +23,7 @@ ended at End point = Ok point
 ended at _ point = Err (Unexpected at)
 
 abbrev whole : List ℕ → ℕ → Result TimePoint TextFault → Result TimePoint TextFault
-whole text end (Ok point) = ended (token_from text end).at (token_from text end).token point
+whole text end (Ok point) = ended (token_from text end 0).at (token_from text end 0).token point
 whole text end (Err fault) = Err fault
 
 abbrev from_first : List ℕ → Here → Result TimePoint TextFault
@@ -31,4 +31,4 @@ from_first text first = whole text first.end (time_at first.at first.token)
 
 -- what the text says: one time token, and nothing behind it but spaces
 abbrev pub time_reading : List ℕ → Result TimePoint TextFault
-time_reading text = from_first text (token_from text 0)
+time_reading text = from_first text (token_from text 0 0)

@@ -1,5 +1,5 @@
 -- The tokens of a text (this project's own). A token takes as many bytes as it can, and what is no token is a bad one at its first byte.
-use Rattle.std.specs.Prelude.{ℕ, ℤ, pos, neg_ℤ, ◌+ℤ◌, ◌+◌, ◌^◌, List, [], ◌∷◌, length, take, drop, codes, Bool, false, nat_le, nat_eq, ◌&&◌, ◌==◌, Option, Some, None, if◌then◌else◌}
+use Rattle.std.specs.Prelude.{ℕ, ℤ, pos, neg_ℤ, ◌+ℤ◌, ◌+◌, ◌-◌, ◌^◌, List, [], ◌∷◌, length, take, drop, codes, Bool, false, nat_le, nat_eq, ◌&&◌, ◌==◌, Option, Some, None, if◌then◌else◌}
 use Rattle.std.specs.List.{prefix_len, take_while, starts_with}
 use Rattle.std.specs.Str.Parse.{digits_value}
 use Rattle.bl_syntax.specs.declared.terms.Term.TheVariants as terms
@@ -7,6 +7,8 @@ use Rattle.bl_syntax.specs.declared.terms.TimePoint.TheVariants as times
 use Rattle.bl_syntax.specs.Names.{is_lower_case, is_digit, is_text}
 use Rattle.bl_text.specs.declared.tokens.Sign.{Sign}
 use Rattle.bl_text.specs.declared.tokens.Sign.TheVariants as signs
+use Rattle.bl_text.specs.declared.tokens.Keyword.{Keyword}
+use Rattle.bl_text.specs.declared.tokens.Keyword.TheVariants as words
 use Rattle.bl_text.specs.declared.tokens.Token.{Token}
 use Rattle.bl_text.specs.declared.tokens.Token.TheVariants as tokens
 use Rattle.bl_text.specs.declared.tokens.Lexeme.{Lexeme}
@@ -175,9 +177,51 @@ first_lexeme (first ∷ others) =
     if is_digit first then time_lexeme (first ∷ others) else
     begun_by first others
 
-abbrev placed : ℕ → Lexeme → Here
-placed at found = record { at = at; token = found.token; end = at + found.size }
+abbrev placed : ℕ → ℕ → Lexeme → Here
+placed at left found = record { at = at; token = found.token; end = at + found.size; left = left }
 
--- the first token from that byte of the text on, behind spaces
-abbrev pub token_from : List ℕ → ℕ → Here
-token_from text from = let at = from + prefix_len (is_in classes.Space) (drop from text) in placed at (first_lexeme (drop at text))
+-- the place of the first token from that byte of the text on, behind spaces, where so many nodes are left
+unfoldable pub token_from : List ℕ → ℕ → ℕ → Here
+token_from text from left = let at = from + prefix_len (is_in classes.Space) (drop from text) in placed at left (first_lexeme (drop at text))
+
+-- the place behind a token that is no node of the formula
+unfoldable pub behind : List ℕ → Here → Here
+behind text here = token_from text here.end here.left
+
+-- the place behind a token that is a node of the formula
+unfoldable pub behind_node : List ℕ → Here → Here
+behind_node text here = token_from text here.end (here.left - 1)
+
+-- ---- which sign or word a token is
+
+abbrev pub sign_code : Sign → ℕ
+sign_code signs.Open = 0
+sign_code signs.Close = 1
+sign_code signs.OpenInterval = 2
+sign_code signs.CloseInterval = 3
+sign_code signs.Comma = 4
+sign_code signs.Colon = 5
+sign_code signs.Dot = 6
+sign_code signs.And = 7
+sign_code signs.Or = 8
+sign_code signs.Implies = 9
+sign_code signs.UpTo = 10
+sign_code signs.At = 11
+
+abbrev pub word_code : Keyword → ℕ
+word_code words.Forall = 0
+word_code words.Exists = 1
+word_code words.Says = 2
+word_code words.From = 3
+word_code words.To = 4
+word_code words.True = 5
+word_code words.False = 6
+word_code words.Inf = 7
+
+unfoldable pub is_sign : Sign → Token → Bool
+is_sign sign (tokens.Sign found) = sign_code sign == sign_code found
+is_sign sign _ = false
+
+unfoldable pub is_word : Keyword → Token → Bool
+is_word word (tokens.Keyword found) = word_code word == word_code found
+is_word word _ = false

@@ -1,5 +1,8 @@
 //! The first fault of a text.
 
+use bl_syntax::NoMemory;
+use std::alloc::AllocFailed;
+
 /// Why a text writes no value, and at which byte, from 0.
 #[derive(Clone, Copy, Debug, PartialEq, Eq)]
 pub enum TextFault {
@@ -15,4 +18,26 @@ pub enum TextFault {
     TooLarge(usize),
     /// A growth was refused.
     NoMemory,
+}
+
+impl From<NoMemory> for TextFault {
+    ghost use Rattle.std.specs.Prelude.{◌≡◌};
+    ghost use Rattle.bl_text.specs.declared.faults.TextFault.{TextFault};
+
+    ghost from_gives = { λ _ e. e ≡ TextFault.NoMemory };
+
+    fn from(_refused: NoMemory) -> TextFault {
+        TextFault::NoMemory
+    }
+}
+
+impl<T: Drop> From<AllocFailed<T>> for TextFault {
+    ghost use Rattle.std.specs.Prelude.{◌≡◌};
+    ghost use Rattle.bl_text.specs.declared.faults.TextFault.{TextFault};
+
+    ghost from_gives = { λ _ e. e ≡ TextFault.NoMemory };
+
+    fn from(_refused: AllocFailed<T>) -> TextFault {
+        TextFault::NoMemory
+    }
 }

@@ -4,11 +4,17 @@
 //! writes none has one first fault, with its place.
 #![tactic(auto)]
 
+mod applied;
 mod classes;
 mod dates;
 mod faults;
+mod formulas;
+pub mod laws;
 mod numerals;
+mod parse;
+mod pieces;
 mod print;
+mod scope;
 #[cfg(test)]
 mod tests;
 mod times;
@@ -16,5 +22,6 @@ mod tokens;
 mod words;
 
 pub use faults::TextFault;
+pub use parse::{parse_formula, parse_statement};
 pub use print::{print_constraint, print_formula, print_state, print_statement};
 pub use times::parse_time;

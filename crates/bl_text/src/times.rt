@@ -12,9 +12,9 @@ use bl_syntax::{Term, TimePoint};
 pub fn parse_time(text: &[u8]) -> Result<TimePoint, TextFault>
     ensures { result ≡ time_reading text.now }
 {
-    let first = token_from(text, 0);
+    let first = token_from(text, 0, 0);
     match time_at(&first) {
-        Ok(point) => ended(point, &token_from(text, first.end)),
+        Ok(point) => ended(point, &token_from(text, first.end, 0)),
         Err(fault) => Err(fault),
     }
 }

@@ -1,11 +1,11 @@
 //! The tokens of a text. A token takes as many bytes as it can, and what is no token is a bad one
 //! at its first byte.
 
-ghost use Rattle.std.specs.Prelude.{◌≡◌, ◌+◌, ◌≤◌, ◌<◌, ◌^◌, length, IsTrue, IfSome};
+ghost use Rattle.std.specs.Prelude.{◌≡◌, ◌+◌, ◌-◌, ◌≤◌, ◌<◌, ◌^◌, length, IsTrue, IfSome};
 ghost use Rattle.std.specs.List.{list_all};
 ghost use Rattle.bl_syntax.specs.Names.{is_digit};
 ghost use Rattle.bl_text.specs.Dates.{begins_date, goes_on_with_time};
-ghost use Rattle.bl_text.specs.Tokens.{bad, sized, second_token, short_value, integer_lexeme, negative_lexeme, date_token, date_time_token, time_lexeme, digits_of, minus_lexeme, plus_lexeme, word_lexeme, variable_lexeme, file_lexeme, parameter_lexeme, text_lexeme, begins_with, short_sign, sign_lexeme, begun_by, first_lexeme, token_from};
+ghost use Rattle.bl_text.specs.Tokens.{bad, sized, second_token, short_value, integer_lexeme, negative_lexeme, date_token, date_time_token, time_lexeme, digits_of, minus_lexeme, plus_lexeme, word_lexeme, variable_lexeme, file_lexeme, parameter_lexeme, text_lexeme, begins_with, short_sign, sign_lexeme, begun_by, first_lexeme, token_from, behind, behind_node, sign_code, word_code, is_sign, is_word};
 
 use crate::classes::{Class, is_digit, is_lower_case, is_upper_case, run_len};
 use crate::dates::{begins_date, date_second_at, day_second_at, goes_on_with_time, second_within};
@@ -71,12 +71,14 @@ pub struct Lexeme {
     pub size: usize,
 }
 
-/// A token with its place in the text: its first byte, and where it ends.
+/// A place in a text: the token there, its first byte and where it ends, and how many nodes are
+/// left for the formula from there on.
 #[derive(Clone, Copy, Debug)]
 pub struct Here {
     pub at: usize,
     pub token: Token,
     pub end: usize,
+    pub left: u16,
 }
 
 fn bad() -> Lexeme
@@ -358,10 +360,12 @@ fn first_lexeme(bytes: &[u8]) -> Lexeme
 }
 
 /// The first token from that byte of the text on, behind spaces.
-pub fn token_from(text: &[u8], from: usize) -> Here
+#[tactic(auto, unfolding(crate::specs::Tokens::token_from))]
+pub fn token_from(text: &[u8], from: usize, left: u16) -> Here
     requires { from ≤ length text.now }
-    ensures same { result ≡ token_from text.now from }
+    ensures same { result ≡ token_from text.now from left }
     ensures within { result.end ≤ length text.now }
+    ensures left { result.left ≡ left }
 {
     let at = from + run_len(Class::Space, &text[from..]);
     let found = first_lexeme(&text[at..]);
@@ -369,5 +373,84 @@ pub fn token_from(text: &[u8], from: usize) -> Here
         at,
         token: found.token,
         end: at + found.size,
+        left,
+    }
+}
+
+/// The place behind a token that is no node of the formula.
+#[tactic(auto, unfolding(crate::specs::Tokens::behind))]
+pub fn behind(text: &[u8], here: &Here) -> Here
+    requires { here.now.end ≤ length text.now }
+    ensures same { result ≡ behind text.now here.now }
+    ensures within { result.end ≤ length text.now }
+    ensures left { result.left ≡ here.now.left }
+{
+    token_from(text, here.end, here.left)
+}
+
+/// The place behind a token that is a node of the formula.
+#[tactic(auto, unfolding(crate::specs::Tokens::behind_node))]
+pub fn behind_node(text: &[u8], here: &Here) -> Here
+    requires { here.now.end ≤ length text.now }
+    ensures same { result ≡ behind_node text.now here.now }
+    ensures within { result.end ≤ length text.now }
+    ensures left { result.left ≡ here.now.left - 1 }
+{
+    token_from(text, here.end, here.left.saturating_sub(1))
+}
+
+fn sign_code(sign: Sign) -> u8
+    ensures { result ≡ sign_code sign }
+{
+    match sign {
+        Sign::Open => 0,
+        Sign::Close => 1,
+        Sign::OpenInterval => 2,
+        Sign::CloseInterval => 3,
+        Sign::Comma => 4,
+        Sign::Colon => 5,
+        Sign::Dot => 6,
+        Sign::And => 7,
+        Sign::Or => 8,
+        Sign::Implies => 9,
+        Sign::UpTo => 10,
+        Sign::At => 11,
+    }
+}
+
+fn word_code(word: Keyword) -> u8
+    ensures { result ≡ word_code word }
+{
+    match word {
+        Keyword::Forall => 0,
+        Keyword::Exists => 1,
+        Keyword::Says => 2,
+        Keyword::From => 3,
+        Keyword::To => 4,
+        Keyword::True => 5,
+        Keyword::False => 6,
+        Keyword::Inf => 7,
+    }
+}
+
+/// Whether the token is that sign.
+#[tactic(auto, unfolding(crate::specs::Tokens::is_sign))]
+pub fn is_sign(sign: Sign, token: &Token) -> bool
+    ensures { result ≡ is_sign sign token.now }
+{
+    match token {
+        Token::Sign(found) => sign_code(sign) == sign_code(*found),
+        _ => false,
+    }
+}
+
+/// Whether the token is that word.
+#[tactic(auto, unfolding(crate::specs::Tokens::is_word))]
+pub fn is_word(word: Keyword, token: &Token) -> bool
+    ensures { result ≡ is_word word token.now }
+{
+    match token {
+        Token::Keyword(found) => word_code(word) == word_code(*found),
+        _ => false,
     }
 }

@@ -1,6 +1,7 @@
-//! Proofs of the authorization logic: one variant a rule, and the proofs that are kept within their limits.
+//! Proofs of the authorization logic: one variant a rule, the proofs that are kept within their limits, and their canonical bytes.
 //!
-//! Contracts see a proof as plain data, without where it lies in memory.
+//! Contracts see a proof as plain data, without where it lies in memory. A proof has one spelling, and a reader gives
+//! the one proof whose spelling begins the bytes, or the first fault.
 #![tactic(auto)]
 
 mod fault;

@@ -4,7 +4,7 @@ ghost use Rattle.std.specs.Prelude.{◌≡◌, ◌++◌, ◌∷◌, OnOk, OnErr}
 ghost use Rattle.proof_term.specs.Proof.{deduction};
 ghost use Rattle.proof_term.specs.Limits.{HasTimesInRange};
 ghost use Rattle.proof_term.specs.RuleTimes.{IsOneInRange, IsTwoInRange};
-ghost use Rattle.proof_term.specs.ProofSpelling.{hypothesis, axiom_spelling, one_spelling, two_spelling, proof_spelling, IsSpellableProof};
+ghost use Rattle.proof_term.specs.ProofSpelling.{hypothesis, axiom_spelling, one_spelling, two_spelling, proof_spelling, IsNumbered, IsSpellableAxiom, IsSpellableOne, IsSpellableTwo, NamesSpellable, IsSpellableProof};
 ghost use Rattle.proof_term.specs.Writing.{Begins};
 
 use crate::proof::Proof;
@@ -16,6 +16,7 @@ use bl_syntax::{Bytes, NoMemory, write_term};
 /// Adds the canonical bytes of a proof at the end, or nothing where there is no memory for them.
 pub fn write_proof(p: &ProofTree, out: &mut Bytes) -> Result<(), NoMemory>
     ensures ok { OnOk result (out.new ≡ out.old ++ proof_spelling p.now) }
+    ensures spelled { OnOk result (IsSpellableProof p.now) }
     ensures err { OnErr result (out.new ≡ out.old) }
 {
     let len = out.len();
@@ -30,6 +31,7 @@ pub fn write_proof(p: &ProofTree, out: &mut Bytes) -> Result<(), NoMemory>
 fn write_node(p: &Proof, out: &mut Bytes) -> Result<(), NoMemory>
     requires { HasTimesInRange (deduction p.now) }
     ensures ok { OnOk result (out.new ≡ out.old ++ proof_spelling (deduction p.now)) }
+    ensures names { OnOk result (NamesSpellable (deduction p.now)) }
     ensures err { OnErr result (Begins out.old out.new) }
 {
     match Parts::of(p) {
@@ -49,6 +51,7 @@ fn write_node(p: &Proof, out: &mut Bytes) -> Result<(), NoMemory>
 #[tactic(auto, unfolding(crate::specs::ProofSpelling::axiom_spelling))]
 fn write_axiom(r: &Axiom, out: &mut Bytes) -> Result<(), NoMemory>
     ensures ok { OnOk result (out.new ≡ out.old ++ axiom_spelling r.now) }
+    ensures names { OnOk result (IsSpellableAxiom r.now) }
     ensures err { OnErr result (Begins out.old out.new) }
 {
     match r {
@@ -64,6 +67,7 @@ fn write_axiom(r: &Axiom, out: &mut Bytes) -> Result<(), NoMemory>
 fn write_one(r: &OnePremise, out: &mut Bytes) -> Result<(), NoMemory>
     requires { IsOneInRange r.now }
     ensures ok { OnOk result (out.new ≡ out.old ++ one_spelling r.now) }
+    ensures names { OnOk result (IsSpellableOne r.now) }
     ensures err { OnErr result (Begins out.old out.new) }
 {
     match r {
@@ -95,6 +99,7 @@ fn write_one(r: &OnePremise, out: &mut Bytes) -> Result<(), NoMemory>
 fn write_two(r: &TwoPremises, out: &mut Bytes) -> Result<(), NoMemory>
     requires { IsTwoInRange r.now }
     ensures ok { OnOk result (out.new ≡ out.old ++ two_spelling r.now) }
+    ensures names { OnOk result (IsSpellableTwo r.now) }
     ensures err { OnErr result (Begins out.old out.new) }
 {
     match r {
@@ -111,6 +116,7 @@ fn write_two(r: &TwoPremises, out: &mut Bytes) -> Result<(), NoMemory>
 /// Adds a tag and the number of a hypothesis.
 fn put_hypothesis(tag: u8, h: u16, out: &mut Bytes) -> Result<(), NoMemory>
     ensures ok { OnOk result (out.new ≡ out.old ++ tag ∷ hypothesis h) }
+    ensures named { IsNumbered h }
     ensures err { OnErr result (Begins out.old out.new) }
 {
     out.push(tag)?;

@@ -1,5 +1,5 @@
 -- Statements and proofs for small examples of verdicts.
-use Rattle.std.specs.Prelude.{ℕ, pos, List, [], ◌∷◌, codes}
+use Rattle.std.specs.Prelude.{ℕ, zero, suc, ◌+◌, pos, List, [], ◌∷◌, ◌++◌, codes}
 use Rattle.bl_syntax.specs.declared.terms.NodeId.{NodeId}
 use Rattle.bl_syntax.specs.declared.terms.Perm.TheVariants.{Read, Write}
 use Rattle.bl_syntax.specs.declared.terms.Sort.TheVariants as sorts
@@ -7,18 +7,20 @@ use Rattle.bl_syntax.specs.declared.terms.TimePoint.TheVariants.{At}
 use Rattle.bl_syntax.specs.declared.terms.Term.{Term}
 use Rattle.bl_syntax.specs.declared.terms.Term.TheVariants.{Prin, File, Perm, Time, Ctime, Bound}
 use Rattle.bl_syntax.specs.declared.terms.Constraint.{Constraint}
+use Rattle.bl_syntax.specs.declared.terms.StatePred.{StatePred}
+use Rattle.bl_syntax.specs.declared.terms.StatePred.TheVariants.{InDir}
 use Rattle.bl_syntax.specs.declared.grant.Goal.{Goal}
-use Rattle.bl_syntax.specs.Formula.{Form, atom, implies, says, forall_}
+use Rattle.bl_syntax.specs.Formula.{Form, atom, state, both, implies, says, forall_}
 use Rattle.bl_syntax.specs.Statement.{Saying, saying}
 use Rattle.bl_syntax.specs.Grant.{Granted}
 use Rattle.bl_rules.specs.Allowed.{access}
-use Rattle.proof_term.specs.Proof.{Deduction, init, says_r, claim, imp_l, forall_l}
+use Rattle.proof_term.specs.Proof.{Deduction, init, inter_r, and_r, imp_r, says_r, claim, imp_l, forall_l}
 
-abbrev number : ℕ → NodeId
+abbrev pub number : ℕ → NodeId
 number n = record { 0 = n }
 
 -- a constant time
-abbrev second : ℕ → Term
+abbrev pub second : ℕ → Term
 second n = Time (At (pos n))
 
 -- who says it from one second to another
@@ -63,3 +65,52 @@ reading = record { who = codes "bob"; file = number 2; perm = Read }
 
 abbrev pub by_employment : Deduction
 by_employment = says_r (claim 0 (forall_l 2 (Prin (codes "bob")) (imp_l 3 Ctime Ctime (says_r (claim 1 (init 4))) (init 4))))
+
+-- bob may read where `hr` says that he is an employee
+abbrev pub bob_may_read_if_employed : Form
+bob_may_read_if_employed = implies (says (Prin (codes "hr")) bob_is_employed) (access (codes "bob") (number 2) Read)
+
+-- the employee by the word of the second statement
+abbrev pub by_word : Deduction
+by_word = says_r (claim 0 (imp_l 2 Ctime Ctime (says_r (claim 1 (init 3))) (init 3)))
+
+abbrev p_of_bob : Form
+p_of_bob = atom (codes "p") (Prin (codes "bob") ∷ [])
+
+abbrev pub q_of_bob : Form
+q_of_bob = atom (codes "q") (Prin (codes "bob") ∷ [])
+
+-- bob may read where q follows from p
+abbrev pub bob_may_read_if_it_follows : Form
+bob_may_read_if_it_follows = implies (implies p_of_bob q_of_bob) (access (codes "bob") (number 2) Read)
+
+-- q, which the second statement says, on a new interval
+abbrev pub by_new_interval : Deduction
+by_new_interval = says_r (claim 0 (imp_l 2 Ctime Ctime (imp_r (claim 1 (init 4))) (init 3)))
+
+-- file n stands in file 1
+abbrev placed : ℕ → StatePred
+placed n = InDir (File (number n)) (File (number 1))
+
+-- that files 1 to n + 1 do
+abbrev all_placed : ℕ → Form
+all_placed zero = state (placed 1)
+all_placed (suc n) = both (all_placed n) (state (placed (n + 2)))
+
+-- alice may write where so many files are placed
+abbrev pub may_write_if_placed : ℕ → Form
+may_write_if_placed n = implies (all_placed n) may_write
+
+abbrev each_placed : ℕ → Deduction
+each_placed zero = inter_r
+each_placed (suc n) = and_r (each_placed n) inter_r
+
+abbrev pub by_places : ℕ → Deduction
+by_places n = says_r (claim 0 (imp_l 1 Ctime Ctime (each_placed n) (init 2)))
+
+abbrev places : ℕ → List StatePred
+places zero = placed 1 ∷ []
+places (suc n) = places n ++ placed (n + 2) ∷ []
+
+abbrev pub within_places : ℕ → Granted
+within_places n = record (between writing 0 200) { states = places n }

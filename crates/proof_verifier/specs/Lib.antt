@@ -3,6 +3,7 @@ pub mod CheckingCode
 pub mod Cited
 pub mod Conditions
 pub mod Entailed
+pub mod ExampleTable
 pub mod Examples
 pub mod Known
 pub mod Rules

@@ -1,19 +1,26 @@
 //! Laws of the definitions, and verdicts that they compute. A law is the contract of an empty function, which nothing calls.
 
-ghost use Rattle.std.specs.Prelude.{◌≡◌, ◌↔◌, true, List, [], ◌∷◌, Ok, Err, codes};
+ghost use Rattle.std.specs.Prelude.{◌≡◌, ◌↔◌, ◌+◌, true, List, [], ◌∷◌, length, Contains, Ok, Err, codes};
 ghost use Rattle.std.specs.List.{AllByRecursion};
+ghost use Rattle.bl_syntax.specs.declared.terms.Sort.{Sort};
+ghost use Rattle.bl_syntax.specs.declared.terms.StatePred.{StatePred};
 ghost use Rattle.bl_syntax.specs.declared.terms.Term.{Term};
 ghost use Rattle.bl_syntax.specs.declared.terms.Constraint.{Constraint};
 ghost use Rattle.bl_syntax.specs.declared.grant.Goal.{Goal};
 ghost use Rattle.bl_syntax.specs.Statement.{Saying, IsStatement};
 ghost use Rattle.bl_syntax.specs.Entailment.{Entails};
-ghost use Rattle.bl_syntax.specs.Grant.{Granted, IsGrant};
+ghost use Rattle.bl_syntax.specs.Grant.{Granted, IsGrant, IsTimeCondition, IsStateCondition};
+ghost use Rattle.bl_syntax.specs.Terms.{sort_of, IsAtLeastAsStrong};
+ghost use Rattle.bl_syntax.specs.WellSorted.{HasSort};
 ghost use Rattle.bl_rules.specs.Allowed.{SoundGrant};
 ghost use Rattle.proof_term.specs.Proof.{Deduction};
-ghost use Rattle.proof_verifier.specs.declared.fault.CheckFault.TheVariants.{WrongShape};
+ghost use Rattle.proof_verifier.specs.declared.fault.CheckFault.TheVariants.{WrongShape, NotEntailed, ViewTooWeak, TooManyConditions, NoMemory};
+ghost use Rattle.proof_verifier.specs.Conditions.{of_sort, is_full};
+ghost use Rattle.proof_verifier.specs.Tests.{are_same, has_constraint, has_state, is_as_strong, may_stay_open, state_may_stay_open};
 ghost use Rattle.proof_verifier.specs.Entailed.{is_entailed};
 ghost use Rattle.proof_verifier.specs.Verdict.{verdict};
-ghost use Rattle.proof_verifier.specs.Examples.{stated, may_write, writing, by_its_claim, between, employees_may_read, bob_is_employed, reading, by_employment, within_both};
+ghost use Rattle.proof_verifier.specs.ExampleTable.{Computes, accepted, refused};
+ghost use Rattle.proof_verifier.specs.Examples.{stated, may_write, writing, by_its_claim, between, employees_may_read, bob_is_employed, reading, by_employment, within_both, bob_may_read_if_employed, by_word, q_of_bob, bob_may_read_if_it_follows, by_new_interval, may_write_if_placed, by_places, within_places};
 
 /// A grant that the verdict gives is sound: wherever its conditions hold, the statements allow what it grants.
 pub fn the_verdict_gives_sound_grants()
@@ -39,6 +46,23 @@ pub fn the_computed_entailment_is_entailment()
     ensures { (constraints : List Constraint) (u v : Term) → (is_entailed constraints u v ≡ true) ↔ Entails constraints u v }
 {}
 
+/// Each test that the verdict goes by decides what its name says.
+pub fn each_test_decides()
+    ensures time { (c : Constraint) → (may_stay_open c ≡ true) ↔ IsTimeCondition c }
+    ensures state { (s : StatePred) → (state_may_stay_open s ≡ true) ↔ IsStateCondition s }
+    ensures sort { (sorts : List Sort) (sort : Sort) (t : Term) → (of_sort sort (sort_of sorts [] t) ≡ true) ↔ HasSort sorts [] sort t }
+    ensures strength { (k other : Term) → (is_as_strong k other ≡ true) ↔ IsAtLeastAsStrong k other }
+    ensures kept_time { (constraints : List Constraint) (c : Constraint) → (has_constraint constraints c ≡ true) ↔ Contains constraints c }
+    ensures kept_state { (predicates : List StatePred) (s : StatePred) → (has_state predicates s ≡ true) ↔ Contains predicates s }
+    ensures terms { (terms others : List Term) → (are_same terms others ≡ true) ↔ (terms ≡ others) }
+    ensures full { (g : Granted) → (is_full g ≡ true) ↔ (length g.times + length g.states ≡ 64) }
+{}
+
+/// The verdict is never want of memory.
+pub fn the_verdict_is_not_want_of_memory()
+    ensures { (statements : List Saying) (goal : Goal) (proof : Deduction) → verdict statements goal proof ≡ Err NoMemory → ⊥ }
+{}
+
 /// A statement of `admin` grants what it says, on its interval.
 pub fn a_statement_grants_what_it_says()
     ensures { verdict (stated (codes "admin") may_write 0 200 ∷ []) writing by_its_claim ≡ Ok (between writing 0 200) }
@@ -53,4 +77,34 @@ pub fn an_employee_may_read()
 /// A statement about somebody else does not have the form of the goal.
 pub fn another_goal_is_a_wrong_shape()
     ensures { verdict (stated (codes "admin") may_write 0 200 ∷ []) reading by_its_claim ≡ Err (WrongShape 2) }
+{}
+
+/// Each rule accepts a proof.
+pub fn each_rule_accepts_a_proof()
+    ensures { AllByRecursion Computes accepted }
+{}
+
+/// Each rule has its faults, each at its node.
+pub fn each_rule_has_its_faults()
+    ensures { AllByRecursion Computes refused }
+{}
+
+/// `loc` is as strong as anybody, and `admin` is not.
+pub fn loc_speaks_for_all()
+    ensures loc { verdict (stated (codes "admin") bob_may_read_if_employed 0 200 ∷ stated (codes "loc") bob_is_employed 0 200 ∷ []) reading by_word
+        ≡ Ok (between reading 0 200) }
+    ensures admin { verdict (stated (codes "admin") bob_may_read_if_employed 0 200 ∷ stated (codes "admin") bob_is_employed 0 200 ∷ []) reading by_word
+        ≡ Err (ViewTooWeak 4) }
+{}
+
+/// A condition that names a parameter is not left over.
+pub fn a_condition_on_a_parameter_is_a_fault()
+    ensures { verdict (stated (codes "admin") bob_may_read_if_it_follows 0 200 ∷ stated (codes "admin") q_of_bob 0 200 ∷ []) reading by_new_interval
+        ≡ Err (NotEntailed 5) }
+{}
+
+/// 2 conditions on time and 62 on the state are kept, and not 63.
+pub fn a_grant_keeps_64_conditions()
+    ensures kept { verdict (stated (codes "admin") (may_write_if_placed 61) 0 200 ∷ []) writing (by_places 61) ≡ Ok (within_places 61) }
+    ensures fault { verdict (stated (codes "admin") (may_write_if_placed 62) 0 200 ∷ []) writing (by_places 62) ≡ Err (TooManyConditions 127) }
 {}

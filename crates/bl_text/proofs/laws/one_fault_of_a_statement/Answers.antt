@@ -1,0 +1,6 @@
+-- A text stops in one way.
+use Rattle.bl_text.proofs.TextLemmas.{statement_fault_once}
+use Rattle.bl_text.proofs.laws.one_fault_of_a_statement.Goals as goal
+
+pub returns : goal.returns
+returns c = λ text e f h k. statement_fault_once h k

@@ -1,0 +1,489 @@
+//! Formulas are read by recursive descent: a function for each level of the grammar. It goes no
+//! deeper than there are nodes left and parentheses may be open.
+
+ghost use Rattle.std.specs.Prelude.{◌≡◌, ℕ, ◌+◌, ◌≤◌, length, true, false, IfOk, IfErr, MatchResult};
+ghost use Rattle.bl_syntax.specs.Formula.{formula, both, either, implies, forall_, exists_, says, on};
+ghost use Rattle.bl_text.specs.declared.faults.TextFault.{TextFault};
+ghost use Rattle.bl_text.specs.Scope.{variables};
+ghost use Rattle.bl_text.specs.Tokens.{is_sign, is_word};
+ghost use Rattle.bl_text.specs.Grammar.{is_quantifier, is_saying, is_call};
+ghost use Rattle.bl_text.specs.Grammar as grammar;
+ghost use Rattle.bl_text.specs.Stops.{Stops, ArgumentsStop, CallStops};
+ghost use Rattle.bl_text.specs.Read.{Reads, ReadsArguments, ReadsCall, PutsOn, IntervalStops};
+
+use crate::applied::{applied, is_atom};
+use crate::faults::TextFault;
+use crate::pieces::{
+    argument, binder, count, expected, go_behind, interval, next_argument, simple, speaker, step,
+    step_node,
+};
+use crate::scope::Scope;
+use crate::tokens::{Here, Keyword, Sign, Token, behind, behind_node, is_sign, is_word};
+use bl_syntax::{Formula, NoMemory, Principal, Sequence, Sort, Term, Terms};
+use std::alloc::Global;
+
+fn both_of(alloc: Global, a: Box<Formula>, b: Box<Formula>) -> Result<Box<Formula>, TextFault>
+    ensures { MatchResult result (λ f. formula f.value ≡ both (formula a.value) (formula b.value)) (λ e. e ≡ TextFault.NoMemory) }
+{
+    Ok(Box::new(alloc, Formula::And(a, b))?)
+}
+
+fn either_of(alloc: Global, a: Box<Formula>, b: Box<Formula>) -> Result<Box<Formula>, TextFault>
+    ensures { MatchResult result (λ f. formula f.value ≡ either (formula a.value) (formula b.value)) (λ e. e ≡ TextFault.NoMemory) }
+{
+    Ok(Box::new(alloc, Formula::Or(a, b))?)
+}
+
+fn implies_of(alloc: Global, a: Box<Formula>, b: Box<Formula>) -> Result<Box<Formula>, TextFault>
+    ensures { MatchResult result (λ f. formula f.value ≡ implies (formula a.value) (formula b.value)) (λ e. e ≡ TextFault.NoMemory) }
+{
+    Ok(Box::new(alloc, Formula::Imp(a, b))?)
+}
+
+fn every_of(alloc: Global, sort: Sort, a: Box<Formula>) -> Result<Box<Formula>, TextFault>
+    ensures { MatchResult result (λ f. formula f.value ≡ forall_ sort (formula a.value)) (λ e. e ≡ TextFault.NoMemory) }
+{
+    Ok(Box::new(alloc, Formula::Forall(sort, a))?)
+}
+
+fn some_of(alloc: Global, sort: Sort, a: Box<Formula>) -> Result<Box<Formula>, TextFault>
+    ensures { MatchResult result (λ f. formula f.value ≡ exists_ sort (formula a.value)) (λ e. e ≡ TextFault.NoMemory) }
+{
+    Ok(Box::new(alloc, Formula::Exists(sort, a))?)
+}
+
+fn says_of(alloc: Global, who: Term, a: Box<Formula>) -> Result<Box<Formula>, TextFault>
+    ensures { MatchResult result (λ f. formula f.value ≡ says who (formula a.value)) (λ e. e ≡ TextFault.NoMemory) }
+{
+    Ok(Box::new(alloc, Formula::Says(who, a))?)
+}
+
+fn on_of(alloc: Global, a: Box<Formula>, from: Term, to: Term) -> Result<Box<Formula>, TextFault>
+    ensures { MatchResult result (λ f. formula f.value ≡ on (formula a.value) from to) (λ e. e ≡ TextFault.NoMemory) }
+{
+    Ok(Box::new(alloc, Formula::At(a, from, to))?)
+}
+
+/// The formula on the interval behind the sign `@` at that place, and what follows it.
+fn on_interval(
+    alloc: Global,
+    text: &[u8],
+    in_statement: bool,
+    scope: &Scope<'_>,
+    a: Box<Formula>,
+    here: &Here,
+) -> Result<(Box<Formula>, Here), TextFault>
+    requires scope { length (variables scope.now) ≤ 512 }
+    requires within { here.now.end ≤ length text.now }
+    ensures read { IfOk result (λ r. PutsOn text.now in_statement (variables scope.now) here.now r.1 (formula a.value) (formula r.0.value)) }
+    ensures fault { IfErr result (λ e. IntervalStops text.now in_statement (variables scope.now) here.now e) }
+{
+    let (from, to, there) = interval(text, in_statement, scope, here)?;
+    Ok((on_of(alloc, a, from, to)?, there))
+}
+
+/// Whether a principal or a variable stands there, before `says`.
+#[tactic(auto, unfolding(crate::specs::Grammar::is_saying))]
+fn is_saying(text: &[u8], here: &Here) -> bool
+    requires { here.now.end ≤ length text.now }
+    ensures { result ≡ is_saying text.now here.now }
+{
+    match &here.token {
+        Token::Name(_) | Token::Variable(_) => {
+            is_word(Keyword::Says, &behind_node(text, here).token)
+        }
+        _ => false,
+    }
+}
+
+/// Whether a name stands there, before `(`.
+#[tactic(auto, unfolding(crate::specs::Grammar::is_call))]
+fn is_call(text: &[u8], here: &Here) -> bool
+    requires { here.now.end ≤ length text.now }
+    ensures { result ≡ is_call text.now here.now }
+{
+    match &here.token {
+        Token::Name(_) => is_sign(Sign::Open, &behind_node(text, here).token),
+        _ => false,
+    }
+}
+
+/// The terms between commas from that place on, and what follows them.
+fn arguments(
+    alloc: Global,
+    text: &[u8],
+    in_statement: bool,
+    scope: &Scope<'_>,
+    is_atom: bool,
+    here: &Here,
+) -> Result<(Terms, Here), TextFault>
+    requires scope { length (variables scope.now) ≤ 512 }
+    requires within { here.now.end ≤ length text.now }
+    ensures read { IfOk result (λ r. ReadsArguments text.now in_statement (variables scope.now) is_atom here.now r.1 r.0) }
+    ensures fault { IfErr result (λ e. ArgumentsStop text.now in_statement (variables scope.now) is_atom here.now e) }
+{
+    let first = argument(in_statement, scope, here)?;
+    let mut terms = Sequence::new(alloc);
+    terms.extend(&[first])?;
+    let mut there = behind_node(text, here);
+    'further: while is_sign(Sign::Comma, &there.token) {
+        let place = behind(text, &there);
+        let next = next_argument(in_statement, scope, is_atom, terms.len(), &place)?;
+        terms.extend(&[next])?;
+        there = behind_node(text, &place);
+    }
+    Ok((terms, there))
+}
+
+/// The predicate of that name at that place, before `(`, with its arguments, and what follows it.
+fn named_call(
+    alloc: Global,
+    text: &[u8],
+    in_statement: bool,
+    scope: &Scope<'_>,
+    name: &Principal,
+    here: &Here,
+) -> Result<(Formula, Here), TextFault>
+    requires scope { length (variables scope.now) ≤ 512 }
+    requires within { here.now.end ≤ length text.now }
+    requires name { here.now.token ≡ Token.Name name.now }
+    ensures read { IfOk result (λ r. ReadsCall text.now in_statement (variables scope.now) here.now r.1 (formula r.0)) }
+    ensures fault { IfErr result (λ e. CallStops text.now in_statement (variables scope.now) here.now e) }
+{
+    count(here)?;
+    let open = behind_node(text, here);
+    let (terms, mid) = arguments(
+        alloc,
+        text,
+        in_statement,
+        scope,
+        is_atom(name),
+        &behind(text, &open),
+    )?;
+    let there = expected(text, Sign::Close, &mid)?;
+    let f = applied(scope, here.at, name, terms)?;
+    Ok((f, there))
+}
+
+/// The predicate of a name at that place, before `(`, with its arguments, and what follows it.
+fn call(
+    alloc: Global,
+    text: &[u8],
+    in_statement: bool,
+    scope: &Scope<'_>,
+    here: &Here,
+) -> Result<(Formula, Here), TextFault>
+    requires scope { length (variables scope.now) ≤ 512 }
+    requires within { here.now.end ≤ length text.now }
+    requires call { is_call text.now here.now ≡ true }
+    ensures read { IfOk result (λ r. ReadsCall text.now in_statement (variables scope.now) here.now r.1 (formula r.0)) }
+    ensures fault { IfErr result (λ e. CallStops text.now in_statement (variables scope.now) here.now e) }
+{
+    match &here.token {
+        Token::Name(name) => named_call(alloc, text, in_statement, scope, name, here),
+        _ => unreachable!(),
+    }
+}
+
+/// A formula without parentheses at that place, and goes behind it.
+fn simple_here(
+    alloc: Global,
+    text: &[u8],
+    in_statement: bool,
+    scope: &Scope<'_>,
+    here: &mut Here,
+) -> Result<Box<Formula>, TextFault>
+    requires scope { length (variables scope.now) ≤ 512 }
+    requires within { here.old.end ≤ length text.now }
+    requires not_open { is_sign Sign.Open here.old.token ≡ false }
+    requires no_call { is_call text.now here.old ≡ false }
+    ensures read { IfOk result (λ f. (depth : ℕ) → Reads text.now in_statement grammar.primary (variables scope.now) depth here.old here.new (formula f.value)) }
+    ensures fault { IfErr result (λ e. (depth : ℕ) → Stops text.now in_statement grammar.primary (variables scope.now) depth here.old e) }
+{
+    let (f, there) = simple(alloc, text, in_statement, scope, here)?;
+    *here = there;
+    Ok(Box::new(alloc, f)?)
+}
+
+/// A predicate with arguments at that place, and goes behind it.
+fn call_here(
+    alloc: Global,
+    text: &[u8],
+    in_statement: bool,
+    scope: &Scope<'_>,
+    here: &mut Here,
+) -> Result<Box<Formula>, TextFault>
+    requires scope { length (variables scope.now) ≤ 512 }
+    requires within { here.old.end ≤ length text.now }
+    requires not_open { is_sign Sign.Open here.old.token ≡ false }
+    requires call { is_call text.now here.old ≡ true }
+    ensures read { IfOk result (λ f. (depth : ℕ) → Reads text.now in_statement grammar.primary (variables scope.now) depth here.old here.new (formula f.value)) }
+    ensures fault { IfErr result (λ e. (depth : ℕ) → Stops text.now in_statement grammar.primary (variables scope.now) depth here.old e) }
+{
+    let (f, there) = call(alloc, text, in_statement, scope, here)?;
+    *here = there;
+    Ok(Box::new(alloc, f)?)
+}
+
+/// Reads the formula at that place, and goes behind it.
+#[cycle(descent)]
+pub fn formula_at(
+    alloc: Global,
+    text: &[u8],
+    in_statement: bool,
+    scope: &Scope<'_>,
+    depth: u16,
+    here: &mut Here,
+) -> Result<Box<Formula>, TextFault>
+    requires scope { length (variables scope.now) + here.old.left ≤ 512 }
+    requires within { here.old.end ≤ length text.now }
+    ensures read { IfOk result (λ f. Reads text.now in_statement grammar.formula (variables scope.now) depth here.old here.new (formula f.value)) }
+    ensures fault { IfErr result (λ e. Stops text.now in_statement grammar.formula (variables scope.now) depth here.old e) }
+{
+    if is_word(Keyword::Forall, &here.token) {
+        for_every(alloc, text, in_statement, scope, depth, here)
+    } else if is_word(Keyword::Exists, &here.token) {
+        for_some(alloc, text, in_statement, scope, depth, here)
+    } else {
+        implication(alloc, text, in_statement, scope, depth, here)
+    }
+}
+
+/// Reads the formula at that place, which begins with `forall`.
+#[cycle(descent)]
+fn for_every(
+    alloc: Global,
+    text: &[u8],
+    in_statement: bool,
+    scope: &Scope<'_>,
+    depth: u16,
+    here: &mut Here,
+) -> Result<Box<Formula>, TextFault>
+    requires scope { length (variables scope.now) + here.old.left ≤ 512 }
+    requires within { here.old.end ≤ length text.now }
+    requires word { is_word Keyword.Forall here.old.token ≡ true }
+    ensures read { IfOk result (λ f. Reads text.now in_statement grammar.formula (variables scope.now) depth here.old here.new (formula f.value)) }
+    ensures fault { IfErr result (λ e. Stops text.now in_statement grammar.formula (variables scope.now) depth here.old e) }
+{
+    let (name, sort) = binder(text, here)?;
+    let inner = Scope::Inside(name, sort, &*scope);
+    let a = formula_at(alloc, text, in_statement, &inner, depth, here)?;
+    every_of(alloc, sort, a)
+}
+
+/// Reads the formula at that place, which begins with `exists`.
+#[cycle(descent)]
+fn for_some(
+    alloc: Global,
+    text: &[u8],
+    in_statement: bool,
+    scope: &Scope<'_>,
+    depth: u16,
+    here: &mut Here,
+) -> Result<Box<Formula>, TextFault>
+    requires scope { length (variables scope.now) + here.old.left ≤ 512 }
+    requires within { here.old.end ≤ length text.now }
+    requires word { is_word Keyword.Exists here.old.token ≡ true }
+    ensures read { IfOk result (λ f. Reads text.now in_statement grammar.formula (variables scope.now) depth here.old here.new (formula f.value)) }
+    ensures fault { IfErr result (λ e. Stops text.now in_statement grammar.formula (variables scope.now) depth here.old e) }
+{
+    let (name, sort) = binder(text, here)?;
+    let inner = Scope::Inside(name, sort, &*scope);
+    let a = formula_at(alloc, text, in_statement, &inner, depth, here)?;
+    some_of(alloc, sort, a)
+}
+
+/// Reads the formula at that place, which begins with no quantifier.
+#[cycle(descent)]
+fn implication(
+    alloc: Global,
+    text: &[u8],
+    in_statement: bool,
+    scope: &Scope<'_>,
+    depth: u16,
+    here: &mut Here,
+) -> Result<Box<Formula>, TextFault>
+    requires scope { length (variables scope.now) + here.old.left ≤ 512 }
+    requires within { here.old.end ≤ length text.now }
+    requires no_quantifier { is_quantifier here.old.token ≡ false }
+    ensures read { IfOk result (λ f. Reads text.now in_statement grammar.formula (variables scope.now) depth here.old here.new (formula f.value)) }
+    ensures fault { IfErr result (λ e. Stops text.now in_statement grammar.formula (variables scope.now) depth here.old e) }
+{
+    let a = disjunction(alloc, text, in_statement, scope, depth, here)?;
+    if !is_sign(Sign::Implies, &here.token) {
+        return Ok(a);
+    }
+    count(here)?;
+    step_node(text, here);
+    let b = formula_at(alloc, text, in_statement, scope, depth, here)?;
+    implies_of(alloc, a, b)
+}
+
+/// Reads formulas between `|`.
+#[cycle(descent)]
+fn disjunction(
+    alloc: Global,
+    text: &[u8],
+    in_statement: bool,
+    scope: &Scope<'_>,
+    depth: u16,
+    here: &mut Here,
+) -> Result<Box<Formula>, TextFault>
+    requires scope { length (variables scope.now) + here.old.left ≤ 512 }
+    requires within { here.old.end ≤ length text.now }
+    ensures read { IfOk result (λ f. Reads text.now in_statement grammar.disjunction (variables scope.now) depth here.old here.new (formula f.value)) }
+    ensures fault { IfErr result (λ e. Stops text.now in_statement grammar.disjunction (variables scope.now) depth here.old e) }
+{
+    let first = conjunction(alloc, text, in_statement, scope, depth, here)?;
+    let mut a = first;
+    'or: while is_sign(Sign::Or, &here.token) {
+        count(here)?;
+        step_node(text, here);
+        let b = conjunction(alloc, text, in_statement, scope, depth, here)?;
+        a = either_of(alloc, a, b)?;
+    }
+    Ok(a)
+}
+
+/// Reads formulas between `&`.
+#[cycle(descent)]
+fn conjunction(
+    alloc: Global,
+    text: &[u8],
+    in_statement: bool,
+    scope: &Scope<'_>,
+    depth: u16,
+    here: &mut Here,
+) -> Result<Box<Formula>, TextFault>
+    requires scope { length (variables scope.now) + here.old.left ≤ 512 }
+    requires within { here.old.end ≤ length text.now }
+    ensures read { IfOk result (λ f. Reads text.now in_statement grammar.conjunction (variables scope.now) depth here.old here.new (formula f.value)) }
+    ensures fault { IfErr result (λ e. Stops text.now in_statement grammar.conjunction (variables scope.now) depth here.old e) }
+{
+    let first = unary(alloc, text, in_statement, scope, depth, here)?;
+    let mut a = first;
+    'and: while is_sign(Sign::And, &here.token) {
+        count(here)?;
+        step_node(text, here);
+        let b = unary(alloc, text, in_statement, scope, depth, here)?;
+        a = both_of(alloc, a, b)?;
+    }
+    Ok(a)
+}
+
+/// Reads a formula that a principal says, or one without `says`.
+#[cycle(descent)]
+fn unary(
+    alloc: Global,
+    text: &[u8],
+    in_statement: bool,
+    scope: &Scope<'_>,
+    depth: u16,
+    here: &mut Here,
+) -> Result<Box<Formula>, TextFault>
+    requires scope { length (variables scope.now) + here.old.left ≤ 512 }
+    requires within { here.old.end ≤ length text.now }
+    ensures read { IfOk result (λ f. Reads text.now in_statement grammar.unary (variables scope.now) depth here.old here.new (formula f.value)) }
+    ensures fault { IfErr result (λ e. Stops text.now in_statement grammar.unary (variables scope.now) depth here.old e) }
+{
+    if is_saying(text, here) {
+        said(alloc, text, in_statement, scope, depth, here)
+    } else {
+        postfix(alloc, text, in_statement, scope, depth, here)
+    }
+}
+
+/// Reads a formula that the principal at that place says.
+#[cycle(descent)]
+fn said(
+    alloc: Global,
+    text: &[u8],
+    in_statement: bool,
+    scope: &Scope<'_>,
+    depth: u16,
+    here: &mut Here,
+) -> Result<Box<Formula>, TextFault>
+    requires scope { length (variables scope.now) + here.old.left ≤ 512 }
+    requires within { here.old.end ≤ length text.now }
+    requires saying { is_saying text.now here.old ≡ true }
+    ensures read { IfOk result (λ f. Reads text.now in_statement grammar.unary (variables scope.now) depth here.old here.new (formula f.value)) }
+    ensures fault { IfErr result (λ e. Stops text.now in_statement grammar.unary (variables scope.now) depth here.old e) }
+{
+    let who = speaker(text, scope, here)?;
+    let a = unary(alloc, text, in_statement, scope, depth, here)?;
+    says_of(alloc, who, a)
+}
+
+/// Reads a formula on intervals.
+#[cycle(descent)]
+fn postfix(
+    alloc: Global,
+    text: &[u8],
+    in_statement: bool,
+    scope: &Scope<'_>,
+    depth: u16,
+    here: &mut Here,
+) -> Result<Box<Formula>, TextFault>
+    requires scope { length (variables scope.now) + here.old.left ≤ 512 }
+    requires within { here.old.end ≤ length text.now }
+    ensures read { IfOk result (λ f. Reads text.now in_statement grammar.postfix (variables scope.now) depth here.old here.new (formula f.value)) }
+    ensures fault { IfErr result (λ e. Stops text.now in_statement grammar.postfix (variables scope.now) depth here.old e) }
+{
+    let first = primary(alloc, text, in_statement, scope, depth, here)?;
+    let mut a = first;
+    'at: while is_sign(Sign::At, &here.token) {
+        let (f, there) = on_interval(alloc, text, in_statement, scope, a, here)?;
+        a = f;
+        *here = there;
+    }
+    Ok(a)
+}
+
+/// Reads a formula in parentheses or without signs.
+#[cycle(descent)]
+fn primary(
+    alloc: Global,
+    text: &[u8],
+    in_statement: bool,
+    scope: &Scope<'_>,
+    depth: u16,
+    here: &mut Here,
+) -> Result<Box<Formula>, TextFault>
+    requires scope { length (variables scope.now) + here.old.left ≤ 512 }
+    requires within { here.old.end ≤ length text.now }
+    ensures read { IfOk result (λ f. Reads text.now in_statement grammar.primary (variables scope.now) depth here.old here.new (formula f.value)) }
+    ensures fault { IfErr result (λ e. Stops text.now in_statement grammar.primary (variables scope.now) depth here.old e) }
+{
+    if is_sign(Sign::Open, &here.token) {
+        group(alloc, text, in_statement, scope, depth, here)
+    } else if is_call(text, here) {
+        call_here(alloc, text, in_statement, scope, here)
+    } else {
+        simple_here(alloc, text, in_statement, scope, here)
+    }
+}
+
+/// Reads the formula in the parentheses that open at that place.
+#[cycle(descent)]
+fn group(
+    alloc: Global,
+    text: &[u8],
+    in_statement: bool,
+    scope: &Scope<'_>,
+    depth: u16,
+    here: &mut Here,
+) -> Result<Box<Formula>, TextFault>
+    requires scope { length (variables scope.now) + here.old.left ≤ 512 }
+    requires within { here.old.end ≤ length text.now }
+    requires open { is_sign Sign.Open here.old.token ≡ true }
+    ensures read { IfOk result (λ f. Reads text.now in_statement grammar.primary (variables scope.now) depth here.old here.new (formula f.value)) }
+    ensures fault { IfErr result (λ e. Stops text.now in_statement grammar.primary (variables scope.now) depth here.old e) }
+{
+    if depth >= 512 {
+        return Err(TextFault::TooLarge(here.at));
+    }
+    step(text, here);
+    let a = formula_at(alloc, text, in_statement, scope, depth + 1, here)?;
+    go_behind(text, Sign::Close, here)?;
+    Ok(a)
+}

@@ -1,0 +1,165 @@
+//! The texts of formulas and of statements.
+
+ghost use Rattle.std.specs.Prelude.{◌≡◌, ◌≤◌, length, Ok, Err, IfOk, IfErr, OnOk, MatchResult};
+ghost use Rattle.bl_syntax.specs.Formula.{Form, formula};
+ghost use Rattle.bl_syntax.specs.Statement.{Saying};
+ghost use Rattle.bl_text.specs.declared.faults.TextFault.{TextFault};
+ghost use Rattle.bl_text.specs.Texts.{IsFormulaText, FormulaFault, IsStatementText, StatementFault, AreOneFault, beginning, is_end, word_expected, time_constant, principal_name, opening, ended, span};
+
+use crate::faults::TextFault;
+use crate::formulas::formula_at;
+use crate::pieces::step;
+use crate::scope::Scope;
+use crate::tokens::{Here, Keyword, Token, is_word, token_from};
+use bl_syntax::{Formula, Principal, Statement, Term, TimePoint};
+use std::alloc::Global;
+
+/// The greatest number of nodes of a formula.
+const MOST_NODES: u16 = 512;
+
+/// The formula that the text writes, or the first fault of the text; or `NoMemory`.
+pub fn parse_formula(alloc: Global, text: &[u8]) -> Result<Formula, TextFault>
+    ensures read { IfOk result (λ f. IsFormulaText text.now (formula f)) }
+    ensures fault { IfErr result (FormulaFault text.now) }
+    ensures every_formula { (f : Form) → IsFormulaText text.now f
+        → MatchResult result (λ g. formula g ≡ f) (λ e. e ≡ TextFault.NoMemory) }
+    ensures every_fault { (e : TextFault) → FormulaFault text.now e
+        → MatchResult result (λ _. e ≡ TextFault.NoMemory) (λ d. AreOneFault d e) }
+{
+    read_formula(alloc, text)
+}
+
+fn read_formula(alloc: Global, text: &[u8]) -> Result<Formula, TextFault>
+    ensures read { IfOk result (λ f. IsFormulaText text.now (formula f)) }
+    ensures fault { IfErr result (FormulaFault text.now) }
+{
+    let mut here = beginning(text);
+    let f = formula_at(alloc, text, false, &Scope::Outermost, 0, &mut here)?;
+    if is_end(&here.token) {
+        Ok(Box::into_inner(f))
+    } else {
+        Err(TextFault::Unexpected(here.at))
+    }
+}
+
+/// The place of the first token.
+fn beginning(text: &[u8]) -> Here
+    ensures same { result ≡ beginning text.now }
+    ensures within { result.end ≤ length text.now }
+    ensures left { result.left ≡ 512 }
+{
+    token_from(text, 0, MOST_NODES)
+}
+
+fn is_end(token: &Token) -> bool
+    ensures { result ≡ is_end token.now }
+{
+    match token {
+        Token::End => true,
+        _ => false,
+    }
+}
+
+/// Goes to the place behind the word, where it is there.
+#[tactic(auto, unfolding(crate::specs::Texts::word_expected))]
+fn go_behind_word(text: &[u8], word: Keyword, here: &mut Here) -> Result<(), TextFault>
+    requires { here.old.end ≤ length text.now }
+    ensures value { MatchResult result (λ _. word_expected text.now word here.old ≡ Ok here.new) (λ e. word_expected text.now word here.old ≡ Err e) }
+    ensures within { OnOk result (here.new.end ≤ length text.now) }
+    ensures left { OnOk result (here.new.left ≡ here.old.left) }
+{
+    if is_word(word, &here.token) {
+        step(text, here);
+        Ok(())
+    } else {
+        Err(TextFault::Unexpected(here.at))
+    }
+}
+
+#[tactic(auto, unfolding(crate::specs::Texts::time_constant))]
+fn time_constant(here: &Here) -> Result<TimePoint, TextFault>
+    ensures { result ≡ time_constant here.now }
+{
+    match &here.token {
+        Token::Constant(Term::Time(point)) => Ok(*point),
+        Token::BadDate => Err(TextFault::BadDate(here.at)),
+        _ => Err(TextFault::Unexpected(here.at)),
+    }
+}
+
+#[tactic(auto, unfolding(crate::specs::Texts::principal_name))]
+fn principal_name(here: &Here) -> Result<Principal, TextFault>
+    ensures { result ≡ principal_name here.now }
+{
+    match &here.token {
+        Token::Name(name) => Ok(*name),
+        _ => Err(TextFault::Unexpected(here.at)),
+    }
+}
+
+/// The principal before the first `says`. It goes behind that word.
+#[tactic(auto, unfolding(crate::specs::Texts::opening))]
+fn opening(text: &[u8], here: &mut Here) -> Result<Principal, TextFault>
+    requires { here.old.end ≤ length text.now }
+    ensures value { MatchResult result (λ who. opening text.now here.old ≡ Ok (who, here.new)) (λ e. opening text.now here.old ≡ Err e) }
+    ensures within { OnOk result (here.new.end ≤ length text.now) }
+    ensures left { OnOk result (here.new.left ≡ here.old.left) }
+{
+    let who = principal_name(here)?;
+    step(text, here);
+    go_behind_word(text, Keyword::Says, here)?;
+    Ok(who)
+}
+
+#[tactic(auto, unfolding(crate::specs::Texts::ended))]
+fn ended(here: &Here) -> Result<(), TextFault>
+    ensures { result ≡ ended here.now }
+{
+    if is_end(&here.token) {
+        Ok(())
+    } else {
+        Err(TextFault::Unexpected(here.at))
+    }
+}
+
+/// The times behind `from` and `to`, with nothing behind them.
+#[tactic(auto, unfolding(crate::specs::Texts::span))]
+fn span(text: &[u8], here: &mut Here) -> Result<(TimePoint, TimePoint), TextFault>
+    requires { here.old.end ≤ length text.now }
+    ensures { result ≡ span text.now here.old }
+{
+    go_behind_word(text, Keyword::From, here)?;
+    let from = time_constant(here)?;
+    step(text, here);
+    go_behind_word(text, Keyword::To, here)?;
+    let to = time_constant(here)?;
+    step(text, here);
+    ended(here)?;
+    Ok((from, to))
+}
+
+/// The statement that the text writes, or the first fault of the text; or `NoMemory`.
+pub fn parse_statement(alloc: Global, text: &[u8]) -> Result<Statement, TextFault>
+    ensures read { IfOk result (IsStatementText text.now) }
+    ensures fault { IfErr result (StatementFault text.now) }
+    ensures every_statement { (s : Saying) → IsStatementText text.now s
+        → MatchResult result (λ t. t ≡ s) (λ e. e ≡ TextFault.NoMemory) }
+    ensures every_fault { (e : TextFault) → StatementFault text.now e
+        → MatchResult result (λ _. e ≡ TextFault.NoMemory) (λ d. AreOneFault d e) }
+{
+    read_statement(alloc, text)
+}
+
+fn read_statement(alloc: Global, text: &[u8]) -> Result<Statement, TextFault>
+    ensures read { IfOk result (IsStatementText text.now) }
+    ensures fault { IfErr result (StatementFault text.now) }
+{
+    let mut here = beginning(text);
+    let who = opening(text, &mut here)?;
+    let body = formula_at(alloc, text, true, &Scope::Outermost, 0, &mut here)?;
+    let (from, to) = span(text, &mut here)?;
+    match Statement::new(who, Box::into_inner(body), from, to) {
+        Some(statement) => Ok(statement),
+        None => Err(TextFault::Sort(0)),
+    }
+}

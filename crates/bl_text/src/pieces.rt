@@ -1,0 +1,386 @@
+//! The pieces of a formula's text that hold no formula themselves. Each is read in one way, and
+//! has one first fault.
+
+ghost use Rattle.std.specs.Prelude.{◌≡◌, ◌+◌, ◌-◌, ◌≤◌, length, Ok, Err, OnOk, IfOk, MatchResult, if◌then◌else◌};
+ghost use Rattle.bl_syntax.specs.Formula.{truth, falsity};
+ghost use Rattle.bl_text.specs.Scope.{variables};
+ghost use Rattle.bl_text.specs.Tokens.{behind, behind_node};
+ghost use Rattle.bl_text.specs.Pieces.{count, expected, term_of, sayable, sorted, argument, next_argument, time_argument, interval, variable_name, sort_at, binder, speaker, less_sign, comparison, bare, named_time, name_alone, constant_formula, simple, GivesWith};
+
+use crate::applied::applied;
+use crate::faults::TextFault;
+use crate::scope::Scope;
+use crate::tokens::{Here, Keyword, Sign, Token, behind, behind_node, is_sign};
+use bl_syntax::{Constraint, Formula, Principal, Sequence, Short, Sort, Term};
+use std::alloc::Global;
+
+/// Takes a node for the token, where one is left.
+#[tactic(auto, unfolding(crate::specs::Pieces::count))]
+pub fn count(here: &Here) -> Result<(), TextFault>
+    ensures value { result ≡ count here.now }
+    ensures some { OnOk result (1 ≤ here.now.left) }
+{
+    if 1 <= here.left {
+        Ok(())
+    } else {
+        Err(TextFault::TooLarge(here.at))
+    }
+}
+
+/// What stands behind the sign, where it is there.
+#[tactic(auto, unfolding(crate::specs::Pieces::expected))]
+pub fn expected(text: &[u8], sign: Sign, here: &Here) -> Result<Here, TextFault>
+    requires { here.now.end ≤ length text.now }
+    ensures value { result ≡ expected text.now sign here.now }
+    ensures within { IfOk result (λ there. there.end ≤ length text.now) }
+    ensures left { IfOk result (λ there. there.left ≡ here.now.left) }
+{
+    if is_sign(sign, &here.token) {
+        Ok(behind(text, here))
+    } else {
+        Err(TextFault::Unexpected(here.at))
+    }
+}
+
+/// Goes to the place behind a token that is no node of the formula.
+pub fn step(text: &[u8], here: &mut Here)
+    requires { here.old.end ≤ length text.now }
+    ensures same { here.new ≡ behind text.now here.old }
+    ensures within { here.new.end ≤ length text.now }
+    ensures left { here.new.left ≡ here.old.left }
+{
+    *here = behind(text, here);
+}
+
+/// Goes to the place behind a token that is a node of the formula.
+pub fn step_node(text: &[u8], here: &mut Here)
+    requires { here.old.end ≤ length text.now }
+    ensures same { here.new ≡ behind_node text.now here.old }
+    ensures within { here.new.end ≤ length text.now }
+    ensures left { here.new.left ≡ here.old.left - 1 }
+{
+    *here = behind_node(text, here);
+}
+
+/// Goes to the place behind the sign, where it is there.
+#[tactic(auto, unfolding(crate::specs::Pieces::expected))]
+pub fn go_behind(text: &[u8], sign: Sign, here: &mut Here) -> Result<(), TextFault>
+    requires { here.old.end ≤ length text.now }
+    ensures value { MatchResult result (λ _. expected text.now sign here.old ≡ Ok here.new) (λ e. expected text.now sign here.old ≡ Err e) }
+    ensures within { OnOk result (here.new.end ≤ length text.now) }
+    ensures left { OnOk result (here.new.left ≡ here.old.left) }
+{
+    if is_sign(sign, &here.token) {
+        step(text, here);
+        Ok(())
+    } else {
+        Err(TextFault::Unexpected(here.at))
+    }
+}
+
+/// The term that the token is.
+#[tactic(auto, unfolding(crate::specs::Pieces::term_of))]
+pub fn term_of(scope: &Scope<'_>, here: &Here) -> Result<Term, TextFault>
+    requires { length (variables scope.now) ≤ 512 }
+    ensures { result ≡ term_of (variables scope.now) here.now }
+{
+    match &here.token {
+        Token::Name(name) => Ok(Term::Prin(*name)),
+        Token::Constant(term) => Ok(*term),
+        Token::Variable(name) => match scope.place_of(name) {
+            Some(inner) => Ok(Term::Bound(inner)),
+            None => Err(TextFault::UnknownName(here.at)),
+        },
+        Token::BadDate => Err(TextFault::BadDate(here.at)),
+        _ => Err(TextFault::Unexpected(here.at)),
+    }
+}
+
+/// A statement may not speak of the current time, nor of a parameter.
+#[tactic(auto, unfolding(crate::specs::Pieces::sayable))]
+fn sayable(in_statement: bool, at: usize, term: &Term) -> Result<(), TextFault>
+    ensures { result ≡ sayable in_statement at term.now }
+{
+    match term {
+        Term::Ctime | Term::Param(_) => {
+            if in_statement {
+                Err(TextFault::Sort(at))
+            } else {
+                Ok(())
+            }
+        }
+        _ => Ok(()),
+    }
+}
+
+/// The term may stand where that sort is wanted.
+#[tactic(auto, unfolding(crate::specs::Pieces::sorted))]
+fn sorted(scope: &Scope<'_>, wanted: Sort, at: usize, term: &Term) -> Result<(), TextFault>
+    ensures { result ≡ sorted (variables scope.now) wanted at term.now }
+{
+    if scope.fits(wanted, term) {
+        Ok(())
+    } else {
+        Err(TextFault::Sort(at))
+    }
+}
+
+/// A term as an argument of a predicate.
+#[tactic(auto, unfolding(crate::specs::Pieces::argument))]
+pub fn argument(in_statement: bool, scope: &Scope<'_>, here: &Here) -> Result<Term, TextFault>
+    requires { length (variables scope.now) ≤ 512 }
+    ensures value { result ≡ argument in_statement (variables scope.now) here.now }
+    ensures some { OnOk result (1 ≤ here.now.left) }
+{
+    let term = term_of(scope, here)?;
+    sayable(in_statement, here.at, &term)?;
+    count(here)?;
+    Ok(term)
+}
+
+/// A further argument behind so many others. An atom takes no ninth one.
+#[tactic(auto, unfolding(crate::specs::Pieces::next_argument))]
+pub fn next_argument(
+    in_statement: bool,
+    scope: &Scope<'_>,
+    is_atom: bool,
+    others: usize,
+    here: &Here,
+) -> Result<Term, TextFault>
+    requires { length (variables scope.now) ≤ 512 }
+    ensures value { result ≡ next_argument in_statement (variables scope.now) is_atom others here.now }
+    ensures some { OnOk result (1 ≤ here.now.left) }
+{
+    let term = argument(in_statement, scope, here)?;
+    if is_atom && 8 <= others {
+        Err(TextFault::TooLarge(here.at))
+    } else {
+        Ok(term)
+    }
+}
+
+/// A term as a time.
+#[tactic(auto, unfolding(crate::specs::Pieces::time_argument))]
+fn time_argument(in_statement: bool, scope: &Scope<'_>, here: &Here) -> Result<Term, TextFault>
+    requires { length (variables scope.now) ≤ 512 }
+    ensures value { result ≡ time_argument in_statement (variables scope.now) here.now }
+    ensures some { OnOk result (1 ≤ here.now.left) }
+{
+    let term = term_of(scope, here)?;
+    sayable(in_statement, here.at, &term)?;
+    sorted(scope, Sort::Time, here.at, &term)?;
+    count(here)?;
+    Ok(term)
+}
+
+/// The interval behind the sign `@` at that place, and what follows it.
+#[tactic(auto, unfolding(crate::specs::Pieces::interval))]
+pub fn interval(
+    text: &[u8],
+    in_statement: bool,
+    scope: &Scope<'_>,
+    here: &Here,
+) -> Result<(Term, Term, Here), TextFault>
+    requires scope { length (variables scope.now) ≤ 512 }
+    requires within { here.now.end ≤ length text.now }
+    ensures value { result ≡ interval text.now in_statement (variables scope.now) here.now }
+    ensures within { IfOk result (λ r. r.2.end ≤ length text.now) }
+    ensures left { IfOk result (λ r. r.2.left + 1 ≤ here.now.left) }
+{
+    count(here)?;
+    let first = expected(text, Sign::OpenInterval, &behind_node(text, here))?;
+    let from = time_argument(in_statement, scope, &first)?;
+    let second = expected(text, Sign::Comma, &behind_node(text, &first))?;
+    let to = time_argument(in_statement, scope, &second)?;
+    let there = expected(text, Sign::CloseInterval, &behind_node(text, &second))?;
+    Ok((from, to, there))
+}
+
+#[tactic(auto, unfolding(crate::specs::Pieces::variable_name))]
+fn variable_name(here: &Here) -> Result<Short<32>, TextFault>
+    ensures { result ≡ variable_name here.now }
+{
+    match &here.token {
+        Token::Variable(name) => Ok(*name),
+        _ => Err(TextFault::Unexpected(here.at)),
+    }
+}
+
+#[tactic(auto, unfolding(crate::specs::Pieces::sort_at))]
+fn sort_at(here: &Here) -> Result<Sort, TextFault>
+    ensures { result ≡ sort_at here.now }
+{
+    match &here.token {
+        Token::SortName(sort) => Ok(*sort),
+        Token::Name(_)
+        | Token::LongWord
+        | Token::Keyword(_)
+        | Token::Constant(Term::Ctime)
+        | Token::Constant(Term::Perm(_)) => Err(TextFault::UnknownName(here.at)),
+        _ => Err(TextFault::Unexpected(here.at)),
+    }
+}
+
+/// The variable and the sort of a binder whose word stands at that place. It goes behind the dot.
+#[tactic(auto, unfolding(crate::specs::Pieces::binder))]
+pub fn binder(text: &[u8], here: &mut Here) -> Result<(Short<32>, Sort), TextFault>
+    requires { here.old.end ≤ length text.now }
+    ensures value { MatchResult result (λ r. binder text.now here.old ≡ Ok (r.0, r.1, here.new)) (λ e. binder text.now here.old ≡ Err e) }
+    ensures within { OnOk result (here.new.end ≤ length text.now) }
+    ensures left { OnOk result (here.new.left + 1 ≤ here.old.left) }
+{
+    count(here)?;
+    step_node(text, here);
+    let name = variable_name(here)?;
+    step(text, here);
+    go_behind(text, Sign::Colon, here)?;
+    let sort = sort_at(here)?;
+    step(text, here);
+    go_behind(text, Sign::Dot, here)?;
+    Ok((name, sort))
+}
+
+/// The principal at that place, before `says`. It goes behind that word.
+#[tactic(auto, unfolding(crate::specs::Pieces::speaker))]
+pub fn speaker(text: &[u8], scope: &Scope<'_>, here: &mut Here) -> Result<Term, TextFault>
+    requires scope { length (variables scope.now) ≤ 512 }
+    requires within { here.old.end ≤ length text.now }
+    ensures value { MatchResult result (λ who. speaker text.now (variables scope.now) here.old ≡ Ok (who, here.new)) (λ e. speaker text.now (variables scope.now) here.old ≡ Err e) }
+    ensures within { OnOk result (here.new.end ≤ length text.now) }
+    ensures left { OnOk result (here.new.left + 1 ≤ here.old.left) }
+{
+    let at = here.at;
+    let who = term_of(scope, here)?;
+    count(here)?;
+    step_node(text, here);
+    sorted(scope, Sort::Principal, at, &who)?;
+    count(here)?;
+    step_node(text, here);
+    Ok(who)
+}
+
+/// The sign `<=`.
+#[tactic(auto, unfolding(crate::specs::Pieces::less_sign))]
+fn less_sign(here: &Here) -> Result<(), TextFault>
+    ensures { result ≡ less_sign here.now }
+{
+    if is_sign(Sign::UpTo, &here.token) {
+        Ok(())
+    } else {
+        Err(TextFault::Unexpected(here.at))
+    }
+}
+
+/// A comparison of times whose first term stands at that place, and what follows it.
+#[tactic(auto, unfolding(crate::specs::Pieces::comparison))]
+fn comparison(
+    text: &[u8],
+    in_statement: bool,
+    scope: &Scope<'_>,
+    here: &Here,
+) -> Result<(Formula, Here), TextFault>
+    requires scope { length (variables scope.now) ≤ 512 }
+    requires within { here.now.end ≤ length text.now }
+    ensures value { GivesWith result (comparison text.now in_statement (variables scope.now) here.now) }
+    ensures within { IfOk result (λ r. r.1.end ≤ length text.now) }
+    ensures left { IfOk result (λ r. r.1.left + 1 ≤ here.now.left) }
+{
+    let low = term_of(scope, here)?;
+    count(here)?;
+    let sign = behind_node(text, here);
+    less_sign(&sign)?;
+    sayable(in_statement, here.at, &low)?;
+    sorted(scope, Sort::Time, here.at, &low)?;
+    count(&sign)?;
+    let place = behind_node(text, &sign);
+    let high = time_argument(in_statement, scope, &place)?;
+    let f = Formula::Cons(Constraint { low, high });
+    Ok((f, behind_node(text, &place)))
+}
+
+/// A predicate without arguments.
+#[tactic(auto, unfolding(crate::specs::Pieces::bare))]
+fn bare(
+    alloc: Global,
+    text: &[u8],
+    scope: &Scope<'_>,
+    name: &Principal,
+    here: &Here,
+) -> Result<(Formula, Here), TextFault>
+    requires within { here.now.end ≤ length text.now }
+    ensures value { GivesWith result (bare text.now (variables scope.now) name.now here.now) }
+    ensures within { IfOk result (λ r. r.1.end ≤ length text.now) }
+    ensures left { IfOk result (λ r. r.1.left + 1 ≤ here.now.left) }
+{
+    let f = applied(scope, here.at, name, Sequence::new(alloc))?;
+    count(here)?;
+    Ok((f, behind_node(text, here)))
+}
+
+/// A principal in the place of a time.
+#[tactic(auto, unfolding(crate::specs::Pieces::named_time))]
+fn named_time(here: &Here) -> TextFault
+    ensures { named_time here.now ≡ Err result }
+{
+    match count(here) {
+        Ok(()) => TextFault::Sort(here.at),
+        Err(fault) => fault,
+    }
+}
+
+/// A predicate's name without arguments; before `<=` it is a principal, which is no time.
+#[tactic(auto, unfolding(crate::specs::Pieces::name_alone))]
+fn name_alone(
+    alloc: Global,
+    text: &[u8],
+    scope: &Scope<'_>,
+    name: &Principal,
+    here: &Here,
+) -> Result<(Formula, Here), TextFault>
+    requires within { here.now.end ≤ length text.now }
+    ensures value { GivesWith result (name_alone text.now (variables scope.now) name.now here.now) }
+    ensures within { IfOk result (λ r. r.1.end ≤ length text.now) }
+    ensures left { IfOk result (λ r. r.1.left + 1 ≤ here.now.left) }
+{
+    if is_sign(Sign::UpTo, &behind_node(text, here).token) {
+        Err(named_time(here))
+    } else {
+        bare(alloc, text, scope, name, here)
+    }
+}
+
+/// `true` or `false`.
+#[tactic(auto, unfolding(crate::specs::Pieces::constant_formula))]
+fn constant_formula(text: &[u8], holds: bool, here: &Here) -> Result<(Formula, Here), TextFault>
+    requires within { here.now.end ≤ length text.now }
+    ensures value { GivesWith result (constant_formula text.now (if holds then truth else falsity) here.now) }
+    ensures within { IfOk result (λ r. r.1.end ≤ length text.now) }
+    ensures left { IfOk result (λ r. r.1.left + 1 ≤ here.now.left) }
+{
+    count(here)?;
+    let f = if holds { Formula::True } else { Formula::False };
+    Ok((f, behind_node(text, here)))
+}
+
+/// A formula without parentheses at that place, and what follows it.
+#[tactic(auto, unfolding(crate::specs::Pieces::simple))]
+pub fn simple(
+    alloc: Global,
+    text: &[u8],
+    in_statement: bool,
+    scope: &Scope<'_>,
+    here: &Here,
+) -> Result<(Formula, Here), TextFault>
+    requires scope { length (variables scope.now) ≤ 512 }
+    requires within { here.now.end ≤ length text.now }
+    ensures value { GivesWith result (simple text.now in_statement (variables scope.now) here.now) }
+    ensures within { IfOk result (λ r. r.1.end ≤ length text.now) }
+    ensures left { IfOk result (λ r. r.1.left + 1 ≤ here.now.left) }
+{
+    match &here.token {
+        Token::Keyword(Keyword::True) => constant_formula(text, true, here),
+        Token::Keyword(Keyword::False) => constant_formula(text, false, here),
+        Token::Name(name) => name_alone(alloc, text, scope, name, here),
+        _ => comparison(text, in_statement, scope, here),
+    }
+}

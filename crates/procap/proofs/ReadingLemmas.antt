@@ -1,0 +1,141 @@
+-- Reading conditions one after the other, and faults that are handed on.
+use Rattle.std.proofs.Common.{◌≡◌, ℕ, zero, suc, ◌<◌, ◌-◌, List, [], ◌∷◌, ◌++◌, length, Bool, true, false, Result, Ok, Err, refl, ap, ◌∙◌, arith}
+use Rattle.std.specs.Prelude.{Contains, is_err}
+use Rattle.bl_syntax.specs.declared.codec_fault.CodecFault.{CodecFault}
+use Rattle.bl_syntax.specs.declared.codec_fault.CodecFault.TheVariants as faults
+use Rattle.bl_syntax.specs.declared.terms.Constraint.{Constraint}
+use Rattle.bl_syntax.specs.declared.terms.StatePred.{StatePred}
+use Rattle.bl_syntax.specs.declared.grant.Goal.{Goal}
+use Rattle.bl_syntax.specs.Grant.{Granted, IsTimeCondition, IsStateCondition}
+use Rattle.bl_syntax.proofs.GrantLemmas.{granted}
+use Rattle.bl_syntax.specs.Reading.{◌>>=◌, Reading, place}
+use Rattle.bl_syntax.specs.Codec.{AreBytes, IsCodec, ReadsFront, StopsWith}
+use Rattle.procap.specs.GrantReading.{time_condition_at, state_condition_at, may_follow_times, may_follow_states, items_at, count_at, conditions_at, head_at, grant_at}
+use Rattle.procap.proofs.ConditionLemmas.{time_may_follow, state_may_follow}
+use Rattle.procap.proofs.PartLemmas.{time_codec, state_codec}
+
+-- a fault that is read
+pub stops : {Y : Type 0} (fault : CodecFault) (read : Result Y CodecFault) → read ≡ Err fault → StopsWith fault read
+stops faults.NoMemory read e = tt
+stops faults.Short read e = e
+stops (faults.BadTag place) read e = e
+stops (faults.NotCanonical place) read e = e
+stops (faults.TooLarge place) read e = e
+
+-- a fault of the first of two steps
+pub hands_on : {Y W : Type 0} (fault : CodecFault) (read : Result Y CodecFault) (next : Y → Result W CodecFault) → StopsWith fault read → StopsWith fault (read >>= next)
+hands_on faults.NoMemory read next e = tt
+hands_on faults.Short read next e = ap (λ r. r >>= next) e
+hands_on (faults.BadTag place) read next e = ap (λ r. r >>= next) e
+hands_on (faults.NotCanonical place) read next e = ap (λ r. r >>= next) e
+hands_on (faults.TooLarge place) read next e = ap (λ r. r >>= next) e
+
+-- a fault that is no want of memory is the fault that is read
+pub stops_with : {Y : Type 0} (fault : CodecFault) (read : Result Y CodecFault) → StopsWith fault read → (fault ≡ faults.NoMemory → ⊥) → read ≡ Err fault
+stops_with faults.NoMemory read e memory = absurd (memory refl)
+stops_with faults.Short read e memory = e
+stops_with (faults.BadTag place) read e memory = e
+stops_with (faults.NotCanonical place) read e memory = e
+stops_with (faults.TooLarge place) read e memory = e
+
+-- ---- one condition of so many
+
+pub items_none : {A : Type 0} (one_at : ℕ → List ℕ → Reading A) (may_follow : List A → A → Bool) (count input : ℕ) (before : List A) (bytes : List ℕ) → count ≡ 0
+    → items_at one_at may_follow count input before bytes ≡ Ok (before, bytes)
+unfolding items_at
+items_none one_at may_follow count input before bytes none = rw none refl
+
+pub items_fault : {A : Type 0} (one_at : ℕ → List ℕ → Reading A) (may_follow : List A → A → Bool) (count input : ℕ) (before : List A) (bytes : List ℕ) (fault : CodecFault) → 0 < count
+    → one_at input bytes ≡ Err fault → items_at one_at may_follow count input before bytes ≡ Err fault
+unfolding items_at
+items_fault one_at may_follow zero input before bytes fault some e = absurd (omega arith)
+items_fault one_at may_follow (suc count) input before bytes fault some e = rw e refl
+
+pub items_refused : {A : Type 0} (one_at : ℕ → List ℕ → Reading A) (may_follow : List A → A → Bool) (count input : ℕ) (before : List A) (bytes : List ℕ) (x : A) (rest : List ℕ) → 0 < count
+    → one_at input bytes ≡ Ok (x, rest) → may_follow before x ≡ false → items_at one_at may_follow count input before bytes ≡ Err (faults.NotCanonical (place input bytes))
+unfolding items_at
+items_refused one_at may_follow zero input before bytes x rest some e refused = absurd (omega arith)
+items_refused one_at may_follow (suc count) input before bytes x rest some e refused = rw (e, refused) refl
+
+pub items_more : {A : Type 0} (one_at : ℕ → List ℕ → Reading A) (may_follow : List A → A → Bool) (count input : ℕ) (before : List A) (bytes : List ℕ) (x : A) (rest : List ℕ) → 0 < count
+    → one_at input bytes ≡ Ok (x, rest) → may_follow before x ≡ true → items_at one_at may_follow count input before bytes ≡ items_at one_at may_follow (count - 1) input (before ++ x ∷ []) rest
+unfolding items_at
+items_more one_at may_follow zero input before bytes x rest some e follows = absurd (omega arith)
+items_more {A} one_at may_follow (suc count) input before bytes x rest some e follows =
+    let less : count ≡ suc count - 1 = omega arith in
+    rw (e, follows) (ap (λ (k : ℕ). items_at one_at may_follow k input (before ++ x ∷ []) rest) less)
+
+-- ---- what was read and tested may be kept
+
+pub time_is_kept : (input : ℕ) (bytes rest : List ℕ) (before : List Constraint) (c : Constraint) → AreBytes bytes → time_condition_at input bytes ≡ Ok (c, rest) → may_follow_times before c ≡ true
+    → IsTimeCondition c × (Contains before c → ⊥)
+time_is_kept input bytes rest before c fits e follows = time_may_follow before c (time_codec.found input bytes rest c fits e).0 follows
+
+pub state_is_kept : (input : ℕ) (bytes rest : List ℕ) (before : List StatePred) (s : StatePred) → AreBytes bytes → state_condition_at input bytes ≡ Ok (s, rest) → may_follow_states before s ≡ true
+    → IsStateCondition s × (Contains before s → ⊥)
+state_is_kept input bytes rest before s fits e follows = state_may_follow before s (state_codec.found input bytes rest s fits e).0 follows
+
+-- ---- conditions with their number
+
+pub conditions_fault : {A : Type 0} (one_at : ℕ → List ℕ → Reading A) (may_follow : List A → A → Bool) (most input : ℕ) (bytes : List ℕ) (fault : CodecFault)
+    → count_at most input bytes ≡ Err fault → conditions_at one_at may_follow most input bytes ≡ Err fault
+unfolding conditions_at
+conditions_fault one_at may_follow most input bytes fault e = rw e refl
+
+pub conditions_more : {A : Type 0} (one_at : ℕ → List ℕ → Reading A) (may_follow : List A → A → Bool) (most input : ℕ) (bytes : List ℕ) (count : ℕ) (rest : List ℕ)
+    → count_at most input bytes ≡ Ok (count, rest) → conditions_at one_at may_follow most input bytes ≡ items_at one_at may_follow count input [] rest
+unfolding conditions_at
+conditions_more one_at may_follow most input bytes count rest e = rw e refl
+
+-- ---- grants
+
+abbrev times_at : ℕ → List ℕ → Reading (List Constraint)
+times_at input bytes = conditions_at time_condition_at may_follow_times 64 input bytes
+
+abbrev states_at : List Constraint → ℕ → List ℕ → Reading (List StatePred)
+states_at times input bytes = conditions_at state_condition_at may_follow_states (64 - length times) input bytes
+
+-- the conditions on the server's state behind those on time
+abbrev with_states : ℕ → Goal → List Constraint × List ℕ → Reading Granted
+with_states input goal times = states_at times.0 input times.1 >>= λ states. Ok (granted goal times.0 states.0, states.1)
+
+-- all conditions behind a goal
+abbrev with_conditions : ℕ → Goal × List ℕ → Reading Granted
+with_conditions input goal = times_at input goal.1 >>= with_states input goal.0
+
+grant_is : (input : ℕ) (bytes : List ℕ) → grant_at input bytes ≡ (head_at input bytes >>= with_conditions input)
+unfolding grant_at
+grant_is input bytes = refl
+
+pub head_stops : (input : ℕ) (bytes : List ℕ) (fault : CodecFault) → head_at input bytes ≡ Err fault → StopsWith fault (grant_at input bytes)
+head_stops input bytes fault e = rw (grant_is input bytes) (hands_on fault (head_at input bytes) (with_conditions input) (stops fault (head_at input bytes) e))
+
+behind_head : (input : ℕ) (bytes rest : List ℕ) (goal : Goal) → head_at input bytes ≡ Ok (goal, rest) → grant_at input bytes ≡ (times_at input rest >>= with_states input goal)
+behind_head input bytes rest goal e = grant_is input bytes ∙ ap (λ (r : Reading Goal). r >>= with_conditions input) e
+
+behind_times : (input : ℕ) (bytes rest behind : List ℕ) (goal : Goal) (times : List Constraint) → head_at input bytes ≡ Ok (goal, rest) → times_at input rest ≡ Ok (times, behind)
+    → grant_at input bytes ≡ with_states input goal (times, behind)
+behind_times input bytes rest behind goal times e h = behind_head input bytes rest goal e ∙ ap (λ (r : Reading (List Constraint)). r >>= with_states input goal) h
+
+pub times_stop : (input : ℕ) (bytes rest : List ℕ) (goal : Goal) (fault : CodecFault) → head_at input bytes ≡ Ok (goal, rest) → StopsWith fault (times_at input rest) → StopsWith fault (grant_at input bytes)
+times_stop input bytes rest goal fault e h = rw (behind_head input bytes rest goal e) (hands_on fault (times_at input rest) (with_states input goal) h)
+
+pub states_stop : (input : ℕ) (bytes rest behind : List ℕ) (goal : Goal) (times : List Constraint) (fault : CodecFault) → head_at input bytes ≡ Ok (goal, rest) → times_at input rest ≡ Ok (times, behind)
+    → StopsWith fault (states_at times input behind) → StopsWith fault (grant_at input bytes)
+states_stop input bytes rest behind goal times fault e h k =
+    rw (behind_times input bytes rest behind goal times e h) (hands_on fault (states_at times input behind) (λ states. Ok (granted goal times states.0, states.1)) k)
+
+pub grant_is_read : (input : ℕ) (bytes rest behind end : List ℕ) (goal : Goal) (times : List Constraint) (states : List StatePred) → head_at input bytes ≡ Ok (goal, rest) → times_at input rest ≡ Ok (times, behind)
+    → states_at times input behind ≡ Ok (states, end) → grant_at input bytes ≡ Ok (granted goal times states, end)
+grant_is_read input bytes rest behind end goal times states e h k =
+    behind_times input bytes rest behind goal times e h ∙ ap (λ (r : Reading (List StatePred)). r >>= λ all. Ok (granted goal times all.0, all.1)) k
+
+-- ---- calls
+
+-- a call at the front of the bytes that found nothing
+pub front_stops : {X A : Type 0} (view : X → A) (IsSpelled : A → Type 0) (spelling : A → List ℕ) (at : ℕ → List ℕ → Reading A) (bytes : List ℕ) (fault : CodecFault)
+    → IsCodec IsSpelled spelling at → AreBytes bytes → StopsWith fault (at (length bytes) bytes) → ReadsFront view IsSpelled spelling bytes (Err fault)
+front_stops view IsSpelled spelling at bytes fault codec fits h = record {
+  found = tt;
+  refused = λ memory. (codec.refused (length bytes) bytes fits).0 (ap is_err (stops_with fault (at (length bytes) bytes) h memory));
+}

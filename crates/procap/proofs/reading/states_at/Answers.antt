@@ -1,0 +1,12 @@
+use Rattle.std.proofs.Common.{◌≡◌, ◌-◌, [], length}
+use Rattle.procap.specs.GrantReading.{state_condition_at, may_follow_states}
+use Rattle.procap.proofs.ReadingLemmas.{stops, conditions_fault, conditions_more}
+use Rattle.procap.proofs.reading.states_at.Goals as goal
+
+pub returns-in-Err-clause-read : goal.returns-in-Err-clause-read
+returns-in-Err-clause-read c = stops c.in-Err.fault _ (conditions_fault state_condition_at may_follow_states (64 - length c.args.grant.now.times) c.args.input c.args.bytes.now c.in-Err.fault (rw (← c.times.ensures.same) c.in-Err.ensures.read))
+
+pub returns-in-Ok-clause-read : goal.returns-in-Ok-clause-read
+returns-in-Ok-clause-read c =
+    let none : c.args.grant.now.states ≡ [] = c.requires.no_states in
+    rw (conditions_more state_condition_at may_follow_states (64 - length c.args.grant.now.times) c.args.input c.args.bytes.now c.in-Ok.count c.in-Ok.rest.now (rw (← c.times.ensures.same) c.in-Ok.ensures.read), ← none) c.add_states_at.ensures.read

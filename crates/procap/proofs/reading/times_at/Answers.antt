@@ -1,0 +1,12 @@
+use Rattle.std.proofs.Common.{◌≡◌, []}
+use Rattle.procap.specs.GrantReading.{time_condition_at, may_follow_times}
+use Rattle.procap.proofs.ReadingLemmas.{stops, conditions_fault, conditions_more}
+use Rattle.procap.proofs.reading.times_at.Goals as goal
+
+pub returns-in-Err-clause-read : goal.returns-in-Err-clause-read
+returns-in-Err-clause-read c = stops c.in-Err.fault _ (conditions_fault time_condition_at may_follow_times 64 c.args.input c.args.bytes.now c.in-Err.fault c.in-Err.ensures.read)
+
+pub returns-in-Ok-clause-read : goal.returns-in-Ok-clause-read
+returns-in-Ok-clause-read c =
+    let none : c.args.grant.now.times ≡ [] = c.requires.no_times in
+    rw (conditions_more time_condition_at may_follow_times 64 c.args.input c.args.bytes.now c.in-Ok.count c.in-Ok.rest.now c.in-Ok.ensures.read, ← none) c.add_times_at.ensures.read

@@ -1,0 +1,134 @@
+-- Reading grants from their canonical bytes, from the left: the value and the bytes behind it, or the first fault. The order of the faults is this project's
+-- own. A condition is read whole, and then tested as one field; the number of conditions is tested as soon as it is there.
+use Rattle.std.specs.Prelude.{ℕ, zero, suc, ◌-◌, List, [], ◌∷◌, ◌++◌, length, Bool, true, false, not, ◌&&◌, ◌||◌, nat_lt, ◌==◌, if◌then◌else◌, Result, Ok, Err}
+use Rattle.std.specs.List.{list_all, list_any}
+use Rattle.std.specs.Int.{w64}
+use Rattle.bl_syntax.specs.declared.codec_fault.CodecFault.{CodecFault}
+use Rattle.bl_syntax.specs.declared.codec_fault.CodecFault.TheVariants.{Short, BadTag, NotCanonical}
+use Rattle.bl_syntax.specs.declared.terms.Term.{Term}
+use Rattle.bl_syntax.specs.declared.terms.Term.TheVariants as term
+use Rattle.bl_syntax.specs.declared.terms.Constraint.{Constraint}
+use Rattle.bl_syntax.specs.declared.terms.StatePred.{StatePred}
+use Rattle.bl_syntax.specs.declared.terms.StatePred.TheVariants.{Owner, HasXattr, InDir}
+use Rattle.bl_syntax.specs.declared.grant.Goal.{Goal}
+use Rattle.bl_syntax.specs.contracts.terms.ConstraintPartialEq.TheImpl as constraints
+use Rattle.bl_syntax.specs.contracts.terms.StatePredPartialEq.TheImpl as states
+use Rattle.bl_syntax.specs.WellSorted.{terms_of_state}
+use Rattle.bl_syntax.specs.Grant.{Granted}
+use Rattle.bl_syntax.specs.Reading.{◌>>=◌, Reading, place, made, number_at, name_at, permission_at, term_at}
+use Rattle.bl_syntax.specs.FormulaReading.{is_formula_tag}
+
+-- a byte that has this one value; the bytes behind it
+unfoldable pub marker_at : ℕ → ℕ → List ℕ → Result (List ℕ) CodecFault
+marker_at value input [] = Err Short
+marker_at value input (byte ∷ rest) = if byte == value then Ok rest else Err (BadTag (place input (byte ∷ rest)))
+
+-- who, which file and which permission
+unfoldable pub goal_at : ℕ → List ℕ → Reading Goal
+goal_at input bytes = do
+  who ← name_at input bytes
+  file ← number_at w64 who.1
+  perm ← permission_at input file.1
+  Ok (record { who = who.0; file = record { 0 = file.0 }; perm = perm.0 }, perm.1)
+
+-- one, and then another
+unfoldable pub both_at : {A B : Type 0} → (ℕ → List ℕ → Reading A) → (ℕ → List ℕ → Reading B) → ℕ → List ℕ → Reading (A × B)
+both_at first_at second_at input bytes = do
+  first ← first_at input bytes
+  second ← second_at input first.1
+  Ok ((first.0, second.0), second.1)
+
+-- a condition on time, before it is tested
+unfoldable pub time_condition_at : ℕ → List ℕ → Reading Constraint
+time_condition_at input bytes = made (λ t. record { low = t.0; high = t.1 }) (both_at term_at term_at input bytes)
+
+-- the terms of a condition on the server's state with this tag, which stands at the place
+unfoldable pub state_terms_at : ℕ → ℕ → ℕ → List ℕ → Reading StatePred
+state_terms_at input start tag rest =
+    if tag == 18 then made (λ t. Owner t.0 t.1) (both_at term_at term_at input rest) else
+    if tag == 19 then made (λ t. HasXattr t.0 t.1.0 t.1.1) (both_at term_at (both_at term_at term_at) input rest) else
+    if tag == 20 then made (λ t. InDir t.0 t.1) (both_at term_at term_at input rest) else
+    if is_formula_tag tag then Err (NotCanonical start) else
+    Err (BadTag start)
+
+-- a condition on the server's state, before it is tested
+unfoldable pub state_condition_at : ℕ → List ℕ → Reading StatePred
+state_condition_at input [] = Err Short
+state_condition_at input (tag ∷ rest) = state_terms_at input (place input (tag ∷ rest)) tag rest
+
+-- whether it names one thing, whatever the current time and the parameters are
+abbrev pub is_constant : Term → Bool
+is_constant (term.Prin name) = true
+is_constant (term.File node) = true
+is_constant (term.Perm permission) = true
+is_constant (term.Time point) = true
+is_constant (term.Text text) = true
+is_constant term.Ctime = false
+is_constant (term.Param n) = false
+is_constant (term.Bound n) = false
+
+-- whether it is the current time
+abbrev pub is_ctime : Term → Bool
+is_ctime (term.Prin name) = false
+is_ctime (term.File node) = false
+is_ctime (term.Perm permission) = false
+is_ctime (term.Time point) = false
+is_ctime (term.Text text) = false
+is_ctime term.Ctime = true
+is_ctime (term.Param n) = false
+is_ctime (term.Bound n) = false
+
+-- the current time on one side, and the current time or a constant on the other
+abbrev pub is_time_condition : Constraint → Bool
+is_time_condition c = (is_ctime c.low && (is_ctime c.high || is_constant c.high)) || (is_constant c.low && is_ctime c.high)
+
+-- constants alone
+abbrev pub is_state_condition : StatePred → Bool
+is_state_condition s = list_all is_constant (terms_of_state s)
+
+-- whether the condition is one of these
+abbrev pub is_time_among : List Constraint → Constraint → Bool
+is_time_among before c = list_any (λ known. constraints.ghosts.eq known c) before
+
+abbrev pub is_state_among : List StatePred → StatePred → Bool
+is_state_among before s = list_any (λ known. states.ghosts.eq known s) before
+
+-- whether the condition may stand behind these: it is in its form, and none of them
+abbrev pub may_follow_times : List Constraint → Constraint → Bool
+may_follow_times before c = is_time_condition c && not (is_time_among before c)
+
+abbrev pub may_follow_states : List StatePred → StatePred → Bool
+may_follow_states before s = is_state_condition s && not (is_state_among before s)
+
+-- so many conditions behind those before; each may follow
+unfoldable pub items_at : {A : Type 0} → (ℕ → List ℕ → Reading A) → (List A → A → Bool) → ℕ → ℕ → List A → List ℕ → Reading (List A)
+items_at one_at may_follow zero input before bytes = Ok (before, bytes)
+items_at one_at may_follow (suc count) input before bytes = do
+  one ← one_at input bytes
+  if may_follow before one.0 then items_at one_at may_follow count input (before ++ one.0 ∷ []) one.1 else Err (NotCanonical (place input bytes))
+
+-- how many conditions there are, at most so many
+unfoldable pub count_at : ℕ → ℕ → List ℕ → Reading ℕ
+count_at most input [] = Err Short
+count_at most input (count ∷ rest) = if nat_lt most count then Err (NotCanonical (place input (count ∷ rest))) else Ok (count, rest)
+
+-- how many conditions there are, and each
+unfoldable pub conditions_at : {A : Type 0} → (ℕ → List ℕ → Reading A) → (List A → A → Bool) → ℕ → ℕ → List ℕ → Reading (List A)
+conditions_at one_at may_follow most input bytes = do
+  count ← count_at most input bytes
+  items_at one_at may_follow count.0 input [] count.1
+
+-- the byte of grants, the version, and the goal
+unfoldable pub head_at : ℕ → List ℕ → Reading Goal
+head_at input bytes = do
+  version ← marker_at 71 input bytes
+  goal ← marker_at 1 input version
+  goal_at input goal
+
+-- a grant: its head, and its conditions, at most 64 together
+unfoldable pub grant_at : ℕ → List ℕ → Reading Granted
+grant_at input bytes = do
+  goal ← head_at input bytes
+  times ← conditions_at time_condition_at may_follow_times 64 input goal.1
+  states ← conditions_at state_condition_at may_follow_states (64 - length times.0) input times.1
+  Ok (record { goal = goal.0; times = times.0; states = states.0 }, states.1)

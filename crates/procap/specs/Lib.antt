@@ -1,0 +1,5 @@
+pub mod Genuine
+pub mod GrantReading
+pub mod GrantSpelling
+pub mod Procap
+pub mod Writing

@@ -1,0 +1,408 @@
+//! Reading grants and procaps.
+
+ghost use Rattle.std.specs.Prelude.{◌≡◌, ◌≤◌, ◌+◌, ◌-◌, ℕ, List, [], IsTrue, IfOk, length};
+ghost use Rattle.std.specs.List.{list_all, list_any};
+ghost use Rattle.bl_syntax.specs.Grant.{Granted};
+ghost use Rattle.bl_syntax.specs.WellSorted.{terms_of_state};
+ghost use Rattle.bl_syntax.specs.Reading.{Gives, reading, term_at};
+ghost use Rattle.bl_syntax.specs.Codec.{GivesOrStops, ReadsFront};
+ghost use Rattle.bl_syntax.specs.FormulaReading.{is_formula_tag};
+ghost use Rattle.procap.specs.GrantSpelling.{grant_spelling, IsSpellableGrant};
+ghost use Rattle.procap.specs.GrantReading.{marker_at, goal_at, both_at, time_condition_at, state_terms_at, state_condition_at, is_constant, is_ctime, is_time_condition, is_state_condition, is_time_among, is_state_among, may_follow_times, may_follow_states, items_at, count_at, conditions_at, head_at, grant_at};
+ghost use Rattle.procap.specs.Procap.{procap_spelling, IsSpellableProcap, procap_at, whole_procap, ReadsWhole};
+
+use crate::procap::Procap;
+use bl_syntax::fields::{name_at, permission_at, place, term_at, u64_at};
+use bl_syntax::{CodecFault, Constraint, Goal, Grant, NodeId, StatePred, Term};
+use std::alloc::Global;
+
+/// The version of a grant's bytes.
+const VERSION: u8 = 1;
+
+/// The most conditions of a grant, those on time and those on the server's state together.
+const MOST_CONDITIONS: usize = 64;
+
+/// The number of a tag's bytes.
+const TAG_LENGTH: usize = 32;
+
+/// A byte that has this one value.
+#[tactic(auto, unfolding(crate::specs::GrantReading::marker_at))]
+fn marker_at(value: u8, input: usize, bytes: &[u8]) -> Result<&[u8], CodecFault>
+    ensures { Gives (λ x. x.now) result (marker_at value input bytes.now) }
+{
+    match bytes {
+        [] => Err(CodecFault::Short),
+        [byte, rest @ ..] => {
+            if *byte == value {
+                Ok(rest)
+            } else {
+                Err(CodecFault::BadTag(place(input, bytes)))
+            }
+        }
+    }
+}
+
+/// A goal.
+#[tactic(auto, unfolding(crate::specs::GrantReading::goal_at))]
+fn goal_at(input: usize, bytes: &[u8]) -> Result<(Goal, &[u8]), CodecFault>
+    ensures { Gives (λ x. (x.0, x.1.now)) result (goal_at input bytes.now) }
+{
+    match name_at(input, bytes) {
+        Err(fault) => Err(fault),
+        Ok((who, rest)) => match u64_at(rest) {
+            Err(fault) => Err(fault),
+            Ok((number, rest)) => match permission_at(input, rest) {
+                Err(fault) => Err(fault),
+                Ok((perm, rest)) => Ok((
+                    Goal {
+                        who,
+                        file: NodeId(number),
+                        perm,
+                    },
+                    rest,
+                )),
+            },
+        },
+    }
+}
+
+/// The byte of grants, the version, and the goal.
+#[tactic(auto, unfolding(crate::specs::GrantReading::head_at))]
+fn head_at(input: usize, bytes: &[u8]) -> Result<(Goal, &[u8]), CodecFault>
+    ensures { Gives (λ x. (x.0, x.1.now)) result (head_at input bytes.now) }
+{
+    match marker_at(b'G', input, bytes) {
+        Err(fault) => Err(fault),
+        Ok(rest) => match marker_at(VERSION, input, rest) {
+            Err(fault) => Err(fault),
+            Ok(rest) => goal_at(input, rest),
+        },
+    }
+}
+
+/// Two terms.
+#[tactic(auto, unfolding(crate::specs::GrantReading::both_at))]
+fn two_terms_at(input: usize, bytes: &[u8]) -> Result<((Term, Term), &[u8]), CodecFault>
+    ensures { Gives (λ x. (x.0, x.1.now)) result (both_at term_at term_at input bytes.now) }
+{
+    match term_at(input, bytes) {
+        Err(fault) => Err(fault),
+        Ok((first, rest)) => match term_at(input, rest) {
+            Err(fault) => Err(fault),
+            Ok((second, rest)) => Ok(((first, second), rest)),
+        },
+    }
+}
+
+/// Three terms.
+#[tactic(auto, unfolding(crate::specs::GrantReading::both_at))]
+fn three_terms_at(input: usize, bytes: &[u8]) -> Result<((Term, (Term, Term)), &[u8]), CodecFault>
+    ensures { Gives (λ x. (x.0, x.1.now)) result (both_at term_at (both_at term_at term_at) input bytes.now) }
+{
+    match term_at(input, bytes) {
+        Err(fault) => Err(fault),
+        Ok((first, rest)) => match two_terms_at(input, rest) {
+            Err(fault) => Err(fault),
+            Ok((others, rest)) => Ok(((first, others), rest)),
+        },
+    }
+}
+
+/// A condition on time, before it is tested.
+#[tactic(auto, unfolding(crate::specs::GrantReading::time_condition_at))]
+fn time_condition_at(input: usize, bytes: &[u8]) -> Result<(Constraint, &[u8]), CodecFault>
+    ensures { Gives (λ x. (x.0, x.1.now)) result (time_condition_at input bytes.now) }
+{
+    match two_terms_at(input, bytes) {
+        Err(fault) => Err(fault),
+        Ok(((low, high), rest)) => Ok((Constraint { low, high }, rest)),
+    }
+}
+
+fn is_formula_tag(tag: u8) -> bool
+    ensures { result ≡ is_formula_tag tag }
+{
+    16 <= tag && tag <= 29
+}
+
+/// The terms of a condition on the server's state with this tag, which begins at `start`.
+#[tactic(auto, unfolding(crate::specs::GrantReading::state_terms_at))]
+fn state_terms_at(
+    input: usize,
+    start: usize,
+    tag: u8,
+    rest: &[u8],
+) -> Result<(StatePred, &[u8]), CodecFault>
+    ensures { Gives (λ x. (x.0, x.1.now)) result (state_terms_at input start tag rest.now) }
+{
+    match tag {
+        18 => match two_terms_at(input, rest) {
+            Err(fault) => Err(fault),
+            Ok(((file, owner), rest)) => Ok((StatePred::Owner(file, owner), rest)),
+        },
+        19 => match three_terms_at(input, rest) {
+            Err(fault) => Err(fault),
+            Ok(((file, (name, value)), rest)) => Ok((StatePred::HasXattr(file, name, value), rest)),
+        },
+        20 => match two_terms_at(input, rest) {
+            Err(fault) => Err(fault),
+            Ok(((file, directory), rest)) => Ok((StatePred::InDir(file, directory), rest)),
+        },
+        _ => {
+            if is_formula_tag(tag) {
+                Err(CodecFault::NotCanonical(start))
+            } else {
+                Err(CodecFault::BadTag(start))
+            }
+        }
+    }
+}
+
+/// A condition on the server's state, before it is tested.
+#[tactic(auto, unfolding(crate::specs::GrantReading::state_condition_at))]
+fn state_condition_at(input: usize, bytes: &[u8]) -> Result<(StatePred, &[u8]), CodecFault>
+    ensures { Gives (λ x. (x.0, x.1.now)) result (state_condition_at input bytes.now) }
+{
+    match bytes {
+        [] => Err(CodecFault::Short),
+        [tag, rest @ ..] => state_terms_at(input, place(input, bytes), *tag, rest),
+    }
+}
+
+fn is_constant(t: &Term) -> bool
+    ensures { result ≡ is_constant t.now }
+{
+    match t {
+        Term::Ctime | Term::Param(_) | Term::Bound(_) => false,
+        _ => true,
+    }
+}
+
+fn is_ctime(t: &Term) -> bool
+    ensures { result ≡ is_ctime t.now }
+{
+    match t {
+        Term::Ctime => true,
+        _ => false,
+    }
+}
+
+fn is_time_condition(c: &Constraint) -> bool
+    ensures { result ≡ is_time_condition c.now }
+{
+    (is_ctime(&c.low) && (is_ctime(&c.high) || is_constant(&c.high)))
+        || (is_constant(&c.low) && is_ctime(&c.high))
+}
+
+fn is_state_condition(s: &StatePred) -> bool
+    ensures { result ≡ is_state_condition s.now }
+{
+    match s {
+        StatePred::Owner(file, owner) => is_constant(file) && is_constant(owner),
+        StatePred::HasXattr(file, name, value) => {
+            is_constant(file) && is_constant(name) && is_constant(value)
+        }
+        StatePred::InDir(file, directory) => is_constant(file) && is_constant(directory),
+    }
+}
+
+fn is_time_among(before: &[Constraint], c: &Constraint) -> bool
+    ensures { result ≡ is_time_among before.now c.now }
+{
+    before.iter().any(|known| known == c)
+}
+
+fn is_state_among(before: &[StatePred], s: &StatePred) -> bool
+    ensures { result ≡ is_state_among before.now s.now }
+{
+    before.iter().any(|known| known == s)
+}
+
+/// Whether the condition may stand behind these.
+fn may_follow_times(before: &[Constraint], c: &Constraint) -> bool
+    ensures { result ≡ may_follow_times before.now c.now }
+{
+    is_time_condition(c) && !is_time_among(before, c)
+}
+
+/// Whether the condition may stand behind these.
+fn may_follow_states(before: &[StatePred], s: &StatePred) -> bool
+    ensures { result ≡ may_follow_states before.now s.now }
+{
+    is_state_condition(s) && !is_state_among(before, s)
+}
+
+/// The number of conditions, at most so many.
+#[tactic(auto, unfolding(crate::specs::GrantReading::count_at))]
+fn count_at(most: usize, input: usize, bytes: &[u8]) -> Result<(usize, &[u8]), CodecFault>
+    ensures read { Gives (λ x. (x.0, x.1.now)) result (count_at most input bytes.now) }
+    ensures few { IfOk result (λ x. x.0 ≤ most) }
+{
+    match bytes {
+        [] => Err(CodecFault::Short),
+        [count, rest @ ..] => {
+            let count = *count as usize;
+            if most < count {
+                Err(CodecFault::NotCanonical(place(input, bytes)))
+            } else {
+                Ok((count, rest))
+            }
+        }
+    }
+}
+
+/// So many conditions on time, which the grant gets behind its own.
+fn add_times_at<'a>(
+    grant: &mut Grant,
+    count: usize,
+    input: usize,
+    bytes: &'a [u8],
+) -> Result<&'a [u8], CodecFault>
+    requires { length grant.old.times + length grant.old.states + count ≤ 64 }
+    ensures read { GivesOrStops (λ rest. (grant.new.times, rest.now)) result (items_at time_condition_at may_follow_times count input grant.old.times bytes.now) }
+    ensures others { IfOk result (λ _. grant.new ≡ record grant.old { times = grant.new.times }) }
+    ensures counted { IfOk result (λ _. length grant.new.times ≡ length grant.old.times + count) }
+{
+    if count == 0 {
+        return Ok(bytes);
+    }
+    match time_condition_at(input, bytes) {
+        Err(fault) => Err(fault),
+        Ok((c, rest)) => {
+            if !may_follow_times(grant.times(), &c) {
+                return Err(CodecFault::NotCanonical(place(input, bytes)));
+            }
+            grant.push_time(c)?;
+            add_times_at(grant, count - 1, input, rest)
+        }
+    }
+}
+
+/// So many conditions on the server's state, which the grant gets behind its own.
+fn add_states_at<'a>(
+    grant: &mut Grant,
+    count: usize,
+    input: usize,
+    bytes: &'a [u8],
+) -> Result<&'a [u8], CodecFault>
+    requires { length grant.old.times + length grant.old.states + count ≤ 64 }
+    ensures read { GivesOrStops (λ rest. (grant.new.states, rest.now)) result (items_at state_condition_at may_follow_states count input grant.old.states bytes.now) }
+    ensures others { IfOk result (λ _. grant.new ≡ record grant.old { states = grant.new.states }) }
+    ensures counted { IfOk result (λ _. length grant.new.states ≡ length grant.old.states + count) }
+{
+    if count == 0 {
+        return Ok(bytes);
+    }
+    match state_condition_at(input, bytes) {
+        Err(fault) => Err(fault),
+        Ok((s, rest)) => {
+            if !may_follow_states(grant.states(), &s) {
+                return Err(CodecFault::NotCanonical(place(input, bytes)));
+            }
+            grant.push_state(s)?;
+            add_states_at(grant, count - 1, input, rest)
+        }
+    }
+}
+
+/// The conditions on time of a grant that has none yet.
+fn times_at<'a>(grant: &mut Grant, input: usize, bytes: &'a [u8]) -> Result<&'a [u8], CodecFault>
+    requires no_times { grant.old.times ≡ [] }
+    requires no_states { grant.old.states ≡ [] }
+    ensures read { GivesOrStops (λ rest. (grant.new.times, rest.now)) result (conditions_at time_condition_at may_follow_times 64 input bytes.now) }
+    ensures others { IfOk result (λ _. grant.new ≡ record grant.old { times = grant.new.times }) }
+    ensures few { IfOk result (λ _. length grant.new.times ≤ 64) }
+{
+    match count_at(MOST_CONDITIONS, input, bytes) {
+        Err(fault) => Err(fault),
+        Ok((count, rest)) => add_times_at(grant, count, input, rest),
+    }
+}
+
+/// The conditions on the server's state of a grant that has none of them yet.
+fn states_at<'a>(grant: &mut Grant, input: usize, bytes: &'a [u8]) -> Result<&'a [u8], CodecFault>
+    requires few { length grant.old.times ≤ 64 }
+    requires no_states { grant.old.states ≡ [] }
+    ensures read { GivesOrStops (λ rest. (grant.new.states, rest.now)) result (conditions_at state_condition_at may_follow_states (64 - length grant.old.times) input bytes.now) }
+    ensures others { IfOk result (λ _. grant.new ≡ record grant.old { states = grant.new.states }) }
+{
+    let left = MOST_CONDITIONS - grant.times().len();
+    match count_at(left, input, bytes) {
+        Err(fault) => Err(fault),
+        Ok((count, rest)) => add_states_at(grant, count, input, rest),
+    }
+}
+
+/// A grant.
+fn grant_at(alloc: Global, input: usize, bytes: &[u8]) -> Result<(Grant, &[u8]), CodecFault>
+    ensures { GivesOrStops (λ x. (x.0, x.1.now)) result (grant_at input bytes.now) }
+{
+    match head_at(input, bytes) {
+        Err(fault) => Err(fault),
+        Ok((goal, rest)) => {
+            let mut grant = Grant::new(alloc, goal);
+            match times_at(&mut grant, input, rest) {
+                Err(fault) => Err(fault),
+                Ok(rest) => match states_at(&mut grant, input, rest) {
+                    Err(fault) => Err(fault),
+                    Ok(rest) => Ok((grant, rest)),
+                },
+            }
+        }
+    }
+}
+
+/// The tag with these bytes.
+fn tag_of(bytes: &[u8]) -> [u8; 32]
+    requires { length bytes.now ≡ 32 }
+    ensures { result ≡ bytes.now }
+{
+    let mut tag = [0; 32];
+    tag.copy_from_slice(bytes);
+    tag
+}
+
+/// Reads a grant at the front of the bytes, and tells how many bytes it takes.
+pub fn read_grant(alloc: Global, bytes: &[u8]) -> Result<(Grant, usize), CodecFault>
+    ensures exact { GivesOrStops (λ x. (x.0, x.1)) result (reading grant_at bytes.now) }
+    ensures front { ReadsFront (λ g. g) IsSpellableGrant grant_spelling bytes.now result }
+{
+    match grant_at(alloc, bytes.len(), bytes) {
+        Err(fault) => Err(fault),
+        Ok((grant, rest)) => Ok((grant, place(bytes.len(), rest))),
+    }
+}
+
+/// A procap.
+fn procap_at(alloc: Global, input: usize, bytes: &[u8]) -> Result<(Procap, &[u8]), CodecFault>
+    ensures { GivesOrStops (λ x. (x.0, x.1.now)) result (procap_at input bytes.now) }
+{
+    match grant_at(alloc, input, bytes) {
+        Err(fault) => Err(fault),
+        Ok((grant, rest)) => {
+            if rest.len() < TAG_LENGTH {
+                return Err(CodecFault::Short);
+            }
+            let (front, behind) = rest.split_at(TAG_LENGTH);
+            let tag = tag_of(front);
+            Ok((Procap { grant, tag }, behind))
+        }
+    }
+}
+
+/// Reads a procap that is all of the bytes. Bytes behind it are `NotCanonical` at the first of them.
+pub fn read_procap(alloc: Global, bytes: &[u8]) -> Result<Procap, CodecFault>
+    ensures exact { GivesOrStops (λ p. p) result (whole_procap bytes.now) }
+    ensures whole { ReadsWhole IsSpellableProcap procap_spelling bytes.now result }
+{
+    match procap_at(alloc, bytes.len(), bytes) {
+        Err(fault) => Err(fault),
+        Ok((p, rest)) => {
+            if rest.is_empty() {
+                Ok(p)
+            } else {
+                Err(CodecFault::NotCanonical(place(bytes.len(), rest)))
+            }
+        }
+    }
+}

@@ -1,0 +1,8 @@
+use Rattle.std.proofs.Common.{refl}
+use Rattle.proof_verifier.specs.Verdict.{answer}
+use Rattle.proof_verifier.specs.Entailed.{is_entailed}
+use Rattle.proof_verifier.proofs.laws.each_rule_accepts_a_proof.Goals as goal
+
+pub returns : goal.returns
+unfolding answer is_entailed
+returns c = (refl, (refl, (refl, (refl, (refl, (refl, (refl, (refl, (refl, (refl, (refl, (refl, (refl, (refl, (refl, (refl, (refl, tt)))))))))))))))))
