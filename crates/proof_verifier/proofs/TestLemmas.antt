@@ -1,5 +1,5 @@
 -- Each test of the verdict decides what its name says.
-use Rattle.std.proofs.Common.{◌≡◌, ◌∙◌, ◌⊎◌, pos, negsuc, ◌+◌, Bool, true, false, ◌&&◌, ◌||◌, List, [], ◌∷◌, length, refl, ap, subst, ⊎_elim, eqb-true, eq-eqb}
+use Rattle.std.proofs.Common.{◌≡◌, ◌∙◌, pos, negsuc, ◌+◌, Bool, true, false, ◌&&◌, ◌||◌, List, [], ◌∷◌, length, refl, ap, subst, ⊎_elim, eqb-true, eq-eqb}
 use Rattle.std.specs.Prelude.{Option, Some}
 use Rattle.std.specs.Bool.{Decides}
 use Rattle.std.specs.List.{list_all, AllByRecursion}
