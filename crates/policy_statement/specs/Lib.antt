@@ -1,2 +1,6 @@
+pub mod Digest
 pub mod Messages
+pub mod Registered
+pub mod RegisteredCode
+pub mod Registry
 pub mod Ring

@@ -1,12 +1,16 @@
 //! Signatures of statements and logins, and the registry of statements.
 //!
-//! A ring of keys accepts exactly the whole tag of a message under the key of who signs it.
+//! A ring of keys accepts exactly the whole tag of a message under the key of who signs it. The registry keeps no
+//! statement of which it was told that it is there, and tells its number: `test` says when and why not to keep one.
 #![tactic(auto)]
 
+mod digest;
 mod messages;
+mod registry;
 mod ring;
 #[cfg(test)]
 mod tests;
 
-pub use messages::login_message;
+pub use messages::{login_message, statement_message};
+pub use registry::{RegisterFault, Registry};
 pub use ring::{KeyFault, Keyring};

@@ -1,10 +1,24 @@
 //! What is signed.
 
 ghost use Rattle.std.specs.Prelude.{◌≡◌, IfOk};
-ghost use Rattle.policy_statement.specs.Messages.{login_message};
+ghost use Rattle.bl_syntax.specs.FormulaSpelling.{IsSpellableStatement};
+ghost use Rattle.policy_statement.specs.Messages.{login_message, statement_message};
 
-use bl_syntax::{Bytes, NoMemory, Principal, write_name};
+use bl_codec::write_statement;
+use bl_syntax::{Bytes, NoMemory, Principal, Statement, write_name};
 use std::alloc::Global;
+
+/// The message that is signed to register a statement.
+#[tactic(auto, unfolding(crate::specs::Messages::statement_message))]
+pub fn statement_message(alloc: Global, s: &Statement) -> Result<Bytes, NoMemory>
+    ensures ok { IfOk result (λ message. message ≡ statement_message s.now) }
+    ensures spelled { IfOk result (λ _. IsSpellableStatement s.now) }
+{
+    let mut message = Bytes::new(alloc);
+    message.push(b'S')?;
+    write_statement(s, &mut message)?;
+    Ok(message)
+}
 
 /// The message that is signed to log in as `who` where the server gave this nonce.
 #[tactic(auto, unfolding(crate::specs::Messages::login_message))]

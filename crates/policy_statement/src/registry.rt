@@ -1,0 +1,200 @@
+//! The registry: statements with their signatures, by their numbers from 1.
+
+ghost use Rattle.std.specs.Prelude.{◌≡◌, ◌≤◌, ◌<◌, ◌+◌, ◌∷◌, ◌++◌, [], true, IsNone, IfSome, IsErrOf, OnOk, OnErr, Some, length};
+ghost use Rattle.std.specs.Option.{option_copied};
+ghost use Rattle.policy_statement.specs.Messages.{statement_message};
+ghost use Rattle.policy_statement.specs.Registry.{IsNew, MayRegister, numbered};
+ghost use Rattle.policy_statement.specs.declared.registry.RegisterFault.TheVariants as faults;
+
+use crate::digest::digest;
+use crate::messages::statement_message;
+use bl_syntax::{Bytes, NoMemory, Statement};
+use pcfs_ports::Signatures;
+use std::alloc::Global;
+use std::marker::Model;
+
+/// The most statements of a registry.
+const MOST_STATEMENTS: usize = 4096;
+
+/// Why a statement may not be registered.
+#[derive(Clone, Copy, Debug, PartialEq, Eq)]
+pub enum RegisterFault {
+    /// The signature is not accepted from who says the statement.
+    BadSignature,
+    /// 4,096 statements are registered.
+    RegistryFull,
+    /// An equal statement has this number.
+    Duplicate(u32),
+    /// A growth was refused.
+    NoMemory,
+}
+
+impl From<NoMemory> for RegisterFault {
+    ghost from_gives = { λ _ e. e ≡ faults.NoMemory };
+
+    fn from(_refused: NoMemory) -> RegisterFault {
+        RegisterFault::NoMemory
+    }
+}
+
+// A statement with its signature, and its digest, by which it is told apart from most others at once.
+#[derive(Drop)]
+struct Entry {
+    statement: Statement,
+    signature: Bytes,
+    digest: u64,
+}
+
+impl Model for Entry {
+    ghost use Rattle.std.specs.Prelude.{◌≡◌};
+    ghost use Rattle.policy_statement.specs.Digest.{digest_of};
+    ghost use Rattle.policy_statement.specs.Registered.{Registered};
+    ghost use Rattle.policy_statement.specs.RegisteredCode.{registered_code};
+
+    ghost Value = { Registered };
+
+    ghost coded = { registered_code };
+
+    ghost view = { λ e. record { statement = e.statement; signature = e.signature } };
+
+    ghost invariant = { λ e. e.digest ≡ digest_of e.statement };
+}
+
+impl Entry {
+    ghost use Rattle.std.specs.Prelude.{◌↔◌, IsTrue};
+    ghost use Rattle.policy_statement.specs.Digest.{digest_of};
+
+    fn new(statement: Statement, signature: Bytes) -> Entry
+        ensures { result ≡ record { statement = statement; signature = signature } }
+    {
+        let digest = digest(&statement);
+        Entry {
+            statement,
+            signature,
+            digest,
+        }
+    }
+
+    // Whether it is the statement with that digest.
+    fn is_of(&self, s: &Statement, known: u64) -> bool
+        requires { known ≡ digest_of s.now }
+        ensures { IsTrue result ↔ (self.now.statement ≡ s.now) }
+    {
+        self.digest == known && self.statement.is_same(s)
+    }
+}
+
+/// Statements with their signatures, numbered from 1 in the order in which they were kept; at most 4,096.
+///
+/// Contracts see the list of them, and for how many more there is room.
+#[derive(Drop)]
+pub struct Registry {
+    entries: Vec<Entry>,
+}
+
+impl Model for Registry {
+    ghost use Rattle.std.specs.Prelude.{◌≤◌, length};
+    ghost use Rattle.policy_statement.specs.Registered.{Register, spare_of};
+    ghost use Rattle.policy_statement.specs.RegisteredCode.{register_code};
+
+    ghost Value = { Register };
+
+    ghost coded = { register_code };
+
+    ghost view = { λ r. record { entries = r.entries.items; spare = spare_of r.entries } };
+
+    ghost invariant = { λ r. length r.entries.items ≤ 4096 };
+}
+
+impl Registry {
+    /// The registry without statements. It takes no memory.
+    pub fn new(alloc: Global) -> Registry
+        ensures { result.entries ≡ [] }
+    {
+        Registry {
+            entries: Vec::new(alloc),
+        }
+    }
+
+    /// Whether the statement may be registered: first its signature has to be accepted from who says it, then no equal
+    /// statement may be registered, whatever its signature is, and then there have to be fewer than 4,096.
+    pub fn test<S: Signatures>(
+        &self,
+        alloc: Global,
+        ring: &S,
+        s: &Statement,
+        signature: &[u8],
+    ) -> Result<(), RegisterFault>
+        ensures { MayRegister (S.Signatures.accepted ring.now s.now.who (statement_message s.now) signature.now) self.now.entries s.now result }
+    {
+        let message = statement_message(alloc, s)?;
+        if !ring.accepts(s.who().bytes(), message.as_slice(), signature) {
+            return Err(RegisterFault::BadSignature);
+        }
+        self.has_room(s)
+    }
+
+    // Whether an accepted statement may be registered.
+    fn has_room(&self, s: &Statement) -> Result<(), RegisterFault>
+        ensures may { MayRegister true self.now.entries s.now result }
+        ensures no_signature { IsErrOf result faults.BadSignature → ⊥ }
+        ensures no_memory { IsErrOf result faults.NoMemory → ⊥ }
+    {
+        if let Some(place) = find(self.entries.as_slice(), s) {
+            return Err(RegisterFault::Duplicate(place as u32 + 1));
+        }
+        if self.entries.len() >= MOST_STATEMENTS {
+            return Err(RegisterFault::RegistryFull);
+        }
+        Ok(())
+    }
+
+    /// Makes room for one more statement at least.
+    pub fn reserve(&mut self) -> Result<(), NoMemory>
+        ensures entries { self.new.entries ≡ self.old.entries }
+        ensures ok { OnOk result (1 ≤ self.new.spare) }
+        ensures never_falls { self.old.spare ≤ self.new.spare }
+        ensures err { OnErr result (self.new ≡ self.old) }
+    {
+        self.entries.reserve(1)?;
+        Ok(())
+    }
+
+    /// Keeps a statement with its signature, for which there has to be room, and tells its number. It takes no memory.
+    pub fn keep(&mut self, s: Statement, signature: Bytes) -> u32
+        requires room { 1 ≤ self.old.spare }
+        requires few { length self.old.entries < 4096 }
+        ensures entries { self.new.entries ≡ self.old.entries ++ record { statement = s; signature = signature } ∷ [] }
+        ensures spare { self.new.spare + 1 ≡ self.old.spare }
+        ensures number { result ≡ length self.new.entries }
+    {
+        self.entries.push_reserved(Entry::new(s, signature));
+        self.entries.len() as u32
+    }
+
+    /// The statement of a number; none exactly where nothing has that number.
+    pub fn get(&self, number: u32) -> Option<&Statement>
+        ensures { option_copied result ≡ numbered self.now.entries number }
+    {
+        let place = number.checked_sub(1)? as usize;
+        match self.entries.get(place) {
+            Some(entry) => Some(&entry.statement),
+            None => None,
+        }
+    }
+}
+
+// The place of an equal statement, from 0.
+fn find(entries: &[Entry], s: &Statement) -> Option<usize>
+    ensures none { IsNone result → IsNew entries.now s.now }
+    ensures some { IfSome result (λ place. numbered entries.now (place + 1) ≡ Some s.now) }
+    ensures within { IfSome result (λ place. place < length entries.now) }
+{
+    let known = digest(s);
+    for (place, entry) in entries.iter().enumerate() {
+        if entry.is_of(s, known) {
+            return Some(place);
+        }
+    }
+    None
+}
