@@ -163,7 +163,7 @@ fn rule_within(
 /// A proof of at most so many levels and nodes, how many nodes are left, and the bytes behind it.
 /// It calls itself no deeper than there are levels.
 #[cycle(proofs)]
-fn proof_at(
+pub(crate) fn proof_at(
     alloc: Global,
     levels: u8,
     nodes: u16,

@@ -1,4 +1,5 @@
 pub mod EntailedLemmas
+pub mod GrantedLemmas
 pub mod KeepLemmas
 pub mod MemoryLemmas
 pub mod RoomLemmas
