@@ -1,5 +1,5 @@
 -- The answer to a request over a state, and the event to keep: one constructor for each answer and its cause (this project's own).
-use Rattle.std.specs.Prelude.{◌≡◌, ◌≢◌, ◌≤◌, ◌<◌, ◌+◌, ℕ, ℤ, List, [], ◌∷◌, length, Option, Some, None, Contains}
+use Rattle.std.specs.Prelude.{◌≡◌, ◌≢◌, ◌≤◌, ◌<◌, ◌+◌, ℕ, ℤ, List, ◌∷◌, length, Option, Some, None, Contains}
 use Rattle.std.specs.Int.{int_max}
 use Rattle.std.specs.List.{AllByRecursion}
 use Rattle.bl_syntax.specs.declared.terms.Constraint.{Constraint}

@@ -1,5 +1,5 @@
 -- The line names a principal and a statement.
-use Rattle.std.proofs.Common.{sym, ap, ◌∙◌, Some, [], ◌∷◌, refl, ◌==◌, length}
+use Rattle.std.proofs.Common.{sym, ap, ◌∙◌, [], ◌∷◌, refl, ◌==◌, length}
 use Rattle.std.proofs.lemmas.Bool.{false≢true}
 use Rattle.std.proofs.lemmas.Option.{none-some, same_Some}
 use Rattle.pcfs_top.specs.declared.command.Command.TheVariants.{Verify}
