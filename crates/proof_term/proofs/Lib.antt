@@ -1,6 +1,7 @@
 pub mod CodecLemmas
 pub mod MeasureLemmas
 pub mod MemoryLemmas
+pub mod PartLemmas
 pub mod ProofLemmas
 pub mod ReadingLemmas
 pub mod RuleLemmas

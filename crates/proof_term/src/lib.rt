@@ -7,6 +7,7 @@
 mod fault;
 pub mod laws;
 mod measure;
+mod part;
 mod premises;
 mod proof;
 mod reading;
@@ -15,6 +16,7 @@ mod tree;
 mod writing;
 
 pub use fault::ProofFault;
+pub use part::proof_at;
 pub use proof::Proof;
 pub use reading::read_proof;
 pub use tree::{LimitFault, ProofTree};

@@ -163,14 +163,14 @@ fn rule_within(
 /// A proof of at most so many levels and nodes, how many nodes are left, and the bytes behind it.
 /// It calls itself no deeper than there are levels.
 #[cycle(proofs)]
-fn proof_at(
+pub(crate) fn proof_at(
     alloc: Global,
     levels: u8,
     nodes: u16,
     input: usize,
     bytes: &[u8],
-) -> Result<(Proof, u16, &[u8]), ProofFault>
-    ensures { Gives (λ x. (deduction x.0, (x.1, x.2.now))) result (proof_at levels nodes input bytes.now) }
+) -> Result<(Box<Proof>, u16, &[u8]), ProofFault>
+    ensures { Gives (λ x. (deduction x.0.value, (x.1, x.2.now))) result (proof_at levels nodes input bytes.now) }
 {
     match rule_within(levels, nodes, input, bytes) {
         Ok((rule, rest)) => premises_at(alloc, levels - 1, nodes - 1, input, rule, rest),
@@ -187,23 +187,20 @@ fn premises_at(
     input: usize,
     rule: Rule,
     bytes: &[u8],
-) -> Result<(Proof, u16, &[u8]), ProofFault>
-    ensures { Gives (λ x. (deduction x.0, (x.1, x.2.now))) result
+) -> Result<(Box<Proof>, u16, &[u8]), ProofFault>
+    ensures { Gives (λ x. (deduction x.0.value, (x.1, x.2.now))) result
         (premises_at (λ left rest. proof_at levels left input rest) rule nodes bytes.now) }
 {
     match rule {
-        Rule::Axiom(r) => Ok((r.proof(), nodes, bytes)),
+        Rule::Axiom(r) => Ok((Box::new(alloc, r.proof())?, nodes, bytes)),
         Rule::One(r) => {
             let (p, nodes, rest) = proof_at(alloc, levels, nodes, input, bytes)?;
-            let p = Box::new(alloc, p)?;
-            Ok((r.proof(p), nodes, rest))
+            Ok((Box::new(alloc, r.proof(p))?, nodes, rest))
         }
         Rule::Two(r) => {
             let (p, nodes, rest) = proof_at(alloc, levels, nodes, input, bytes)?;
-            let p = Box::new(alloc, p)?;
             let (q, nodes, rest) = proof_at(alloc, levels, nodes, input, rest)?;
-            let q = Box::new(alloc, q)?;
-            Ok((r.proof(p, q), nodes, rest))
+            Ok((Box::new(alloc, r.proof(p, q))?, nodes, rest))
         }
     }
 }

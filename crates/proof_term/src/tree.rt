@@ -71,10 +71,11 @@ impl ProofTree {
     }
 
     /// Keeps a proof that is known to be within the limits. It takes no memory.
-    pub(crate) fn keep(p: Proof) -> ProofTree
-        requires { IsKept (deduction p) }
-        ensures { result ≡ deduction p }
+    pub(crate) fn keep(p: Box<Proof>) -> ProofTree
+        requires { IsKept (deduction p.value) }
+        ensures { result ≡ deduction p.value }
     {
+        let p = Box::into_inner(p);
         let m = measure(&p, MOST_NODES, MOST_LEVELS).unwrap();
         ProofTree {
             root: p,

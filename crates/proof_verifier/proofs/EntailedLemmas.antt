@@ -1,15 +1,14 @@
 -- The computed entailment is the relation of entailment.
-use Rattle.std.proofs.Common.{◌≡◌, ◌⊎◌, inl, inr, Bool, true, false, not, ◌&&◌, ◌||◌, List, [], ◌∷◌, ◌++◌, refl, sym, subst, ap, ◌∙◌, arith, rules}
+use Rattle.std.proofs.Common.{◌≡◌, ◌⊎◌, inl, inr, Bool, true, false, not, ◌&&◌, ◌||◌, List, [], ◌∷◌, refl, sym, subst, ap, ◌∙◌, arith, rules}
 use Rattle.std.specs.Prelude.{Contains}
 use Rattle.std.specs.Bool.{Decides}
 use Rattle.std.specs.List.{list_any}
 use Rattle.std.proofs.lemmas.Bool.{false≢true}
 use Rattle.std.proofs.lemmas.Bool.Decides.{Decides-or, Decides-and, Decides-like}
 use Rattle.std.proofs.lemmas.List.Elements.{Contains-append_left, Contains-append_right, Contains-append_cases, Contains-push, Contains-push_cases}
-use Rattle.std.proofs.lemmas.Int.{ints}
 use borrow.Author.Tests.{tests}
 use Rattle.bl_syntax.specs.declared.terms.Term.{Term}
-use Rattle.bl_syntax.specs.declared.terms.Term.TheVariants.{Prin, File, Perm, Time, Text, Ctime, Param, Bound}
+use Rattle.bl_syntax.specs.declared.terms.Term.TheVariants.{Time}
 use Rattle.bl_syntax.specs.declared.terms.TimePoint.{TimePoint}
 use Rattle.bl_syntax.specs.declared.terms.TimePoint.TheVariants.{NegInf, At, PosInf}
 use Rattle.bl_syntax.specs.declared.terms.Constraint.{Constraint}
@@ -17,7 +16,7 @@ use Rattle.bl_syntax.specs.TimeOrder.{IsUpTo}
 use Rattle.bl_syntax.specs.Terms.{AreInOrder, in_order}
 use Rattle.bl_syntax.specs.Entailment.{IsLink, same, constants, from_the_start, to_the_end, constrained, IsChain, link, longer, IsContradictory, Entails, chained, contradicted}
 use Rattle.bl_syntax.proofs.EntailmentLemmas.{IsUpTo-itself, IsUpTo-PosInf, IsUpTo-transitive, IsChain-joined}
-use Rattle.bl_syntax.proofs.Same.{term_eq, Decides-term_eq}
+use Rattle.bl_syntax.proofs.Same.{Decides-term_eq}
 use Rattle.proof_verifier.specs.Tests.{is_up_to}
 use Rattle.proof_verifier.specs.Entailed.{are_in_order, are_out_of_order, is_plain_link, leads, is_contradictory, is_entailed}
 

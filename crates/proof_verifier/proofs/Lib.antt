@@ -1,5 +1,7 @@
 pub mod EntailedLemmas
+pub mod GrantedLemmas
 pub mod KeepLemmas
+pub mod MemoryLemmas
 pub mod RoomLemmas
 pub mod SoundnessEntailed
 pub mod SoundnessEntailment
@@ -10,3 +12,4 @@ pub mod SoundnessTests
 pub mod SoundnessVerdict
 pub mod StandingLemmas
 pub mod TermLemmas
+pub mod TestLemmas

@@ -1,13 +1,13 @@
 -- Lemmas on the room that the numbers at a node leave.
-use Rattle.std.proofs.Common.{◌≡◌, ℕ, ◌+◌, ◌*◌, ◌≤◌, max, List, [], ◌∷◌, ◌++◌, length, ap, arith}
+use Rattle.std.proofs.Common.{◌≡◌, ℕ, ◌+◌, ◌≤◌, max, List, [], ◌∷◌, ◌++◌, length, ap, arith}
 use Rattle.std.proofs.lemmas.List.{length-append}
-use Rattle.std.specs.Prelude.{Option, Some, Result}
+use Rattle.std.specs.Prelude.{Option, Some}
 use Rattle.bl_rules.specs.Sequent.{Hypothesis}
 use Rattle.bl_syntax.specs.declared.terms.Sort.{Sort}
 use Rattle.bl_syntax.specs.declared.terms.Constraint.{Constraint}
 use Rattle.proof_verifier.specs.declared.desk.Desk.{Desk}
 use Rattle.proof_verifier.specs.declared.place.Place.{Place}
-use Rattle.proof_verifier.specs.Run.{HasRoom, IsPassed}
+use Rattle.proof_verifier.specs.Run.{HasRoom}
 use Rattle.proof_verifier.specs.Standing.{standing}
 
 -- room for the second premise of a rule, on as many hypotheses

@@ -1,5 +1,5 @@
 -- The statements that a proof cites, by their numbers. The limits are this project's own.
-use Rattle.std.specs.Prelude.{◌<◌, ◌≤◌, ℕ, List, [], ◌∷◌, map, length}
+use Rattle.std.specs.Prelude.{◌<◌, ◌≤◌, List, [], ◌∷◌, map, length}
 use Rattle.bl_syntax.specs.Statement.{Saying}
 use Rattle.proof_verifier.specs.declared.cites.Cite.{Cite}
 

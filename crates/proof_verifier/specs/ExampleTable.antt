@@ -6,8 +6,9 @@ use Rattle.bl_syntax.specs.declared.terms.Perm.TheVariants.{Write}
 use Rattle.bl_syntax.specs.declared.terms.Sort.TheVariants as sorts
 use Rattle.bl_syntax.specs.declared.terms.TimePoint.TheVariants.{NegInf, PosInf}
 use Rattle.bl_syntax.specs.declared.terms.Term.{Term}
-use Rattle.bl_syntax.specs.declared.terms.Term.TheVariants.{Prin, File, Perm, Time, Ctime, Param, Bound}
-use Rattle.bl_syntax.specs.declared.terms.StatePred.TheVariants.{Owner}
+use Rattle.bl_syntax.specs.declared.terms.Term.TheVariants.{Prin, File, Perm, Time, Text, Ctime, Param, Bound}
+use Rattle.bl_syntax.specs.declared.terms.StatePred.{StatePred}
+use Rattle.bl_syntax.specs.declared.terms.StatePred.TheVariants.{Owner, HasXattr, InDir}
 use Rattle.bl_syntax.specs.declared.terms.Constraint.{Constraint}
 use Rattle.bl_syntax.specs.Formula.{Form, atom, compare, state, both, either, implies, truth, falsity, forall_, exists_, says, on}
 use Rattle.bl_syntax.specs.WellSorted.{may}
@@ -47,6 +48,12 @@ known = atom (codes "known") []
 abbrev owned : Form
 owned = state (Owner (File file) alice)
 
+abbrev marked : StatePred
+marked = HasXattr (File file) (Text (codes "status")) (Text (codes "draft"))
+
+abbrev placed : StatePred
+placed = InDir (File file) (File (number 2))
+
 abbrev order : ℕ → ℕ → Constraint
 order u v = record { low = second u; high = second v }
 
@@ -57,6 +64,10 @@ granted p = says_r (claim 0 p)
 -- where it says that something grants the goal: p proves that
 abbrev behind : Deduction → Deduction
 behind p = granted (imp_l 1 Ctime Ctime p (init 2))
+
+-- the grant as long as the predicate on the state is true
+abbrev only_where : StatePred → Result Granted CheckFault
+only_where s = Ok (record (between writing 0 200) { states = s ∷ [] })
 
 abbrev plainly : Result Granted CheckFault
 plainly = Ok (between writing 0 200)
@@ -80,7 +91,9 @@ accepted =
     ∷ example (exists_ sorts.Principal may_write) (granted (exists_l 1 (init 2))) plainly
     ∷ example (says admin may_write) (granted (says_l 1 (claim 2 (init 3)))) plainly
     ∷ example (on may_write (second 50) (second 60)) (granted (at_l 1 (init 2))) (Ok (within_both writing 0 200 50 60))
-    ∷ example (forall_ sorts.File (access_to (Bound 0))) (granted (forall_l 1 (File file) (init 2))) plainly ∷ []
+    ∷ example (forall_ sorts.File (access_to (Bound 0))) (granted (forall_l 1 (File file) (init 2))) plainly
+    ∷ example (implies (state marked) may_write) (behind inter_r) (only_where marked)
+    ∷ example (implies (state placed) may_write) (behind inter_r) (only_where placed) ∷ []
 
 -- the faults of each rule, but for too many conditions
 abbrev pub refused : List Example
@@ -134,4 +147,11 @@ refused =
     ∷ example (implies truth (on may_write (second 0) (second 200))) (granted (imp_l 1 Ctime (Time PosInf) true_r (at_l 2 (init 3)))) (Err (NotEntailed 2))
     ∷ example (implies (forall_ sorts.Principal (state (Owner (File file) (Bound 0)))) may_write) (behind (forall_r inter_r)) (Err (NotInState 4))
     ∷ example (implies (implies known (says admin may_write)) may_write) (behind (imp_r (says_r (claim 0 (init 3))))) (Err (NotEntailed 5))
-    ∷ example (both known (implies (implies truth known) may_write)) (granted (and_l 1 (imp_l 3 Ctime Ctime (imp_r (init 2)) (init 4)))) (Err (NotEntailed 5)) ∷ []
+    ∷ example (both known (implies (implies truth known) may_write)) (granted (and_l 1 (imp_l 3 Ctime Ctime (imp_r (init 2)) (init 4)))) (Err (NotEntailed 5))
+    ∷ example (implies truth may_write) (granted (imp_l 1 Ctime Ctime true_r (init 9))) (Err (NoHypothesis 4))
+    ∷ example (implies (both truth truth) may_write) (behind (and_r true_r cons_r)) (Err (WrongShape 5))
+    ∷ example (either may_write may_write) (granted (or_l 1 (init 2) (init 9))) (Err (NoHypothesis 4))
+    ∷ example may_write (granted (imp_l 1 alice Ctime true_r true_r)) (Err (WrongShape 2))
+    ∷ example (implies (implies known (says alice may_write)) may_write) (behind (imp_r (says_r (claim 0 (init 3))))) (Err (ViewTooWeak 5))
+    ∷ example (implies truth may_write) (granted (imp_l 1 (Time NegInf) (Time PosInf) true_r (init 2))) (Err (NotEntailed 2))
+    ∷ example (implies truth may_write) (granted (imp_l 1 (Time NegInf) Ctime cons_r (init 2))) (Err (NotEntailed 2)) ∷ []

@@ -5,7 +5,6 @@
 use Rattle.std.specs.Prelude.{ℕ, ◌+◌, Result, Ok}
 use Rattle.bl_syntax.specs.declared.terms.Sort.TheVariants.{Time}
 use Rattle.bl_syntax.specs.declared.terms.Term.{Term}
-use Rattle.bl_syntax.specs.Formula.{Form}
 use Rattle.bl_syntax.specs.Grant.{Granted}
 use Rattle.bl_syntax.specs.Substitution.{instance_at}
 use Rattle.bl_rules.specs.Sequent.{holds, claims}

@@ -1,5 +1,5 @@
 -- What the hypotheses of the program stand for.
-use Rattle.std.specs.Prelude.{ℕ, Bool, true, false, List, [], ◌∷◌, ◌++◌, Option, Some, None, map, option_and_then}
+use Rattle.std.specs.Prelude.{ℕ, Bool, true, false, List, [], ◌∷◌, ◌++◌, Option, Some, map, option_and_then}
 use Rattle.std.specs.List.{slice_get}
 use Rattle.bl_syntax.specs.Formula.{formula}
 use Rattle.bl_rules.specs.Sequent.{Hypothesis, holds, claims}

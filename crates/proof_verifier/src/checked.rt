@@ -1,8 +1,8 @@
 //! Proofs that were checked.
 
 ghost use Rattle.std.specs.Prelude.{◌≡◌, IfOk, IfErr};
-ghost use Rattle.proof_verifier.specs.Checking.{checking, IsChecked};
-ghost use Rattle.proof_verifier.specs.Cited.{statements_of};
+ghost use Rattle.proof_verifier.specs.Checking.{checking, IsChecked, IsGranted};
+ghost use Rattle.proof_verifier.specs.Cited.{AreCited, statements_of};
 ghost use Rattle.proof_verifier.specs.Run.{IsFault};
 ghost use Rattle.proof_verifier.specs.Verdict.{verdict};
 
@@ -27,6 +27,7 @@ pub struct Checked {
 impl Model for Checked {
     ghost use Rattle.proof_verifier.specs.Checking.{Checking, checking, IsChecked};
     ghost use Rattle.proof_verifier.specs.CheckingCode.{checking_code};
+    ghost use Rattle.proof_verifier.specs.Cited.{AreCited};
 
     ghost Value = { Checking };
 
@@ -34,12 +35,13 @@ impl Model for Checked {
 
     ghost view = { λ c. checking c.cited c.goal c.proof c.grant };
 
-    ghost invariant = { λ c. IsChecked (checking c.cited c.goal c.proof c.grant) };
+    ghost invariant = { λ c. IsChecked (checking c.cited c.goal c.proof c.grant) × AreCited c.cited };
 }
 
 impl Checked {
     ghost use Rattle.std.specs.Prelude.{◌≡◌, IfOk};
     ghost use Rattle.proof_verifier.specs.Checking.{IsChecked};
+    ghost use Rattle.proof_verifier.specs.Cited.{AreCited};
 
     /// What the proof grants.
     pub fn grant(&self) -> &Grant
@@ -53,6 +55,7 @@ impl Checked {
     pub fn cited(&self) -> &Cites
         ensures same { result.now ≡ self.now.cited }
         ensures kept { IsChecked self.now }
+        ensures are_cited { AreCited self.now.cited }
     {
         &self.cited
     }
@@ -79,6 +82,7 @@ impl Checked {
         ensures proof { result.1 ≡ self.proof }
         ensures grant { result.2 ≡ self.grant }
         ensures kept { IsChecked self }
+        ensures are_cited { AreCited self.cited }
     {
         (self.cited, self.proof, self.grant)
     }
@@ -106,6 +110,7 @@ pub fn check(
 ) -> Result<Checked, CheckFault>
     ensures ok { IfOk result (λ checked. checked ≡ checking cited goal proof checked.grant) }
     ensures granted { IfOk result (λ checked. IsChecked checked) }
+    ensures are_cited { IfOk result (λ checked. AreCited checked.cited) }
     ensures fault { IfErr result (λ fault. IsFault fault (verdict (statements_of cited) goal proof)) }
 {
     let grant = grant_of(alloc, cited.as_slice(), &goal, &proof)?;
@@ -115,4 +120,18 @@ pub fn check(
         proof,
         grant,
     })
+}
+
+/// Checks a proof as `check` does, but leaves the cited statements and the proof where they are. The grant is the verdict
+/// on them and sound for them, and a fault is the verdict's; but want of memory is answered where a growth was refused.
+pub fn verify(
+    alloc: Global,
+    cited: &Cites,
+    goal: &Goal,
+    proof: &ProofTree,
+) -> Result<Grant, CheckFault>
+    ensures granted { IfOk result (λ grant. IsGranted (statements_of cited.now) goal.now proof.now grant) }
+    ensures fault { IfErr result (λ fault. IsFault fault (verdict (statements_of cited.now) goal.now proof.now)) }
+{
+    grant_of(alloc, cited.as_slice(), goal, proof)
 }

@@ -1,16 +1,22 @@
 //! Laws of the definitions, and verdicts that they compute. A law is the contract of an empty function, which nothing calls.
 
-ghost use Rattle.std.specs.Prelude.{◌≡◌, ◌↔◌, true, List, [], ◌∷◌, Ok, Err, codes};
+ghost use Rattle.std.specs.Prelude.{◌≡◌, ◌↔◌, ◌+◌, true, List, [], ◌∷◌, length, Contains, Ok, Err, codes};
 ghost use Rattle.std.specs.List.{AllByRecursion};
+ghost use Rattle.bl_syntax.specs.declared.terms.Sort.{Sort};
+ghost use Rattle.bl_syntax.specs.declared.terms.StatePred.{StatePred};
 ghost use Rattle.bl_syntax.specs.declared.terms.Term.{Term};
 ghost use Rattle.bl_syntax.specs.declared.terms.Constraint.{Constraint};
 ghost use Rattle.bl_syntax.specs.declared.grant.Goal.{Goal};
 ghost use Rattle.bl_syntax.specs.Statement.{Saying, IsStatement};
 ghost use Rattle.bl_syntax.specs.Entailment.{Entails};
-ghost use Rattle.bl_syntax.specs.Grant.{Granted, IsGrant};
+ghost use Rattle.bl_syntax.specs.Grant.{Granted, IsGrant, IsTimeCondition, IsStateCondition};
+ghost use Rattle.bl_syntax.specs.Terms.{sort_of, IsAtLeastAsStrong};
+ghost use Rattle.bl_syntax.specs.WellSorted.{HasSort};
 ghost use Rattle.bl_rules.specs.Allowed.{SoundGrant};
 ghost use Rattle.proof_term.specs.Proof.{Deduction};
-ghost use Rattle.proof_verifier.specs.declared.fault.CheckFault.TheVariants.{WrongShape, NotEntailed, ViewTooWeak, TooManyConditions};
+ghost use Rattle.proof_verifier.specs.declared.fault.CheckFault.TheVariants.{WrongShape, NotEntailed, ViewTooWeak, TooManyConditions, NoMemory};
+ghost use Rattle.proof_verifier.specs.Conditions.{of_sort, is_full};
+ghost use Rattle.proof_verifier.specs.Tests.{are_same, has_constraint, has_state, is_as_strong, may_stay_open, state_may_stay_open};
 ghost use Rattle.proof_verifier.specs.Entailed.{is_entailed};
 ghost use Rattle.proof_verifier.specs.Verdict.{verdict};
 ghost use Rattle.proof_verifier.specs.ExampleTable.{Computes, accepted, refused};
@@ -38,6 +44,23 @@ pub fn the_verdict_gives_grants_within_their_rules()
 /// The entailment between times that the verdict computes is entailment.
 pub fn the_computed_entailment_is_entailment()
     ensures { (constraints : List Constraint) (u v : Term) → (is_entailed constraints u v ≡ true) ↔ Entails constraints u v }
+{}
+
+/// Each test that the verdict goes by decides what its name says.
+pub fn each_test_decides()
+    ensures time { (c : Constraint) → (may_stay_open c ≡ true) ↔ IsTimeCondition c }
+    ensures state { (s : StatePred) → (state_may_stay_open s ≡ true) ↔ IsStateCondition s }
+    ensures sort { (sorts : List Sort) (sort : Sort) (t : Term) → (of_sort sort (sort_of sorts [] t) ≡ true) ↔ HasSort sorts [] sort t }
+    ensures strength { (k other : Term) → (is_as_strong k other ≡ true) ↔ IsAtLeastAsStrong k other }
+    ensures kept_time { (constraints : List Constraint) (c : Constraint) → (has_constraint constraints c ≡ true) ↔ Contains constraints c }
+    ensures kept_state { (predicates : List StatePred) (s : StatePred) → (has_state predicates s ≡ true) ↔ Contains predicates s }
+    ensures terms { (terms others : List Term) → (are_same terms others ≡ true) ↔ (terms ≡ others) }
+    ensures full { (g : Granted) → (is_full g ≡ true) ↔ (length g.times + length g.states ≡ 64) }
+{}
+
+/// The verdict is never want of memory.
+pub fn the_verdict_is_not_want_of_memory()
+    ensures { (statements : List Saying) (goal : Goal) (proof : Deduction) → verdict statements goal proof ≡ Err NoMemory → ⊥ }
 {}
 
 /// A statement of `admin` grants what it says, on its interval.

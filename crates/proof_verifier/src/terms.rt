@@ -4,33 +4,18 @@ ghost use Rattle.std.specs.Prelude.{◌≡◌, Ok, Err, MatchResult, []};
 ghost use Rattle.std.specs.List.{list_all};
 ghost use Rattle.bl_syntax.specs.Terms.{sort_of};
 ghost use Rattle.bl_syntax.specs.WellSorted.{terms_of_state};
-ghost use Rattle.proof_verifier.specs.Tests.{has_constraint, has_state, is_as_strong, is_constant, is_ctime, is_in_range, may_stay_open, state_may_stay_open};
+ghost use Rattle.proof_verifier.specs.Tests.{has_constraint, has_state, is_as_strong, is_constant, is_ctime, may_stay_open, state_may_stay_open};
 ghost use Rattle.proof_verifier.specs.Conditions.{term_condition, strength_condition, is_full};
 
 use crate::fault::CheckFault;
-use bl_syntax::{Constraint, Grant, Sort, StatePred, Term, TimePoint, stronger};
-
-/// 0001-01-01T00:00:00Z.
-const FIRST_MOMENT: i64 = -62_135_596_800;
-
-/// 9999-12-31T23:59:59Z.
-const LAST_MOMENT: i64 = 253_402_300_799;
-
-fn is_in_range(point: TimePoint) -> bool
-    ensures { result ≡ is_in_range point }
-{
-    match point {
-        TimePoint::At(second) => FIRST_MOMENT <= second && second <= LAST_MOMENT,
-        TimePoint::NegInf | TimePoint::PosInf => true,
-    }
-}
+use bl_syntax::{Constraint, Grant, Sort, StatePred, Term, stronger};
 
 /// Whether the term is a constant; a time in the range of moments.
 fn is_constant(t: &Term) -> bool
     ensures { result ≡ is_constant t.now }
 {
     match t {
-        Term::Time(point) => is_in_range(*point),
+        Term::Time(point) => point.is_in_range(),
         Term::Ctime | Term::Param(_) | Term::Bound(_) => false,
         _ => true,
     }

@@ -8,7 +8,7 @@ use Rattle.proof_term.proofs.reading.+proofs.Goals as goal
 pub proof_at-returns-in-Ok : goal.proof_at-returns-in-Ok
 proof_at-returns-in-Ok t c =
     let is = proof_at-ok c.args.levels c.args.nodes c.args.input c.args.bytes.now c.in-Ok.rest.now c.in-Ok.rule c.in-Ok.ensures.room.0 c.in-Ok.ensures.same in
-    subst (λ (r : ProofReading). Gives (λ x. (deduction x.0, (x.1, x.2.now))) c.premises_at.result r) (sym is) c.premises_at.ensures
+    subst (λ (r : ProofReading). Gives (λ x. (deduction x.0.value, (x.1, x.2.now))) c.premises_at.result r) (sym is) c.premises_at.ensures
 
 pub proof_at-returns-in-Err : goal.proof_at-returns-in-Err
 proof_at-returns-in-Err t c = Fails-root c.args.levels c.args.nodes c.args.input c.args.bytes.now c.in-Err.fault c.in-Err.ensures.same

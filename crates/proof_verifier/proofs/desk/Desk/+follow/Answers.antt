@@ -1,8 +1,6 @@
-use Rattle.std.proofs.Common.{◌∙◌, refl, arith, rules}
+use Rattle.std.proofs.Common.{◌∙◌, arith}
 use Rattle.proof_term.specs.Proof.{deduction}
 use Rattle.proof_term.specs.Limits.{size, depth}
-use Rattle.bl_rules.specs.Sequent.{holds}
-use Rattle.bl_syntax.specs.Formula.{formula}
 use Rattle.proof_verifier.specs.Standing.{standing}
 use Rattle.proof_verifier.proofs.RoomLemmas.{room_for_second, counted_more}
 use Rattle.proof_verifier.proofs.desk.Desk.+follow.Goals as goal
