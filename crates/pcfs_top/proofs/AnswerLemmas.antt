@@ -1,10 +1,9 @@
 -- An answer is determined by the request and the state.
-use Rattle.std.proofs.Common.{◌≡◌, ◌≢◌, ◌≤◌, ◌<◌, ℕ, ℤ, ◌+◌, Option, Some, None, List, [], ◌∷◌, length, refl, sym, ◌∙◌, ap, subst, ⊎_elim, arith}
+use Rattle.std.proofs.Common.{◌≡◌, ◌≢◌, ◌≤◌, ◌<◌, ℕ, ℤ, ◌+◌, Option, Some, None, List, ◌∷◌, length, refl, sym, ◌∙◌, ap, subst, arith}
 use Rattle.std.specs.Prelude.{Contains}
 use Rattle.std.specs.List.{AllByRecursion}
 use Rattle.bl_syntax.specs.declared.terms.Constraint.{Constraint}
 use Rattle.bl_syntax.specs.declared.terms.StatePred.{StatePred}
-use Rattle.bl_syntax.specs.declared.grant.Goal.{Goal}
 use Rattle.bl_syntax.specs.FirstFailing.{IsFirstFailing}
 use Rattle.bl_syntax.specs.Statement.{Saying}
 use Rattle.bl_syntax.specs.Grant.{Granted, AreDistinct, HoldsAt}
@@ -25,9 +24,11 @@ use Rattle.pcfs_top.specs.World.{FileTree}
 use Rattle.pcfs_top.specs.Facts.{facts}
 use Rattle.pcfs_top.specs.Needs.{Need, needs}
 use Rattle.pcfs_top.specs.Effect.{refusal, replied, OpReply, effect}
-use Rattle.pcfs_top.specs.Verdict.{grants, faults, IsTooWeak, IsAboutElse, IsVerdict}
-use Rattle.pcfs_top.specs.Answer.{moment_of, IsProcapAt, NamesMatch, Gives, Fails, other_principal, other_file, other_permission, time_passed, state_differs, IsMet, IsAdmitted, IsDenied, here, further, AreIssued, reply_of, Answers, duplicate, registry_full, registered, no_statement, unproved, issued, no_issue, denied, refused, acted}
-use Rattle.pcfs_top.proofs.NumberedLemmas.{Contains-numbered, numbered_item, distinct_number, none_fails, first_failing, HasNumber-item}
+use Rattle.proof_verifier.specs.declared.cites.Cite.{Cite}
+use Rattle.proof_verifier.specs.Checking.{Checking}
+use Rattle.pcfs_top.specs.Citing.{Stands, IsMoved, numbers_of}
+use Rattle.pcfs_top.specs.Answer.{moment_of, IsProcapAt, NamesMatch, Gives, Fails, other_principal, other_file, other_permission, time_passed, state_differs, IsMet, IsAdmitted, IsDenied, here, further, AreIssued, reply_of, Answers, duplicate, registry_full, registered, moved, issued, no_issue, denied, refused, acted}
+use Rattle.pcfs_top.proofs.NumberedLemmas.{Contains-numbered, numbered_item, distinct_number, none_fails, first_failing}
 
 -- the procap in a place stands for one grant
 pub procap_grant : (state : Base) (procaps : List ℕ) (place : ℕ) (g h : Granted) → IsProcapAt state procaps place g → IsProcapAt state procaps place h → g ≡ h
@@ -127,23 +128,6 @@ module _ (state : Base) (caller : List ℕ) (procaps : List ℕ) (moment : ℤ) 
   admitted_or_denied _ _ _ all (here need later g cause brought fails) = met_or_fails need g cause all.0 brought fails
   admitted_or_denied _ _ _ all (further need later place cause met rest) = admitted_or_denied later place cause all.1 rest
 
--- a proof has one verdict
-one_grant : (statement : Saying) (goal : Goal) (g h : Granted) → IsVerdict statement goal (grants g) → IsVerdict statement goal (grants h) → g ≡ h
-one_grant statement goal g h one other = one.grant_is ∙ sym other.grant_is
-
-one_fault : (statement : Saying) (goal : Goal) (f r f' r' : ℕ) → IsVerdict statement goal (faults f r) → IsVerdict statement goal (faults f' r') → (f ≡ f') × (r ≡ r')
-one_fault statement goal f r f' r' one other =
-    ⊎_elim
-    (λ (weak : IsTooWeak statement f r).
-    ⊎_elim (λ (weak' : IsTooWeak statement f' r'). (weak.fault_is ∙ sym weak'.fault_is, weak.rule_is ∙ sym weak'.rule_is)) (λ (other' : IsAboutElse statement goal f' r'). absurd (weak.weak other'.strong)) other)
-    (λ (else : IsAboutElse statement goal f r).
-    ⊎_elim (λ (weak' : IsTooWeak statement f' r'). absurd (weak'.weak else.strong)) (λ (other' : IsAboutElse statement goal f' r'). (else.fault_is ∙ sym other'.fault_is, else.rule_is ∙ sym other'.rule_is)) other)
-    one
-
-grant_or_fault : (statement : Saying) (goal : Goal) (g : Granted) (f r : ℕ) → IsVerdict statement goal (grants g) → IsVerdict statement goal (faults f r) → ⊥
-grant_or_fault statement goal g f r granted fault =
-    ⊎_elim (λ (weak : IsTooWeak statement f r). weak.weak granted.strong) (λ (else : IsAboutElse statement goal f r). else.differs granted.same) fault
-
 module _ (state : Base) (pass : ℕ) (clock : ℤ) where
   -- this answer, with this event, is the one
   abbrev IsOnly : StepRequest → Reply → Option Event → Type 0
@@ -166,36 +150,16 @@ module _ (state : Base) (pass : ℕ) (clock : ℤ) where
   only_registered statement new room _ _ (registry_full _ new' full) = absurd (omega (arith, full, room))
   only_registered statement new room _ _ (registered _ new' room') = (refl, refl)
 
-  only_no_statement : (number : ℕ) (goal : Goal) → (HasNumber state.statements number → ⊥) → IsOnly (requests.Issue number goal) (replies.Absent number) None
-  only_no_statement number goal absent _ _ (no_statement _ _ absent') = (refl, refl)
-  only_no_statement number goal absent _ _ (unproved _ _ statement fault rule numbered verdict) = absurd (absent (HasNumber-item state.statements number statement numbered))
-  only_no_statement number goal absent _ _ (issued _ _ statement g numbered verdict) = absurd (absent (HasNumber-item state.statements number statement numbered))
+  only_moved : (checked : Checking) (number : ℕ) → IsMoved state.statements checked.cited number → IsOnly (requests.Issue checked) (replies.Absent number) None
+  only_moved checked number first _ _ (moved _ number' first') =
+      let same = first_failing (Stands state.statements) checked.cited first.place first'.place first.cite first'.cite first.first first'.first in
+      (ap replies.Absent (first.number_is ∙ (ap (λ (c : Cite). c.number) same.1 ∙ sym first'.number_is)), refl)
+  only_moved checked number first _ _ (issued _ rising granted stand) = absurd (none_fails (Stands state.statements) checked.cited first.place first.cite stand first.first)
 
-  only_unproved : (number : ℕ) (goal : Goal) (statement : Saying) (fault rule : ℕ) → IsNumbered state.statements number statement → IsVerdict statement goal (faults fault rule)
-      → IsOnly (requests.Issue number goal) (replies.Unproved fault rule) None
-  only_unproved number goal statement fault rule numbered verdict _ _ (no_statement _ _ absent) = absurd (absent (HasNumber-item state.statements number statement numbered))
-  only_unproved number goal statement fault rule numbered verdict _ _ (unproved _ _ statement' fault' rule' numbered' verdict') =
-      let same : statement' ≡ statement = numbered_item state.statements number statement' statement numbered' numbered in
-      let verdict'' : IsVerdict statement goal (faults fault' rule') = subst (λ (s : Saying). IsVerdict s goal (faults fault' rule')) same verdict' in
-      let one = one_fault statement goal fault rule fault' rule' verdict verdict'' in
-      (ap (λ (f : ℕ). replies.Unproved f rule) one.0 ∙ ap (λ (r : ℕ). replies.Unproved fault' r) one.1, refl)
-  only_unproved number goal statement fault rule numbered verdict _ _ (issued _ _ statement' g numbered' verdict') =
-      let same : statement' ≡ statement = numbered_item state.statements number statement' statement numbered' numbered in
-      let verdict'' : IsVerdict statement goal (grants g) = subst (λ (s : Saying). IsVerdict s goal (grants g)) same verdict' in
-      absurd (grant_or_fault statement goal g fault rule verdict'' verdict)
-
-  only_issued : (number : ℕ) (goal : Goal) (statement : Saying) (g : Granted) → IsNumbered state.statements number statement → IsVerdict statement goal (grants g)
-      → IsOnly (requests.Issue number goal) (replies.Issue (length state.issues + 1) (length g.times) (length g.states)) (Some (events.Issued pass (number ∷ []) g))
-  only_issued number goal statement g numbered verdict _ _ (no_statement _ _ absent) = absurd (absent (HasNumber-item state.statements number statement numbered))
-  only_issued number goal statement g numbered verdict _ _ (unproved _ _ statement' fault rule numbered' verdict') =
-      let same : statement' ≡ statement = numbered_item state.statements number statement' statement numbered' numbered in
-      let verdict'' : IsVerdict statement goal (faults fault rule) = subst (λ (s : Saying). IsVerdict s goal (faults fault rule)) same verdict' in
-      absurd (grant_or_fault statement goal g fault rule verdict verdict'')
-  only_issued number goal statement g numbered verdict _ _ (issued _ _ statement' h numbered' verdict') =
-      let same : statement' ≡ statement = numbered_item state.statements number statement' statement numbered' numbered in
-      let verdict'' : IsVerdict statement goal (grants h) = subst (λ (s : Saying). IsVerdict s goal (grants h)) same verdict' in
-      let one = one_grant statement goal g h verdict verdict'' in
-      (ap (λ (k : Granted). replies.Issue (length state.issues + 1) (length k.times) (length k.states)) one, ap (λ (k : Granted). Some (events.Issued pass (number ∷ []) k)) one)
+  only_issued : (checked : Checking) → AllByRecursion (Stands state.statements) checked.cited
+      → IsOnly (requests.Issue checked) (replies.Issue (length state.issues + 1) (length checked.grant.times) (length checked.grant.states)) (Some (events.Issued pass (numbers_of checked.cited) checked.proof checked.grant))
+  only_issued checked stand _ _ (moved _ number first) = absurd (none_fails (Stands state.statements) checked.cited first.place first.cite stand first.first)
+  only_issued checked stand _ _ (issued _ rising granted stand') = (refl, refl)
 
   abbrev IsNoMissing : ℕ → Type 0
   IsNoMissing number = HasNumber state.issues number
@@ -245,9 +209,8 @@ module _ (state : Base) (pass : ℕ) (clock : ℤ) where
   only _ _ _ distinct (duplicate statement number numbered) = only_duplicate statement number distinct numbered
   only _ _ _ distinct (registry_full statement new full) = only_full statement new full
   only _ _ _ distinct (registered statement new room) = only_registered statement new room
-  only _ _ _ distinct (no_statement number goal absent) = only_no_statement number goal absent
-  only _ _ _ distinct (unproved number goal statement fault rule numbered verdict) = only_unproved number goal statement fault rule numbered verdict
-  only _ _ _ distinct (issued number goal statement g numbered verdict) = only_issued number goal statement g numbered verdict
+  only _ _ _ distinct (moved checked number first) = only_moved checked number first
+  only _ _ _ distinct (issued checked rising granted stand) = only_issued checked stand
   only _ _ _ distinct (no_issue caller op procaps place number first) = only_no_issue caller op procaps place number first
   only _ _ _ distinct (denied caller op procaps need cause present denial) = only_denied caller op procaps need cause present denial
   only _ _ _ distinct (refused caller op procaps number present admitted outcome) = only_refused caller op procaps number present admitted outcome

@@ -1,10 +1,9 @@
 -- The issues of a lawful history are good, and so the statements allow what an admitted operation needs.
-use Rattle.std.proofs.Common.{◌≡◌, ℕ, ℤ, zero, suc, List, [], ◌∷◌, ◌++◌, Some, sym, subst, ⊎_elim, arith}
+use Rattle.std.proofs.Common.{◌≡◌, ℕ, ℤ, zero, suc, List, [], ◌∷◌, ◌++◌, Some, subst}
 use Rattle.std.specs.Prelude.{Contains}
 use Rattle.std.specs.List.{AllByRecursion, slice_get}
 use Rattle.bl_syntax.specs.declared.terms.NodeId.{NodeId}
 use Rattle.bl_syntax.specs.declared.terms.Perm.{Perm as Permission}
-use Rattle.bl_syntax.specs.declared.grant.Goal.{Goal}
 use Rattle.bl_syntax.specs.Statement.{Saying}
 use Rattle.bl_syntax.specs.Grant.{Granted}
 use Rattle.bl_rules.specs.Allowed.{Allows, SoundGrant}
@@ -16,19 +15,16 @@ use Rattle.pcfs_top.specs.Facts.{facts}
 use Rattle.pcfs_top.specs.Needs.{Need, needs}
 use Rattle.pcfs_top.specs.Answer.{Gives, IsMet, IsAdmitted}
 use Rattle.pcfs_top.specs.Replay.{replay, next_state}
-use Rattle.pcfs_top.specs.Lawful.{IsGoodIssue, IsDerived, AreDerived, MayFollow, may_register, may_issue, may_act, AreLawful, no_event, one_more}
+use Rattle.proof_verifier.specs.declared.cites.Cite.{Cite}
+use Rattle.proof_verifier.specs.Cited.{statements_of}
+use Rattle.pcfs_top.specs.Citing.{Stands, IsGoodIssue}
+use Rattle.pcfs_top.specs.Lawful.{IsDerived, AreDerived, MayFollow, may_register, may_issue, may_act, AreLawful, no_event, one_more}
 use Rattle.bl_rules.specs.Richer.{Includes}
-use Rattle.bl_rules.proofs.DirectGrantLemmas.{SoundGrant-granted_by}
 use Rattle.bl_rules.proofs.SoundGrantLemmas.{SoundGrant-more}
-use Rattle.pcfs_top.specs.Verdict.{grants, IsVerdict}
 use Rattle.pcfs_top.proofs.AnswerLemmas.{procap_grant}
-use Rattle.pcfs_top.proofs.ListLemmas.{AllByRecursion-push, AllByRecursion-weaker, AllByRecursion-contains, Contains-cons_cases}
+use Rattle.pcfs_top.proofs.ListLemmas.{AllByRecursion-push, AllByRecursion-weaker, AllByRecursion-contains, IsImage-from_map}
 use Rattle.pcfs_top.proofs.NumberedLemmas.{Contains-numbered}
 use Rattle.pcfs_top.proofs.Replays.{replay-more}
-
--- the grant of the one form of proof is sound, by any statements that have the one that is cited
-pub SoundGrant-verdict : (statements : List Saying) (statement : Saying) (goal : Goal) (g : Granted) → Contains statements statement → IsVerdict statement goal (grants g) → SoundGrant statements g
-SoundGrant-verdict statements statement goal g among verdict = subst (SoundGrant statements) (sym verdict.grant_is) (SoundGrant-granted_by statements statement goal among verdict.strong verdict.same)
 
 slice_get-more : {A : Type 0} (xs ys : List A) (place : ℕ) (x : A) → slice_get xs place ≡ Some x → slice_get (xs ++ ys) place ≡ Some x
 slice_get-more [] ys place x found = cc
@@ -38,12 +34,12 @@ slice_get-more (first ∷ xs) ys (suc place) x found = slice_get-more xs ys plac
 -- an issue stays good where statements are added
 IsGoodIssue-more : (statements more : List Saying) (issue : Issue) → IsGoodIssue statements issue → IsGoodIssue (statements ++ more) issue
 IsGoodIssue-more statements more issue good = record {
-  number = good.number;
-  statement = good.statement;
   cites = good.cites;
-  registered = record { place = good.registered.place; from_one = good.registered.from_one; found = slice_get-more statements more good.registered.place good.statement good.registered.found };
-  verdict = good.verdict;
-  sound = good.sound;
+  cited = good.cited;
+  rising = good.rising;
+  stand = AllByRecursion-weaker (Stands statements) (Stands (statements ++ more)) good.cites
+      (λ cite stands. record { place = stands.place; from_one = stands.from_one; found = slice_get-more statements more stands.place cite.statement stands.found }) good.stand;
+  granted = good.granted;
 }
 
 -- each issue of the state is good for its statements
@@ -53,7 +49,7 @@ AreGoodIssues state = AllByRecursion (IsGoodIssue state.statements) state.issues
 AreGoodIssues-next : (state : Base) (event : Event) → MayFollow state event → AreGoodIssues state → AreGoodIssues (next_state state event)
 AreGoodIssues-next state event (may_register pass statement new room) good =
     AllByRecursion-weaker (IsGoodIssue state.statements) (IsGoodIssue (state.statements ++ statement ∷ [])) state.issues (IsGoodIssue-more state.statements (statement ∷ [])) good
-AreGoodIssues-next state event (may_issue pass cited g issue) good = AllByRecursion-push (IsGoodIssue state.statements) state.issues (record { cited = cited; grant = g }) good issue
+AreGoodIssues-next state event (may_issue pass cited proof g issue) good = AllByRecursion-push (IsGoodIssue state.statements) state.issues (record { cited = cited; proof = proof; grant = g }) good issue
 AreGoodIssues-next state event (may_act pass caller op procaps moment reply after later in_range slots bytes issued admitted does derived) good = good
 
 pub AreGoodIssues-replay : (base : Base) (events : List Event) → AreGoodIssues base → AreLawful base events → AreGoodIssues (replay base events)
@@ -61,8 +57,12 @@ AreGoodIssues-replay base events good no_event = good
 AreGoodIssues-replay base events good (one_more before event lawful follows) =
     rw (replay-more base before event) (AreGoodIssues-next (replay base before) event follows (AreGoodIssues-replay base before good lawful))
 
-Includes-one : {X : Type 0} (items : List X) (item : X) → Contains items item → Includes items (item ∷ [])
-Includes-one items item has x among = ⊎_elim (λ same. subst (Contains items) same has) (λ none. absurd (omega (arith, none.1))) (Contains-cons_cases item [] x among)
+-- the statements that stand are of the list
+Includes-cited : (statements : List Saying) (cites : List Cite) → AllByRecursion (Stands statements) cites → Includes statements (statements_of cites)
+Includes-cited statements cites stand x among =
+    let image = IsImage-from_map (λ (c : Cite). c.statement) cites x among in
+    let stands : Stands statements image.item = AllByRecursion-contains (Stands statements) cites image.item stand image.contained in
+    subst (Contains statements) image.same (Contains-numbered statements image.item.number image.item.statement stands)
 
 -- what a sound grant grants, under the names that it has
 Allows-named : (statements : List Saying) (state : Base) (moment : ℤ) (caller : List ℕ) (need : Need) (g : Granted) → SoundGrant statements g → Gives caller need moment (facts state.world) g →
@@ -78,8 +78,8 @@ IsDerived-met state caller procaps moment good need met g brought was =
     let same : met.grant ≡ g = procap_grant state procaps need.place met.grant g met.brought brought in
     let gives : Gives caller need moment (facts state.world) g = subst (Gives caller need moment (facts state.world)) same met.gives in
     let issue : IsGoodIssue state.statements was.issue = AllByRecursion-contains (IsGoodIssue state.statements) state.issues was.issue good was.among in
-    let registered : Contains state.statements issue.statement = Contains-numbered state.statements issue.number issue.statement issue.registered in
-    let sound : SoundGrant state.statements was.issue.grant = SoundGrant-more (issue.statement ∷ []) state.statements was.issue.grant (Includes-one state.statements issue.statement registered) issue.sound in
+    let sound : SoundGrant state.statements was.issue.grant =
+    SoundGrant-more (statements_of issue.cites) state.statements was.issue.grant (Includes-cited state.statements issue.cites issue.stand) issue.granted.sound in
     Allows-named state.statements state moment caller need g (subst (SoundGrant state.statements) was.grant_is sound) gives
 
 -- what an admitted operation needs is derivable, where the grants were issued

@@ -1,12 +1,10 @@
 -- What was decided is an answer, over plain values.
-use Rattle.std.proofs.Common.{◌≡◌, ◌≤◌, ◌<◌, ◌+◌, ◌-◌, ℕ, List, [], ◌∷◌, length, get_or, refl, ap, subst, sym, arith, Some}
+use Rattle.std.proofs.Common.{◌≡◌, ◌≤◌, ◌<◌, ◌+◌, ◌-◌, ℕ, List, length, get_or, refl, ap, subst, sym, arith, Some}
 use Rattle.std.specs.Prelude.{ℤ, Contains}
 use Rattle.std.specs.Prelude.{Result, Ok, Err, IfOk}
-use Rattle.std.specs.List.{slice_get}
+use Rattle.std.specs.List.{slice_get, AllByRecursion}
 use Rattle.std.proofs.lemmas.Option.{slice_get_read}
-use Rattle.bl_syntax.specs.declared.grant.Goal.{Goal}
 use Rattle.bl_syntax.specs.Statement.{Saying}
-use Rattle.bl_syntax.specs.Grant.{Granted}
 use Rattle.pcfs_top.specs.declared.event.Base.{Base}
 use Rattle.pcfs_top.specs.declared.event.Event.TheVariants.{Registered, Issued}
 use Rattle.pcfs_top.specs.declared.request.StepRequest.TheVariants as requests
@@ -15,7 +13,9 @@ use Rattle.pcfs_top.specs.declared.step.Step.{Step}
 use Rattle.pcfs_top.specs.declared.step.Change.{Change}
 use Rattle.pcfs_top.specs.declared.step.Change.TheVariants as changes
 use Rattle.pcfs_top.specs.Numbered.{IsNumbered, HasNumber}
-use Rattle.pcfs_top.specs.Verdict.{IsVerdict, grants}
+use Rattle.proof_verifier.specs.Cited.{AreCited}
+use Rattle.proof_verifier.specs.Checking.{Checking, IsChecked}
+use Rattle.pcfs_top.specs.Citing.{Stands, numbers_of}
 use Rattle.pcfs_top.specs.History.{Brings}
 use Rattle.pcfs_top.specs.Answer.{Answers, registered, issued}
 
@@ -33,17 +33,18 @@ pub numbered_at : {A : Type 0} (items : List A) (number : ℕ) (item : A) → (n
 numbered_at items number item some found = record { place = number - 1; from_one = omega (arith, some); found = found }
 
 -- a grant is issued
-pub issued_decided : (state : Base) (pass : ℕ) (clock : ℤ) (number : ℕ) (goal : Goal) (statement : Saying) (g : Granted) (times states : ℕ) (issues : ℕ) (step : Step) →
-    IsNumbered state.statements number statement → IsVerdict statement goal (grants g) → issues ≡ length state.issues → times ≡ length g.times → states ≡ length g.states →
-    step.event ≡ Issued pass (number ∷ []) g → step.change ≡ changes.Issue (record { cited = number ∷ []; grant = g }) →
-    Answers state pass clock (requests.Issue number goal) (replies.Issue (issues + 1) times states) (Some step.event) × Brings state step.event step.change
-issued_decided state pass clock number goal statement g times states issues step numbered verdict issues_is times_is states_is event_is change_is =
-    subst (λ (n : ℕ). Answers state pass clock (requests.Issue number goal) (replies.Issue (n + 1) times states) (Some step.event) × Brings state step.event step.change) (sym issues_is)
-    (subst (λ (n : ℕ). Answers state pass clock (requests.Issue number goal) (replies.Issue (length state.issues + 1) n states) (Some step.event) × Brings state step.event step.change) (sym times_is)
-    (subst (λ (n : ℕ). Answers state pass clock (requests.Issue number goal) (replies.Issue (length state.issues + 1) (length g.times) n) (Some step.event) × Brings state step.event step.change) (sym states_is)
-    (subst (λ e. Answers state pass clock (requests.Issue number goal) (replies.Issue (length state.issues + 1) (length g.times) (length g.states)) (Some e) × Brings state e step.change) (sym event_is)
-    (subst (λ (ch : Change). Answers state pass clock (requests.Issue number goal) (replies.Issue (length state.issues + 1) (length g.times) (length g.states)) (Some (Issued pass (number ∷ []) g)) × Brings state (Issued pass (number ∷ []) g) ch) (sym change_is)
-    (issued number goal statement g numbered verdict, refl)))))
+pub issued_decided : (state : Base) (pass : ℕ) (clock : ℤ) (checked : Checking) (times states : ℕ) (issues : ℕ) (step : Step) →
+    AreCited checked.cited → IsChecked checked → AllByRecursion (Stands state.statements) checked.cited → issues ≡ length state.issues → times ≡ length checked.grant.times → states ≡ length checked.grant.states →
+    step.event ≡ Issued pass (numbers_of checked.cited) checked.proof checked.grant → step.change ≡ changes.Issue (record { cited = numbers_of checked.cited; proof = checked.proof; grant = checked.grant }) →
+    Answers state pass clock (requests.Issue checked) (replies.Issue (issues + 1) times states) (Some step.event) × Brings state step.event step.change
+issued_decided state pass clock checked times states issues step rising granted stand issues_is times_is states_is event_is change_is =
+    subst (λ (n : ℕ). Answers state pass clock (requests.Issue checked) (replies.Issue (n + 1) times states) (Some step.event) × Brings state step.event step.change) (sym issues_is)
+    (subst (λ (n : ℕ). Answers state pass clock (requests.Issue checked) (replies.Issue (length state.issues + 1) n states) (Some step.event) × Brings state step.event step.change) (sym times_is)
+    (subst (λ (n : ℕ). Answers state pass clock (requests.Issue checked) (replies.Issue (length state.issues + 1) (length checked.grant.times) n) (Some step.event) × Brings state step.event step.change) (sym states_is)
+    (subst (λ e. Answers state pass clock (requests.Issue checked) (replies.Issue (length state.issues + 1) (length checked.grant.times) (length checked.grant.states)) (Some e) × Brings state e step.change) (sym event_is)
+    (subst (λ (ch : Change). Answers state pass clock (requests.Issue checked) (replies.Issue (length state.issues + 1) (length checked.grant.times) (length checked.grant.states))
+    (Some (Issued pass (numbers_of checked.cited) checked.proof checked.grant)) × Brings state (Issued pass (numbers_of checked.cited) checked.proof checked.grant) ch) (sym change_is)
+    (issued checked rising granted stand, refl)))))
 
 -- what holds of an Ok, from what holds of it
 pub ok_so : {A E : Type 0} {P Q : A → Type 0} (r : Result A E) → ((x : A) → P x → Q x) → IfOk r P → IfOk r Q

@@ -1,5 +1,5 @@
 -- An event that an answer keeps may come next.
-use Rattle.std.proofs.Common.{◌≡◌, ◌≤◌, ℕ, [], ◌∷◌, refl, ap, subst, sym, arith, None, Some, Option}
+use Rattle.std.proofs.Common.{◌≡◌, ◌≤◌, ℕ, List, refl, subst, sym, arith, None, Some, Option}
 use Rattle.std.specs.Prelude.{Result, Ok, Err, OnOk, false, ℤ, ◌≤ℤ◌, ⊤, MatchOption}
 use Rattle.std.specs.Int.{int_max}
 use Rattle.std.specs.Option.{option_map}
@@ -9,7 +9,11 @@ use Rattle.bl_syntax.specs.TimeOrder.{IsMoment}
 use Rattle.bl_syntax.specs.declared.grant.Goal.{Goal}
 use Rattle.bl_syntax.specs.Statement.{Saying}
 use Rattle.bl_syntax.specs.Grant.{Granted}
-use Rattle.pcfs_top.specs.Verdict.{IsVerdict, grants}
+use Rattle.proof_term.specs.Proof.{Deduction}
+use Rattle.proof_verifier.specs.Cited.{statements_of}
+use Rattle.proof_verifier.specs.Checking.{IsGranted}
+use Rattle.proof_verifier.proofs.SoundnessVerdict.{goal-verdict}
+use Rattle.pcfs_top.specs.Citing.{numbers_of}
 use Rattle.pcfs_top.specs.declared.event.Base.{Base}
 use Rattle.pcfs_top.specs.declared.event.Event.{Event}
 use Rattle.pcfs_top.specs.declared.event.Op.{Op}
@@ -23,8 +27,7 @@ use Rattle.pcfs_top.specs.Answer.{Answers, registered, issued, acted, moment_of}
 use Rattle.pcfs_top.specs.History.{Kept, state_of}
 use Rattle.pcfs_top.specs.Decision.{IsDecided, CanKeep}
 use Rattle.pcfs_top.proofs.Replays.{moment_in_range}
-use Rattle.pcfs_top.proofs.ListLemmas.{Contains-head}
-use Rattle.pcfs_top.proofs.Backing.{SoundGrant-verdict, AreGoodIssues, AreGoodIssues-replay, AreDerived-admitted}
+use Rattle.pcfs_top.proofs.Backing.{AreGoodIssues, AreGoodIssues-replay, AreDerived-admitted}
 use Rattle.pcfs_top.specs.Lawful.{IsLawful, MayFollow, may_register, may_issue, may_act}
 
 -- the greater of two moments is a moment, and not before the second
@@ -37,14 +40,15 @@ last_up_to_max a b = omega (arith, ints, int_max_is a b)
 few_bytes : (op : Op) → bytes_to_write op ≤ 65536
 few_bytes (Create directory name) = omega arith
 
--- a grant is of the goal that it was asked for
-good : (goal : Goal) (g : Granted) (statement : Saying) → IsVerdict statement goal (grants g) → IsVerdict statement g.goal (grants g)
-good goal g statement verdict = subst (λ (x : Goal). IsVerdict statement x (grants g)) (sym (ap (λ (y : Granted). y.goal) verdict.grant_is)) verdict
+-- a grant is of the goal that was to be proved
+IsGranted-goal : (statements : List Saying) (goal : Goal) (proof : Deduction) (g : Granted) → IsGranted statements goal proof g → IsGranted statements g.goal proof g
+IsGranted-goal statements goal proof g granted = subst (λ (x : Goal). IsGranted statements x proof g) (sym (goal-verdict statements goal proof g granted.verdict_is)) granted
 
 pub MayFollow-answered : (state : Base) (pass : ℕ) (clock : ℤ) (request : StepRequest) (reply : Reply) (event : Event) → IsMoment clock → IsMoment state.moment → AreGoodIssues state → IsWellFormed request → Answers state pass clock request reply (Some event) → MayFollow state event
 MayFollow-answered state pass clock request reply event at last issues_good formed (registered statement new room) = may_register pass statement new room
-MayFollow-answered state pass clock request reply event at last issues_good formed (issued number goal statement g numbered verdict) =
-    may_issue pass (number ∷ []) g (record { number = number; statement = statement; cites = refl; registered = numbered; verdict = good goal g statement verdict; sound = SoundGrant-verdict (statement ∷ []) statement goal g (Contains-head statement statement [] refl) verdict })
+MayFollow-answered state pass clock request reply event at last issues_good formed (issued checked rising granted stand) =
+    may_issue pass (numbers_of checked.cited) checked.proof checked.grant
+    (record { cites = checked.cited; cited = refl; rising = rising; stand = stand; granted = IsGranted-goal (statements_of checked.cited) checked.goal checked.proof checked.grant granted })
 MayFollow-answered state pass clock request reply event at last issues_good formed (acted caller op procaps made after issues admitted does) =
     may_act pass caller op procaps (moment_of state clock) made after (last_up_to_max clock state.moment) (max_in_range clock state.moment at last) formed (few_bytes op) issues admitted does (AreDerived-admitted state caller op procaps (moment_of state clock) issues_good admitted)
 

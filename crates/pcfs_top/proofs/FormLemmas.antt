@@ -13,7 +13,7 @@ use Rattle.pcfs_top.specs.declared.command.Command.{Command}
 use Rattle.pcfs_top.specs.declared.command.Command.TheVariants.{At, As, Register, Verify, Do}
 use Rattle.pcfs_top.specs.World.{is_node_name, is_node_name_byte}
 use Rattle.pcfs_top.specs.Words.{is_stop, HasNoStop}
-use Rattle.pcfs_top.specs.Lines.{IsDigits, IsInteger, plain, negated, IsSecond, IsBound, without_beginning, without_end, at_second, IsNumber, IsLine, sets_clock, sets_caller, registers, verifies, creates, writes_root, says_may}
+use Rattle.pcfs_top.specs.Lines.{IsDigits, IsInteger, plain, negated, IsSecond, IsBound, without_beginning, without_end, at_second, IsNumber, IsLine, sets_clock, sets_caller, registers, verifies, creates, writes_root, says_may, by_claim}
 use Rattle.pcfs_top.proofs.NumeralLemmas.{IsPlain-from_number}
 use Rattle.pcfs_top.proofs.WordLemmas.{differ}
 
@@ -126,7 +126,7 @@ pub record IsVerifyLine (rest : List ℕ) (command : Command) : Type 0 where
   pub named : IsTrue (is_principal_name who)
   pub numbered : IsNumber word number
   pub rest_is : rest ≡ who ++ (codes " #1 write " ++ (word ++ codes " saysR(claim(0,init(1)))"))
-  pub command_is : command ≡ Verify (writes_root who) number
+  pub command_is : command ≡ Verify (writes_root who) (number ∷ []) by_claim
 
 pub verify_line : {line : List ℕ} {command : Command} → IsLine line command → (rest : List ℕ) → line ≡ codes "verify " ++ rest → IsVerifyLine rest command
 verify_line (verifies who word number h n) rest same = record {
@@ -175,7 +175,7 @@ IsLine-register rest name lower upper who from to same named who_is lower_is upp
     rw (same, who_is) (registers name lower upper from to named lower_is upper_is)
 
 pub IsLine-verify : (rest name word behind who : List ℕ) (number : ℕ) → rest ≡ name ++ (codes " #1 write " ++ (word ++ (codes " saysR(claim(0,init(1)))" ++ behind))) → behind ≡ []
-    → IsTrue (is_principal_name name) → who ≡ name → IsNumber word number → IsLine (codes "verify " ++ rest) (Verify (writes_root who) number)
+    → IsTrue (is_principal_name name) → who ≡ name → IsNumber word number → IsLine (codes "verify " ++ rest) (Verify (writes_root who) (number ∷ []) by_claim)
 IsLine-verify rest name word behind who number same nothing named who_is numbered =
     rw (same, nothing, who_is) (verifies name word number named numbered)
 

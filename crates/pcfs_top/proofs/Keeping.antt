@@ -70,7 +70,7 @@ below_last world fits e = grind (arith, nat_tests, e)
 pub next_fits : (state : Base) (event : Event) (added : AddedNode) → MayFollow state event → Brings state event (changes.Node added) → state.world.next < 2 ^ 64 → state.world.next + 1 < 2 ^ 64
 next_fits state event added (may_register pass statement new room) brings fits =
     let e : state.world.next + 1 ≡ state.world.next = ap (λ (s : Base). s.world.next) brings in omega (arith, e)
-next_fits state event added (may_issue pass cited g good) brings fits =
+next_fits state event added (may_issue pass cited proof g good) brings fits =
     let e : state.world.next + 1 ≡ state.world.next = ap (λ (s : Base). s.world.next) brings in omega (arith, e)
 next_fits state event added (may_act pass caller (Create directory name) procaps moment reply after later in_range slots bytes issued admitted does derived) brings fits =
     elim (create_refusal directory.0 name state.world) as (λ r. create_refusal directory.0 name state.world ≡ r → create_outcome r caller directory.0 name state.world ≡ replied reply after → state.world.next + 1 < 2 ^ 64) [
@@ -85,6 +85,6 @@ SFits-moment moment m = omega (arith, ints, m.not_before, m.not_after)
 -- a node is added at a moment of the range
 pub IsMoment-added : (state : Base) (event : Event) (added : AddedNode) → MayFollow state event → Brings state event (changes.Node added) → IsMoment added.moment
 IsMoment-added state event added (may_register pass statement new room) brings = absurd (let e : state.world.next + 1 ≡ state.world.next = ap (λ (s : Base). s.world.next) brings in omega (arith, e))
-IsMoment-added state event added (may_issue pass cited g good) brings = absurd (let e : state.world.next + 1 ≡ state.world.next = ap (λ (s : Base). s.world.next) brings in omega (arith, e))
+IsMoment-added state event added (may_issue pass cited proof g good) brings = absurd (let e : state.world.next + 1 ≡ state.world.next = ap (λ (s : Base). s.world.next) brings in omega (arith, e))
 IsMoment-added state event added (may_act pass caller op procaps moment reply after later in_range slots bytes issued admitted does derived) brings =
     subst IsMoment (sym (ap (λ (s : Base). s.moment) brings)) in_range

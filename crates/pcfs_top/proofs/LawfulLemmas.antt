@@ -15,7 +15,7 @@ replay-push base (first ∷ events) event = replay-push (next_state base first) 
 -- an event that may come next keeps the tree a tree
 IsTree-next : (state : Base) (event : Event) → MayFollow state event → IsTree state.world → IsTree (next_state state event).world
 IsTree-next state event (may_register pass statement new room) tree = tree
-IsTree-next state event (may_issue pass cited g good) tree = tree
+IsTree-next state event (may_issue pass cited proof g good) tree = tree
 IsTree-next state event (may_act pass caller op procaps moment reply after later range slots bytes issued admitted done derived) tree =
     let world : tree_after (effect caller op state.world) state.world ≡ after = ap (λ outcome. tree_after outcome state.world) done in
     subst IsTree (sym world) (IsTree-effect caller op state.world after reply tree done)

@@ -1,6 +1,7 @@
 pub mod Backing
 pub mod Beginning
 pub mod CauseLemmas
+pub mod CitingLemmas
 pub mod Deciding
 pub mod Ending
 pub mod HeadlineLemmas

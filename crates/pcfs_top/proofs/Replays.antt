@@ -17,7 +17,7 @@ replay-more base (e ∷ events) event = replay-more (next_state base e) events e
 
 next_count : (state : Base) (event : Event) → (next_state state event).count ≡ state.count + 1
 next_count state (Registered pass statement) = refl
-next_count state (Issued pass cited grant) = refl
+next_count state (Issued pass cited proof grant) = refl
 next_count state (Acted pass caller op procaps moment) = refl
 
 -- the count of a state is the base's and the number of events
@@ -27,7 +27,7 @@ count-replay base (e ∷ events) = let now = count-replay (next_state base e) ev
 
 next_statements : (state : Base) (event : Event) → MayFollow state event → length state.statements ≤ 4096 → length (next_state state event).statements ≤ 4096
 next_statements state event (may_register pass statement new room) few = omega (arith, length-append state.statements (statement ∷ []))
-next_statements state event (may_issue pass cited g good) few = few
+next_statements state event (may_issue pass cited proof g good) few = few
 next_statements state event (may_act pass caller op procaps moment reply after later in_range slots bytes issued admitted does derived) few = few
 
 -- no lawful history has more than 4,096 statements
@@ -38,7 +38,7 @@ few_statements base events few (one_more before event lawful follows) =
 
 next_moment : (state : Base) (event : Event) → MayFollow state event → IsMoment state.moment → IsMoment (next_state state event).moment
 next_moment state event (may_register pass statement new room) m = m
-next_moment state event (may_issue pass cited g good) m = m
+next_moment state event (may_issue pass cited proof g good) m = m
 next_moment state event (may_act pass caller op procaps moment reply after later in_range slots bytes issued admitted does derived) m = in_range
 
 -- the moment of a lawful history's state lies in the range

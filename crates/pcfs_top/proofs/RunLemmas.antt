@@ -11,6 +11,7 @@ use Rattle.pcfs_top.specs.declared.request.StepRequest.{StepRequest}
 use Rattle.pcfs_top.specs.declared.request.StepRequest.TheVariants as requests
 use Rattle.pcfs_top.specs.declared.reply.Reply.{Reply}
 use Rattle.pcfs_top.specs.WellFormed.{IsWellFormed}
+use Rattle.proof_verifier.specs.Checking.{checking}
 use Rattle.pcfs_top.specs.Answer.{Answers}
 use Rattle.pcfs_top.specs.Replay.{replay}
 use Rattle.pcfs_top.specs.Lawful.{IsLawful, IsLawfulBase, AreLawful, no_event, one_more}
@@ -28,7 +29,7 @@ pub IsAllowed-line : (line : List ℕ) (command : Command) → IsLine line comma
 IsAllowed-line line command (lines.sets_clock word second is) = is.in_range
 IsAllowed-line line command (lines.sets_caller who is) = tt
 IsAllowed-line line command (lines.registers who lower upper from to is l u) = tt
-IsAllowed-line line command (lines.verifies who word number is n) = tt
+IsAllowed-line line command (lines.verifies who word number is n) = record { some = omega arith; few = omega arith; rising = tt }
 IsAllowed-line line command (lines.creates name word number is n) = refl
 
 -- a line adds at most one event
@@ -44,7 +45,9 @@ one_event base before after line reply (script.outside none) = omega arith
 one_event base before after line reply (script.sets_clock second is) = omega arith
 one_event base before after line reply (script.sets_caller who is) = omega arith
 one_event base before after line reply (script.registers statement r event is answer) = more_events before.events event
-one_event base before after line reply (script.verifies goal number r event is answer) = more_events before.events event
+one_event base before after line reply (script.cites_none goal numbers proof number is absent) = omega arith
+one_event base before after line reply (script.proves_none goal numbers proof cites fault r is found verdict told) = omega arith
+one_event base before after line reply (script.verifies goal numbers proof cites g r event is found verdict answer) = more_events before.events event
 one_event base before after line reply (script.acts op procaps r event is answer) = more_events before.events event
 
 -- so there are no more events than lines
@@ -73,8 +76,10 @@ IsLawfulStanding-answered base before after line reply lawful stands (script.set
 IsLawfulStanding-answered base before after line reply lawful stands (script.sets_caller who is) = record { clock = stands.clock; each = stands.each }
 IsLawfulStanding-answered base before after line reply lawful stands (script.registers statement r event is answer) =
     record { clock = stands.clock; each = AreLawful-answered base before.events script_pass before.clock (requests.Register statement) r event lawful stands.each stands.clock tt answer }
-IsLawfulStanding-answered base before after line reply lawful stands (script.verifies goal number r event is answer) =
-    record { clock = stands.clock; each = AreLawful-answered base before.events script_pass before.clock (requests.Issue number goal) r event lawful stands.each stands.clock tt answer }
+IsLawfulStanding-answered base before after line reply lawful stands (script.cites_none goal numbers proof number is absent) = stands
+IsLawfulStanding-answered base before after line reply lawful stands (script.proves_none goal numbers proof cites fault r is found verdict told) = stands
+IsLawfulStanding-answered base before after line reply lawful stands (script.verifies goal numbers proof cites g r event is found verdict answer) =
+    record { clock = stands.clock; each = AreLawful-answered base before.events script_pass before.clock (requests.Issue (checking cites goal proof g)) r event lawful stands.each stands.clock tt answer }
 IsLawfulStanding-answered base before after line reply lawful stands (script.acts op procaps r event is answer) =
     record { clock = stands.clock; each = AreLawful-answered base before.events script_pass before.clock (requests.Act before.caller op procaps) r event lawful stands.each stands.clock (IsAllowed-line line (commands.Do op procaps) is) answer }
 

@@ -1,7 +1,8 @@
 -- A script that was run as far as some rest of its input.
-use Rattle.std.proofs.Common.{◌≡◌, ℕ, ℤ, suc, ◌+◌, ◌-◌, ◌^◌, ◌≤◌, ◌<◌, Bool, true, false, cond, List, [], ◌∷◌, ◌++◌, length, take, Option, Some, None, refl, sym, ap, subst, ◌∙◌, arith, append_assoc, append-nil, length-append}
+use Rattle.std.proofs.Common.{◌≡◌, ℕ, ℤ, suc, ◌+◌, ◌-◌, ◌^◌, ◌≤◌, ◌<◌, Bool, true, false, cond, List, [], ◌∷◌, ◌++◌, length, take, Option, Some, None, Err, ⊎_elim, refl, sym, ap, subst, ◌∙◌, arith, append_assoc, append-nil, length-append}
 use Rattle.std.specs.Prelude.{◌==◌, IfSome, MatchOption}
 use Rattle.std.proofs.lemmas.Grind.{flat_map-append}
+use Rattle.std.proofs.lemmas.Option.{none-some}
 use Rattle.std.proofs.Math.Seq.{take-append-add}
 use Rattle.bl_syntax.specs.declared.grant.Goal.{Goal}
 use Rattle.bl_syntax.specs.Statement.{Saying}
@@ -16,6 +17,18 @@ use Rattle.pcfs_top.specs.declared.reply.Reply.{Reply}
 use Rattle.pcfs_top.specs.declared.reply.Reply.TheVariants as replies
 use Rattle.pcfs_top.specs.declared.command.Command.{Command}
 use Rattle.pcfs_top.specs.declared.command.Command.TheVariants as commands
+use Rattle.proof_term.specs.Proof.{Deduction}
+use Rattle.proof_verifier.specs.declared.cites.Cite.{Cite}
+use Rattle.proof_verifier.specs.declared.fault.CheckFault.{CheckFault}
+use Rattle.proof_verifier.specs.declared.fault.CheckFault.TheVariants.{NoMemory}
+use Rattle.proof_verifier.specs.Cited.{statements_of}
+use Rattle.proof_verifier.specs.Checking.{Checking, checking, IsChecked}
+use Rattle.proof_verifier.specs.Run.{IsFault}
+use Rattle.proof_verifier.specs.Verdict.{verdict}
+use Rattle.pcfs_top.specs.declared.cite.Citation.{Citation}
+use Rattle.pcfs_top.specs.declared.cite.Citation.TheVariants as citations
+use Rattle.pcfs_top.specs.Citing.{AreFound, Cites}
+use Rattle.pcfs_top.specs.Faults.{unproved}
 use Rattle.pcfs_top.specs.Answer.{Answers}
 use Rattle.pcfs_top.specs.Decision.{Gated}
 use Rattle.pcfs_top.specs.Replay.{replay, fresh}
@@ -78,10 +91,48 @@ pub AnswersLine-register : (base : Base) (before after : Standing) (line : List 
 AnswersLine-register base before after line command statement reply asks line_is asked =
     subst (λ (s : Standing). AnswersLine base before line reply s) (sym asked.after_is) (script.registers statement reply asked.event (subst (IsLine line) asks line_is) asked.answer)
 
-pub AnswersLine-verify : (base : Base) (before after : Standing) (line : List ℕ) (command : Command) (goal : Goal) (number : ℕ) (reply : Reply) → command ≡ commands.Verify goal number → IsLine line command →
-    IsAsked base before (requests.Issue number goal) reply after → AnswersLine base before line reply after
-AnswersLine-verify base before after line command goal number reply asks line_is asked =
-    subst (λ (s : Standing). AnswersLine base before line reply s) (sym asked.after_is) (script.verifies goal number reply asked.event (subst (IsLine line) asks line_is) asked.answer)
+-- the statements that a desk cites
+pub Cites-seated : (inside seated : Seated) (shown numbers : List ℕ) (citation : Citation) → inside ≡ seated → shown ≡ numbers → Cites (replay inside.base inside.standing.events).statements shown citation →
+    Cites (replay seated.base seated.standing.events).statements numbers citation
+Cites-seated inside seated shown numbers citation same numbers_are found =
+    subst (λ (s : Seated). Cites (replay s.base s.standing.events).statements numbers citation) same (subst (λ (ns : List ℕ). Cites (replay inside.base inside.standing.events).statements ns citation) numbers_are found)
+
+-- no statement stands under one of the numbers
+pub AnswersLine-absent : (base : Base) (before : Standing) (line : List ℕ) (goal : Goal) (numbers : List ℕ) (proof : Deduction) (citation : Citation) (number : ℕ) → citation ≡ citations.Absent number →
+    Cites (replay base before.events).statements numbers citation → IsLine line (commands.Verify goal numbers proof) → AnswersLine base before line (replies.Absent number) before
+AnswersLine-absent base before line goal numbers proof citation number is found line_is =
+    script.cites_none goal numbers proof number line_is (subst (Cites (replay base before.events).statements numbers) is found)
+
+-- the proof is refused
+refused_line : (base : Base) (before : Standing) (line : List ℕ) (goal : Goal) (numbers : List ℕ) (proof : Deduction) (cites : List Cite) (fault : CheckFault) (reply : Reply) →
+    AreFound (replay base before.events).statements numbers cites → unproved fault ≡ Some reply → IsFault fault (verdict (statements_of cites) goal proof) → IsLine line (commands.Verify goal numbers proof) →
+    AnswersLine base before line reply before
+refused_line base before line goal numbers proof cites fault reply found told refused line_is =
+    ⊎_elim (λ (none : fault ≡ NoMemory). absurd (none-some reply (ap unproved (sym none) ∙ told)))
+    (λ (same : verdict (statements_of cites) goal proof ≡ Err fault). script.proves_none goal numbers proof cites fault reply line_is found same told) refused
+
+-- the statements that were found
+AreFound-cited : (statements : List Saying) (numbers : List ℕ) (citation : Citation) (cites : List Cite) → citation ≡ citations.Cited cites → Cites statements numbers citation → AreFound statements numbers cites
+AreFound-cited statements numbers citation cites is found = subst (Cites statements numbers) is found
+
+pub AnswersLine-refused : (base : Base) (before : Standing) (line : List ℕ) (goal : Goal) (numbers : List ℕ) (proof : Deduction) (citation : Citation) (cites : List Cite) (fault : CheckFault) (reply : Reply) →
+    citation ≡ citations.Cited cites → Cites (replay base before.events).statements numbers citation → unproved fault ≡ Some reply → IsFault fault (verdict (statements_of cites) goal proof) →
+    IsLine line (commands.Verify goal numbers proof) → AnswersLine base before line reply before
+AnswersLine-refused base before line goal numbers proof citation cites fault reply is found told refused line_is =
+    refused_line base before line goal numbers proof cites fault reply (AreFound-cited (replay base before.events).statements numbers citation cites is found) told refused line_is
+
+pub AnswersLine-verify : (base : Base) (before after : Standing) (line : List ℕ) (goal : Goal) (numbers : List ℕ) (proof : Deduction) (citation : Citation) (cites : List Cite) (checked : Checking) (reply : Reply) →
+    citation ≡ citations.Cited cites → Cites (replay base before.events).statements numbers citation → checked ≡ checking cites goal proof checked.grant → IsChecked checked → IsLine line (commands.Verify goal numbers proof) →
+    IsAsked base before (requests.Issue checked) reply after → AnswersLine base before line reply after
+AnswersLine-verify base before after line goal numbers proof citation cites checked reply is found same granted line_is asked =
+    subst (λ (s : Standing). AnswersLine base before line reply s) (sym asked.after_is)
+    (script.verifies goal numbers proof cites checked.grant reply asked.event line_is (AreFound-cited (replay base before.events).statements numbers citation cites is found)
+    (subst IsChecked same granted).verdict_is
+    (subst (λ (c : Checking). Answers (replay base before.events) script_pass before.clock (requests.Issue c) reply asked.event) same asked.answer))
+
+-- the line asks for what the command asks for
+pub IsLine-same : (line : List ℕ) (command other : Command) → command ≡ other → IsLine line command → IsLine line other
+IsLine-same line command other same = subst (IsLine line) same
 
 acts_line : (base : Base) (before after : Standing) (line : List ℕ) (op : Op) (procaps : List ℕ) (reply : Reply) → IsLine line (commands.Do op procaps) →
     IsAsked base before (requests.Act before.caller op procaps) reply after → AnswersLine base before line reply after

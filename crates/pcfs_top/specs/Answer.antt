@@ -1,10 +1,9 @@
 -- The answer to a request over a state, and the event to keep: one constructor for each answer and its cause (this project's own).
-use Rattle.std.specs.Prelude.{◌≡◌, ◌≢◌, ◌≤◌, ◌<◌, ◌+◌, ℕ, ℤ, List, [], ◌∷◌, length, Option, Some, None, Contains}
+use Rattle.std.specs.Prelude.{◌≡◌, ◌≢◌, ◌≤◌, ◌<◌, ◌+◌, ℕ, ℤ, List, ◌∷◌, length, Option, Some, None, Contains}
 use Rattle.std.specs.Int.{int_max}
 use Rattle.std.specs.List.{AllByRecursion}
 use Rattle.bl_syntax.specs.declared.terms.Constraint.{Constraint}
 use Rattle.bl_syntax.specs.declared.terms.StatePred.{StatePred}
-use Rattle.bl_syntax.specs.declared.grant.Goal.{Goal}
 use Rattle.bl_syntax.specs.FirstFailing.{IsFirstFailing}
 use Rattle.bl_syntax.specs.Statement.{Saying}
 use Rattle.bl_syntax.specs.Grant.{Granted, Holds, HoldsAt}
@@ -25,7 +24,9 @@ use Rattle.pcfs_top.specs.World.{FileTree}
 use Rattle.pcfs_top.specs.Facts.{facts}
 use Rattle.pcfs_top.specs.Needs.{Need, needs}
 use Rattle.pcfs_top.specs.Effect.{refusal, replied, OpReply, node, effect}
-use Rattle.pcfs_top.specs.Verdict.{grants, faults, IsVerdict}
+use Rattle.proof_verifier.specs.Cited.{AreCited}
+use Rattle.proof_verifier.specs.Checking.{Checking, IsChecked}
+use Rattle.pcfs_top.specs.Citing.{Stands, IsMoved, numbers_of}
 
 -- the moment of a step: the clock's, but not before the last one
 abbrev pub moment_of : Base → ℤ → ℤ
@@ -89,12 +90,11 @@ pub data Answers (state : Base) (pass : ℕ) (clock : ℤ) : StepRequest → Rep
       Answers state pass clock (requests.Register statement) (replies.Rejected RegistryFull) None
   registered : (statement : Saying) → (Contains state.statements statement → ⊥) → length state.statements < 4096 →
       Answers state pass clock (requests.Register statement) (replies.Statement (length state.statements + 1)) (Some (events.Registered pass statement))
-  no_statement : (number : ℕ) (goal : Goal) → (HasNumber state.statements number → ⊥) →
-      Answers state pass clock (requests.Issue number goal) (replies.Absent number) None
-  unproved : (number : ℕ) (goal : Goal) (statement : Saying) (fault rule : ℕ) → IsNumbered state.statements number statement → IsVerdict statement goal (faults fault rule) →
-      Answers state pass clock (requests.Issue number goal) (replies.Unproved fault rule) None
-  issued : (number : ℕ) (goal : Goal) (statement : Saying) (g : Granted) → IsNumbered state.statements number statement → IsVerdict statement goal (grants g) →
-      Answers state pass clock (requests.Issue number goal) (replies.Issue (length state.issues + 1) (length g.times) (length g.states)) (Some (events.Issued pass (number ∷ []) g))
+  moved : (checked : Checking) (number : ℕ) → IsMoved state.statements checked.cited number →
+      Answers state pass clock (requests.Issue checked) (replies.Absent number) None
+  issued : (checked : Checking) → AreCited checked.cited → IsChecked checked → AllByRecursion (Stands state.statements) checked.cited →
+      Answers state pass clock (requests.Issue checked) (replies.Issue (length state.issues + 1) (length checked.grant.times) (length checked.grant.states))
+        (Some (events.Issued pass (numbers_of checked.cited) checked.proof checked.grant))
   no_issue : (caller : List ℕ) (op : Op) (procaps : List ℕ) (place number : ℕ) → IsFirstFailing (HasNumber state.issues) procaps place number →
       Answers state pass clock (requests.Act caller op procaps) (replies.Absent number) None
   denied : (caller : List ℕ) (op : Op) (procaps : List ℕ) (place : ℕ) (cause : Cause) → AreIssued state procaps → IsDenied state caller procaps (moment_of state clock) (needs op state.world) place cause →

@@ -10,6 +10,7 @@ use Rattle.pcfs_top.specs.declared.command.Command.{Command}
 use Rattle.pcfs_top.specs.declared.command.Command.TheVariants.{At, As, Register, Verify, Do}
 use Rattle.bl_syntax.specs.TimeOrder.{IsMoment}
 use Rattle.pcfs_top.specs.Needs.{slots}
+use Rattle.pcfs_top.specs.Citing.{AreCitable}
 use Rattle.pcfs_top.specs.Answer.{Answers}
 use Rattle.pcfs_top.specs.Replay.{replay}
 use Rattle.pcfs_top.specs.Script.{Standing, AnswersLine, script_pass}
@@ -30,10 +31,10 @@ pub data IsReplied (base : Base) (before : Standing) (line : List ℕ) : Reply �
   answered : (reply : Reply) (after : Standing) → AnswersLine base before line reply after → IsReplied base before line reply after
   without_memory : IsReplied base before line replies.NoMemory before
 
--- what a line can ask for: a moment for the clock, and a procap for each place of an operation's needs
+-- what a line can ask for: a moment for the clock, numbers that can be cited, and a procap for each place of an operation's needs
 abbrev pub IsAllowed : Command → Type 0
 IsAllowed (At second) = IsMoment second
 IsAllowed (As who) = Unit {0}
 IsAllowed (Register statement) = Unit {0}
-IsAllowed (Verify goal number) = Unit {0}
+IsAllowed (Verify goal numbers proof) = AreCitable numbers
 IsAllowed (Do op procaps) = length procaps ≡ slots op

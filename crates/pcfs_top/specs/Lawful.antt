@@ -1,7 +1,7 @@
 -- Which histories are lawful: each event is one that the state before it allows (this project's own).
 use Rattle.std.specs.Prelude.{◌≡◌, ◌≤◌, ◌<◌, ◌+◌, ◌-◌, ◌^◌, ◌≤ℤ◌, ℕ, ℤ, List, [], ◌∷◌, ◌++◌, length, Contains}
 use Rattle.std.specs.List.{AllByRecursion}
-use Rattle.bl_rules.specs.Allowed.{Allows, SoundGrant}
+use Rattle.bl_rules.specs.Allowed.{Allows}
 use Rattle.bl_syntax.specs.TimeOrder.{IsMoment}
 use Rattle.bl_syntax.specs.Statement.{Saying}
 use Rattle.bl_syntax.specs.Grant.{Granted, AreDistinct}
@@ -10,24 +10,14 @@ use Rattle.pcfs_top.specs.declared.event.Issue.{Issue}
 use Rattle.pcfs_top.specs.declared.event.Event.{Event}
 use Rattle.pcfs_top.specs.declared.event.Event.TheVariants.{Registered, Issued, Acted}
 use Rattle.pcfs_top.specs.declared.event.Base.{Base}
-use Rattle.pcfs_top.specs.Numbered.{IsNumbered}
+use Rattle.proof_term.specs.Proof.{Deduction}
+use Rattle.pcfs_top.specs.Citing.{IsGoodIssue}
 use Rattle.pcfs_top.specs.World.{FileTree, IsTree}
 use Rattle.pcfs_top.specs.Facts.{facts}
 use Rattle.pcfs_top.specs.Needs.{Need, needs, slots, bytes_to_write}
 use Rattle.pcfs_top.specs.Effect.{OpReply, replied, effect}
-use Rattle.pcfs_top.specs.Verdict.{grants, IsVerdict}
 use Rattle.pcfs_top.specs.Answer.{IsProcapAt, AreIssued, IsAdmitted}
 use Rattle.pcfs_top.specs.Replay.{replay}
-
--- the issue cites a statement of the list, its grant is the verdict on the proof that cites it, and the grant is sound: wherever its conditions hold, the logic derives from the
--- statement that is cited what it grants
-pub record IsGoodIssue (statements : List Saying) (issue : Issue) : Type 0 where
-  pub number : ℕ
-  pub statement : Saying
-  pub cites : issue.cited ≡ number ∷ []
-  pub registered : IsNumbered statements number statement
-  pub verdict : IsVerdict statement issue.grant.goal (grants issue.grant)
-  pub sound : SoundGrant (statement ∷ []) issue.grant
 
 -- the grant is that of an issue
 pub record WasIssued (issues : List Issue) (g : Granted) : Type 0 where
@@ -47,7 +37,7 @@ AreDerived state caller op procaps moment = AllByRecursion (IsDerived state call
 -- the event may come next
 pub data MayFollow (state : Base) : Event → Type 0 where
   may_register : (pass : ℕ) (statement : Saying) → (Contains state.statements statement → ⊥) → length state.statements < 4096 → MayFollow state (Registered pass statement)
-  may_issue : (pass : ℕ) (cited : List ℕ) (g : Granted) → IsGoodIssue state.statements (record { cited = cited; grant = g }) → MayFollow state (Issued pass cited g)
+  may_issue : (pass : ℕ) (cited : List ℕ) (proof : Deduction) (g : Granted) → IsGoodIssue state.statements (record { cited = cited; proof = proof; grant = g }) → MayFollow state (Issued pass cited proof g)
   may_act : (pass : ℕ) (caller : List ℕ) (op : Op) (procaps : List ℕ) (moment : ℤ) (reply : OpReply) (after : FileTree) →
       state.moment ≤ℤ moment → IsMoment moment → length procaps ≡ slots op → bytes_to_write op ≤ 65536 →
       AreIssued state procaps → IsAdmitted state caller op procaps moment → effect caller op state.world ≡ replied reply after → AreDerived state caller op procaps moment →

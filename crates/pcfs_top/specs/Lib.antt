@@ -1,4 +1,6 @@
+pub mod Admin
 pub mod Answer
+pub mod Citing
 pub mod Decides
 pub mod Decision
 pub mod DecisionCode
@@ -7,6 +9,7 @@ pub mod Desk
 pub mod DeskCode
 pub mod Effect
 pub mod Facts
+pub mod Faults
 pub mod Headline
 pub mod History
 pub mod HistoryCode
@@ -20,8 +23,6 @@ pub mod Replay
 pub mod ReplyText
 pub mod Run
 pub mod Script
-pub mod Verdict
-pub mod Verified
 pub mod WellFormed
 pub mod Words
 pub mod World

@@ -15,7 +15,8 @@ use Rattle.pcfs_top.specs.declared.command.Command.{Command}
 use Rattle.pcfs_top.specs.declared.command.Command.TheVariants.{At, As, Register, Verify, Do}
 use Rattle.pcfs_top.specs.World.{is_node_name}
 use Rattle.bl_rules.specs.DirectGrant.{wanted}
-use Rattle.pcfs_top.specs.Verdict.{admin}
+use Rattle.proof_term.specs.Proof.{Deduction, says_r, claim, init}
+use Rattle.pcfs_top.specs.Admin.{admin}
 
 -- the byte before the first of these lines
 abbrev pub with_byte : ℕ → List (List ℕ) → List (List ℕ)
@@ -62,6 +63,10 @@ writes_root who = record { who = who; file = record { 0 = 1 }; perm = Write }
 abbrev pub says_may : List ℕ → TimePoint → TimePoint → Saying
 says_may who from to = record { who = admin; body = wanted (writes_root who); from = from; to = to }
 
+-- the proof of these lines, which is the text `saysR(claim(0,init(1)))`: `admin` says it, for that is the claim of the statement that is cited
+abbrev pub by_claim : Deduction
+by_claim = says_r (claim 0 (init 1))
+
 -- the line is of a form, and asks for this
 pub data IsLine : List ℕ → Command → Type 0 where
   sets_clock : (word : List ℕ) (second : ℤ) → IsSecond word second →
@@ -71,6 +76,6 @@ pub data IsLine : List ℕ → Command → Type 0 where
   registers : (who lower upper : List ℕ) (from to : TimePoint) → IsTrue (is_principal_name who) → IsBound lower from → IsBound upper to →
       IsLine (codes "register - admin says may(" ++ (who ++ (codes ",#1,write) from " ++ (lower ++ (codes " to " ++ upper))))) (Register (says_may who from to))
   verifies : (who word : List ℕ) (number : ℕ) → IsTrue (is_principal_name who) → IsNumber word number →
-      IsLine (codes "verify " ++ (who ++ (codes " #1 write " ++ (word ++ codes " saysR(claim(0,init(1)))")))) (Verify (writes_root who) number)
+      IsLine (codes "verify " ++ (who ++ (codes " #1 write " ++ (word ++ codes " saysR(claim(0,init(1)))")))) (Verify (writes_root who) (number ∷ []) by_claim)
   creates : (name word : List ℕ) (number : ℕ) → IsTrue (is_node_name name) → IsNumber word number →
       IsLine (codes "do create #1 " ++ (name ++ (codes " @" ++ word))) (Do (Create (record { 0 = 1 }) name) (number ∷ []))

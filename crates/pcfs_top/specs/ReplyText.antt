@@ -73,7 +73,7 @@ reply_text (replies.Denied denial) = denial_text denial
 reply_text (replies.Refused refusal at) = codes "refused " ++ (decimal refusal ++ (codes " at " ++ decimal at))
 reply_text (replies.Rejected fault) = rejection_text fault
 reply_text (replies.Absent number) = codes "absent " ++ decimal number
-reply_text (replies.Unproved fault rule) = codes "unproved " ++ (decimal fault ++ (codes " " ++ decimal rule))
+reply_text (replies.Unproved fault node) = codes "unproved " ++ (decimal fault ++ (codes " " ++ decimal node))
 reply_text (replies.Bad fault) = codes "bad " ++ decimal fault
 reply_text replies.NoMemory = codes "nomemory"
 

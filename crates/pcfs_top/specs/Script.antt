@@ -1,5 +1,5 @@
 -- The run of a script: its lines in order, each answered over the state that the lines before it left (this project's own).
-use Rattle.std.specs.Prelude.{ℕ, ℤ, pos, List, [], ◌∷◌, ◌++◌, Option}
+use Rattle.std.specs.Prelude.{ℕ, ℤ, pos, List, [], ◌∷◌, ◌++◌, Option, Some, Ok, Err, ◌≡◌}
 use Rattle.std.specs.Option.{option_to_list}
 use Rattle.bl_syntax.specs.declared.grant.Goal.{Goal}
 use Rattle.bl_syntax.specs.Statement.{Saying}
@@ -14,7 +14,16 @@ use Rattle.pcfs_top.specs.declared.reply.Reply.TheVariants as replies
 use Rattle.pcfs_top.specs.Answer.{Answers}
 use Rattle.pcfs_top.specs.Replay.{replay}
 use Rattle.pcfs_top.specs.Lines.{IsLine}
-use Rattle.pcfs_top.specs.Verdict.{admin}
+use Rattle.pcfs_top.specs.Admin.{admin}
+use Rattle.pcfs_top.specs.Citing.{AreFound, IsAbsent}
+use Rattle.pcfs_top.specs.Faults.{unproved}
+use Rattle.bl_syntax.specs.Grant.{Granted}
+use Rattle.proof_term.specs.Proof.{Deduction}
+use Rattle.proof_verifier.specs.declared.cites.Cite.{Cite}
+use Rattle.proof_verifier.specs.declared.fault.CheckFault.{CheckFault}
+use Rattle.proof_verifier.specs.Cited.{statements_of}
+use Rattle.proof_verifier.specs.Checking.{checking}
+use Rattle.proof_verifier.specs.Verdict.{verdict}
 
 -- where a script stands: what its clock shows, who calls, and the events so far
 pub record Standing : Type 0 where
@@ -38,8 +47,15 @@ pub data AnswersLine (base : Base) (before : Standing) (line : List ℕ) : Reply
   registers : (statement : Saying) (reply : Reply) (event : Option Event) → IsLine line (commands.Register statement) →
       Answers (replay base before.events) script_pass before.clock (requests.Register statement) reply event →
       AnswersLine base before line reply (record before { events = before.events ++ option_to_list event })
-  verifies : (goal : Goal) (number : ℕ) (reply : Reply) (event : Option Event) → IsLine line (commands.Verify goal number) →
-      Answers (replay base before.events) script_pass before.clock (requests.Issue number goal) reply event →
+  cites_none : (goal : Goal) (numbers : List ℕ) (proof : Deduction) (number : ℕ) → IsLine line (commands.Verify goal numbers proof) →
+      IsAbsent (replay base before.events).statements numbers number →
+      AnswersLine base before line (replies.Absent number) before
+  proves_none : (goal : Goal) (numbers : List ℕ) (proof : Deduction) (cites : List Cite) (fault : CheckFault) (reply : Reply) → IsLine line (commands.Verify goal numbers proof) →
+      AreFound (replay base before.events).statements numbers cites → verdict (statements_of cites) goal proof ≡ Err fault → unproved fault ≡ Some reply →
+      AnswersLine base before line reply before
+  verifies : (goal : Goal) (numbers : List ℕ) (proof : Deduction) (cites : List Cite) (g : Granted) (reply : Reply) (event : Option Event) → IsLine line (commands.Verify goal numbers proof) →
+      AreFound (replay base before.events).statements numbers cites → verdict (statements_of cites) goal proof ≡ Ok g →
+      Answers (replay base before.events) script_pass before.clock (requests.Issue (checking cites goal proof g)) reply event →
       AnswersLine base before line reply (record before { events = before.events ++ option_to_list event })
   acts : (op : Op) (procaps : List ℕ) (reply : Reply) (event : Option Event) → IsLine line (commands.Do op procaps) →
       Answers (replay base before.events) script_pass before.clock (requests.Act before.caller op procaps) reply event →

@@ -7,5 +7,5 @@ use Rattle.pcfs_top.specs.Needs.{slots}
 -- an operation brings one procap for each place of its needs
 abbrev pub IsWellFormed : StepRequest → Type 0
 IsWellFormed (Register statement) = Unit {0}
-IsWellFormed (Issue number goal) = Unit {0}
+IsWellFormed (Issue checked) = Unit {0}
 IsWellFormed (Act caller op procaps) = length procaps ≡ slots op

@@ -2,6 +2,7 @@
 
 use crate::event::Op;
 use bl_syntax::{Goal, Numbers, Principal, Statement};
+use proof_term::ProofTree;
 
 /// A line of a script that is of one of the forms.
 #[derive(Debug, Drop)]
@@ -12,8 +13,8 @@ pub enum Command {
     As(Principal),
     /// Registers a statement.
     Register(Statement),
-    /// Verifies a proof of the goal that cites the statement of this number.
-    Verify(Goal, u32),
+    /// Verifies the proof of the goal from the statements of these numbers.
+    Verify(Goal, Numbers, ProofTree),
     /// Does an operation under the procaps of these issues.
     Do(Op, Numbers),
 }

@@ -4,14 +4,16 @@ ghost use Rattle.std.specs.Prelude.{◌≡◌, ◌≤◌, ◌<◌, ◌+◌, ◌-
 ghost use Rattle.std.specs.List.{slice_get};
 ghost use Rattle.pcfs_top.specs.History.{state_of};
 ghost use Rattle.pcfs_top.specs.Decision.{IsDecided};
+ghost use Rattle.pcfs_top.specs.Citing.{numbers_of};
 
+use crate::cite::{cited_numbers, first_moved};
 use crate::event::{Event, Issue};
 use crate::history::History;
 use crate::reply::{RegisterFault, Reply};
 use crate::request::StepRequest;
 use crate::step::{Change, Step};
-use crate::verdict::{Verified, verify};
-use bl_syntax::{Goal, Grant, NoMemory, Numbers, Statement};
+use bl_syntax::{NoMemory, Numbers, Statement};
+use proof_verifier::Checked;
 use std::alloc::Global;
 
 /// How many statements may be registered.
@@ -83,49 +85,57 @@ pub fn citing(alloc: Global, number: u32) -> Result<Numbers, NoMemory>
     Ok(cited)
 }
 
-// The step that issues the grant.
-fn issuing(alloc: Global, pass: u64, number: u32, grant: Grant) -> Result<Step, NoMemory>
-    ensures event { IfOk result (λ step. step.event ≡ Event.Issued pass (number ∷ []) grant) }
-    ensures change { IfOk result (λ step. step.change ≡ Change.Issue (record { cited = number ∷ []; grant = grant })) }
+// A grant that is issued by a checked proof.
+fn issue_of(alloc: Global, checked: &Checked) -> Result<Issue, NoMemory>
+    ensures { IfOk result (λ issue. issue ≡ record { cited = numbers_of checked.now.cited; proof = checked.now.proof; grant = checked.now.grant }) }
 {
-    let kept = grant.copy(alloc)?;
-    Ok(Step {
-        change: Change::Issue(Issue {
-            cited: citing(alloc, number)?,
-            grant: kept,
-        }),
-        event: Event::Issued {
-            pass,
-            cited: citing(alloc, number)?,
-            grant,
-        },
+    Ok(Issue {
+        cited: cited_numbers(alloc, checked.cited().as_slice())?,
+        proof: checked.proof().copy(alloc)?,
+        grant: checked.grant().copy(alloc)?,
     })
 }
 
-/// Whether and as what a grant is issued by the proof that cites the statement of this number.
+// The step that issues the grant.
+fn issuing(alloc: Global, pass: u64, checked: &Checked) -> Result<Step, NoMemory>
+    ensures event { IfOk result (λ step. step.event ≡ Event.Issued pass (numbers_of checked.now.cited) checked.now.proof checked.now.grant) }
+    ensures change { IfOk result (λ step. step.change ≡ Change.Issue (record { cited = numbers_of checked.now.cited; proof = checked.now.proof; grant = checked.now.grant })) }
+{
+    let Issue {
+        cited,
+        proof,
+        grant,
+    } = issue_of(alloc, checked)?;
+    Ok(Step {
+        event: Event::Issued {
+            pass,
+            cited,
+            proof,
+            grant,
+        },
+        change: Change::Issue(issue_of(alloc, checked)?),
+    })
+}
+
+/// Whether and as what the grant of a checked proof is issued.
 pub fn decide_issue(
     alloc: Global,
     history: &History,
     pass: u64,
-    number: u32,
-    goal: &Goal,
+    checked: &Checked,
 ) -> Result<Decided, NoMemory>
-    ensures { IfOk result (λ d. (clock : ℤ) → IsDecided (state_of history.now) pass clock (StepRequest.Issue number goal.now) d.reply d.step) }
+    ensures { IfOk result (λ d. (clock : ℤ) → IsDecided (state_of history.now) pass clock (StepRequest.Issue checked.now) d.reply d.step) }
 {
-    let statements = history.statements();
-    if number == 0 || statements.len() < number as usize {
+    let cites = checked.cited().as_slice();
+    if let Some(number) = first_moved(history.statements(), cites) {
         return Ok(told(Reply::Absent(number as u64)));
     }
-    match verify(alloc, &statements[number as usize - 1], goal)? {
-        Verified::Fault(fault, rule) => Ok(told(Reply::Unproved(fault, rule))),
-        Verified::Granted(grant) => {
-            let times = grant.times().len() as u32;
-            let states = grant.states().len() as u32;
-            let issues = history.issues().len() as u64;
-            Ok(Decided {
-                reply: Reply::Issue(issues + 1, times, states),
-                step: Some(issuing(alloc, pass, number, grant)?),
-            })
-        }
-    }
+    let grant = checked.grant();
+    let times = grant.times().len() as u32;
+    let states = grant.states().len() as u32;
+    let issues = history.issues().len() as u64;
+    Ok(Decided {
+        reply: Reply::Issue(issues + 1, times, states),
+        step: Some(issuing(alloc, pass, checked)?),
+    })
 }

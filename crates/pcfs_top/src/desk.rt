@@ -2,12 +2,16 @@
 
 ghost use Rattle.std.specs.Prelude.{◌≡◌, ◌<◌, ◌-◌, ◌^◌, List, ℕ, IfOk, OnErr};
 
+use crate::cite::Citation;
 use crate::command::Command;
+use crate::fault::unproved;
 use crate::forms::read_line;
 use crate::gate::{Decision, Gate};
 use crate::reply::Reply;
 use crate::request::StepRequest;
-use bl_syntax::{NoMemory, Principal};
+use bl_syntax::{Goal, NoMemory, Numbers, Principal};
+use proof_term::ProofTree;
+use proof_verifier::check;
 use std::alloc::Global;
 use std::marker::Model;
 
@@ -43,6 +47,8 @@ impl Model for Desk {
 impl Desk {
     ghost use Rattle.pcfs_top.specs.WellFormed.{IsWellFormed};
     ghost use Rattle.pcfs_top.specs.Lines.{IsLine};
+    ghost use Rattle.pcfs_top.specs.Citing.{AreCitable};
+    ghost use Rattle.pcfs_top.specs.declared.command.Command.TheVariants.{Verify};
     ghost use Rattle.pcfs_top.specs.Replay.{replay, fresh};
     ghost use Rattle.pcfs_top.specs.Script.{beginning, AnswersLine};
     ghost use Rattle.pcfs_top.specs.Desk.{IsAsked, IsReplied, IsAllowed};
@@ -76,6 +82,29 @@ impl Desk {
         }
     }
 
+    // Checks the proof of the goal from the statements of these numbers, and asks for an issue.
+    fn verify(
+        &mut self,
+        alloc: Global,
+        goal: Goal,
+        numbers: &Numbers,
+        proof: ProofTree,
+    ) -> Result<Reply, NoMemory>
+        requires counted { (replay self.old.base self.old.standing.events).count < 2 ^ 48 - 1 }
+        requires citable { AreCitable numbers.now }
+        ensures ok { IfOk result (λ reply. (line : List ℕ) → IsLine line (Verify goal numbers.now proof) → AnswersLine self.old.base self.old.standing line reply self.new.standing) }
+        ensures err { OnErr result (self.new ≡ self.old) }
+        ensures base { self.new.base ≡ self.old.base }
+    {
+        match self.gate.cite(alloc, numbers.as_slice())? {
+            Citation::Absent(number) => Ok(Reply::Absent(number as u64)),
+            Citation::Cited(cites) => match check(alloc, cites, goal, proof) {
+                Ok(checked) => self.ask(alloc, &StepRequest::Issue(checked)),
+                Err(fault) => unproved(fault),
+            },
+        }
+    }
+
     // Does what a line of a script asks for.
     fn follow(&mut self, alloc: Global, command: Command) -> Result<Reply, NoMemory>
         requires counted { (replay self.old.base self.old.standing.events).count < 2 ^ 48 - 1 }
@@ -94,7 +123,7 @@ impl Desk {
                 Ok(Reply::Done)
             }
             Command::Register(statement) => self.ask(alloc, &StepRequest::Register(statement)),
-            Command::Verify(goal, number) => self.ask(alloc, &StepRequest::Issue(number, goal)),
+            Command::Verify(goal, numbers, proof) => self.verify(alloc, goal, &numbers, proof),
             Command::Do(op, procaps) => {
                 self.ask(alloc, &StepRequest::Act(self.caller, op, procaps))
             }

@@ -2,6 +2,7 @@
 
 use crate::world::World;
 use bl_syntax::{Bytes, Grant, NoMemory, NodeId, Numbers, Principal, Sequence, Statement};
+use proof_term::ProofTree;
 
 /// An operation on the file tree.
 #[derive(Debug, Drop)]
@@ -10,10 +11,11 @@ pub enum Op {
     Create(NodeId, Bytes),
 }
 
-/// A grant that was issued, and the numbers of the statements that its proof cites.
+/// A grant that was issued, its proof, and the numbers of the statements that the proof cites.
 #[derive(Debug, Drop)]
 pub struct Issue {
     pub cited: Numbers,
+    pub proof: ProofTree,
     pub grant: Grant,
 }
 
@@ -27,6 +29,7 @@ pub enum Event {
     Issued {
         pass: u64,
         cited: Numbers,
+        proof: ProofTree,
         grant: Grant,
     },
     Acted {

@@ -3,11 +3,12 @@
 ghost use Rattle.std.specs.Prelude.{◌≡◌, ◌++◌, [], ◌∷◌, codes, IfSome, IfOk, IsSomeAnd, MatchOption};
 ghost use Rattle.bl_syntax.specs.TimeOrder.{IsInRange};
 ghost use Rattle.pcfs_top.specs.declared.command.Command.{Command};
-ghost use Rattle.pcfs_top.specs.declared.command.Command.TheVariants.{Register, Do};
+ghost use Rattle.pcfs_top.specs.declared.command.Command.TheVariants.{Register, Verify, Do};
 ghost use Rattle.pcfs_top.specs.declared.event.Op.TheVariants.{Create};
-ghost use Rattle.pcfs_top.specs.Lines.{IsLine, says_may};
+ghost use Rattle.pcfs_top.specs.Lines.{IsLine, says_may, writes_root, by_claim};
 
 use crate::command::Command;
+use crate::decide::citing;
 use crate::event::Op;
 use crate::node_name::is_node_name;
 use crate::numerals::{bound, number, second};
@@ -16,6 +17,7 @@ use bl_syntax::{
     Bytes, Formula, Goal, NoMemory, NodeId, Numbers, Perm, Principal, Statement, Term, Terms,
     TimePoint, Word,
 };
+use proof_term::{Proof, ProofTree};
 use std::alloc::Global;
 
 /// The root of the file tree.
@@ -36,7 +38,7 @@ pub fn read_line(alloc: Global, line: &[u8]) -> Result<Option<Command>, NoMemory
         return registers(alloc, rest);
     }
     if let Some(rest) = after(line, b"verify ") {
-        return Ok(verifies(rest));
+        return verifies(alloc, rest);
     }
     if let Some(rest) = after(line, b"do create #1 ") {
         return creates(alloc, rest);
@@ -101,9 +103,45 @@ fn admin_says_may(
     Ok(Statement::new(admin, Formula::Atom(may, terms), from, to).unwrap())
 }
 
-fn verifies(rest: &[u8]) -> Option<Command>
-    ensures found { IfSome result (IsLine (codes "verify " ++ rest.now)) }
-    ensures only { (command : Command) → IsLine (codes "verify " ++ rest.now) command → result ≡ Some command }
+fn verifies(alloc: Global, rest: &[u8]) -> Result<Option<Command>, NoMemory>
+    ensures found { IfOk result (λ r. IfSome r (IsLine (codes "verify " ++ rest.now))) }
+    ensures only { IfOk result (λ r. (command : Command) → IsLine (codes "verify " ++ rest.now) command → r ≡ Some command) }
+{
+    match principal_and_statement(rest) {
+        Some((who, number)) => {
+            let verify = verify_command(alloc, who, number)?;
+            Ok(Some(verify))
+        }
+        None => Ok(None),
+    }
+}
+
+fn verify_command(alloc: Global, who: Principal, number: u32) -> Result<Command, NoMemory>
+    ensures { IfOk result (λ command. command ≡ Verify (writes_root who) (number ∷ []) by_claim) }
+{
+    let goal = Goal {
+        who,
+        file: ROOT,
+        perm: Perm::Write,
+    };
+    let numbers = citing(alloc, number)?;
+    let proof = proof_by_claim(alloc)?;
+    Ok(Command::Verify(goal, numbers, proof))
+}
+
+// The proof that is the claim of the statement that is cited first.
+fn proof_by_claim(alloc: Global) -> Result<ProofTree, NoMemory>
+    ensures { IfOk result (λ proof. proof ≡ by_claim) }
+{
+    let init = Box::new(alloc, Proof::Init(1))?;
+    let claim = Box::new(alloc, Proof::Claim(0, init))?;
+    Ok(ProofTree::new(Proof::SaysR(claim)).unwrap())
+}
+
+fn principal_and_statement(rest: &[u8]) -> Option<(Principal, u32)>
+    ensures found { IfSome result (λ p. IsLine (codes "verify " ++ rest.now) (Verify (writes_root p.0) (p.1 ∷ []) by_claim)) }
+    ensures only { (command : Command) → IsLine (codes "verify " ++ rest.now) command
+        → IsSomeAnd result (λ p. command ≡ Verify (writes_root p.0) (p.1 ∷ []) by_claim) }
 {
     let (name, word, behind) = two_words_before(rest, b" #1 write ", b" saysR(claim(0,init(1)))")?;
     if !behind.is_empty() {
@@ -111,12 +149,7 @@ fn verifies(rest: &[u8]) -> Option<Command>
     }
     let who = Principal::new(name)?;
     let number = number(word)?;
-    let goal = Goal {
-        who,
-        file: ROOT,
-        perm: Perm::Write,
-    };
-    Some(Command::Verify(goal, number))
+    Some((who, number))
 }
 
 fn creates(alloc: Global, rest: &[u8]) -> Result<Option<Command>, NoMemory>

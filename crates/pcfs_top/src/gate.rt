@@ -6,6 +6,7 @@ ghost use Rattle.pcfs_top.specs.Decision.{IsDecided};
 ghost use Rattle.pcfs_top.specs.WellFormed.{IsWellFormed};
 
 use crate::act::decide_act;
+use crate::cite::{Citation, cite};
 use crate::decide::{Decided, decide_issue, decide_register};
 use crate::history::History;
 use crate::reply::Reply;
@@ -68,7 +69,7 @@ fn decide_request(
 {
     match request {
         StepRequest::Register(statement) => decide_register(alloc, history, pass, statement),
-        StepRequest::Issue(number, goal) => decide_issue(alloc, history, pass, *number, goal),
+        StepRequest::Issue(checked) => decide_issue(alloc, history, pass, checked),
         StepRequest::Act(caller, op, procaps) => {
             decide_act(alloc, history, pass, caller, op, procaps, clock)
         }
@@ -79,6 +80,7 @@ impl Gate {
     ghost use Rattle.bl_syntax.specs.TimeOrder.{IsMoment};
     ghost use Rattle.pcfs_top.specs.Replay.{replay, fresh};
     ghost use Rattle.pcfs_top.specs.Decides.{Decides};
+    ghost use Rattle.pcfs_top.specs.Citing.{AreCitable, Cites as AreStatements};
 
     /// A gate over a store before its first event.
     pub fn fresh(alloc: Global) -> Result<Gate, NoMemory>
@@ -88,6 +90,14 @@ impl Gate {
             history: History::fresh(alloc)?,
             pending: None,
         })
+    }
+
+    /// The statements of these numbers, in memory of their own. The numbers strictly rise and are 1 to 64.
+    pub fn cite(&self, alloc: Global, numbers: &[u32]) -> Result<Citation, NoMemory>
+        requires { AreCitable numbers.now }
+        ensures { IfOk result (λ citation. AreStatements (replay self.now.base self.now.events).statements numbers.now citation) }
+    {
+        cite(alloc, self.history.statements(), numbers)
     }
 
     /// Decides the request at the moment that the clock shows, in whole seconds from 1970-01-01T00:00:00Z. An event

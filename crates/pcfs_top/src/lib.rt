@@ -6,10 +6,12 @@
 
 mod act;
 mod cause;
+mod cite;
 mod command;
 mod decide;
 mod desk;
 mod event;
+mod fault;
 mod forms;
 mod fresh;
 mod gate;
@@ -25,10 +27,10 @@ mod request;
 pub mod run;
 mod script;
 mod step;
-mod verdict;
 mod words;
 mod world;
 
+pub use cite::Citation;
 pub use command::Command;
 pub use event::{Base, Event, Events, Issue, Op};
 pub use gate::{Decision, Gate};

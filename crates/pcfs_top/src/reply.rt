@@ -53,8 +53,8 @@ pub enum Reply {
     Rejected(RegisterFault),
     /// There is no statement or issue of this number.
     Absent(u64),
-    /// The proof has this fault at this rule, counted from 0.
-    Unproved(u32, u32),
+    /// The proof has this fault at this node, counted from 0.
+    Unproved(u32, u64),
     /// The line has this fault: 9, it is of none of the forms.
     Bad(u32),
     /// There was no memory for it, and nothing changed.

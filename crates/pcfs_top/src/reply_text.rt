@@ -50,9 +50,9 @@ fn write_text(out: &mut Bytes, reply: &Reply) -> Result<(), NoMemory>
         }
         Reply::Rejected(fault) => write_rejection(out, fault),
         Reply::Absent(number) => write_counted(out, "absent ", *number),
-        Reply::Unproved(fault, rule) => {
+        Reply::Unproved(fault, node) => {
             write_counted(out, "unproved ", u64::from(*fault))?;
-            write_counted(out, " ", u64::from(*rule))
+            write_counted(out, " ", *node)
         }
         Reply::Bad(fault) => write_counted(out, "bad ", u64::from(*fault)),
         Reply::NoMemory => write(out, "nomemory"),

@@ -20,11 +20,13 @@ fn shown(alloc: Global, command: &Option<Command>) -> Result<String, AllocError>
             let to = statement.to();
             format!(in alloc; "{who} says it from {from:?} to {to:?}")
         }
-        Some(Command::Verify(goal, number)) => {
+        Some(Command::Verify(goal, numbers, proof)) => {
             let who = text(goal.who.bytes());
             let file = goal.file.0;
             let perm = goal.perm;
-            format!(in alloc; "{who} has {perm:?} on {file} by {number}")
+            let numbers = numbers.as_slice();
+            let size = proof.size();
+            format!(in alloc; "{who} has {perm:?} on {file} by {numbers:?} and {size} nodes")
         }
         Some(Command::Do(Op::Create(directory, name), procaps)) => {
             let directory = directory.0;
@@ -58,11 +60,11 @@ fn lines_of_each_form(rt: HostRuntime) -> Result<(), Fail> {
         ),
         (
             "verify bob #1 write 0 saysR(claim(0,init(1)))",
-            "bob has Write on 1 by 0",
+            "bob has Write on 1 by [0] and 3 nodes",
         ),
         (
             "verify forall_ #1 write 4294967295 saysR(claim(0,init(1)))",
-            "forall_ has Write on 1 by 4294967295",
+            "forall_ has Write on 1 by [4294967295] and 3 nodes",
         ),
         ("do create #1 a @0", "a in 1 by [0]"),
         ("do create #1 -Z_9.. @10", "-Z_9.. in 1 by [10]"),

@@ -5,7 +5,7 @@ use Rattle.std.proofs.lemmas.Int.{to_z-of_z}
 use Rattle.std.specs.Int.{w64}
 use Rattle.pcfs_top.specs.Desk.{IsAllowed}
 use Rattle.pcfs_top.proofs.Keeping.{SFits-moment}
-use Rattle.pcfs_top.proofs.Running.{AnswersLine-at, AnswersLine-as, AnswersLine-register, AnswersLine-verify, AnswersLine-do}
+use Rattle.pcfs_top.proofs.Running.{AnswersLine-at, AnswersLine-as, AnswersLine-register, IsLine-same, AnswersLine-do}
 use Rattle.pcfs_top.proofs.desk.Desk.follow.Goals as goal
 
 pub returns-in-At-clause-ok : goal.returns-in-At-clause-ok
@@ -19,9 +19,11 @@ pub returns-in-Register-clause-ok : goal.returns-in-Register-clause-ok
 returns-in-Register-clause-ok c =
     IfOk-weaker c.ask.result _ _ (λ reply asked line is. AnswersLine-register _ _ _ line _ _ reply c.in-Register.is is asked) c.ask.ensures.ok
 
+pub verify-requires-clause-citable : goal.verify-requires-clause-citable
+verify-requires-clause-citable c = subst IsAllowed c.in-Verify.is c.requires.allowed
+
 pub returns-in-Verify-clause-ok : goal.returns-in-Verify-clause-ok
-returns-in-Verify-clause-ok c =
-    IfOk-weaker c.ask-in-Verify.result _ _ (λ reply asked line is. AnswersLine-verify _ _ _ line _ _ _ reply c.in-Verify.is is asked) c.ask-in-Verify.ensures.ok
+returns-in-Verify-clause-ok c = IfOk-weaker c.verify.result _ _ (λ reply answers line is. answers line (IsLine-same line _ _ c.in-Verify.is is)) c.verify.ensures.ok
 
 pub returns-in-Do-clause-ok : goal.returns-in-Do-clause-ok
 returns-in-Do-clause-ok c =

@@ -1,0 +1,17 @@
+-- What is answered where a proof is refused: the number of the fault, and the node that has it (this project's own).
+use Rattle.std.specs.Prelude.{Option, Some, None}
+use Rattle.proof_verifier.specs.declared.fault.CheckFault.{CheckFault}
+use Rattle.proof_verifier.specs.declared.fault.CheckFault.TheVariants as faults
+use Rattle.pcfs_top.specs.declared.reply.Reply.{Reply}
+use Rattle.pcfs_top.specs.declared.reply.Reply.TheVariants.{Unproved}
+
+-- nothing where there was no memory, which is no fault of the proof
+abbrev pub unproved : CheckFault → Option Reply
+unproved (faults.NoHypothesis node) = Some (Unproved 1 node)
+unproved (faults.WrongShape node) = Some (Unproved 2 node)
+unproved (faults.NotEntailed node) = Some (Unproved 3 node)
+unproved (faults.NotInState node) = Some (Unproved 4 node)
+unproved (faults.ViewTooWeak node) = Some (Unproved 5 node)
+unproved (faults.BadTerm node) = Some (Unproved 6 node)
+unproved (faults.TooManyConditions node) = Some (Unproved 7 node)
+unproved faults.NoMemory = None

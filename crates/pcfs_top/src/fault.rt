@@ -1,0 +1,25 @@
+//! What is answered where a proof is refused.
+
+ghost use Rattle.std.specs.Prelude.{◌≡◌, Some, None, IfOk, OnErr};
+ghost use Rattle.pcfs_top.specs.Faults.{unproved as unproved_reply};
+
+use crate::reply::Reply;
+use bl_syntax::NoMemory;
+use proof_verifier::CheckFault;
+
+/// The number of the fault and its node. An error exactly where there was no memory, which is no fault of the proof.
+pub fn unproved(fault: CheckFault) -> Result<Reply, NoMemory>
+    ensures ok { IfOk result (λ reply. unproved_reply fault ≡ Some reply) }
+    ensures err { OnErr result (unproved_reply fault ≡ None) }
+{
+    match fault {
+        CheckFault::NoHypothesis(node) => Ok(Reply::Unproved(1, node as u64)),
+        CheckFault::WrongShape(node) => Ok(Reply::Unproved(2, node as u64)),
+        CheckFault::NotEntailed(node) => Ok(Reply::Unproved(3, node as u64)),
+        CheckFault::NotInState(node) => Ok(Reply::Unproved(4, node as u64)),
+        CheckFault::ViewTooWeak(node) => Ok(Reply::Unproved(5, node as u64)),
+        CheckFault::BadTerm(node) => Ok(Reply::Unproved(6, node as u64)),
+        CheckFault::TooManyConditions(node) => Ok(Reply::Unproved(7, node as u64)),
+        CheckFault::NoMemory => Err(NoMemory),
+    }
+}
