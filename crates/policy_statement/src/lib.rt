@@ -8,8 +8,6 @@ mod digest;
 mod messages;
 mod registry;
 mod ring;
-#[cfg(test)]
-mod tests;
 
 pub use messages::{login_message, statement_message};
 pub use registry::{RegisterFault, Registry};
