@@ -94,7 +94,7 @@ pub data Answers (state : Base) (pass : ℕ) (clock : ℤ) : StepRequest → Rep
       Answers state pass clock (requests.Issue checked) (replies.Absent number) None
   issued : (checked : Checking) → AreCited checked.cited → IsChecked checked → AllByRecursion (Stands state.statements) checked.cited →
       Answers state pass clock (requests.Issue checked) (replies.Issue (length state.issues + 1) (length checked.grant.times) (length checked.grant.states))
-        (Some (events.Issued pass (numbers_of checked.cited) checked.proof checked.grant))
+      (Some (events.Issued pass (numbers_of checked.cited) checked.proof checked.grant))
   no_issue : (caller : List ℕ) (op : Op) (procaps : List ℕ) (place number : ℕ) → IsFirstFailing (HasNumber state.issues) procaps place number →
       Answers state pass clock (requests.Act caller op procaps) (replies.Absent number) None
   denied : (caller : List ℕ) (op : Op) (procaps : List ℕ) (place : ℕ) (cause : Cause) → AreIssued state procaps → IsDenied state caller procaps (moment_of state clock) (needs op state.world) place cause →

@@ -18,11 +18,7 @@ pub enum Citation {
 }
 
 /// The statements of these numbers, which strictly rise and are 1 to 64.
-pub fn cite(
-    alloc: Global,
-    statements: &[Statement],
-    numbers: &[u32],
-) -> Result<Citation, NoMemory>
+pub fn cite(alloc: Global, statements: &[Statement], numbers: &[u32]) -> Result<Citation, NoMemory>
     requires { AreCitable numbers.now }
     ensures { IfOk result (λ citation. AreStatements statements.now numbers.now citation) }
 {

@@ -1,7 +1,7 @@
 //! The bytes of proofs, made by hand.
 
 use crate::tests::{above, full};
-use crate::{Proof, ProofFault, ProofTree, read_proof, write_proof};
+use crate::{Proof, ProofFault, ProofTree, proof_at, read_proof, write_proof};
 use bl_syntax::{Bytes, CodecFault};
 use std::alloc::Global;
 use std::test::Fail;
@@ -59,6 +59,15 @@ fn bytes_may_follow_a_proof(rt: HostRuntime) -> Result<(), Fail> {
     assert_eq!(rt; (tree.size(), tree.depth(), count), (3, 3, 7));
     let written = spelled(rt.alloc(), &tree)?;
     assert_eq!(rt; written.as_slice(), &bytes[..7]);
+    Ok(())
+}
+
+#[test]
+fn places_count_from_the_first_byte_of_the_input(rt: HostRuntime) -> Result<(), Fail> {
+    let (tree, rest) = proof_at(rt.alloc(), 10, &[0x05, 0x02, 0xff])?;
+    assert_eq!(rt; (tree.depth(), rest.len()), (2, 1));
+    let fault = proof_at(rt.alloc(), 10, &[0x05, 0x00]).map(|_| ());
+    assert_eq!(rt; fault, Err(ProofFault::BadTag(9)));
     Ok(())
 }
 

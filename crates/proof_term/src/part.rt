@@ -11,11 +11,7 @@ use std::alloc::Global;
 /// A proof of at most 4,096 nodes and a depth of at most 200: the reader that formats with proofs in them are made of. It
 /// reads at the front of `bytes`, the rest of an input of `input` bytes, and gives the proof and the bytes behind it, or the
 /// first fault. Places in faults count from the first byte of that input.
-pub fn proof_at(
-    alloc: Global,
-    input: usize,
-    bytes: &[u8],
-) -> Result<(ProofTree, &[u8]), ProofFault>
+pub fn proof_at(alloc: Global, input: usize, bytes: &[u8]) -> Result<(ProofTree, &[u8]), ProofFault>
     ensures { Gives (λ x. (x.0, x.1.now)) result (kept_proof_at input bytes.now) }
 {
     match reading::proof_at(alloc, MOST_LEVELS, MOST_NODES, input, bytes) {

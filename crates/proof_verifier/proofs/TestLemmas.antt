@@ -34,10 +34,11 @@ second_of_two false y second = second
 
 pub Decides-is_in_range : (point : TimePoint) → Decides (is_in_range point) (IsInRange point)
 Decides-is_in_range NegInf = (λ e. tt, λ h. refl)
-Decides-is_in_range (At second) =
-    (λ e. let parts = both_true _ _ e in
+Decides-is_in_range (At second) = (
+  λ e. let parts = both_true _ _ e in
       record { not_before = (Decides-is_at_most (negsuc 62135596799) second).0 parts.0; not_after = (Decides-is_at_most second (pos 253402300799)).0 parts.1 },
-     λ h. both _ _ ((Decides-is_at_most (negsuc 62135596799) second).1 h.not_before) ((Decides-is_at_most second (pos 253402300799)).1 h.not_after))
+  λ h. both _ _ ((Decides-is_at_most (negsuc 62135596799) second).1 h.not_before) ((Decides-is_at_most second (pos 253402300799)).1 h.not_after),
+)
 Decides-is_in_range PosInf = (λ e. tt, λ h. refl)
 
 constant_told : (t : Term) → IsConstant t → HasTimeInRange t → is_constant t ≡ true
@@ -60,13 +61,16 @@ side_told t side in_range = ⊎_elim
     side
 
 pub Decides-may_stay_open : (c : Constraint) → Decides (may_stay_open c) (IsTimeCondition c)
-Decides-may_stay_open c = (time_condition_kept c, λ h.
-    both (is_ctime c.low || is_ctime c.high) ((is_ctime c.low || is_constant c.low) && (is_ctime c.high || is_constant c.high))
-    (⊎_elim
-        (λ (low : c.low ≡ Ctime). first_of_two (is_ctime c.low) (is_ctime c.high) (ctime_told c.low low))
-        (λ (high : c.high ≡ Ctime). second_of_two (is_ctime c.low) (is_ctime c.high) (ctime_told c.high high))
-        h.of_ctime)
-    (both (is_ctime c.low || is_constant c.low) (is_ctime c.high || is_constant c.high) (side_told c.low h.low h.low_in_range) (side_told c.high h.high h.high_in_range)))
+Decides-may_stay_open c = (
+  time_condition_kept c,
+  λ h.
+      both (is_ctime c.low || is_ctime c.high) ((is_ctime c.low || is_constant c.low) && (is_ctime c.high || is_constant c.high))
+      (⊎_elim
+      (λ (low : c.low ≡ Ctime). first_of_two (is_ctime c.low) (is_ctime c.high) (ctime_told c.low low))
+      (λ (high : c.high ≡ Ctime). second_of_two (is_ctime c.low) (is_ctime c.high) (ctime_told c.high high))
+      h.of_ctime)
+      (both (is_ctime c.low || is_constant c.low) (is_ctime c.high || is_constant c.high) (side_told c.low h.low h.low_in_range) (side_told c.high h.high h.high_in_range)),
+)
 
 constants_told : (terms : List Term) → AllByRecursion IsConstant terms → AllByRecursion HasTimeInRange terms → list_all is_constant terms ≡ true
 constants_told [] constants in_range = refl
