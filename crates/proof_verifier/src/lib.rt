@@ -17,6 +17,8 @@ mod right;
 mod root;
 mod shapes;
 mod terms;
+#[cfg(test)]
+mod tests;
 
 pub use checked::{Checked, check, verify};
 pub use cites::{Cite, Cites};
