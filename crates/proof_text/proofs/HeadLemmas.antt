@@ -1,7 +1,5 @@
 -- The times that are read lie in the range of moments.
-use Rattle.std.proofs.Common.{◌≡◌, ℕ, List, [], ◌∙◌, subst, Result, Ok, Err}
-use Rattle.std.specs.Prelude.{IfOk}
-use Rattle.bl_syntax.specs.declared.terms.Sort.{Sort}
+use Rattle.std.proofs.Common.{◌≡◌, ℕ, [], subst, Result, Ok, Err}
 use Rattle.bl_syntax.specs.declared.terms.Term.{Term}
 use Rattle.bl_syntax.specs.Terms.{HasTimeInRange}
 use Rattle.bl_tokens.specs.declared.faults.TextFault.{TextFault}

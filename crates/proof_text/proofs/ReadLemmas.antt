@@ -1,5 +1,5 @@
 -- A proof by a rule whose premises were read.
-use Rattle.std.proofs.Common.{◌≡◌, ℕ, ◌+◌, ◌-◌, ◌≤◌, List, length, refl, sym, subst, arith, Ok, max}
+use Rattle.std.proofs.Common.{◌≡◌, ℕ, ◌+◌, ◌-◌, ◌≤◌, List, length, refl, sym, subst, arith, Ok}
 use Rattle.bl_tokens.specs.declared.tokens.Sign.TheVariants as signs
 use Rattle.proof_term.specs.declared.rule.Axiom.{Axiom}
 use Rattle.proof_term.specs.declared.rule.Axiom.TheVariants as axioms
@@ -11,7 +11,7 @@ use Rattle.proof_term.specs.declared.rule.Rule.TheVariants as rules
 use Rattle.proof_term.specs.Proof.{Deduction}
 use Rattle.proof_term.specs.Rules.{by_axiom, by_one, by_two}
 use Rattle.proof_term.specs.RuleTimes.{IsOneInRange, IsTwoInRange}
-use Rattle.proof_term.specs.Limits.{size, depth, HasTimesInRange}
+use Rattle.proof_term.specs.Limits.{HasTimesInRange}
 use Rattle.proof_term.proofs.ShapeLemmas.{size_axiom, size_one, size_two, depth_axiom, depth_one, depth_two}
 use Rattle.proof_text.specs.declared.places.Place.{Place}
 use Rattle.proof_text.specs.Places.{behind_sign}

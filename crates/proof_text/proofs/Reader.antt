@@ -9,7 +9,6 @@ use Rattle.proof_term.specs.declared.rule.Rule.{Rule}
 use Rattle.proof_term.specs.declared.rule.Rule.TheVariants.{Axiom, One, Two}
 use Rattle.proof_term.specs.Proof.{Deduction}
 use Rattle.proof_term.specs.Rules.{by_axiom, by_one, by_two}
-use Rattle.proof_text.specs.declared.names.RuleName.{RuleName}
 use Rattle.proof_text.specs.declared.places.Place.{Place}
 use Rattle.proof_text.specs.Places.{first_byte, behind_sign, rule_at, room, one_fewer}
 use Rattle.proof_text.specs.Heads.{head, named_head}
@@ -34,7 +33,7 @@ bind_ok : {A B : Type 0} (r : Result A TextFault) (f : A → Result B TextFault)
 bind_ok (Ok x) f y e = (x, refl, e)
 bind_ok (Err d) f y e = absurd cc
 
-no_level : (b : Bool) (e : TextFault) → (if b && nat_le 1 0 then Ok tt else Err e) ≡ Result.Err {T = Unit {0}} e
+no_level : (b : Bool) (e : TextFault) → ◌≡◌ {A = Result (Unit {0}) TextFault} (if b && nat_le 1 0 then Ok tt else Err e) (Err e)
 no_level true e = refl
 no_level false e = refl
 

@@ -1,5 +1,5 @@
 -- A text is one proof or has one fault.
-use Rattle.std.proofs.Common.{◌≡◌, ℕ, List, refl, sym, ap, ◌∙◌, Result, Ok, Err, ◌⊎◌, inl, inr}
+use Rattle.std.proofs.Common.{◌≡◌, ℕ, List, sym, ap, ◌∙◌, Result, Ok, Err, inl, inr}
 use Rattle.std.specs.Prelude.{IfOk, IfErr, MatchResult}
 use Rattle.bl_tokens.specs.declared.faults.TextFault.{TextFault}
 use Rattle.bl_tokens.specs.declared.faults.TextFault.TheVariants.{NoMemory}
@@ -7,9 +7,8 @@ use Rattle.bl_text.specs.Texts.{AreOneFault}
 use Rattle.proof_term.specs.Proof.{Deduction}
 use Rattle.proof_text.specs.declared.places.Place.{Place}
 use Rattle.proof_text.specs.Proofs.{IsProof}
-use Rattle.proof_text.specs.Stops.{ProofStops}
-use Rattle.proof_text.specs.Texts.{beginning, ended, IsProofText, whole_proof, ProofTextFault, in_proof, behind_proof}
-use Rattle.proof_text.proofs.Reader.{Read, reading, reads, Fails, stops}
+use Rattle.proof_text.specs.Texts.{ended, IsProofText, whole_proof, ProofTextFault, in_proof, behind_proof}
+use Rattle.proof_text.proofs.Reader.{Read, reads, Fails, stops}
 
 one_value : {A : Type 0} {r : Result A TextFault} {x y : A} → r ≡ Ok x → r ≡ Ok y → x ≡ y
 one_value {A} {r} {x} {y} h k = let both : ◌≡◌ {A = Result A TextFault} (Ok x) (Ok y) = sym h ∙ k in cc

@@ -1,7 +1,6 @@
 -- The head of a proof's text: its rule and the fields before the proofs of its premises (this project's own). The fields stand in parentheses, with commas between them, in their order: the number of a
 -- hypothesis, terms, proofs. A rule without fields stands alone.
-use Rattle.std.specs.Prelude.{ℕ, List, Result, Ok, Err}
-use Rattle.bl_syntax.specs.declared.terms.Term.{Term}
+use Rattle.std.specs.Prelude.{ℕ, List, Result, Ok}
 use Rattle.bl_tokens.specs.declared.faults.TextFault.{TextFault}
 use Rattle.bl_tokens.specs.declared.tokens.Sign.TheVariants as signs
 use Rattle.bl_text.specs.Pieces.{◌>>=◌}

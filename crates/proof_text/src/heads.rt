@@ -5,7 +5,9 @@ ghost use Rattle.proof_text.specs.Read.{IsRuleInRange};
 ghost use Rattle.proof_text.specs.Heads.{before_premise, closed, opened, with_term, plain_head, with_instance, with_interval, citing_head, with_hypothesis, named_head, head};
 
 use crate::names::{CitingRule, PlainRule, RuleName};
-use crate::places::{Place, behind_sign, hypothesis_at, one_fewer, room, rule_at, term_at, time_at};
+use crate::places::{
+    Place, behind_sign, hypothesis_at, one_fewer, room, rule_at, term_at, time_at,
+};
 use bl_tokens::{Sign, TextFault};
 use proof_term::{Axiom, OnePremise, Rule, TwoPremises};
 
@@ -121,7 +123,12 @@ fn with_interval(text: &[u8], h: u16, here: Place) -> Result<(Rule, Place), Text
 
 /// The fields behind the hypothesis.
 #[tactic(auto, unfolding(crate::specs::Heads::citing_head))]
-fn citing_head(text: &[u8], rule: CitingRule, h: u16, here: Place) -> Result<(Rule, Place), TextFault>
+fn citing_head(
+    text: &[u8],
+    rule: CitingRule,
+    h: u16,
+    here: Place,
+) -> Result<(Rule, Place), TextFault>
     requires { here.from ≤ length text.now }
     ensures value { result ≡ citing_head text.now rule h here }
     ensures within { IfOk result (λ r. r.1.from ≤ length text.now) }

@@ -11,7 +11,10 @@ fn proofs_are_read_and_written(rt: HostRuntime) -> Result<(), Fail> {
     for (text, want) in [
         ("trueR", "trueR"),
         ("saysR(claim(0,init(1)))", "saysR(claim(0,init(1)))"),
-        (" saysR ( claim(0 , init( 1 )) ) ", "saysR(claim(0,init(1)))"),
+        (
+            " saysR ( claim(0 , init( 1 )) ) ",
+            "saysR(claim(0,init(1)))",
+        ),
         (
             "saysR(claim(0,impL(1,ctime,ctime,consR,init(2))))",
             "saysR(claim(0,impL(1,ctime,ctime,consR,init(2))))",
@@ -136,10 +139,16 @@ fn limits_are_met_at_their_rule(rt: HostRuntime) -> Result<(), Fail> {
     assert_eq!(rt; fault_of(&rt, text.as_slice()), None);
     text.clear();
     write_tower(201, &mut text)?;
-    assert_eq!(rt; fault_of(&rt, text.as_slice()), Some(TextFault::TooLarge(800)));
+    assert_eq!(rt;
+        fault_of(&rt, text.as_slice()),
+        Some(TextFault::TooLarge(800))
+    );
     text.truncate(800);
     text.extend(b"truer")?;
-    assert_eq!(rt; fault_of(&rt, text.as_slice()), Some(TextFault::UnknownName(800)));
+    assert_eq!(rt;
+        fault_of(&rt, text.as_slice()),
+        Some(TextFault::UnknownName(800))
+    );
     Ok(())
 }
 
@@ -171,7 +180,9 @@ fn rules_are_counted(rt: HostRuntime) -> Result<(), Fail> {
     text.extend(b"atR(atR(")?;
     write_full(&mut text)?;
     text.extend(b"))")?;
-    let last = text.len() - 18;
-    assert_eq!(rt; fault_of(&rt, text.as_slice()), Some(TextFault::TooLarge(last)));
+    assert_eq!(rt;
+        fault_of(&rt, text.as_slice()),
+        Some(TextFault::TooLarge(24_561))
+    );
     Ok(())
 }
