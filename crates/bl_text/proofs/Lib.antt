@@ -1,8 +1,13 @@
 pub mod DateLemmas
 pub mod Determined
+pub mod LexedLemmas
 pub mod NumeralLemmas
+pub mod PieceLemmas
 pub mod ReadLemmas
 pub mod Reader
 pub mod RunLemmas
+pub mod SaidLemmas
+pub mod SettledLemmas
 pub mod TextLemmas
+pub mod Walk
 pub mod WrittenLemmas

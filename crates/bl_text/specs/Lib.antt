@@ -1,6 +1,8 @@
 pub mod Classes
 pub mod Dates
+pub mod FirstTokens
 pub mod Grammar
+pub mod Met
 pub mod Numerals
 pub mod Pieces
 pub mod Printed

@@ -1,10 +1,11 @@
 //! Laws of the texts. A law is the contract of an empty function, which nothing calls.
 
-ghost use Rattle.std.specs.Prelude.{◌≡◌, ℕ, List};
+ghost use Rattle.std.specs.Prelude.{◌≡◌, ◌⊎◌, ℕ, List};
 ghost use Rattle.bl_syntax.specs.Formula.{Form};
-ghost use Rattle.bl_syntax.specs.Statement.{Saying};
+ghost use Rattle.bl_syntax.specs.Statement.{Saying, IsStatement};
 ghost use Rattle.bl_text.specs.declared.faults.TextFault.{TextFault};
-ghost use Rattle.bl_text.specs.Texts.{IsFormulaText, FormulaFault, IsStatementText, StatementFault, AreOneFault};
+ghost use Rattle.bl_text.specs.Texts.{IsFormulaText, FormulaFault, IsSayingText, IsStatementText, StatementFault, AreOneFault};
+ghost use Rattle.bl_text.specs.Met.{IsSettled};
 
 /// A text is one formula.
 pub fn one_formula()
@@ -38,4 +39,17 @@ pub fn no_fault_of_a_statement()
 pub fn one_fault_of_a_statement()
     ensures { (text : List ℕ) (e f : TextFault) → StatementFault text e → StatementFault text f
         → AreOneFault e f }
+{}
+
+/// The first fault of a text of no formula is met at the token at its place, or where arguments
+/// are wrong, at the predicate's `)`. What stands behind the next token does not matter.
+pub fn settled_fault_of_a_formula()
+    ensures { (text : List ℕ) (e : TextFault) → FormulaFault text e
+        → (e ≡ TextFault.NoMemory) ⊎ IsSettled FormulaFault text e }
+{}
+
+/// What a text of the grammar of statements says may be said. So no refusal of a statement is of
+/// the whole text.
+pub fn sayable_text()
+    ensures { (text : List ℕ) (s : Saying) → IsSayingText text s → IsStatement s }
 {}
