@@ -11,18 +11,18 @@ use Rattle.bl_syntax.specs.declared.terms.TimePoint.TheVariants as times
 use Rattle.bl_syntax.specs.declared.terms.Sort.{Sort}
 use Rattle.bl_syntax.specs.TimeOrder.{IsMoment, IsInRange}
 use Rattle.bl_syntax.specs.Names.{is_lower_case, is_digit, is_text, is_principal_name}
-use Rattle.bl_text.specs.declared.classes.Class.TheVariants as classes
-use Rattle.bl_text.specs.declared.tokens.Sign.{Sign}
-use Rattle.bl_text.specs.declared.tokens.Keyword.{Keyword as Word}
-use Rattle.bl_text.specs.declared.tokens.Token.{Token}
-use Rattle.bl_text.specs.declared.tokens.Token.TheVariants.{Name, LongWord, Constant, BadDate, SortName, Keyword, End, Bad}
-use Rattle.bl_text.specs.declared.tokens.Token.TheVariants as tokens
-use Rattle.bl_text.specs.declared.tokens.Lexeme.{Lexeme}
-use Rattle.bl_text.specs.Classes.{is_in, is_upper_case}
-use Rattle.bl_text.specs.Numerals.{numeral_below}
-use Rattle.bl_text.specs.Dates.{begins_date, goes_on_with_time, date_second_at, day_second_at, is_moment}
-use Rattle.bl_text.specs.Words.{keyword, sort_named, constant_named, constant_or_name, sort_or_other, keyword_or_other, name_token, word_token}
-use Rattle.bl_text.specs.Tokens.{sized, bad, second_token, short_value, date_token, token_at_both, digits_of, integer_lexeme, negative_lexeme, time_lexeme, minus_lexeme, plus_lexeme, file_lexeme, parameter_lexeme, text_lexeme, begins_with, short_sign, sign_lexeme, begun_by, first_lexeme, word_lexeme, variable_lexeme, token_from}
+use Rattle.bl_tokens.specs.declared.classes.Class.TheVariants as classes
+use Rattle.bl_tokens.specs.declared.tokens.Sign.{Sign}
+use Rattle.bl_tokens.specs.declared.tokens.Keyword.{Keyword as Word}
+use Rattle.bl_tokens.specs.declared.tokens.Token.{Token}
+use Rattle.bl_tokens.specs.declared.tokens.Token.TheVariants.{Name, LongWord, Constant, BadDate, SortName, Keyword, End, Bad}
+use Rattle.bl_tokens.specs.declared.tokens.Token.TheVariants as tokens
+use Rattle.bl_tokens.specs.declared.tokens.Lexeme.{Lexeme}
+use Rattle.bl_tokens.specs.Classes.{is_in, is_upper_case}
+use Rattle.bl_tokens.specs.Numerals.{numeral_below}
+use Rattle.bl_tokens.specs.Dates.{begins_date, goes_on_with_time, date_second_at, day_second_at, is_moment}
+use Rattle.bl_tokens.specs.Words.{keyword, sort_named, constant_named, constant_or_name, sort_or_other, keyword_or_other, name_token, word_token}
+use Rattle.bl_tokens.specs.Tokens.{sized, bad, second_token, short_value, date_token, token_at_both, digits_of, integer_lexeme, negative_lexeme, time_lexeme, minus_lexeme, plus_lexeme, file_lexeme, parameter_lexeme, text_lexeme, begins_with, short_sign, sign_lexeme, begun_by, first_lexeme, word_lexeme, variable_lexeme, token_from}
 
 -- a constant of a text
 abbrev pub IsWritten : Term → Type 0

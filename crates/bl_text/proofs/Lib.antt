@@ -1,11 +1,8 @@
-pub mod DateLemmas
 pub mod Determined
 pub mod LexedLemmas
-pub mod NumeralLemmas
 pub mod PieceLemmas
 pub mod ReadLemmas
 pub mod Reader
-pub mod RunLemmas
 pub mod SaidLemmas
 pub mod SettledLemmas
 pub mod TextLemmas

@@ -10,16 +10,16 @@ use Rattle.bl_syntax.specs.declared.terms.StatePred.TheVariants.{Owner, HasXattr
 use Rattle.bl_syntax.specs.Formula.{Form, atom, compare, state, truth, falsity}
 use Rattle.bl_syntax.specs.Names.{is_predicate_name}
 use Rattle.bl_syntax.specs.WellSorted.{may}
-use Rattle.bl_text.specs.declared.faults.TextFault.{TextFault}
-use Rattle.bl_text.specs.declared.faults.TextFault.TheVariants.{Unexpected, UnknownName, TooLarge, Sort}
-use Rattle.bl_text.specs.declared.tokens.Sign.TheVariants as signs
-use Rattle.bl_text.specs.declared.tokens.Keyword.{Keyword as Word}
-use Rattle.bl_text.specs.declared.tokens.Keyword.TheVariants as keywords
-use Rattle.bl_text.specs.declared.tokens.Token.{Token}
-use Rattle.bl_text.specs.declared.tokens.Token.TheVariants.{Name, LongWord, Constant, BadDate, SortName, Keyword, End, Bad}
-use Rattle.bl_text.specs.declared.tokens.Token.TheVariants as tokens
-use Rattle.bl_text.specs.declared.tokens.Here.{Here}
-use Rattle.bl_text.specs.Tokens.{token_from, behind, behind_node, is_sign}
+use Rattle.bl_tokens.specs.declared.faults.TextFault.{TextFault}
+use Rattle.bl_tokens.specs.declared.faults.TextFault.TheVariants.{Unexpected, UnknownName, TooLarge, Sort}
+use Rattle.bl_tokens.specs.declared.tokens.Sign.TheVariants as signs
+use Rattle.bl_tokens.specs.declared.tokens.Keyword.{Keyword as Word}
+use Rattle.bl_tokens.specs.declared.tokens.Keyword.TheVariants as keywords
+use Rattle.bl_tokens.specs.declared.tokens.Token.{Token}
+use Rattle.bl_tokens.specs.declared.tokens.Token.TheVariants.{Name, LongWord, Constant, BadDate, SortName, Keyword, End, Bad}
+use Rattle.bl_tokens.specs.declared.tokens.Token.TheVariants as tokens
+use Rattle.bl_tokens.specs.declared.tokens.Here.{Here}
+use Rattle.bl_tokens.specs.Tokens.{token_from, behind, behind_node, is_sign}
 use Rattle.bl_text.specs.Scope.{Variable, place_of, fits}
 use Rattle.bl_text.specs.Pieces.{◌>>=◌, count, expected, term_of, sayable, sorted, argument, next_argument, time_argument, interval, variable_name, sort_at, binder, speaker, less_sign, comparison, atom_applied, owner_applied, attribute_applied, directory_applied, state_applied, applied, bare, named_time, name_alone, constant_formula, simple_by, simple, fits_may}
 use Rattle.bl_text.specs.Met.{IsAt, unexpected, unknown_name, bad_date, wrong_sort, too_large}

@@ -19,17 +19,17 @@ use Rattle.bl_syntax.specs.Names.{is_predicate_name}
 use Rattle.bl_syntax.specs.Terms.{sort_of, HasTimeInRange}
 use Rattle.bl_syntax.specs.WellSorted.{may, HasSort, IsInScope, HaveSorts, sorts_of_may, FitsPredicate, IsWellSorted, IsFormula, IsWithinLimits, size, widest_atom}
 use Rattle.bl_syntax.specs.Statement.{AllTerms, IsNotCtime, IsSayable, IsSayableFormula, Saying, IsStatement}
-use Rattle.bl_text.specs.declared.faults.TextFault.{TextFault}
-use Rattle.bl_text.specs.declared.faults.TextFault.TheVariants as faults
-use Rattle.bl_text.specs.declared.tokens.Sign.{Sign as Sign'}
-use Rattle.bl_text.specs.declared.tokens.Sign.TheVariants as signs
-use Rattle.bl_text.specs.declared.tokens.Keyword.{Keyword as Word}
-use Rattle.bl_text.specs.declared.tokens.Keyword.TheVariants as keywords
-use Rattle.bl_text.specs.declared.tokens.Token.{Token}
-use Rattle.bl_text.specs.declared.tokens.Token.TheVariants.{Name, LongWord, Constant, BadDate, SortName, Keyword, End, Bad}
-use Rattle.bl_text.specs.declared.tokens.Token.TheVariants as tokens
-use Rattle.bl_text.specs.declared.tokens.Here.{Here}
-use Rattle.bl_text.specs.Tokens.{token_from, behind, behind_node, is_sign, is_word}
+use Rattle.bl_tokens.specs.declared.faults.TextFault.{TextFault}
+use Rattle.bl_tokens.specs.declared.faults.TextFault.TheVariants as faults
+use Rattle.bl_tokens.specs.declared.tokens.Sign.{Sign as Sign'}
+use Rattle.bl_tokens.specs.declared.tokens.Sign.TheVariants as signs
+use Rattle.bl_tokens.specs.declared.tokens.Keyword.{Keyword as Word}
+use Rattle.bl_tokens.specs.declared.tokens.Keyword.TheVariants as keywords
+use Rattle.bl_tokens.specs.declared.tokens.Token.{Token}
+use Rattle.bl_tokens.specs.declared.tokens.Token.TheVariants.{Name, LongWord, Constant, BadDate, SortName, Keyword, End, Bad}
+use Rattle.bl_tokens.specs.declared.tokens.Token.TheVariants as tokens
+use Rattle.bl_tokens.specs.declared.tokens.Here.{Here}
+use Rattle.bl_tokens.specs.Tokens.{token_from, behind, behind_node, is_sign, is_word}
 use Rattle.bl_text.specs.Scope.{Variable, place_of, sort_of_place, same_sort, fits}
 use Rattle.bl_text.specs.Pieces.{◌>>=◌, count, expected, term_of, sayable, sorted, argument, next_argument, time_argument, interval, variable_name, sort_at, binder, speaker, less_sign, comparison, fits_may, atom_applied, owner_applied, attribute_applied, directory_applied, state_applied, applied, bare, named_time, name_alone, constant_formula, simple_by, simple}
 use Rattle.bl_text.specs.Grammar.{Level, formula, disjunction, conjunction, unary, postfix, primary, is_saying, AreArguments, one, further, IsCall, call, Is, for_every, for_some, implication, one_disjunction, or_further, one_conjunction, and_further, one_unary, saying, one_postfix, on_interval, one_primary, group, called, one_simple}

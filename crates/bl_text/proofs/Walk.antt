@@ -1,13 +1,13 @@
 -- The tokens behind a token, and what depends on so many of them alone.
 use Rattle.std.proofs.Common.{◌≡◌, ℕ, zero, suc, ◌+◌, ◌-◌, ◌≤◌, Bool, true, false, List, refl, sym, ap, ◌∙◌, subst, arith, rules, Result, Ok, Err}
 use Rattle.std.specs.Prelude.{◌<◌, if◌then◌else◌}
-use Rattle.bl_text.specs.declared.faults.TextFault.{TextFault}
-use Rattle.bl_text.specs.declared.faults.TextFault.TheVariants.{Unexpected, Sort}
-use Rattle.bl_text.specs.declared.tokens.Sign.{Sign as Sign'}
-use Rattle.bl_text.specs.declared.tokens.Sign.TheVariants as signs
-use Rattle.bl_text.specs.declared.tokens.Token.TheVariants as tokens
-use Rattle.bl_text.specs.declared.tokens.Here.{Here}
-use Rattle.bl_text.specs.Tokens.{token_from, behind, behind_node, is_sign}
+use Rattle.bl_tokens.specs.declared.faults.TextFault.{TextFault}
+use Rattle.bl_tokens.specs.declared.faults.TextFault.TheVariants.{Unexpected, Sort}
+use Rattle.bl_tokens.specs.declared.tokens.Sign.{Sign as Sign'}
+use Rattle.bl_tokens.specs.declared.tokens.Sign.TheVariants as signs
+use Rattle.bl_tokens.specs.declared.tokens.Token.TheVariants as tokens
+use Rattle.bl_tokens.specs.declared.tokens.Here.{Here}
+use Rattle.bl_tokens.specs.Tokens.{token_from, behind, behind_node, is_sign}
 use Rattle.bl_text.specs.Pieces.{◌>>=◌, expected}
 use Rattle.bl_text.specs.FirstTokens.{behind_tokens, token_number, SameTokens}
 use Rattle.bl_text.specs.Met.{IsAt, unexpected, IsCallOf, IsMetAt, there, at_close}

@@ -1,7 +1,7 @@
 -- The tokens of a text by their numbers, and texts that begin with the same tokens (this project's own).
 use Rattle.std.specs.Prelude.{◌≡◌, ℕ, zero, suc, List}
-use Rattle.bl_text.specs.declared.tokens.Here.{Here}
-use Rattle.bl_text.specs.Tokens.{token_from}
+use Rattle.bl_tokens.specs.declared.tokens.Here.{Here}
+use Rattle.bl_tokens.specs.Tokens.{token_from}
 
 -- the byte behind so many tokens from that byte on
 abbrev pub behind_tokens : List ℕ → ℕ → ℕ → ℕ

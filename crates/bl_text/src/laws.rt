@@ -3,7 +3,7 @@
 ghost use Rattle.std.specs.Prelude.{◌≡◌, ◌⊎◌, ℕ, List};
 ghost use Rattle.bl_syntax.specs.Formula.{Form};
 ghost use Rattle.bl_syntax.specs.Statement.{Saying, IsStatement};
-ghost use Rattle.bl_text.specs.declared.faults.TextFault.{TextFault};
+ghost use Rattle.bl_tokens.specs.declared.faults.TextFault.{TextFault};
 ghost use Rattle.bl_text.specs.Texts.{IsFormulaText, FormulaFault, IsSayingText, IsStatementText, StatementFault, AreOneFault};
 ghost use Rattle.bl_text.specs.Met.{IsSettled};
 
