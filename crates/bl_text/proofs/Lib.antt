@@ -5,6 +5,7 @@ pub mod ReadLemmas
 pub mod Reader
 pub mod SaidLemmas
 pub mod SettledLemmas
+pub mod SettledStatement
 pub mod TextLemmas
 pub mod Walk
 pub mod WrittenLemmas

@@ -134,10 +134,10 @@ arguments_local {text} {st} {scope} {is_atom} {here} (further mid place terms t 
     subst (λ (p : Here). LocalArguments text st scope is_atom here (behind_node text p) (terms ++ t ∷ [])) (sym found.1) (further_local text st scope is_atom here mid terms t (arguments_local args) found.0 next)
 
 -- what stops, or want of memory
-abbrev OrMemory : TextFault → Type 0 → Type 0
+abbrev pub OrMemory : TextFault → Type 0 → Type 0
 OrMemory e P = (e ≡ NoMemory) ⊎ P
 
-or_met : {e : TextFault} {A B : Type 0} → OrMemory e A → (A → B) → OrMemory e B
+pub or_met : {e : TextFault} {A B : Type 0} → OrMemory e A → (A → B) → OrMemory e B
 or_met (inl none) f = inl none
 or_met (inr a) f = inr (f a)
 

@@ -48,8 +48,14 @@ pub fn settled_fault_of_a_formula()
         → (e ≡ TextFault.NoMemory) ⊎ IsSettled FormulaFault text e }
 {}
 
-/// What a text of the grammar of statements says may be said. So no refusal of a statement is of
-/// the whole text.
+/// The first fault of a text of no statement is met likewise.
+pub fn settled_fault_of_a_statement()
+    ensures { (text : List ℕ) (e : TextFault) → StatementFault text e
+        → (e ≡ TextFault.NoMemory) ⊎ IsSettled StatementFault text e }
+{}
+
+/// What a text of the grammar of statements says may be said: it is closed and well sorted, within
+/// the limits, and names no time outside the range of moments, nor the current time.
 pub fn sayable_text()
     ensures { (text : List ℕ) (s : Saying) → IsSayingText text s → IsStatement s }
 {}
