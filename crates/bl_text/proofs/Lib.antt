@@ -7,5 +7,7 @@ pub mod SaidLemmas
 pub mod SettledLemmas
 pub mod SettledStatement
 pub mod TextLemmas
+pub mod ViableLemmas
+pub mod ViableTexts
 pub mod Walk
 pub mod WrittenLemmas

@@ -27,11 +27,11 @@ use Rattle.bl_text.proofs.Walk.{bare as bared, walk, walk_next, Piece, ErrsAt, c
 
 -- ---- at which byte a fault of one token is
 
-if_errs : {A : Type 0} (at : ℕ) (b : Bool) (x y : Result A TextFault) → ErrsAt at x → ErrsAt at y → ErrsAt at (if b then x else y)
+pub if_errs : {A : Type 0} (at : ℕ) (b : Bool) (x y : Result A TextFault) → ErrsAt at x → ErrsAt at y → ErrsAt at (if b then x else y)
 if_errs at true x y hx hy = hx
 if_errs at false x y hx hy = hy
 
-then_errs : {A B : Type 0} (at : ℕ) (r : Result A TextFault) (k : A → Result B TextFault) → ErrsAt at r → ((a : A) → ErrsAt at (k a)) → ErrsAt at (r >>= k)
+pub then_errs : {A B : Type 0} (at : ℕ) (r : Result A TextFault) (k : A → Result B TextFault) → ErrsAt at r → ((a : A) → ErrsAt at (k a)) → ErrsAt at (r >>= k)
 then_errs at (Ok a) k h more = more a
 then_errs at (Err e) k h more = h
 
@@ -63,7 +63,7 @@ unless_said_errs : (at : ℕ) (b : Bool) → ErrsAt {A = Unit {0}} at (if b then
 unless_said_errs at true = wrong_sort
 unless_said_errs at false = tt
 
-sayable_errs : (st : Bool) (at : ℕ) (t : Term) → ErrsAt at (sayable st at t)
+pub sayable_errs : (st : Bool) (at : ℕ) (t : Term) → ErrsAt at (sayable st at t)
 unfolding sayable
 sayable_errs st at (Prin name) = tt
 sayable_errs st at (File number) = tt
@@ -74,7 +74,7 @@ sayable_errs st at Ctime = unless_said_errs at st
 sayable_errs st at (Param n) = unless_said_errs at st
 sayable_errs st at (Bound n) = tt
 
-sorted_errs : (scope : List Variable) (wanted : TermSort) (at : ℕ) (t : Term) → ErrsAt at (sorted scope wanted at t)
+pub sorted_errs : (scope : List Variable) (wanted : TermSort) (at : ℕ) (t : Term) → ErrsAt at (sorted scope wanted at t)
 unfolding sorted
 sorted_errs scope wanted at t = if_errs at (fits scope wanted t) (Ok tt) (Err (Sort at)) tt wrong_sort
 
@@ -88,13 +88,13 @@ unfolding next_argument
 next_argument_errs st scope is_atom others here =
     then_errs here.at (argument st scope here) _ (argument_errs st scope here) (λ t. if_errs here.at (is_atom && nat_le 8 others) (Err (TooLarge here.at)) (Ok t) too_large tt)
 
-time_argument_errs : (st : Bool) (scope : List Variable) (here : Here) → ErrsAt here.at (time_argument st scope here)
+pub time_argument_errs : (st : Bool) (scope : List Variable) (here : Here) → ErrsAt here.at (time_argument st scope here)
 unfolding time_argument
 time_argument_errs st scope here =
     then_errs here.at (term_of scope here) _ (term_errs scope here) (λ t. then_errs here.at (sayable st here.at t) _ (sayable_errs st here.at t)
     (λ _. then_errs here.at (sorted scope sorts.Time here.at t) _ (sorted_errs scope sorts.Time here.at t) (λ _. then_errs here.at (count here) _ (count_errs here) (λ _. tt))))
 
-variable_errs_by : (here : Here) (token : Token) → here.token ≡ token → ErrsAt here.at (variable_name here)
+pub variable_errs_by : (here : Here) (token : Token) → here.token ≡ token → ErrsAt here.at (variable_name here)
 unfolding variable_name
 variable_errs_by here (Name name) is = rw is unexpected
 variable_errs_by here LongWord is = rw is unexpected
@@ -107,7 +107,7 @@ variable_errs_by here (tokens.Sign sign) is = rw is unexpected
 variable_errs_by here End is = rw is unexpected
 variable_errs_by here Bad is = rw is unexpected
 
-sort_errs_by : (here : Here) (token : Token) → here.token ≡ token → ErrsAt here.at (sort_at here)
+pub sort_errs_by : (here : Here) (token : Token) → here.token ≡ token → ErrsAt here.at (sort_at here)
 unfolding sort_at
 sort_errs_by here (Name name) is = rw is unknown_name
 sort_errs_by here LongWord is = rw is unknown_name
@@ -127,7 +127,7 @@ sort_errs_by here (tokens.Sign sign) is = rw is unexpected
 sort_errs_by here End is = rw is unexpected
 sort_errs_by here Bad is = rw is unexpected
 
-less_errs : (here : Here) → ErrsAt here.at (less_sign here)
+pub less_errs : (here : Here) → ErrsAt here.at (less_sign here)
 unfolding less_sign
 less_errs here = if_errs here.at (is_sign signs.UpTo here.token) (Ok tt) (Err (Unexpected here.at)) tt unexpected
 
@@ -183,7 +183,7 @@ unsorted_errs : {A : Type 0} (at : ℕ) (r : Result A TextFault) → Unsorted at
 unsorted_errs at (Ok a) h = tt
 unsorted_errs at (Err e) h = subst (λ e'. IsAt at e') (sym h) wrong_sort
 
-applied_errs : (scope : List Variable) (at : ℕ) (name : List ℕ) (terms : List Term) → ErrsAt at (applied scope at name terms)
+pub applied_errs : (scope : List Variable) (at : ℕ) (name : List ℕ) (terms : List Term) → ErrsAt at (applied scope at name terms)
 applied_errs scope at name terms = unsorted_errs at (applied scope at name terms) (applied_unsorted scope at name terms)
 
 -- ---- intervals

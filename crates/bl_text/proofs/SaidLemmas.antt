@@ -38,12 +38,12 @@ use Rattle.bl_syntax.proofs.StatementLemmas.{IsStatement-from_parts}
 use Rattle.bl_text.proofs.SettledLemmas.{bind_ok, expected_ok}
 use Rattle.bl_text.proofs.LexedLemmas.{IsWritten, IsLexed, token_lexed}
 
-ok_same : {A : Type 0} {a b : A} → ◌≡◌ {A = Result A TextFault} (Ok a) (Ok b) → a ≡ b
+pub ok_same : {A : Type 0} {a b : A} → ◌≡◌ {A = Result A TextFault} (Ok a) (Ok b) → a ≡ b
 ok_same h = cc
 
 -- ---- what a test let through
 
-if_ok : {A : Type 0} (b : Bool) (x : Result A TextFault) (e : TextFault) (a : A) → (if b then x else Err e) ≡ Ok a → (b ≡ true) × (x ≡ Ok a)
+pub if_ok : {A : Type 0} (b : Bool) (x : Result A TextFault) (e : TextFault) (a : A) → (if b then x else Err e) ≡ Ok a → (b ≡ true) × (x ≡ Ok a)
 if_ok true x e a h = (refl, h)
 if_ok {A} false x e a h = absurd (let never : ◌≡◌ {A = Result A TextFault} (Err e) (Ok a) = h in cc)
 
@@ -123,10 +123,10 @@ unread scope here t h k = let never : ◌≡◌ {A = Result Term TextFault} (Err
 undated : (scope : List Variable) (here : Here) (t : Term) → term_of scope here ≡ Ok t → term_of scope here ≡ Err (faults.BadDate here.at) → ⊥
 undated scope here t h k = let never : ◌≡◌ {A = Result Term TextFault} (Err (faults.BadDate here.at)) (Ok t) = sym k ∙ h in cc
 
-refused : {A : Type 0} {e : TextFault} {a : A} → ◌≡◌ {A = Result A TextFault} (Err e) (Ok a) → ⊥
+pub refused : {A : Type 0} {e : TextFault} {a : A} → ◌≡◌ {A = Result A TextFault} (Err e) (Ok a) → ⊥
 refused {A} {e} {a} h = cc
 
-abbrev names_no_term : Token → Bool
+abbrev pub names_no_term : Token → Bool
 names_no_term (Name name) = false
 names_no_term (tokens.Variable name) = false
 names_no_term (Constant c) = false
@@ -138,7 +138,7 @@ names_no_term (tokens.Sign sign) = true
 names_no_term End = true
 names_no_term Bad = true
 
-unread_speaker : (scope : List Variable) (here : Here) (t : Term) (token : Token) → here.token ≡ token → names_no_term token ≡ true → term_of scope here ≡ Ok t → ⊥
+pub unread_speaker : (scope : List Variable) (here : Here) (t : Term) (token : Token) → here.token ≡ token → names_no_term token ≡ true → term_of scope here ≡ Ok t → ⊥
 unfolding term_of
 unread_speaker scope here t (Name name) is none h = false≢true none
 unread_speaker scope here t (tokens.Variable name) is none h = false≢true none
@@ -159,22 +159,22 @@ constant_term : (scope : List Variable) (here : Here) (c : Term) → here.token 
 unfolding term_of
 constant_term scope here c is = rw is
 
-abbrev at_place : ℕ → Option ℕ → Result Term TextFault
+abbrev pub at_place : ℕ → Option ℕ → Result Term TextFault
 at_place at None = Err (faults.UnknownName at)
 at_place at (Some inner) = Ok (Bound inner)
 
-variable_term : (scope : List Variable) (here : Here) (name : List ℕ) → here.token ≡ tokens.Variable name → term_of scope here ≡ at_place here.at (place_of scope name)
+pub variable_term : (scope : List Variable) (here : Here) (name : List ℕ) → here.token ≡ tokens.Variable name → term_of scope here ≡ at_place here.at (place_of scope name)
 unfolding term_of
 variable_term scope here name is = rw is
 
-timed : (here : Here) (found : TimePoint) → here.token ≡ Constant (Time found) → time_constant here ≡ Ok found
+pub timed : (here : Here) (found : TimePoint) → here.token ≡ Constant (Time found) → time_constant here ≡ Ok found
 unfolding time_constant
 timed here found is = rw is refl
 
-untimed : (here : Here) (point : TimePoint) → time_constant here ≡ Ok point → time_constant here ≡ Err (faults.Unexpected here.at) → ⊥
+pub untimed : (here : Here) (point : TimePoint) → time_constant here ≡ Ok point → time_constant here ≡ Err (faults.Unexpected here.at) → ⊥
 untimed here point h k = let never : ◌≡◌ {A = Result TimePoint TextFault} (Err (faults.Unexpected here.at)) (Ok point) = sym k ∙ h in cc
 
-badly_timed : (here : Here) (point : TimePoint) → time_constant here ≡ Ok point → time_constant here ≡ Err (faults.BadDate here.at) → ⊥
+pub badly_timed : (here : Here) (point : TimePoint) → time_constant here ≡ Ok point → time_constant here ≡ Err (faults.BadDate here.at) → ⊥
 badly_timed here point h k = let never : ◌≡◌ {A = Result TimePoint TextFault} (Err (faults.BadDate here.at)) (Ok point) = sym k ∙ h in cc
 
 -- what a token is as a term
@@ -529,7 +529,7 @@ simple_read text scope here there f lexed h = simple_read_by text scope here the
 
 -- ---- speakers, binders and intervals
 
-not_saying : (text : List ℕ) (here : Here) (c : Term) → here.token ≡ Constant c → is_saying text here ≡ false
+pub not_saying : (text : List ℕ) (here : Here) (c : Term) → here.token ≡ Constant c → is_saying text here ≡ false
 unfolding is_saying
 not_saying text here c is = rw is refl
 
@@ -705,11 +705,11 @@ said {text} (one_simple scope depth here place a closed no_call h) lexed = simpl
 
 -- ---- statements
 
-word_place : (text : List ℕ) (word : Word) (here place : Here) → word_expected text word here ≡ Ok place → place ≡ behind text here
+pub word_place : (text : List ℕ) (word : Word) (here place : Here) → word_expected text word here ≡ Ok place → place ≡ behind text here
 unfolding word_expected
 word_place text word here place h = sym (ok_same (if_ok (is_word word here.token) (Ok (behind text here)) (faults.Unexpected here.at) place h).1)
 
-opening_place : (text : List ℕ) (here place : Here) (who : List ℕ) → opening text here ≡ Ok (who, place) → place ≡ behind text (behind text here)
+pub opening_place : (text : List ℕ) (here place : Here) (who : List ℕ) → opening text here ≡ Ok (who, place) → place ≡ behind text (behind text here)
 unfolding opening
 opening_place text here place who h =
     let name = bind_ok (principal_name here) _ (who, place) h in

@@ -36,7 +36,7 @@ bind_pure : {A : Type 0} (r : Result A TextFault) → (r >>= (λ a. Ok a)) ≡ r
 bind_pure (Ok a) = refl
 bind_pure (Err e) = refl
 
-errs_is : {A : Type 0} {at : ℕ} {r : Result A TextFault} {e : TextFault} → ErrsAt at r → r ≡ Err e → IsAt at e
+pub errs_is : {A : Type 0} {at : ℕ} {r : Result A TextFault} {e : TextFault} → ErrsAt at r → r ≡ Err e → IsAt at e
 errs_is {at = at} h is = subst (λ r'. ErrsAt at r') is h
 
 -- ---- signs
@@ -78,11 +78,11 @@ term_no_sign_by scope here sign t h (tokens.Sign found) is = absurd (let never :
 term_no_sign_by scope here sign t h End is = refl
 term_no_sign_by scope here sign t h Bad is = refl
 
-argument_no_sign : (st : Bool) (scope : List Variable) (here : Here) (sign : Sign') (t : Term) → argument st scope here ≡ Ok t → is_sign sign here.token ≡ false
+pub argument_no_sign : (st : Bool) (scope : List Variable) (here : Here) (sign : Sign') (t : Term) → argument st scope here ≡ Ok t → is_sign sign here.token ≡ false
 unfolding argument
 argument_no_sign st scope here sign t h = let term = bind_ok (term_of scope here) _ t h in term_no_sign_by scope here sign term.0 term.1.0 here.token refl
 
-next_argument_no_sign : (st : Bool) (scope : List Variable) (is_atom : Bool) (others : ℕ) (here : Here) (sign : Sign') (t : Term) → next_argument st scope is_atom others here ≡ Ok t → is_sign sign here.token ≡ false
+pub next_argument_no_sign : (st : Bool) (scope : List Variable) (is_atom : Bool) (others : ℕ) (here : Here) (sign : Sign') (t : Term) → next_argument st scope is_atom others here ≡ Ok t → is_sign sign here.token ≡ false
 unfolding next_argument
 next_argument_no_sign st scope is_atom others here sign t h = let term = bind_ok (argument st scope here) _ t h in argument_no_sign st scope here sign term.0 term.1.0
 
@@ -92,7 +92,7 @@ pub record LocalArguments (text : List ℕ) (st : Bool) (scope : List Variable) 
   pub local : Local text here there (λ o. AreArguments o st scope is_atom here there terms)
   pub inside : (k : ℕ) → k < local.steps → is_sign signs.Close (tokens_from text here k).token ≡ false
 
-first_inside : (text : List ℕ) (here : Here) → is_sign signs.Close here.token ≡ false → (k : ℕ) → k < 1 → is_sign signs.Close (tokens_from text here k).token ≡ false
+pub first_inside : (text : List ℕ) (here : Here) → is_sign signs.Close here.token ≡ false → (k : ℕ) → k < 1 → is_sign signs.Close (tokens_from text here k).token ≡ false
 first_inside text here none zero less = none
 first_inside text here none (suc k) less = absurd (omega arith)
 
@@ -108,7 +108,11 @@ two_inside text mid left none next zero less = none
 two_inside text mid left none next (suc zero) less = ap (λ (h : Here). is_sign signs.Close h.token) (bare_token text mid.end 0 ∙ sym (bare_token text mid.end left)) ∙ next
 two_inside text mid left none next (suc (suc k)) less = absurd (omega arith)
 
-later_inside : (text : List ℕ) (here mid : Here) (s n : ℕ) → bare (walk text s here) ≡ bare mid → ((k : ℕ) → k < s → is_sign signs.Close (tokens_from text here k).token ≡ false)
+pub two_behind : (text : List ℕ) (mid : Here) → is_sign signs.Close mid.token ≡ false → is_sign signs.Close (behind text mid).token ≡ false → (k : ℕ) → k < 2 → is_sign signs.Close (tokens_from text mid k).token ≡ false
+unfolding behind
+two_behind text mid none next k less = two_inside text mid mid.left none next k less
+
+pub later_inside : (text : List ℕ) (here mid : Here) (s n : ℕ) → bare (walk text s here) ≡ bare mid → ((k : ℕ) → k < s → is_sign signs.Close (tokens_from text here k).token ≡ false)
     → ((k : ℕ) → k < n → is_sign signs.Close (tokens_from text mid k).token ≡ false) → (k : ℕ) → k < s + n → is_sign signs.Close (tokens_from text here k).token ≡ false
 later_inside text here mid s n reach before after k less = elim (cases_lt k s) [
   | inl small ↦ before k small
@@ -165,7 +169,7 @@ local_call : {text : List ℕ} {st : Bool} {scope : List Variable} {here there :
 local_call {text} {st} {scope} {here} {there} {f} (call name mid _ terms _ is room args close fits) =
     local_with (λ o p. call name mid there terms f is room (arguments_at (sym p.0) p.1.0) p.1.1 fits) (local_then (call_start text here) (local_then (arguments_local args).local (local_expected signs.Close close)))
 
-and_right : (a b : Bool) → (a && b) ≡ true → b ≡ true
+pub and_right : (a b : Bool) → (a && b) ≡ true → b ≡ true
 and_right true b h = h
 and_right false b h = absurd (false≢true h)
 
@@ -181,37 +185,35 @@ call_token_opened (tokens.Sign sign) b h = absurd (false≢true h)
 call_token_opened End b h = absurd (false≢true h)
 call_token_opened Bad b h = absurd (false≢true h)
 
-call_opened : (text : List ℕ) (here : Here) → is_call text here ≡ true → is_sign signs.Open (behind_node text here).token ≡ true
+pub call_opened : (text : List ℕ) (here : Here) → is_call text here ≡ true → is_sign signs.Open (behind_node text here).token ≡ true
 unfolding is_call
 call_opened text here h = call_token_opened here.token _ h
 
 -- between the name and the parenthesis that closes stands no other one
-call_met : {text : List ℕ} {st : Bool} {scope : List Variable} {is_atom : Bool} {here mid : Here} {terms : List Term} (name : List ℕ) → here.token ≡ tokens.Name name → is_sign signs.Open (behind_node text here).token ≡ true
-    → (args : LocalArguments text st scope is_atom (behind text (behind_node text here)) mid terms) → is_sign signs.Close mid.token ≡ true → IsCallOf (tokens_from text here) 0 (2 + args.local.steps)
+pub call_met : (text : List ℕ) {here : Here} (mid : Here) (name : List ℕ) (n : ℕ) → here.token ≡ tokens.Name name → is_sign signs.Open (behind_node text here).token ≡ true → bare (walk text n (behind text (behind_node text here))) ≡ bare mid
+    → ((k : ℕ) → k < n → is_sign signs.Close (tokens_from text (behind text (behind_node text here)) k).token ≡ false) → is_sign signs.Close mid.token ≡ true → IsCallOf (tokens_from text here) 0 (2 + n)
 unfolding behind behind_node
-call_met {text} {here = here} {mid} name is opened args closed = record {
+call_met text {here} mid name n is opened reach inside closed = record {
   name = name;
   named = is;
-  opened = second ∙ opened;
-  inside = λ n more less. later n more less;
-  closed = ap (λ (h : Here). is_sign signs.Close h.token) (walk_from text 2 args.local.steps here (behind text (behind_node text here)) start ∙ args.local.reach) ∙ closed;
+  opened = ap (λ (h : Here). is_sign signs.Open h.token) second ∙ opened;
+  inside = λ k more less. later k more less;
+  closed = ap (λ (h : Here). is_sign signs.Close h.token) (walk_from text 2 n here (behind text (behind_node text here)) start ∙ reach) ∙ closed;
   ordered = omega arith;
 }
   where
+    second : token_from text here.end 0 ≡ bare (behind_node text here)
+    second = sym (bare_token text here.end (here.left - 1))
     start : bare (walk text 2 here) ≡ bare (behind text (behind_node text here))
-    start = bare_token text (token_from text here.end 0).end 0 ∙ ap (λ (h : Here). token_from text h.end 0) (bare_token text here.end 0 ∙ sym (bare_token text here.end (here.left - 1))) ∙ sym (bare_token text (behind_node text here).end (behind_node text here).left)
-    second : is_sign signs.Open (tokens_from text here 1).token ≡ is_sign signs.Open (behind_node text here).token
-    second = ap (λ (h : Here). is_sign signs.Open h.token) (bare_token text here.end 0 ∙ sym (bare_token text here.end (here.left - 1)))
-    second_close : is_sign signs.Close (tokens_from text here 1).token ≡ is_sign signs.Close (behind_node text here).token
-    second_close = ap (λ (h : Here). is_sign signs.Close h.token) (bare_token text here.end 0 ∙ sym (bare_token text here.end (here.left - 1)))
-    later : (n : ℕ) → 0 < n → n < 2 + args.local.steps → is_sign signs.Close (tokens_from text here n).token ≡ false
+    start = bare_token text (token_from text here.end 0).end 0 ∙ ap (λ (h : Here). token_from text h.end 0) second ∙ sym (bare_token text (behind_node text here).end (behind_node text here).left)
+    later : (k : ℕ) → 0 < k → k < 2 + n → is_sign signs.Close (tokens_from text here k).token ≡ false
     later zero more less = absurd (omega arith)
-    later (suc zero) more less = second_close ∙ other_sign signs.Open signs.Close (behind_node text here).token opened refl
-    later (suc (suc n)) more less =
-        let sum : suc (suc n) ≡ 2 + n = omega arith in
-        ap (λ m. is_sign signs.Close (tokens_from text here m).token) sum ∙ ap (λ (h : Here). is_sign signs.Close h.token) (walk_from text 2 n here (behind text (behind_node text here)) start) ∙ args.inside n (omega arith)
+    later (suc zero) more less = ap (λ (h : Here). is_sign signs.Close h.token) second ∙ other_sign signs.Open signs.Close (behind_node text here).token opened refl
+    later (suc (suc k)) more less =
+        let sum : suc (suc k) ≡ 2 + k = omega arith in
+        ap (λ m. is_sign signs.Close (tokens_from text here m).token) sum ∙ ap (λ (h : Here). is_sign signs.Close h.token) (walk_from text 2 k here (behind text (behind_node text here)) start) ∙ inside k (omega arith)
 
-unsorted_is : {A : Type 0} {at : ℕ} {r : Result A TextFault} {e : TextFault} → Unsorted at r → r ≡ Err e → e ≡ Sort at
+pub unsorted_is : {A : Type 0} {at : ℕ} {r : Result A TextFault} {e : TextFault} → Unsorted at r → r ≡ Err e → e ≡ Sort at
 unsorted_is {at = at} h is = subst (λ r'. Unsorted at r') is h
 
 met_by_sorts : {text : List ℕ} {st : Bool} {scope : List Variable} {here mid place : Here} {terms : List Term} {e : TextFault} (name : List ℕ) → here.token ≡ tokens.Name name → count here ≡ Ok tt → is_sign signs.Open (behind_node text here).token ≡ true
@@ -219,7 +221,7 @@ met_by_sorts : {text : List ℕ} {st : Bool} {scope : List Variable} {here mid p
 unfolding call_start local_with local_goes local_then behind
 met_by_sorts {text} {st} {scope} {here} {mid} {place} {terms} {e} name is room opened args close wrong = record {
   steps = 2 + args.local.steps;
-  met = subst (λ e'. IsMetAt (tokens_from text here) (2 + args.local.steps) e') (sym (unsorted_is (applied_unsorted scope here.at name terms) wrong)) (at_close 0 (call_met name is opened args (expected_ok text signs.Close mid place close).0));
+  met = subst (λ e'. IsMetAt (tokens_from text here) (2 + args.local.steps) e') (sym (unsorted_is (applied_unsorted scope here.at name terms) wrong)) (at_close 0 (call_met text mid name args.local.steps is opened args.local.reach args.inside (expected_ok text signs.Close mid place close).0));
   holds = λ o same. (let n : 2 + args.local.steps + 1 ≡ 1 + 1 + (args.local.steps + 1) = omega arith in
     let all = local_then (call_start text here) (local_then args.local (local_goes text mid mid.left)) in
     let p = all.holds o (subst (λ m. SameTokens text o m here.end) n same) in

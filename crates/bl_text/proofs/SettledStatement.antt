@@ -17,6 +17,7 @@ use Rattle.bl_text.specs.Texts.{beginning, is_end, word_expected, time_constant,
 use Rattle.bl_text.specs.Met.{IsAt, unexpected, bad_date, IsSettled}
 use Rattle.bl_text.proofs.ReadLemmas.{is_at, stops_at}
 use Rattle.bl_text.proofs.Walk.{bare, walk, walk_next, Local, local_then, Met, met_with, met_after, Piece, ErrsAt, check, stop, step, finish, read_piece, stopped_piece, local_piece}
+use Rattle.bl_text.proofs.PieceLemmas.{if_errs}
 use Rattle.bl_text.proofs.SettledLemmas.{OrMemory, or_met, local_is, met_stops, settled}
 
 -- ---- a word, a name and a time
@@ -33,7 +34,7 @@ word_step : {B : Type 0} (text : List ℕ) (here h : Here) (known : ℕ) (place 
 unfolding word_expected behind
 word_step text here h known place word q reach p = word_chosen text here h known place (is_word word h.token) q reach p
 
-name_errs_by : (here : Here) (token : Token) → here.token ≡ token → ErrsAt here.at (principal_name here)
+pub name_errs_by : (here : Here) (token : Token) → here.token ≡ token → ErrsAt here.at (principal_name here)
 unfolding principal_name
 name_errs_by here (Name name) is = rw is tt
 name_errs_by here LongWord is = rw is unexpected
@@ -46,7 +47,7 @@ name_errs_by here (tokens.Sign sign) is = rw is unexpected
 name_errs_by here End is = rw is unexpected
 name_errs_by here Bad is = rw is unexpected
 
-time_errs_by : (here : Here) (token : Token) → here.token ≡ token → ErrsAt here.at (time_constant here)
+pub time_errs_by : (here : Here) (token : Token) → here.token ≡ token → ErrsAt here.at (time_constant here)
 unfolding time_constant
 time_errs_by here (Name name) is = rw is unexpected
 time_errs_by here LongWord is = rw is unexpected
@@ -66,11 +67,7 @@ time_errs_by here (tokens.Sign sign) is = rw is unexpected
 time_errs_by here End is = rw is unexpected
 time_errs_by here Bad is = rw is unexpected
 
-if_errs : {A : Type 0} (at : ℕ) (b : Bool) (x y : Result A TextFault) → ErrsAt at x → ErrsAt at y → ErrsAt at (if b then x else y)
-if_errs at true x y hx hy = hx
-if_errs at false x y hx hy = hy
-
-ended_errs : (here : Here) → ErrsAt here.at (ended here)
+pub ended_errs : (here : Here) → ErrsAt here.at (ended here)
 unfolding ended
 ended_errs here = if_errs here.at (is_end here.token) (Ok tt) (Err (Unexpected here.at)) tt unexpected
 

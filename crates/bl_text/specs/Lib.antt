@@ -5,6 +5,7 @@ pub mod Pieces
 pub mod Printed
 pub mod Read
 pub mod Scope
+pub mod Sentences
 pub mod Stops
 pub mod Texts
 pub mod Written
