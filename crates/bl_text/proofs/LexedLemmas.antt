@@ -1,16 +1,15 @@
 -- The constants that tokens of a text are: none is a variable, and each time is in the range of moments.
-use Rattle.std.proofs.Common.{◌≡◌, ℕ, ℤ, zero, suc, ◌+◌, ◌≤◌, Bool, true, false, List, [], ◌∷◌, refl, sym, ap, ◌∙◌, subst, arith, rules}
-use Rattle.std.specs.Prelude.{T, pos, negsuc, neg_ℤ, ◌+ℤ◌, ◌≤ℤ◌, ◌^◌, length, take, drop, codes, nat_le, nat_eq, ◌&&◌, ◌==◌, Option, Some, None, if◌then◌else◌}
+use Rattle.std.proofs.Common.{◌≡◌, ℕ, ℤ, ◌+◌, Bool, true, false, List, [], ◌∷◌, refl}
+use Rattle.std.specs.Prelude.{T, pos, negsuc, neg_ℤ, ◌+ℤ◌, ◌^◌, length, take, drop, codes, nat_le, nat_eq, ◌&&◌, ◌==◌, Option, Some, None, if◌then◌else◌}
 use Rattle.std.specs.List.{prefix_len, take_while, starts_with}
 use Rattle.std.specs.Str.{bytes_eq}
 use Rattle.std.proofs.lemmas.Bool.{false≢true}
-use Rattle.std.proofs.lemmas.Bool.Decides.{nat_tests}
 use Rattle.bl_syntax.specs.declared.terms.Term.{Term}
 use Rattle.bl_syntax.specs.declared.terms.Term.TheVariants.{Prin, File, Perm, Time, Text, Ctime, Param, Bound}
 use Rattle.bl_syntax.specs.declared.terms.TimePoint.TheVariants as times
 use Rattle.bl_syntax.specs.declared.terms.Sort.{Sort}
 use Rattle.bl_syntax.specs.TimeOrder.{IsMoment, IsInRange}
-use Rattle.bl_syntax.specs.Names.{is_lower_case, is_digit, is_text, is_principal_name}
+use Rattle.bl_syntax.specs.Names.{is_lower_case, is_digit, is_principal_name}
 use Rattle.bl_tokens.specs.declared.classes.Class.TheVariants as classes
 use Rattle.bl_tokens.specs.declared.tokens.Sign.{Sign}
 use Rattle.bl_tokens.specs.declared.tokens.Keyword.{Keyword as Word}
@@ -21,8 +20,8 @@ use Rattle.bl_tokens.specs.declared.tokens.Lexeme.{Lexeme}
 use Rattle.bl_tokens.specs.Classes.{is_in, is_upper_case}
 use Rattle.bl_tokens.specs.Numerals.{numeral_below}
 use Rattle.bl_tokens.specs.Dates.{begins_date, goes_on_with_time, date_second_at, day_second_at, is_moment}
-use Rattle.bl_tokens.specs.Words.{keyword, sort_named, constant_named, constant_or_name, sort_or_other, keyword_or_other, name_token, word_token}
-use Rattle.bl_tokens.specs.Tokens.{sized, bad, second_token, short_value, date_token, token_at_both, digits_of, integer_lexeme, negative_lexeme, time_lexeme, minus_lexeme, plus_lexeme, file_lexeme, parameter_lexeme, text_lexeme, begins_with, short_sign, sign_lexeme, begun_by, first_lexeme, word_lexeme, variable_lexeme, token_from}
+use Rattle.bl_tokens.specs.Words.{keyword, sort_named, constant_named, constant_or_name, sort_or_other, keyword_or_other, name_token}
+use Rattle.bl_tokens.specs.Tokens.{sized, bad, second_token, short_value, token_at_both, digits_of, integer_lexeme, negative_lexeme, time_lexeme, minus_lexeme, plus_lexeme, file_lexeme, parameter_lexeme, text_lexeme, begins_with, short_sign, sign_lexeme, begun_by, first_lexeme, word_lexeme, variable_lexeme, token_from}
 
 -- a constant of a text
 abbrev pub IsWritten : Term → Type 0

@@ -1,6 +1,6 @@
 -- Each piece of a formula's text depends on the tokens that it reads, and stops at one of them.
-use Rattle.std.proofs.Common.{◌≡◌, ℕ, zero, suc, ◌+◌, ◌-◌, ◌≤◌, Bool, true, false, List, [], ◌∷◌, length, refl, sym, ap, ◌∙◌, subst, arith, rules, Result, Ok, Err}
-use Rattle.std.specs.Prelude.{◌<◌, codes, not, nat_le, ◌&&◌, Option, Some, None, if◌then◌else◌}
+use Rattle.std.proofs.Common.{◌≡◌, ℕ, ◌+◌, ◌-◌, Bool, true, false, List, [], ◌∷◌, refl, sym, subst, arith, Result, Ok, Err}
+use Rattle.std.specs.Prelude.{codes, not, nat_le, ◌&&◌, Option, Some, None, if◌then◌else◌}
 use Rattle.std.specs.Str.{bytes_eq}
 use Rattle.bl_syntax.specs.declared.terms.Sort.{Sort as TermSort}
 use Rattle.bl_syntax.specs.declared.terms.Sort.TheVariants as sorts
@@ -13,7 +13,6 @@ use Rattle.bl_syntax.specs.WellSorted.{may}
 use Rattle.bl_tokens.specs.declared.faults.TextFault.{TextFault}
 use Rattle.bl_tokens.specs.declared.faults.TextFault.TheVariants.{Unexpected, UnknownName, TooLarge, Sort}
 use Rattle.bl_tokens.specs.declared.tokens.Sign.TheVariants as signs
-use Rattle.bl_tokens.specs.declared.tokens.Keyword.{Keyword as Word}
 use Rattle.bl_tokens.specs.declared.tokens.Keyword.TheVariants as keywords
 use Rattle.bl_tokens.specs.declared.tokens.Token.{Token}
 use Rattle.bl_tokens.specs.declared.tokens.Token.TheVariants.{Name, LongWord, Constant, BadDate, SortName, Keyword, End, Bad}

@@ -1,6 +1,6 @@
 -- What a text of the grammar of statements writes may be said: it is closed and well sorted, within the limits, and speaks neither of the current time nor of a time outside the range of moments.
-use Rattle.std.proofs.Common.{◌≡◌, ℕ, zero, suc, ◌+◌, ◌-◌, ◌≤◌, Bool, true, false, List, [], ◌∷◌, ◌++◌, length, refl, sym, ap, ◌∙◌, subst, arith, rules, Result, Ok, Err, ◌⊎◌, inl, inr}
-use Rattle.std.specs.Prelude.{◌<◌, max, not, nat_le, ◌&&◌, codes, Option, Some, None, IsSome, if◌then◌else◌}
+use Rattle.std.proofs.Common.{◌≡◌, ℕ, zero, suc, ◌+◌, ◌-◌, ◌≤◌, Bool, true, false, List, [], ◌∷◌, ◌++◌, length, refl, sym, ap, ◌∙◌, subst, arith, Result, Ok, Err, ◌⊎◌, inl, inr}
+use Rattle.std.specs.Prelude.{max, not, nat_le, ◌&&◌, codes, Option, Some, None, IsSome, if◌then◌else◌}
 use Rattle.std.specs.Option.{option_map}
 use Rattle.std.specs.List.{AllByRecursion, slice_get}
 use Rattle.std.specs.Str.{bytes_eq}
@@ -14,14 +14,12 @@ use Rattle.bl_syntax.specs.declared.terms.Term.TheVariants.{Prin, File, Perm, Ti
 use Rattle.bl_syntax.specs.declared.terms.TimePoint.{TimePoint}
 use Rattle.bl_syntax.specs.TimeOrder.{IsInRange}
 use Rattle.bl_syntax.specs.declared.terms.StatePred.TheVariants.{Owner, HasXattr, InDir}
-use Rattle.bl_syntax.specs.Formula.{Form, atom, compare, state, both, either, implies, truth, falsity, forall_, exists_, says, on}
+use Rattle.bl_syntax.specs.Formula.{Form, atom, state, truth, falsity}
 use Rattle.bl_syntax.specs.Names.{is_predicate_name}
-use Rattle.bl_syntax.specs.Terms.{sort_of, HasTimeInRange}
-use Rattle.bl_syntax.specs.WellSorted.{may, HasSort, IsInScope, HaveSorts, sorts_of_may, FitsPredicate, IsWellSorted, IsFormula, IsWithinLimits, size, widest_atom}
-use Rattle.bl_syntax.specs.Statement.{AllTerms, IsNotCtime, IsSayable, IsSayableFormula, Saying, IsStatement}
+use Rattle.bl_syntax.specs.WellSorted.{may, HasSort, IsInScope, HaveSorts, sorts_of_may, IsWellSorted, size, widest_atom}
+use Rattle.bl_syntax.specs.Statement.{AllTerms, IsSayable, Saying, IsStatement}
 use Rattle.bl_tokens.specs.declared.faults.TextFault.{TextFault}
 use Rattle.bl_tokens.specs.declared.faults.TextFault.TheVariants as faults
-use Rattle.bl_tokens.specs.declared.tokens.Sign.{Sign as Sign'}
 use Rattle.bl_tokens.specs.declared.tokens.Sign.TheVariants as signs
 use Rattle.bl_tokens.specs.declared.tokens.Keyword.{Keyword as Word}
 use Rattle.bl_tokens.specs.declared.tokens.Keyword.TheVariants as keywords
@@ -30,9 +28,9 @@ use Rattle.bl_tokens.specs.declared.tokens.Token.TheVariants.{Name, LongWord, Co
 use Rattle.bl_tokens.specs.declared.tokens.Token.TheVariants as tokens
 use Rattle.bl_tokens.specs.declared.tokens.Here.{Here}
 use Rattle.bl_tokens.specs.Tokens.{token_from, behind, behind_node, is_sign, is_word}
-use Rattle.bl_text.specs.Scope.{Variable, place_of, sort_of_place, same_sort, fits}
-use Rattle.bl_text.specs.Pieces.{◌>>=◌, count, expected, term_of, sayable, sorted, argument, next_argument, time_argument, interval, variable_name, sort_at, binder, speaker, less_sign, comparison, fits_may, atom_applied, owner_applied, attribute_applied, directory_applied, state_applied, applied, bare, named_time, name_alone, constant_formula, simple_by, simple}
-use Rattle.bl_text.specs.Grammar.{Level, formula, disjunction, conjunction, unary, postfix, primary, is_saying, AreArguments, one, further, IsCall, call, Is, for_every, for_some, implication, one_disjunction, or_further, one_conjunction, and_further, one_unary, saying, one_postfix, on_interval, one_primary, group, called, one_simple}
+use Rattle.bl_text.specs.Scope.{Variable, place_of, same_sort, fits}
+use Rattle.bl_text.specs.Pieces.{count, expected, term_of, sayable, sorted, argument, next_argument, time_argument, interval, variable_name, sort_at, binder, speaker, less_sign, comparison, fits_may, atom_applied, owner_applied, attribute_applied, directory_applied, state_applied, applied, bare, named_time, name_alone, constant_formula, simple_by, simple}
+use Rattle.bl_text.specs.Grammar.{Level, is_saying, AreArguments, one, further, IsCall, call, Is, for_every, for_some, implication, one_disjunction, or_further, one_conjunction, and_further, one_unary, saying, one_postfix, on_interval, one_primary, group, called, one_simple}
 use Rattle.bl_text.specs.Texts.{beginning, word_expected, time_constant, principal_name, opening, ended, span, IsSayingText, whole_saying}
 use Rattle.bl_syntax.proofs.StatementLemmas.{IsStatement-from_parts}
 use Rattle.bl_text.proofs.SettledLemmas.{bind_ok, expected_ok}
@@ -436,7 +434,7 @@ call_read {text} {scope} {here} (call name mid there terms f is room args close 
     record {
       lexed = subst (λ (p : Here). IsLexed p.token) (sym found.1) (lexed_behind text mid);
       nodes = (let some = count_some here tt room in let first = left_node text here in let second = left_behind text (behind_node text here) in let inside = all.nodes in
-        let last : there.left ≡ mid.left = ap (λ (p : Here). p.left) found.1 ∙ left_behind text mid in let whole = form.nodes in omega arith);
+          let last : there.left ≡ mid.left = ap (λ (p : Here). p.left) found.1 ∙ left_behind text mid in let whole = form.nodes in omega arith);
       wide = form.wide;
       sorted = form.sorted;
       sayable = form.sayable;
@@ -461,7 +459,7 @@ comparison_read text scope here there f lexed h =
     said_as high.1.1 (record {
       lexed = lexed_node text (behind_node text (behind_node text here));
       nodes = (let a = count_some here room.0 room.1.0 in let b = count_some (behind_node text here) next.0 next.1.0 in let c = last.room in
-        let x = left_node text here in let y = left_node text (behind_node text here) in let z = left_node text (behind_node text (behind_node text here)) in omega arith);
+          let x = left_node text here in let y = left_node text (behind_node text here) in let z = left_node text (behind_node text (behind_node text here)) in omega arith);
       wide = omega arith;
       sorted = (fits_is scope sorts.Time low.0 fine.in_scope (sorted_fits scope sorts.Time here.at low.0 time.0 time.1.0), last.time);
       sayable = (fine.sayable, last.said.sayable);
@@ -589,8 +587,8 @@ binder_read text here there name s h =
     subst (λ (p : List ℕ × Sort × Here). ReadsBinder here p.2) (ok_same dot.1.1) (record {
       lexed = subst (λ (p : Here). IsLexed p.token) (sym last.1) (lexed_behind text (behind text colon.0));
       nodes = (let a = count_some here room.0 room.1.0 in let x = left_node text here in let y = left_behind text (behind_node text here) in let z = left_behind text (behind text (behind_node text here)) in
-        let c : colon.0.left ≡ (behind text (behind text (behind_node text here))).left = ap (λ (p : Here). p.left) place.1 in let u = left_behind text colon.0 in let v = left_behind text (behind text colon.0) in
-        let d : dot.0.left ≡ (behind text (behind text colon.0)).left = ap (λ (p : Here). p.left) last.1 in omega arith);
+          let c : colon.0.left ≡ (behind text (behind text (behind_node text here))).left = ap (λ (p : Here). p.left) place.1 in let u = left_behind text colon.0 in let v = left_behind text (behind text colon.0) in
+          let d : dot.0.left ≡ (behind text (behind text colon.0)).left = ap (λ (p : Here). p.left) last.1 in omega arith);
     })
 
 pub record ReadsInterval (scope : List Variable) (here there : Here) (from to : Term) : Type 0 where
@@ -618,9 +616,9 @@ interval_read text scope here there from to h =
     subst (λ (p : Term × Term × Here). ReadsInterval scope here p.2 p.0 p.1) (ok_same close.1.1) (record {
       lexed = subst (λ (p : Here). IsLexed p.token) (sym last.1) (lexed_behind text (behind_node text second.0));
       nodes = (let a = count_some here room.0 room.1.0 in let b = from_.room in let c = to_.room in
-        let x = left_node text here in let y = left_behind text (behind_node text here) in let first_left : first.0.left ≡ (behind text (behind_node text here)).left = ap (λ (p : Here). p.left) first_is.1 in
-        let u = left_node text first.0 in let v = left_behind text (behind_node text first.0) in let second_left : second.0.left ≡ (behind text (behind_node text first.0)).left = ap (λ (p : Here). p.left) second_is'.1 in
-        let w = left_node text second.0 in let z = left_behind text (behind_node text second.0) in let last_left : close.0.left ≡ (behind text (behind_node text second.0)).left = ap (λ (p : Here). p.left) last.1 in omega arith);
+          let x = left_node text here in let y = left_behind text (behind_node text here) in let first_left : first.0.left ≡ (behind text (behind_node text here)).left = ap (λ (p : Here). p.left) first_is.1 in
+          let u = left_node text first.0 in let v = left_behind text (behind_node text first.0) in let second_left : second.0.left ≡ (behind text (behind_node text first.0)).left = ap (λ (p : Here). p.left) second_is'.1 in
+          let w = left_node text second.0 in let z = left_behind text (behind_node text second.0) in let last_left : close.0.left ≡ (behind text (behind_node text second.0)).left = ap (λ (p : Here). p.left) last.1 in omega arith);
       from_said = from_.said;
       to_said = to_.said;
       from_time = from_.time;
@@ -746,9 +744,10 @@ span_in_range text here from to h =
     let end = bind_ok (ended (behind text second.0)) _ (from, to) high.1.1 in
     let first_lexed = subst (λ (p : Here). IsLexed p.token) (sym (word_place text keywords.From here first.0 first.1.0)) (lexed_behind text here) in
     let second_lexed = subst (λ (p : Here). IsLexed p.token) (sym (word_place text keywords.To (behind text first.0) second.0 second.1.0)) (lexed_behind text (behind text first.0)) in
-    let same = ok_same end.1.1 in
-    (subst IsInRange (ap (λ (p : TimePoint × TimePoint). p.0) same) (time_by first.0 low.0 first.0.token refl first_lexed low.1.0),
-      subst IsInRange (ap (λ (p : TimePoint × TimePoint). p.1) same) (time_by second.0 high.0 second.0.token refl second_lexed high.1.0))
+    let same = ok_same end.1.1 in (
+      subst IsInRange (ap (λ (p : TimePoint × TimePoint). p.0) same) (time_by first.0 low.0 first.0.token refl first_lexed low.1.0),
+      subst IsInRange (ap (λ (p : TimePoint × TimePoint). p.1) same) (time_by second.0 high.0 second.0.token refl second_lexed high.1.0),
+    )
 
 pub statement_said : {text : List ℕ} {s : Saying} → IsSayingText text s → IsStatement s
 statement_said {text} (whole_saying who here place f from to o d p) =

@@ -1,5 +1,5 @@
 -- A text of a formula, and a fault, depend on the tokens that are read, and a fault on the next one as well.
-use Rattle.std.proofs.Common.{◌≡◌, ℕ, zero, suc, ◌+◌, ◌-◌, ◌≤◌, Bool, true, false, List, [], ◌∷◌, ◌++◌, length, refl, sym, ap, ◌∙◌, subst, arith, rules, Result, Ok, Err, ◌⊎◌, inl, inr}
+use Rattle.std.proofs.Common.{◌≡◌, ℕ, zero, suc, ◌+◌, ◌-◌, Bool, true, false, List, [], ◌∷◌, ◌++◌, length, refl, sym, ap, ◌∙◌, subst, arith, Result, Ok, Err, ◌⊎◌, inl, inr}
 use Rattle.std.specs.Prelude.{◌<◌, ◌&&◌, if◌then◌else◌}
 use Rattle.std.proofs.lemmas.Bool.{false≢true, cases_lt}
 use Rattle.bl_syntax.specs.declared.terms.Sort.{Sort as TermSort}
@@ -7,26 +7,25 @@ use Rattle.bl_syntax.specs.declared.terms.Term.{Term}
 use Rattle.bl_syntax.specs.Formula.{Form}
 use Rattle.bl_syntax.specs.Names.{is_predicate_name}
 use Rattle.bl_tokens.specs.declared.faults.TextFault.{TextFault}
-use Rattle.bl_tokens.specs.declared.faults.TextFault.TheVariants.{Unexpected, Sort, TooLarge, NoMemory}
+use Rattle.bl_tokens.specs.declared.faults.TextFault.TheVariants.{Unexpected, Sort, NoMemory}
 use Rattle.bl_tokens.specs.declared.tokens.Sign.{Sign as Sign'}
 use Rattle.bl_tokens.specs.declared.tokens.Sign.TheVariants as signs
-use Rattle.bl_tokens.specs.declared.tokens.Keyword.TheVariants as keywords
 use Rattle.bl_tokens.specs.declared.tokens.Token.{Token}
 use Rattle.bl_tokens.specs.declared.tokens.Token.TheVariants.{Name, LongWord, Constant, BadDate, SortName, Keyword, End, Bad}
 use Rattle.bl_tokens.specs.declared.tokens.Token.TheVariants as tokens
 use Rattle.bl_tokens.specs.declared.tokens.Here.{Here}
-use Rattle.bl_tokens.specs.Tokens.{token_from, behind, behind_node, is_sign, is_word}
+use Rattle.bl_tokens.specs.Tokens.{token_from, behind, behind_node, is_sign}
 use Rattle.bl_text.specs.Scope.{Variable}
-use Rattle.bl_text.specs.Pieces.{◌>>=◌, count, expected, term_of, sayable, argument, next_argument, interval, binder, speaker, applied, simple}
-use Rattle.bl_text.specs.Grammar.{Level, formula, disjunction, conjunction, unary, postfix, primary, is_quantifier, is_saying, is_call, is_call_token, goes_on, AreArguments, one, further, IsCall, call, Is, for_every, for_some, implication, one_disjunction, or_further, one_conjunction, and_further, one_unary, saying, one_postfix, on_interval, one_primary, group, called, one_simple}
+use Rattle.bl_text.specs.Pieces.{◌>>=◌, count, expected, term_of, argument, next_argument, interval, binder, speaker, applied, simple}
+use Rattle.bl_text.specs.Grammar.{Level, is_saying, is_call, is_call_token, AreArguments, one, further, IsCall, call, Is, for_every, for_some, implication, one_disjunction, or_further, one_conjunction, and_further, one_unary, saying, one_postfix, on_interval, one_primary, group, called, one_simple}
 use Rattle.bl_text.specs.Stops.{ArgumentsStop, no_memory_for_arguments, in_first_argument, in_argument, CallStops, at_name, in_arguments, before_close, by_sorts, Stops, no_memory, in_binder, in_body, in_premise, at_implies, in_conclusion, in_first_disjunct, at_or, in_disjunct, in_first_conjunct, at_and, in_conjunct, in_speaker, in_said, in_postfix, in_primary, in_interval, too_deep, in_group, not_closed, in_call, in_simple}
 use Rattle.bl_text.specs.Texts.{beginning, FormulaFault, in_formula, behind_formula}
 use Rattle.bl_text.specs.FirstTokens.{token_number, SameTokens}
 use Rattle.bl_text.specs.Met.{IsAt, unexpected, too_large, IsCallOf, IsMetAt, at_close, IsSettled}
 use Rattle.bl_text.proofs.Determined.{other_sign}
 use Rattle.bl_text.proofs.ReadLemmas.{expected-Ok, is_at, stops_at}
-use Rattle.bl_text.proofs.Walk.{bare, bare_token, one_token, walk, walk_number, walk_from, tokens_from, Local, local_with, local_goes, local_then, local_peeks, Met, met_with, met_after, met_here, met_peeks, met_shifted, Piece, ErrsAt, read_piece, stopped_piece, local_piece}
-use Rattle.bl_text.proofs.PieceLemmas.{count_errs, argument_errs, next_argument_errs, expected_errs, Unsorted, applied_unsorted, interval_place, piece_interval, binder_place, piece_binder, speaker_place, piece_speaker, form_place, piece_simple, piece_expected}
+use Rattle.bl_text.proofs.Walk.{bare, bare_token, one_token, walk, walk_number, walk_from, tokens_from, Local, local_with, local_goes, local_then, local_peeks, Met, met_with, met_after, met_here, met_peeks, met_shifted, ErrsAt, read_piece, stopped_piece, local_piece}
+use Rattle.bl_text.proofs.PieceLemmas.{count_errs, argument_errs, next_argument_errs, Unsorted, applied_unsorted, interval_place, piece_interval, binder_place, piece_binder, speaker_place, piece_speaker, form_place, piece_simple, piece_expected}
 
 pub bind_ok : {A B : Type 0} (r : Result A TextFault) (k : A → Result B TextFault) (b : B) → (r >>= k) ≡ Ok b → (a : A) × ((r ≡ Ok a) × (k a ≡ Ok b))
 bind_ok (Ok a) k b h = (a, (refl, h))
@@ -117,7 +116,7 @@ pub later_inside : (text : List ℕ) (here mid : Here) (s n : ℕ) → bare (wal
 later_inside text here mid s n reach before after k less = elim (cases_lt k s) [
   | inl small ↦ before k small
   | inr large ↦ (let sum : k ≡ s + (k - s) = omega arith in
-    ap (λ m. is_sign signs.Close (tokens_from text here m).token) sum ∙ ap (λ (h : Here). is_sign signs.Close h.token) (walk_from text s (k - s) here mid reach) ∙ after (k - s) (omega arith))
+      ap (λ m. is_sign signs.Close (tokens_from text here m).token) sum ∙ ap (λ (h : Here). is_sign signs.Close h.token) (walk_from text s (k - s) here mid reach) ∙ after (k - s) (omega arith))
 ]
 
 further_local : (text : List ℕ) (st : Bool) (scope : List Variable) (is_atom : Bool) (here mid : Here) (terms : List Term) (t : Term) → LocalArguments text st scope is_atom here mid terms
@@ -125,9 +124,9 @@ further_local : (text : List ℕ) (st : Bool) (scope : List Variable) (is_atom :
 unfolding behind_node behind local_with local_goes local_then
 further_local text st scope is_atom here mid terms t args comma h = record {
   local = local_with (λ o p. subst (λ (q : Here). AreArguments o st scope is_atom here q (terms ++ t ∷ [])) p.1.1 (further mid (behind text mid) terms t p.0 (expected-Ok o signs.Comma mid comma ∙ ap Ok p.1.0) h))
-    (local_then args.local (local_then (local_goes text mid mid.left) (local_goes text (behind text mid) ((behind text mid).left - 1))));
+      (local_then args.local (local_then (local_goes text mid mid.left) (local_goes text (behind text mid) ((behind text mid).left - 1))));
   inside = later_inside text here mid args.local.steps 2 args.local.reach args.inside
-    (two_inside text mid mid.left (other_sign signs.Comma signs.Close mid.token comma refl) (next_argument_no_sign st scope is_atom (length terms) (behind text mid) signs.Close t h));
+      (two_inside text mid mid.left (other_sign signs.Comma signs.Close mid.token comma refl) (next_argument_no_sign st scope is_atom (length terms) (behind text mid) signs.Close t h));
 }
 
 arguments_local : {text : List ℕ} {st : Bool} {scope : List Variable} {is_atom : Bool} {here there : Here} {terms : List Term} → AreArguments text st scope is_atom here there terms → LocalArguments text st scope is_atom here there terms
@@ -204,8 +203,10 @@ call_met text {here} mid name n is opened reach inside closed = record {
   where
     second : token_from text here.end 0 ≡ bare (behind_node text here)
     second = sym (bare_token text here.end (here.left - 1))
+
     start : bare (walk text 2 here) ≡ bare (behind text (behind_node text here))
     start = bare_token text (token_from text here.end 0).end 0 ∙ ap (λ (h : Here). token_from text h.end 0) second ∙ sym (bare_token text (behind_node text here).end (behind_node text here).left)
+
     later : (k : ℕ) → 0 < k → k < 2 + n → is_sign signs.Close (tokens_from text here k).token ≡ false
     later zero more less = absurd (omega arith)
     later (suc zero) more less = ap (λ (h : Here). is_sign signs.Close h.token) second ∙ other_sign signs.Open signs.Close (behind_node text here).token opened refl
@@ -223,10 +224,10 @@ met_by_sorts {text} {st} {scope} {here} {mid} {place} {terms} {e} name is room o
   steps = 2 + args.local.steps;
   met = subst (λ e'. IsMetAt (tokens_from text here) (2 + args.local.steps) e') (sym (unsorted_is (applied_unsorted scope here.at name terms) wrong)) (at_close 0 (call_met text mid name args.local.steps is opened args.local.reach args.inside (expected_ok text signs.Close mid place close).0));
   holds = λ o same. (let n : 2 + args.local.steps + 1 ≡ 1 + 1 + (args.local.steps + 1) = omega arith in
-    let all = local_then (call_start text here) (local_then args.local (local_goes text mid mid.left)) in
-    let p = all.holds o (subst (λ m. SameTokens text o m here.end) n same) in
-    let found = expected_ok text signs.Close mid place close in
-    by_sorts name mid place terms e is room (arguments_at (sym p.0) p.1.0) (expected-Ok o signs.Close mid found.0 ∙ ap Ok (p.1.1 ∙ sym found.1)) wrong);
+      let all = local_then (call_start text here) (local_then args.local (local_goes text mid mid.left)) in
+      let p = all.holds o (subst (λ m. SameTokens text o m here.end) n same) in
+      let found = expected_ok text signs.Close mid place close in
+      by_sorts name mid place terms e is room (arguments_at (sym p.0) p.1.0) (expected-Ok o signs.Close mid found.0 ∙ ap Ok (p.1.1 ∙ sym found.1)) wrong);
 }
 
 met_call : {text : List ℕ} {st : Bool} {scope : List Variable} {here : Here} {e : TextFault} → is_call text here ≡ true → CallStops text st scope here e → OrMemory e (Met text here e (λ o. CallStops o st scope here e))
@@ -344,8 +345,8 @@ settled {HasFault} {text} {e} m = record {
   number = m.steps;
   met = number_met m.met;
   same = λ o same. (let n : m.steps + 2 ≡ suc (m.steps + 1) = omega arith in
-    let all : SameTokens text o (suc (m.steps + 1)) 0 = subst (λ k. SameTokens text o k 0) n same in
-    m.holds o (subst (λ (h : Here). SameTokens text o (m.steps + 1) h.end) (sym (bare_token text 0 512)) all.1) (one_token text o 0 512 all.0));
+      let all : SameTokens text o (suc (m.steps + 1)) 0 = subst (λ k. SameTokens text o k 0) n same in
+      m.holds o (subst (λ (h : Here). SameTokens text o (m.steps + 1) h.end) (sym (bare_token text 0 512)) all.1) (one_token text o 0 512 all.0));
 }
   where
     number_met : {n : ℕ} → IsMetAt (tokens_from text (beginning text)) n e → IsMetAt (token_number text) n e

@@ -1,5 +1,5 @@
 -- A fault of a statement's text depends on the tokens up to it and the next.
-use Rattle.std.proofs.Common.{◌≡◌, ℕ, zero, suc, ◌+◌, ◌-◌, ◌≤◌, Bool, true, false, List, [], ◌∷◌, refl, sym, ap, ◌∙◌, subst, arith, rules, Result, Ok, Err, ◌⊎◌, inl, inr}
+use Rattle.std.proofs.Common.{◌≡◌, ℕ, ◌+◌, ◌≤◌, Bool, true, false, List, refl, sym, ap, ◌∙◌, arith, Result, Ok, Err, inr}
 use Rattle.std.specs.Prelude.{if◌then◌else◌}
 use Rattle.bl_syntax.specs.declared.terms.Term.TheVariants.{Prin, File, Perm, Time, Text, Ctime, Param, Bound}
 use Rattle.bl_syntax.specs.declared.terms.TimePoint.{TimePoint}
@@ -14,9 +14,8 @@ use Rattle.bl_tokens.specs.declared.tokens.Here.{Here}
 use Rattle.bl_tokens.specs.Tokens.{token_from, behind, is_word}
 use Rattle.bl_text.specs.Pieces.{◌>>=◌}
 use Rattle.bl_text.specs.Texts.{beginning, is_end, word_expected, time_constant, principal_name, opening, ended, span, StatementFault, in_opening, in_body, in_span}
-use Rattle.bl_text.specs.Met.{IsAt, unexpected, bad_date, IsSettled}
-use Rattle.bl_text.proofs.ReadLemmas.{is_at, stops_at}
-use Rattle.bl_text.proofs.Walk.{bare, walk, walk_next, Local, local_then, Met, met_with, met_after, Piece, ErrsAt, check, stop, step, finish, read_piece, stopped_piece, local_piece}
+use Rattle.bl_text.specs.Met.{unexpected, bad_date, IsSettled}
+use Rattle.bl_text.proofs.Walk.{bare, walk, walk_next, Local, Met, met_with, met_after, Piece, ErrsAt, check, stop, step, finish, read_piece, stopped_piece, local_piece}
 use Rattle.bl_text.proofs.PieceLemmas.{if_errs}
 use Rattle.bl_text.proofs.SettledLemmas.{OrMemory, or_met, local_is, met_stops, settled}
 

@@ -1,6 +1,6 @@
 -- A whole text is one formula or one statement, or has one fault, and never both.
-use Rattle.std.proofs.Common.{◌≡◌, ℕ, Bool, true, false, List, [], refl, sym, ap, ◌∙◌, subst, Result, Ok, Err, ◌⊎◌, inl, inr}
-use Rattle.std.specs.Prelude.{if◌then◌else◌, ◌||◌, IfOk, IfErr, MatchResult}
+use Rattle.std.proofs.Common.{◌≡◌, ℕ, Bool, true, false, List, [], refl, sym, ap, ◌∙◌, subst, Result, Ok, Err, inl, inr}
+use Rattle.std.specs.Prelude.{if◌then◌else◌, IfOk, IfErr, MatchResult}
 use Rattle.std.proofs.lemmas.Bool.{false≢true}
 use Rattle.bl_syntax.specs.declared.terms.TimePoint.{TimePoint}
 use Rattle.bl_syntax.specs.declared.formula.Formula.{Formula}
@@ -21,7 +21,7 @@ use Rattle.bl_tokens.specs.Tokens.{behind, is_sign, is_word}
 use Rattle.bl_text.specs.Pieces.{◌>>=◌}
 use Rattle.bl_text.specs.Grammar.{formula, goes_on, Is}
 use Rattle.bl_text.specs.Stops.{Stops}
-use Rattle.bl_text.specs.Texts.{beginning, is_end, IsFormulaText, whole, FormulaFault, in_formula, behind_formula, opening, span, word_expected, time_constant, ended, IsSayingText, whole_saying, IsStatementText, StatementFault, in_opening, in_body, in_span, AreOneFault}
+use Rattle.bl_text.specs.Texts.{beginning, is_end, IsFormulaText, whole, FormulaFault, in_formula, behind_formula, opening, span, word_expected, ended, IsSayingText, whole_saying, IsStatementText, StatementFault, in_opening, in_body, in_span, AreOneFault}
 use Rattle.bl_text.proofs.Determined.{or_false, word_is, one_reading, read_or_fault, one_stop}
 
 -- no sign goes on behind what is no sign

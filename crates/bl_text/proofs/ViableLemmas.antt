@@ -1,14 +1,12 @@
 -- What was read is a sentence of the grammar over tokens, and what was read up to a fault can be completed to one.
-use Rattle.std.proofs.Common.{◌≡◌, ℕ, zero, suc, ◌+◌, ◌-◌, ◌≤◌, Bool, true, false, List, [], ◌∷◌, ◌++◌, length, append_assoc, append-nil, refl, sym, ap, ◌∙◌, subst, arith, rules, Result, Ok, Err, ◌⊎◌, inl, inr}
-use Rattle.std.specs.Prelude.{◌<◌, Option, Some, None, IsSome, codes, ◌&&◌, nat_le, if◌then◌else◌}
+use Rattle.std.proofs.Common.{◌≡◌, ℕ, zero, suc, ◌+◌, ◌-◌, Bool, true, false, List, [], ◌∷◌, ◌++◌, length, append_assoc, append-nil, refl, sym, ap, ◌∙◌, subst, arith, Result, Ok, Err, inl, inr}
+use Rattle.std.specs.Prelude.{◌<◌, Option, Some, None, IsSome, if◌then◌else◌}
 use Rattle.std.proofs.lemmas.Bool.{false≢true}
 use Rattle.std.proofs.lemmas.List.{length-append}
 use Rattle.bl_syntax.specs.declared.terms.Sort.{Sort as TermSort}
 use Rattle.bl_syntax.specs.declared.terms.Sort.TheVariants as sorts
 use Rattle.bl_syntax.specs.declared.terms.Term.{Term}
 use Rattle.bl_syntax.specs.declared.terms.Term.TheVariants.{Prin, File, Perm, Time, Text, Ctime, Param, Bound}
-use Rattle.bl_syntax.specs.declared.terms.TimePoint.{TimePoint}
-use Rattle.bl_syntax.specs.declared.terms.TimePoint.TheVariants as times
 use Rattle.bl_syntax.specs.Formula.{Form}
 use Rattle.bl_syntax.specs.Formula as forms
 use Rattle.bl_syntax.specs.Names.{is_predicate_name}
@@ -17,7 +15,6 @@ use Rattle.bl_tokens.specs.declared.faults.TextFault.TheVariants.{Unexpected, Un
 use Rattle.bl_tokens.specs.declared.faults.TextFault.TheVariants as faults
 use Rattle.bl_tokens.specs.declared.tokens.Sign.{Sign as Sign'}
 use Rattle.bl_tokens.specs.declared.tokens.Sign.TheVariants as signs
-use Rattle.bl_tokens.specs.declared.tokens.Keyword.{Keyword as Word}
 use Rattle.bl_tokens.specs.declared.tokens.Keyword.TheVariants as keywords
 use Rattle.bl_tokens.specs.declared.tokens.Token.{Token}
 use Rattle.bl_tokens.specs.declared.tokens.Token.TheVariants.{Name, LongWord, Constant, BadDate, SortName, Keyword, End, Bad}
@@ -29,12 +26,11 @@ use Rattle.bl_text.specs.Pieces.{◌>>=◌, count, expected, term_of, sayable, s
 use Rattle.bl_text.specs.Grammar.{Level, formula, disjunction, conjunction, unary, postfix, primary, is_quantifier, is_saying, is_call, AreArguments, IsCall}
 use Rattle.bl_text.specs.Grammar as grammar
 use Rattle.bl_text.specs.Stops.{ArgumentsStop, no_memory_for_arguments, in_first_argument, in_argument, CallStops, at_name, in_arguments, before_close, by_sorts, Stops, no_memory, in_binder, in_body, in_premise, at_implies, in_conclusion, in_first_disjunct, at_or, in_disjunct, in_first_conjunct, at_and, in_conjunct, in_speaker, in_said, in_postfix, in_primary, in_interval, too_deep, in_group, not_closed, in_call, in_simple}
-use Rattle.bl_text.specs.FirstTokens.{behind_tokens, token_number}
-use Rattle.bl_text.specs.Met.{IsAt, unexpected, unknown_name, wrong_sort, too_large, IsCallOf, IsMetAt, there, at_close}
-use Rattle.bl_text.specs.Sentences.{IsSign, IsTerm, principal, constant, variable, IsSpeaker, named, bound, AreTerms, one_term, further_term, Sentence, quantified, implication, one_disjunction, or_further, one_conjunction, and_further, one_unary, saying, one_postfix, on_interval, one_primary, group, called, alone, compared, truth, falsity, first_tokens}
+use Rattle.bl_text.specs.Met.{IsAt, wrong_sort, too_large, IsMetAt, there, at_close}
+use Rattle.bl_text.specs.Sentences.{IsSign, IsTerm, principal, constant, variable, IsSpeaker, named, bound, AreTerms, one_term, further_term, Sentence, quantified, implication, one_disjunction, or_further, one_conjunction, and_further, one_unary, saying, one_postfix, on_interval, one_primary, group, called, alone, compared, truth, falsity}
 use Rattle.bl_text.proofs.ReadLemmas.{every_quantifies, some_quantifies}
 use Rattle.bl_text.proofs.Determined.{other_sign}
-use Rattle.bl_text.proofs.Walk.{bare as bared, bare_token, walk, walk_plus, walk_next, walk_from, bare_walk, tokens_from, met_shifted, ErrsAt}
+use Rattle.bl_text.proofs.Walk.{bare as bared, walk, walk_next, walk_from, tokens_from, met_shifted, ErrsAt}
 use Rattle.bl_text.proofs.PieceLemmas.{if_errs, then_errs, count_errs, term_errs, sayable_errs, sorted_errs, argument_errs, next_argument_errs, time_argument_errs, variable_errs_by, sort_errs_by, less_errs, expected_errs, applied_errs, applied_unsorted}
 use Rattle.bl_text.proofs.SettledLemmas.{bind_ok, errs_is, expected_ok, argument_no_sign, next_argument_no_sign, first_inside, two_behind, later_inside, and_right, call_opened, call_met, unsorted_is, OrMemory, or_met}
 use Rattle.bl_text.proofs.SaidLemmas.{ok_same, refused, unread_speaker, at_place, variable_term, not_saying}
@@ -78,7 +74,7 @@ reads_then {text} {here} {mid} {place} {ts} {us} r s = record {
 pub begins_after : {text : List ℕ} {here mid : Here} {e : TextFault} {ts us : List Token} → Reads text here mid ts → Begins text mid e us → Begins text here e (ts ++ us)
 begins_after {text} {here} {mid} {e} {ts} {us} r b = record {
   met = subst (λ n. IsMetAt (tokens_from text here) n e) (sym (length-append ts us))
-    (met_shifted (tokens_from text here) (tokens_from text mid) (length ts) (λ k. walk_from text (length ts) k here mid r.reach) b.met);
+      (met_shifted (tokens_from text here) (tokens_from text mid) (length ts) (λ k. walk_from text (length ts) k here mid r.reach) b.met);
   spelled = joined text here mid ts us r b.spelled;
 }
 
@@ -310,7 +306,7 @@ binder_tokens text here place name s h =
       is_colon = (expected_ok text signs.Colon (behind text (behind_node text here)) colon_.0 colon_.1.0).0;
       is_dot = (expected_ok text signs.Dot (behind text colon_.0) dot_.0 dot_.1.0).0;
       reads = reads_then (reads_node text here) (reads_then (token_read (variable_is_by (behind_node text here) name_.0 name_.1.0 (behind_node text here).token refl) (reads_behind text (behind_node text here)))
-        (reads_then (reads_sign _ colon_.1.0) (reads_then (token_read (sort_is_by colon_.0 sort.0 sort.1.0 colon_.0.token refl) (reads_behind text colon_.0)) (reads_sign _ dot_.1.0))));
+          (reads_then (reads_sign _ colon_.1.0) (reads_then (token_read (sort_is_by colon_.0 sort.0 sort.1.0 colon_.0.token refl) (reads_behind text colon_.0)) (reads_sign _ dot_.1.0))));
     })
 
 viable_binder : (text : List ℕ) (scope : List Variable) (here : Here) (e : TextFault) → is_quantifier here.token ≡ true → binder text here ≡ Err e → Viable text (Sentence formula scope) here e
@@ -319,20 +315,20 @@ viable_binder text scope here e word h =
     err_cases (count here) _ h (λ full. viable_here formula scope (errs_is (count_errs here) full))
     (λ _ room h1. err_cases (variable_name (behind_node text here)) _ h1
     (λ bad. viable_at (tokens.Variable [] ∷ tokens.Sign signs.Colon ∷ SortName sorts.Time ∷ tokens.Sign signs.Dot ∷ Keyword keywords.True ∷ []) (reads_node text here) (errs_is (variable_errs_by (behind_node text here) (behind_node text here).token refl) bad)
-      (quantified scope here.token (tokens.Sign signs.Colon) (tokens.Sign signs.Dot) [] sorts.Time (Keyword keywords.True ∷ []) word colon_sign dot_sign (default formula (([], sorts.Time) ∷ scope))))
+    (quantified scope here.token (tokens.Sign signs.Colon) (tokens.Sign signs.Dot) [] sorts.Time (Keyword keywords.True ∷ []) word colon_sign dot_sign (default formula (([], sorts.Time) ∷ scope))))
     (λ name is h2.
-      let so_far = reads_then (reads_node text here) (token_read (variable_is_by (behind_node text here) name is (behind_node text here).token refl) (reads_behind text (behind_node text here))) in
-      err_cases (expected text signs.Colon (behind text (behind_node text here))) _ h2
+    let so_far = reads_then (reads_node text here) (token_read (variable_is_by (behind_node text here) name is (behind_node text here).token refl) (reads_behind text (behind_node text here))) in
+    err_cases (expected text signs.Colon (behind text (behind_node text here))) _ h2
     (λ bad. viable_at (tokens.Sign signs.Colon ∷ SortName sorts.Time ∷ tokens.Sign signs.Dot ∷ Keyword keywords.True ∷ []) so_far (errs_is (expected_errs text signs.Colon (behind text (behind_node text here))) bad)
-      (quantified scope here.token (tokens.Sign signs.Colon) (tokens.Sign signs.Dot) name sorts.Time (Keyword keywords.True ∷ []) word colon_sign dot_sign (default formula ((name, sorts.Time) ∷ scope))))
+    (quantified scope here.token (tokens.Sign signs.Colon) (tokens.Sign signs.Dot) name sorts.Time (Keyword keywords.True ∷ []) word colon_sign dot_sign (default formula ((name, sorts.Time) ∷ scope))))
     (λ place colon h3.
-      let is_colon = (expected_ok text signs.Colon (behind text (behind_node text here)) place colon).0 in
-      err_cases (sort_at place) _ h3
+    let is_colon = (expected_ok text signs.Colon (behind text (behind_node text here)) place colon).0 in
+    err_cases (sort_at place) _ h3
     (λ bad. viable_at (SortName sorts.Time ∷ tokens.Sign signs.Dot ∷ Keyword keywords.True ∷ []) (reads_then so_far (reads_sign _ colon)) (errs_is (sort_errs_by place place.token refl) bad)
-      (quantified scope here.token (behind text (behind_node text here)).token (tokens.Sign signs.Dot) name sorts.Time (Keyword keywords.True ∷ []) word is_colon dot_sign (default formula ((name, sorts.Time) ∷ scope))))
+    (quantified scope here.token (behind text (behind_node text here)).token (tokens.Sign signs.Dot) name sorts.Time (Keyword keywords.True ∷ []) word is_colon dot_sign (default formula ((name, sorts.Time) ∷ scope))))
     (λ s sort h4. err_cases (expected text signs.Dot (behind text place)) _ h4
     (λ bad. viable_at (tokens.Sign signs.Dot ∷ Keyword keywords.True ∷ []) (reads_then so_far (reads_then (reads_sign _ colon) (token_read (sort_is_by place s sort place.token refl) (reads_behind text place)))) (errs_is (expected_errs text signs.Dot (behind text place)) bad)
-      (quantified scope here.token (behind text (behind_node text here)).token (tokens.Sign signs.Dot) name s (Keyword keywords.True ∷ []) word is_colon dot_sign (default formula ((name, s) ∷ scope))))
+    (quantified scope here.token (behind text (behind_node text here)).token (tokens.Sign signs.Dot) name s (Keyword keywords.True ∷ []) word is_colon dot_sign (default formula ((name, s) ∷ scope))))
     (λ last dot h5. never_err h5)))))
 
 -- ---- speakers
@@ -369,7 +365,7 @@ viable_speaker text scope here e says h =
     (λ _ room h2. err_cases (sorted scope sorts.Principal here.at who) _ h2 (λ bad. viable_here unary scope (errs_is (sorted_errs scope sorts.Principal here.at who) bad))
     (λ _ sort h3. err_cases (count (behind_node text here)) _ h3
     (λ bad. viable_at (Keyword keywords.Says ∷ Keyword keywords.True ∷ []) (reads_node text here) (errs_is (count_errs (behind_node text here)) bad)
-      (saying scope here.token (Keyword keywords.Says) (Keyword keywords.True ∷ []) (speaker_is_by text scope here who says is here.token refl) says_keyword (default unary scope)))
+    (saying scope here.token (Keyword keywords.Says) (Keyword keywords.True ∷ []) (speaker_is_by text scope here who says is here.token refl) says_keyword (default unary scope)))
     (λ _ next h4. never_err h4))))
 
 -- ---- intervals
@@ -417,28 +413,28 @@ viable_interval text st scope here mid ts e r a at h =
     err_cases (count mid) _ h (λ bad. viable_at [] r (errs_is (count_errs mid) bad) (subst (Sentence postfix scope) (sym (append-nil ts)) a))
     (λ _ room h1. err_cases (expected text signs.OpenInterval (behind_node text mid)) _ h1
     (λ bad. viable_behind (tokens.Sign signs.OpenInterval ∷ Constant Ctime ∷ tokens.Sign signs.Comma ∷ Constant Ctime ∷ tokens.Sign signs.CloseInterval ∷ []) r (reads_node text mid) (errs_is (expected_errs text signs.OpenInterval (behind_node text mid)) bad)
-      (on_interval scope ts mid.token _ _ _ _ _ a at open_interval_sign (constant Ctime) comma_sign (constant Ctime) close_interval_sign))
+    (on_interval scope ts mid.token _ _ _ _ _ a at open_interval_sign (constant Ctime) comma_sign (constant Ctime) close_interval_sign))
     (λ first opens h2.
-      let is_open = (expected_ok text signs.OpenInterval (behind_node text mid) first opens).0 in
-      let one = reads_then (reads_node text mid) (reads_sign _ opens) in
-      err_cases (time_argument st scope first) _ h2
+    let is_open = (expected_ok text signs.OpenInterval (behind_node text mid) first opens).0 in
+    let one = reads_then (reads_node text mid) (reads_sign _ opens) in
+    err_cases (time_argument st scope first) _ h2
     (λ bad. viable_behind (Constant Ctime ∷ tokens.Sign signs.Comma ∷ Constant Ctime ∷ tokens.Sign signs.CloseInterval ∷ []) r one (errs_is (time_argument_errs st scope first) bad)
-      (on_interval scope ts mid.token _ _ _ _ _ a at is_open (constant Ctime) comma_sign (constant Ctime) close_interval_sign))
+    (on_interval scope ts mid.token _ _ _ _ _ a at is_open (constant Ctime) comma_sign (constant Ctime) close_interval_sign))
     (λ from low h3.
-      let from_term = time_argument_is st scope first from low in
-      let two = reads_then one (reads_node text first) in
-      err_cases (expected text signs.Comma (behind_node text first)) _ h3
+    let from_term = time_argument_is st scope first from low in
+    let two = reads_then one (reads_node text first) in
+    err_cases (expected text signs.Comma (behind_node text first)) _ h3
     (λ bad. viable_behind (tokens.Sign signs.Comma ∷ Constant Ctime ∷ tokens.Sign signs.CloseInterval ∷ []) r two (errs_is (expected_errs text signs.Comma (behind_node text first)) bad)
-      (on_interval scope ts mid.token _ _ _ _ _ a at is_open from_term comma_sign (constant Ctime) close_interval_sign))
+    (on_interval scope ts mid.token _ _ _ _ _ a at is_open from_term comma_sign (constant Ctime) close_interval_sign))
     (λ second comma h4.
-      let is_comma = (expected_ok text signs.Comma (behind_node text first) second comma).0 in
-      let three = reads_then two (reads_sign _ comma) in
-      err_cases (time_argument st scope second) _ h4
+    let is_comma = (expected_ok text signs.Comma (behind_node text first) second comma).0 in
+    let three = reads_then two (reads_sign _ comma) in
+    err_cases (time_argument st scope second) _ h4
     (λ bad. viable_behind (Constant Ctime ∷ tokens.Sign signs.CloseInterval ∷ []) r three (errs_is (time_argument_errs st scope second) bad)
-      (on_interval scope ts mid.token _ _ _ _ _ a at is_open from_term is_comma (constant Ctime) close_interval_sign))
+    (on_interval scope ts mid.token _ _ _ _ _ a at is_open from_term is_comma (constant Ctime) close_interval_sign))
     (λ to high h5. err_cases (expected text signs.CloseInterval (behind_node text second)) _ h5
     (λ bad. viable_behind (tokens.Sign signs.CloseInterval ∷ []) r (reads_then three (reads_node text second)) (errs_is (expected_errs text signs.CloseInterval (behind_node text second)) bad)
-      (on_interval scope ts mid.token _ _ _ _ _ a at is_open from_term is_comma (time_argument_is st scope second to high) close_interval_sign))
+    (on_interval scope ts mid.token _ _ _ _ _ a at is_open from_term is_comma (time_argument_is st scope second to high) close_interval_sign))
     (λ last close h6. never_err h6))))))
 
 -- ---- formulas without parentheses
@@ -486,7 +482,7 @@ viable_comparison text st scope here e h =
     (λ bad. viable_at (tokens.Sign signs.UpTo ∷ Constant Ctime ∷ []) (reads_node text here) (errs_is (count_errs (behind_node text here)) bad) (compared scope _ _ _ (term_is scope here low is) up_to_sign (constant Ctime)))
     (λ _ next h6. err_cases (time_argument st scope (behind_node text (behind_node text here))) _ h6
     (λ bad. viable_at (Constant Ctime ∷ []) (reads_then (reads_node text here) (reads_node text (behind_node text here))) (errs_is (time_argument_errs st scope (behind_node text (behind_node text here))) bad)
-      (compared scope _ _ _ (term_is scope here low is) (less_is (behind_node text here) tt less) (constant Ctime)))
+    (compared scope _ _ _ (term_is scope here low is) (less_is (behind_node text here) tt less) (constant Ctime)))
     (λ high last h7. never_err h7)))))))
 
 named_time_errs : (here : Here) → ErrsAt here.at (named_time here)
@@ -602,7 +598,7 @@ arguments_tokens {text} {st} {scope} {is_atom} {here} (grammar.further mid place
       reads = reads_then others.reads (reads_then (reads_sign _ comma) (reads_node text place));
       terms = further_term others.ts mid.token place.token others.terms found.0 (next_argument_is st scope is_atom (length terms) place t h);
       inside = λ k less. later_inside text here mid (length others.ts) 2 others.reads.reach others.inside
-        (two_behind text mid (other_sign signs.Comma signs.Close mid.token found.0 refl) next) k (subst (λ n. k < n) len less);
+          (two_behind text mid (other_sign signs.Comma signs.Close mid.token found.0 refl) next) k (subst (λ n. k < n) len less);
     }
 
 viable_arguments : {text : List ℕ} {st : Bool} {scope : List Variable} {is_atom : Bool} {here : Here} {e : TextFault} → ArgumentsStop text st scope is_atom here e → OrMemory e (Viable text (AreTerms scope) here e)
@@ -612,7 +608,7 @@ viable_arguments {text} {st} {scope} {is_atom} {here} (in_first_argument e h) =
 viable_arguments {text} {st} {scope} {is_atom} {here} (in_argument mid place terms e args comma h) =
     let front = arguments_tokens args in
     inr (viable_behind (Constant Ctime ∷ []) front.reads (reads_sign _ comma) (errs_is (next_argument_errs st scope is_atom (length terms) place) h)
-      (further_term front.ts mid.token (Constant Ctime) front.terms (expected_ok text signs.Comma mid place comma).0 (constant Ctime)))
+    (further_term front.ts mid.token (Constant Ctime) front.terms (expected_ok text signs.Comma mid place comma).0 (constant Ctime)))
 
 -- ---- calls
 
@@ -637,7 +633,7 @@ viable_by_sorts {text} {st} {scope} {here} {mid} {place} {terms} {e} name is ope
     let len : 2 + length inside.ts ≡ length ts = omega arith in
     let closed = (expected_ok text signs.Close mid place close).0 in
     let met : IsMetAt (tokens_from text here) (2 + length inside.ts) e = subst (λ e'. IsMetAt (tokens_from text here) (2 + length inside.ts) e') (sym (unsorted_is (applied_unsorted scope here.at name terms) wrong))
-      (at_close 0 (call_met text mid name (length inside.ts) is opened inside.reads.reach inside.inside closed)) in
+    (at_close 0 (call_met text mid name (length inside.ts) is opened inside.reads.reach inside.inside closed)) in
     record {
       ts = ts;
       begins = record { met = subst (λ n. IsMetAt (tokens_from text here) n e) len met; spelled = (reads_then (call_reads is) inside.reads).spelled };
@@ -652,7 +648,7 @@ viable_call {text} {st} {scope} {here} calls (in_arguments name e is room stop) 
 viable_call {text} {st} {scope} {here} calls (before_close name mid terms e is room args no_comma close) =
     let inside = arguments_tokens args in
     inr (viable_at (tokens.Sign signs.Close ∷ []) (reads_then (call_reads is) inside.reads) (errs_is (expected_errs text signs.Close mid) close)
-      (called scope name (behind_node text here).token (tokens.Sign signs.Close) inside.ts (call_opened text here calls) inside.terms close_sign))
+    (called scope name (behind_node text here).token (tokens.Sign signs.Close) inside.ts (call_opened text here calls) inside.terms close_sign))
 viable_call {text} {st} {scope} {here} calls (by_sorts name mid place terms e is room args close wrong) = inr (viable_by_sorts name is (call_opened text here calls) args close wrong)
 
 -- ---- formulas
@@ -761,6 +757,6 @@ viable_stops {text} {st} (in_group scope depth here e opens room h) =
 viable_stops {text} {st} (not_closed scope depth here mid a e opens room d ended close) =
     let inside = spelled d in
     inr (viable_at (tokens.Sign signs.Close ∷ []) (reads_then (reads_behind text here) inside.reads) (errs_is (expected_errs text signs.Close mid) close)
-      (group scope here.token (tokens.Sign signs.Close) inside.ts opens inside.sentence close_sign))
+    (group scope here.token (tokens.Sign signs.Close) inside.ts opens inside.sentence close_sign))
 viable_stops {text} {st} (in_call scope depth here e closed calls h) = viable_call calls h
 viable_stops {text} {st} (in_simple scope depth here e closed no_call h) = inr (viable_simple text st scope here e h)

@@ -1,12 +1,9 @@
 -- Of a whole text the tokens before a fault can be completed to a sentence, and the tokens of a text that writes something are one.
-use Rattle.std.proofs.Common.{◌≡◌, ℕ, zero, suc, ◌+◌, ◌-◌, ◌≤◌, Bool, true, false, List, [], ◌∷◌, ◌++◌, length, append_assoc, append-nil, refl, sym, ap, ◌∙◌, subst, arith, rules, Result, Ok, Err, ◌⊎◌, inl, inr}
-use Rattle.std.specs.Prelude.{if◌then◌else◌}
-use Rattle.std.proofs.lemmas.Bool.{false≢true}
+use Rattle.std.proofs.Common.{◌≡◌, ℕ, zero, suc, ◌+◌, true, List, [], ◌∷◌, ◌++◌, length, append-nil, refl, sym, ap, ◌∙◌, subst, arith, Ok, Err, inr}
 use Rattle.bl_syntax.specs.declared.terms.Term.TheVariants.{Prin, File, Perm, Time, Text, Ctime, Param, Bound}
 use Rattle.bl_syntax.specs.declared.terms.TimePoint.{TimePoint}
 use Rattle.bl_syntax.specs.declared.terms.TimePoint.TheVariants as times
 use Rattle.bl_syntax.specs.Formula.{Form}
-use Rattle.bl_syntax.specs.Statement.{Saying}
 use Rattle.bl_tokens.specs.declared.faults.TextFault.{TextFault}
 use Rattle.bl_tokens.specs.declared.faults.TextFault.TheVariants.{Unexpected}
 use Rattle.bl_tokens.specs.declared.tokens.Keyword.{Keyword as Word}
@@ -16,17 +13,17 @@ use Rattle.bl_tokens.specs.declared.tokens.Token.TheVariants.{Name, LongWord, Co
 use Rattle.bl_tokens.specs.declared.tokens.Token.TheVariants as tokens
 use Rattle.bl_tokens.specs.declared.tokens.Here.{Here}
 use Rattle.bl_tokens.specs.Tokens.{token_from, behind, is_word}
-use Rattle.bl_text.specs.Grammar.{formula, Is}
-use Rattle.bl_text.specs.Texts.{beginning, is_end, IsFormulaText, whole, FormulaFault, in_formula, behind_formula, word_expected, time_constant, principal_name, opening, ended, span, IsSayingText, whole_saying, StatementFault, in_opening, in_body, in_span}
-use Rattle.bl_text.specs.FirstTokens.{behind_tokens, token_number}
-use Rattle.bl_text.specs.Met.{IsAt, unexpected, IsMetAt}
+use Rattle.bl_text.specs.Grammar.{formula}
+use Rattle.bl_text.specs.Texts.{beginning, is_end, IsFormulaText, whole, FormulaFault, in_formula, behind_formula, word_expected, time_constant, principal_name, opening, ended, span, StatementFault, in_opening, in_body, in_span}
+use Rattle.bl_text.specs.FirstTokens.{token_number}
+use Rattle.bl_text.specs.Met.{unexpected, IsMetAt}
 use Rattle.bl_text.specs.Sentences.{IsSentence, Sentence, IsStatementSentence, statement, first_tokens, IsViable, IsSentenceText}
-use Rattle.bl_text.proofs.Walk.{bare, bare_token, walk, walk_number, tokens_from, met_shifted, ErrsAt}
+use Rattle.bl_text.proofs.Walk.{bare_token, walk_number, tokens_from, met_shifted, ErrsAt}
 use Rattle.bl_text.proofs.PieceLemmas.{if_errs}
 use Rattle.bl_text.proofs.SettledLemmas.{bind_ok, errs_is, OrMemory, or_met}
 use Rattle.bl_text.proofs.SettledStatement.{name_errs_by, time_errs_by, ended_errs}
 use Rattle.bl_text.proofs.SaidLemmas.{ok_same, refused, if_ok, word_place, timed, untimed, badly_timed}
-use Rattle.bl_text.proofs.ViableLemmas.{between, Reads, reads_then, reads_behind, reads_place, token_read, Begins, begins_here, Viable, viable_here, viable_at, viable_after, viable_behind, default, err_cases, never_err, Spelled, spelled, viable_stops, says_keyword, from_keyword, to_keyword}
+use Rattle.bl_text.proofs.ViableLemmas.{between, Reads, reads_then, reads_behind, reads_place, token_read, begins_here, Viable, viable_at, viable_after, viable_behind, default, err_cases, never_err, Spelled, spelled, viable_stops, says_keyword, from_keyword, to_keyword}
 
 -- ---- whole texts
 
@@ -151,7 +148,7 @@ viable_opening text here e h =
     })
     (λ who name h1. err_cases (word_expected text keywords.Says (behind text here)) _ h1
     (λ bad. viable_at (Keyword keywords.Says ∷ Keyword keywords.True ∷ always) (token_read (name_is_by here who name here.token refl) (reads_behind text here)) (errs_is (word_errs text keywords.Says (behind text here)) bad)
-      (statement who (Keyword keywords.Says) (Keyword keywords.From) (Keyword keywords.To) (Keyword keywords.True ∷ []) times.NegInf times.PosInf says_keyword (default formula []) from_keyword to_keyword))
+    (statement who (Keyword keywords.Says) (Keyword keywords.From) (Keyword keywords.To) (Keyword keywords.True ∷ []) times.NegInf times.PosInf says_keyword (default formula []) from_keyword to_keyword))
     (λ place says h2. never_err h2))
 
 viable_span : {text : List ℕ} {start here : Here} {who : List ℕ} {word : Token} {ts : List Token} {e : TextFault} → is_word keywords.Says word ≡ true → Sentence formula [] ts → Reads text start here (tokens.Name who ∷ word ∷ ts) → span text here ≡ Err e
@@ -161,24 +158,24 @@ viable_span {text} {start} {here} {who} {word} {ts} {e} says body r h =
     err_cases (word_expected text keywords.From here) _ h
     (λ bad. viable_at always r (errs_is (word_errs text keywords.From here) bad) (statement who word (Keyword keywords.From) (Keyword keywords.To) ts times.NegInf times.PosInf says body from_keyword to_keyword))
     (λ first from_ h1.
-      let from_is = word_is text keywords.From here first from_ in
-      err_cases (time_constant first) _ h1
+    let from_is = word_is text keywords.From here first from_ in
+    err_cases (time_constant first) _ h1
     (λ bad. viable_behind (Constant (Time times.NegInf) ∷ Keyword keywords.To ∷ Constant (Time times.PosInf) ∷ []) r (reads_word _ from_) (errs_is (time_errs_by first first.token refl) bad)
-      (statement who word here.token (Keyword keywords.To) ts times.NegInf times.PosInf says body from_is to_keyword))
+    (statement who word here.token (Keyword keywords.To) ts times.NegInf times.PosInf says body from_is to_keyword))
     (λ from low h2.
-      let two = reads_then (reads_word _ from_) (token_read (time_is_by first from low first.token refl) (reads_behind text first)) in
-      err_cases (word_expected text keywords.To (behind text first)) _ h2
+    let two = reads_then (reads_word _ from_) (token_read (time_is_by first from low first.token refl) (reads_behind text first)) in
+    err_cases (word_expected text keywords.To (behind text first)) _ h2
     (λ bad. viable_behind (Keyword keywords.To ∷ Constant (Time times.PosInf) ∷ []) r two (errs_is (word_errs text keywords.To (behind text first)) bad)
-      (statement who word here.token (Keyword keywords.To) ts from times.PosInf says body from_is to_keyword))
+    (statement who word here.token (Keyword keywords.To) ts from times.PosInf says body from_is to_keyword))
     (λ second to_ h3.
-      let to_is = word_is text keywords.To (behind text first) second to_ in
-      let three = reads_then two (reads_word _ to_) in
-      err_cases (time_constant second) _ h3
+    let to_is = word_is text keywords.To (behind text first) second to_ in
+    let three = reads_then two (reads_word _ to_) in
+    err_cases (time_constant second) _ h3
     (λ bad. viable_behind (Constant (Time times.PosInf) ∷ []) r three (errs_is (time_errs_by second second.token refl) bad)
-      (statement who word here.token (behind text first).token ts from times.PosInf says body from_is to_is))
+    (statement who word here.token (behind text first).token ts from times.PosInf says body from_is to_is))
     (λ to high h4. err_cases (ended (behind text second)) _ h4
     (λ bad. viable_behind [] r (reads_then three (token_read (time_is_by second to high second.token refl) (reads_behind text second))) (errs_is (ended_errs (behind text second)) bad)
-      (statement who word here.token (behind text first).token ts from to says body from_is to_is))
+    (statement who word here.token (behind text first).token ts from to says body from_is to_is))
     (λ _ end h5. never_err h5)))))
 
 pub viable_statement : {text : List ℕ} {e : TextFault} → StatementFault text e → OrMemory e (IsViable IsStatementSentence text e)
@@ -186,7 +183,7 @@ viable_statement {text} (in_opening e h) = inr (viable_text {IsOne = IsStatement
 viable_statement {text} (in_body who here e opens h) =
     let start = opening_tokens text (beginning text) here who opens in
     or_met (viable_stops h) (λ v. viable_text {IsOne = IsStatementSentence} (viable_after always start.reads
-      (λ ts body. statement who start.word (Keyword keywords.From) (Keyword keywords.To) ts times.NegInf times.PosInf start.is_says body from_keyword to_keyword) v))
+    (λ ts body. statement who start.word (Keyword keywords.From) (Keyword keywords.To) ts times.NegInf times.PosInf start.is_says body from_keyword to_keyword) v))
 viable_statement {text} (in_span who here place f e opens d ended_ h) =
     let start = opening_tokens text (beginning text) here who opens in
     let body = spelled d in

@@ -1,15 +1,14 @@
 -- The tokens behind a token, and what depends on so many of them alone.
-use Rattle.std.proofs.Common.{◌≡◌, ℕ, zero, suc, ◌+◌, ◌-◌, ◌≤◌, Bool, true, false, List, refl, sym, ap, ◌∙◌, subst, arith, rules, Result, Ok, Err}
-use Rattle.std.specs.Prelude.{◌<◌, if◌then◌else◌}
+use Rattle.std.proofs.Common.{◌≡◌, ℕ, zero, suc, ◌+◌, ◌-◌, ◌≤◌, Bool, true, false, List, refl, sym, ap, ◌∙◌, subst, arith, Result, Ok, Err}
+use Rattle.std.specs.Prelude.{if◌then◌else◌}
 use Rattle.bl_tokens.specs.declared.faults.TextFault.{TextFault}
 use Rattle.bl_tokens.specs.declared.faults.TextFault.TheVariants.{Unexpected, Sort}
 use Rattle.bl_tokens.specs.declared.tokens.Sign.{Sign as Sign'}
 use Rattle.bl_tokens.specs.declared.tokens.Sign.TheVariants as signs
-use Rattle.bl_tokens.specs.declared.tokens.Token.TheVariants as tokens
 use Rattle.bl_tokens.specs.declared.tokens.Here.{Here}
-use Rattle.bl_tokens.specs.Tokens.{token_from, behind, behind_node, is_sign}
+use Rattle.bl_tokens.specs.Tokens.{token_from, behind, is_sign}
 use Rattle.bl_text.specs.Pieces.{◌>>=◌, expected}
-use Rattle.bl_text.specs.FirstTokens.{behind_tokens, token_number, SameTokens}
+use Rattle.bl_text.specs.FirstTokens.{behind_tokens, SameTokens}
 use Rattle.bl_text.specs.Met.{IsAt, unexpected, IsCallOf, IsMetAt, there, at_close}
 
 -- ---- a place without the count of nodes
@@ -145,7 +144,7 @@ call_shifted f g j first last same c = record {
   named = ap (λ (h : Here). h.token) (same first) ∙ c.named;
   opened = (let n : j + first + 1 ≡ j + (first + 1) = omega arith in ap (λ m. is_sign signs.Open (f m).token) n ∙ ap (λ (h : Here). is_sign signs.Open h.token) (same (first + 1)) ∙ c.opened);
   inside = λ n more less. (let m : n ≡ j + (n - j) = omega arith in
-    ap (λ k. is_sign signs.Close (f k).token) m ∙ ap (λ (h : Here). is_sign signs.Close h.token) (same (n - j)) ∙ c.inside (n - j) (omega arith) (omega arith));
+      ap (λ k. is_sign signs.Close (f k).token) m ∙ ap (λ (h : Here). is_sign signs.Close h.token) (same (n - j)) ∙ c.inside (n - j) (omega arith) (omega arith));
   closed = ap (λ (h : Here). is_sign signs.Close h.token) (same last) ∙ c.closed;
   ordered = (let less = c.ordered in omega arith);
 }
@@ -160,7 +159,7 @@ met_after {text} {here} {mid} a b = record {
   steps = a.steps + b.steps;
   met = met_shifted (tokens_from text here) (tokens_from text mid) a.steps (λ k. walk_from text a.steps k here mid a.reach) b.met;
   holds = λ o same. (let n : a.steps + b.steps + 1 ≡ a.steps + (b.steps + 1) = omega arith in
-    let parts = behind_parts text o a.steps (b.steps + 1) here mid a.reach (subst (λ m. SameTokens text o m here.end) n same) in (a.holds o parts.0, b.holds o parts.1));
+      let parts = behind_parts text o a.steps (b.steps + 1) here mid a.reach (subst (λ m. SameTokens text o m here.end) n same) in (a.holds o parts.0, b.holds o parts.1));
 }
 
 pub met_here : {text : List ℕ} {here : Here} {e : TextFault} {P : List ℕ → Type 0} → IsAt here.at e → ((other : List ℕ) → P other) → Met text here e P

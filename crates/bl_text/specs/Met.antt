@@ -1,6 +1,6 @@
 -- The token at which a fault is met, by its number (this project's own). It is the one at the fault's place, but for a predicate whose arguments have the wrong sorts or number: that is met at its
 -- closing parenthesis.
-use Rattle.std.specs.Prelude.{◌≡◌, ℕ, suc, ◌+◌, ◌<◌, List, Bool, true, false}
+use Rattle.std.specs.Prelude.{◌≡◌, ℕ, ◌+◌, ◌<◌, List, true, false}
 use Rattle.bl_tokens.specs.declared.faults.TextFault.{TextFault}
 use Rattle.bl_tokens.specs.declared.faults.TextFault.TheVariants.{Unexpected, UnknownName, BadDate, Sort, TooLarge}
 use Rattle.bl_tokens.specs.declared.tokens.Sign.TheVariants as signs

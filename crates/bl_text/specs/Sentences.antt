@@ -1,6 +1,6 @@
 -- The grammar of formulas and statements over lists of tokens (this project's own). It asks for no sorts and no number of arguments, and has no limits: of these a text's fault may speak
 -- where the tokens before it can still be completed to a sentence.
-use Rattle.std.specs.Prelude.{◌≡◌, ℕ, zero, suc, List, [], ◌∷◌, ◌++◌, Bool, true, IsSome}
+use Rattle.std.specs.Prelude.{◌≡◌, ℕ, zero, suc, List, [], ◌∷◌, ◌++◌, true, IsSome}
 use Rattle.bl_syntax.specs.declared.terms.Sort.{Sort}
 use Rattle.bl_syntax.specs.declared.terms.Term.{Term}
 use Rattle.bl_syntax.specs.declared.terms.Term.TheVariants.{Time}
@@ -8,11 +8,9 @@ use Rattle.bl_syntax.specs.declared.terms.TimePoint.{TimePoint}
 use Rattle.bl_tokens.specs.declared.faults.TextFault.{TextFault}
 use Rattle.bl_tokens.specs.declared.tokens.Sign.{Sign}
 use Rattle.bl_tokens.specs.declared.tokens.Sign.TheVariants as signs
-use Rattle.bl_tokens.specs.declared.tokens.Keyword.{Keyword}
 use Rattle.bl_tokens.specs.declared.tokens.Keyword.TheVariants as keywords
 use Rattle.bl_tokens.specs.declared.tokens.Token.{Token}
 use Rattle.bl_tokens.specs.declared.tokens.Token.TheVariants as tokens
-use Rattle.bl_tokens.specs.declared.tokens.Here.{Here}
 use Rattle.bl_tokens.specs.Tokens.{token_from, is_sign, is_word}
 use Rattle.bl_text.specs.Scope.{Variable, place_of}
 use Rattle.bl_text.specs.Grammar.{Level, formula, disjunction, conjunction, unary, postfix, primary, is_quantifier}
