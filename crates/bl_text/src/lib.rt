@@ -16,4 +16,8 @@ mod tests;
 
 pub use bl_tokens::{TextFault, parse_time};
 pub use parse::{parse_formula, parse_statement};
-pub use print::{print_constraint, print_formula, print_state, print_statement};
+pub use pieces::{sorted, term_of};
+pub use print::{
+    print_constraint, print_formula, print_state, print_statement, write_number, write_term,
+};
+pub use scope::Scope;

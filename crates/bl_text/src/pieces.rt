@@ -114,7 +114,7 @@ fn sayable(in_statement: bool, at: usize, term: &Term) -> Result<(), TextFault>
 
 /// The term may stand where that sort is wanted.
 #[tactic(auto, unfolding(crate::specs::Pieces::sorted))]
-fn sorted(scope: &Scope<'_>, wanted: Sort, at: usize, term: &Term) -> Result<(), TextFault>
+pub fn sorted(scope: &Scope<'_>, wanted: Sort, at: usize, term: &Term) -> Result<(), TextFault>
     ensures { result ≡ sorted (variables scope.now) wanted at term.now }
 {
     if scope.fits(wanted, term) {

@@ -15,7 +15,8 @@ mod words;
 
 pub use classes::{Class, is_lower_case, is_upper_case, run_len};
 pub use faults::TextFault;
+pub use numerals::smallest_numeral;
 pub use times::parse_time;
 pub use tokens::{
-    Here, Keyword, Lexeme, Sign, Token, behind, behind_node, is_sign, is_word, token_from,
+    Here, Keyword, Lexeme, Sign, Token, behind, behind_node, digits_of, is_sign, is_word, token_from,
 };

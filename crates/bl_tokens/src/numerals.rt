@@ -61,3 +61,15 @@ pub fn short_numeral(digits: &[u8]) -> Option<u32>
         None
     }
 }
+
+/// A number of 16 bits, without leading zeros.
+pub fn smallest_numeral(digits: &[u8]) -> Option<u16>
+    requires { IsTrue (list_all is_digit digits.now) }
+    ensures { result ≡ numeral_below (2 ^ 16) digits.now }
+{
+    if is_numeral(digits) {
+        u16::try_from(digits_value(digits)?).ok()
+    } else {
+        None
+    }
+}

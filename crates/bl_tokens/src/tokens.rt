@@ -5,6 +5,7 @@ ghost use Rattle.std.specs.Prelude.{◌≡◌, ◌+◌, ◌-◌, ◌≤◌, ◌<
 ghost use Rattle.std.specs.List.{list_all};
 ghost use Rattle.bl_syntax.specs.Names.{is_digit};
 ghost use Rattle.bl_tokens.specs.Dates.{begins_date, goes_on_with_time};
+ghost use Rattle.bl_tokens.specs.Ranges.{IsTokenInRange};
 ghost use Rattle.bl_tokens.specs.Tokens.{bad, sized, second_token, short_value, integer_lexeme, negative_lexeme, date_token, date_time_token, time_lexeme, digits_of, minus_lexeme, plus_lexeme, word_lexeme, variable_lexeme, file_lexeme, parameter_lexeme, text_lexeme, begins_with, short_sign, sign_lexeme, begun_by, first_lexeme, token_from, behind, behind_node, sign_code, word_code, is_sign, is_word};
 
 use crate::classes::{Class, is_digit, is_lower_case, is_upper_case, run_len};
@@ -94,7 +95,8 @@ fn sized(token: Token, size: usize) -> Lexeme
 }
 
 fn second_token(second: i64) -> Token
-    ensures { result ≡ second_token second }
+    ensures same { result ≡ second_token second }
+    ensures ranged { IsTokenInRange result }
 {
     if is_moment(second) {
         Token::Constant(Term::Time(TimePoint::At(second)))
@@ -105,7 +107,8 @@ fn second_token(second: i64) -> Token
 
 fn integer_lexeme(digits: &[u8]) -> Lexeme
     requires { IsTrue (list_all is_digit digits.now) }
-    ensures { result ≡ integer_lexeme digits.now }
+    ensures same { result ≡ integer_lexeme digits.now }
+    ensures ranged { IsTokenInRange result.token }
 {
     match short_value(digits) {
         Some(value) => sized(second_token(value as i64), digits.len()),
@@ -115,7 +118,8 @@ fn integer_lexeme(digits: &[u8]) -> Lexeme
 
 fn negative_lexeme(digits: &[u8]) -> Lexeme
     requires { IsTrue (list_all is_digit digits.now) }
-    ensures { result ≡ negative_lexeme digits.now }
+    ensures same { result ≡ negative_lexeme digits.now }
+    ensures ranged { IsTokenInRange result.token }
 {
     match short_value(digits) {
         Some(value) => sized(second_token(-(value as i64)), digits.len() + 1),
@@ -138,7 +142,8 @@ fn short_value(digits: &[u8]) -> Option<u64>
 
 fn date_token(bytes: &[u8]) -> Token
     requires { IsTrue (begins_date bytes.now) }
-    ensures { result ≡ date_token bytes.now }
+    ensures same { result ≡ date_token bytes.now }
+    ensures ranged { IsTokenInRange result }
 {
     match date_second_at(bytes) {
         Some(second) => second_token(second),
@@ -149,7 +154,8 @@ fn date_token(bytes: &[u8]) -> Token
 fn date_time_token(bytes: &[u8]) -> Token
     requires date { IsTrue (begins_date bytes.now) }
     requires time { IsTrue (goes_on_with_time bytes.now) }
-    ensures { result ≡ date_time_token bytes.now }
+    ensures same { result ≡ date_time_token bytes.now }
+    ensures ranged { IsTokenInRange result }
 {
     match (date_second_at(bytes), day_second_at(bytes)) {
         (Some(date), Some(time)) => second_token(second_within(date, time)),
@@ -161,6 +167,7 @@ fn date_time_token(bytes: &[u8]) -> Token
 fn time_lexeme(bytes: &[u8]) -> Lexeme
     ensures same { result ≡ time_lexeme bytes.now }
     ensures within { result.size ≤ length bytes.now }
+    ensures ranged { IsTokenInRange result.token }
 {
     if begins_date(bytes) {
         if goes_on_with_time(bytes) {
@@ -174,7 +181,7 @@ fn time_lexeme(bytes: &[u8]) -> Lexeme
 }
 
 /// The digits at the front.
-fn digits_of(bytes: &[u8]) -> &[u8]
+pub fn digits_of(bytes: &[u8]) -> &[u8]
     ensures same { result.now ≡ digits_of bytes.now }
     ensures digits { IsTrue (list_all is_digit result.now) }
     ensures within { length result.now ≤ length bytes.now }
@@ -186,6 +193,7 @@ fn digits_of(bytes: &[u8]) -> &[u8]
 fn minus_lexeme(others: &[u8]) -> Lexeme
     ensures same { result ≡ minus_lexeme others.now }
     ensures within { result.size ≤ length others.now + 1 }
+    ensures ranged { IsTokenInRange result.token }
 {
     if others.starts_with(b"inf") {
         sized(Token::Constant(Term::Time(TimePoint::NegInf)), 4)
@@ -198,6 +206,7 @@ fn minus_lexeme(others: &[u8]) -> Lexeme
 fn plus_lexeme(others: &[u8]) -> Lexeme
     ensures same { result ≡ plus_lexeme others.now }
     ensures within { result.size ≤ length others.now + 1 }
+    ensures ranged { IsTokenInRange result.token }
 {
     if others.starts_with(b"inf") {
         sized(Token::Constant(Term::Time(TimePoint::PosInf)), 4)
@@ -210,6 +219,7 @@ fn plus_lexeme(others: &[u8]) -> Lexeme
 fn word_lexeme(bytes: &[u8]) -> Lexeme
     ensures same { result ≡ word_lexeme bytes.now }
     ensures within { result.size ≤ length bytes.now }
+    ensures ranged { IsTokenInRange result.token }
 {
     let word = &bytes[..run_len(Class::Name, bytes)];
     sized(word_token(word), word.len())
@@ -219,6 +229,7 @@ fn word_lexeme(bytes: &[u8]) -> Lexeme
 fn variable_lexeme(bytes: &[u8]) -> Lexeme
     ensures same { result ≡ variable_lexeme bytes.now }
     ensures within { result.size ≤ length bytes.now }
+    ensures ranged { IsTokenInRange result.token }
 {
     let name = &bytes[..run_len(Class::Word, bytes)];
     if name.len() <= 32 {
@@ -232,6 +243,7 @@ fn variable_lexeme(bytes: &[u8]) -> Lexeme
 fn file_lexeme(others: &[u8]) -> Lexeme
     ensures same { result ≡ file_lexeme others.now }
     ensures within { result.size ≤ length others.now + 1 }
+    ensures ranged { IsTokenInRange result.token }
 {
     let digits = digits_of(others);
     match long_numeral(digits) {
@@ -247,6 +259,7 @@ fn file_lexeme(others: &[u8]) -> Lexeme
 fn parameter_lexeme(others: &[u8]) -> Lexeme
     ensures same { result ≡ parameter_lexeme others.now }
     ensures within { result.size ≤ length others.now + 1 }
+    ensures ranged { IsTokenInRange result.token }
 {
     let digits = digits_of(others);
     match short_numeral(digits) {
@@ -259,6 +272,7 @@ fn parameter_lexeme(others: &[u8]) -> Lexeme
 fn text_lexeme(others: &[u8]) -> Lexeme
     ensures same { result ≡ text_lexeme others.now }
     ensures within { result.size ≤ length others.now + 1 }
+    ensures ranged { IsTokenInRange result.token }
 {
     let len = run_len(Class::Text, others);
     if begins_with(&others[len..], b'"') {
@@ -303,6 +317,7 @@ fn short_sign(first: u8) -> Option<Sign>
 fn sign_lexeme(first: u8, others: &[u8]) -> Lexeme
     ensures same { result ≡ sign_lexeme first others.now }
     ensures within { result.size ≤ length others.now + 1 }
+    ensures ranged { IsTokenInRange result.token }
 {
     match short_sign(first) {
         Some(sign) => sized(Token::Sign(sign), 1),
@@ -322,6 +337,7 @@ fn sign_lexeme(first: u8, others: &[u8]) -> Lexeme
 fn begun_by(first: u8, others: &[u8]) -> Lexeme
     ensures same { result ≡ begun_by first others.now }
     ensures within { result.size ≤ length others.now + 1 }
+    ensures ranged { IsTokenInRange result.token }
 {
     if first == b'-' {
         minus_lexeme(others)
@@ -342,6 +358,7 @@ fn begun_by(first: u8, others: &[u8]) -> Lexeme
 fn first_lexeme(bytes: &[u8]) -> Lexeme
     ensures same { result ≡ first_lexeme bytes.now }
     ensures within { result.size ≤ length bytes.now }
+    ensures ranged { IsTokenInRange result.token }
 {
     match bytes {
         [] => sized(Token::End, 0),
@@ -366,6 +383,7 @@ pub fn token_from(text: &[u8], from: usize, left: u16) -> Here
     ensures same { result ≡ token_from text.now from left }
     ensures within { result.end ≤ length text.now }
     ensures left { result.left ≡ left }
+    ensures ranged { IsTokenInRange result.token }
 {
     let at = from + run_len(Class::Space, &text[from..]);
     let found = first_lexeme(&text[at..]);

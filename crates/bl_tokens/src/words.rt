@@ -1,6 +1,8 @@
 //! The words of a text: those that are reserved, and names.
 
-ghost use Rattle.std.specs.Prelude.{◌≡◌};
+ghost use Rattle.std.specs.Prelude.{◌≡◌, IfSome};
+ghost use Rattle.bl_syntax.specs.Terms.{HasTimeInRange};
+ghost use Rattle.bl_tokens.specs.Ranges.{IsTokenInRange};
 ghost use Rattle.bl_tokens.specs.Words.{keyword, sort_named, constant_named, word_token};
 
 use crate::tokens::{Keyword, Token};
@@ -49,7 +51,8 @@ fn sort_named(word: &[u8]) -> Option<Sort>
 }
 
 fn constant_named(word: &[u8]) -> Option<Term>
-    ensures { result ≡ constant_named word.now }
+    ensures same { result ≡ constant_named word.now }
+    ensures ranged { IfSome result HasTimeInRange }
 {
     if word == b"ctime".as_slice() {
         Some(Term::Ctime)
@@ -70,7 +73,8 @@ fn constant_named(word: &[u8]) -> Option<Term>
 
 /// The token that a run of lower-case letters, digits and `_` is.
 pub fn word_token(word: &[u8]) -> Token
-    ensures { result ≡ word_token word.now }
+    ensures same { result ≡ word_token word.now }
+    ensures ranged { IsTokenInRange result }
 {
     if let Some(found) = keyword(word) {
         return Token::Keyword(found);

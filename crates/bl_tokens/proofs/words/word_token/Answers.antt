@@ -15,6 +15,6 @@ word_token_long : (word : List ℕ) → keyword word ≡ None → sort_named wor
 word_token_long word no_keyword no_sort no_constant no_name =
     sym (ap (keyword_or_other word) no_keyword ∙ ap (sort_or_other word) no_sort ∙ ap (constant_or_name word) no_constant ∙ not_chosen (is_principal_name word) word no_name)
 
-pub returns-in-None : goal.returns-in-None
-returns-in-None c =
-    word_token_long c.args.word.now (sym c.keyword.ensures ∙ c.in_default.is) (sym c.sort_named.ensures ∙ c.in_default-sort_named.is) (sym c.constant_named.ensures ∙ c.in_default-constant_named.is) (λ h. false≢true (c.in-None.ensures.named.1 h))
+pub returns-in-None-clause-same : goal.returns-in-None-clause-same
+returns-in-None-clause-same c =
+    word_token_long c.args.word.now (sym c.keyword.ensures ∙ c.in_default.is) (sym c.sort_named.ensures ∙ c.in_default-sort_named.is) (sym c.constant_named.ensures.same ∙ c.in_default-constant_named.is) (λ h. false≢true (c.in-None.ensures.named.1 h))
