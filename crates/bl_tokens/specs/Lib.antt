@@ -1,0 +1,6 @@
+pub mod Classes
+pub mod Dates
+pub mod Numerals
+pub mod Times
+pub mod Tokens
+pub mod Words
