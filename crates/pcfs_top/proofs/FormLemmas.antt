@@ -8,10 +8,10 @@ use Rattle.std.proofs.lemmas.Bool.{and_parts, and_from, false≢true, eqb-true}
 use Rattle.std.proofs.lemmas.List.{append_cancel_left, nil_from_length}
 use Rattle.bl_syntax.specs.declared.terms.TimePoint.{TimePoint}
 use Rattle.bl_syntax.specs.Names.{is_lower_case, is_digit, is_name_byte, is_identifier, is_among, reserved_words, is_principal_name}
-use Rattle.pcfs_top.specs.declared.event.Op.TheVariants.{Create}
+use Rattle.access_history.specs.declared.event.Op.TheVariants.{Create}
 use Rattle.pcfs_top.specs.declared.command.Command.{Command}
 use Rattle.pcfs_top.specs.declared.command.Command.TheVariants.{At, As, Register, Verify, Do}
-use Rattle.pcfs_top.specs.World.{is_node_name, is_node_name_byte}
+use Rattle.access_history.specs.World.{is_node_name, is_node_name_byte}
 use Rattle.pcfs_top.specs.Words.{is_stop, HasNoStop}
 use Rattle.pcfs_top.specs.Lines.{IsDigits, IsInteger, plain, negated, IsSecond, IsBound, without_beginning, without_end, at_second, IsNumber, IsLine, sets_clock, sets_caller, registers, verifies, creates, writes_root, says_may, by_claim}
 use Rattle.pcfs_top.proofs.NumeralLemmas.{IsPlain-from_number}

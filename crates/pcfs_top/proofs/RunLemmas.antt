@@ -3,26 +3,26 @@ use Rattle.std.proofs.Common.{◌≤◌, ◌+◌, ◌-◌, ◌^◌, ℕ, ℤ, Li
 use Rattle.std.specs.Option.{option_to_list}
 use Rattle.std.proofs.lemmas.Int.{ints}
 use Rattle.bl_syntax.specs.TimeOrder.{IsMoment}
-use Rattle.pcfs_top.specs.declared.event.Event.{Event}
-use Rattle.pcfs_top.specs.declared.event.Base.{Base}
+use Rattle.access_history.specs.declared.event.Event.{Event}
+use Rattle.access_history.specs.declared.event.Base.{Base}
 use Rattle.pcfs_top.specs.declared.command.Command.{Command}
 use Rattle.pcfs_top.specs.declared.command.Command.TheVariants as commands
-use Rattle.pcfs_top.specs.declared.request.StepRequest.{StepRequest}
-use Rattle.pcfs_top.specs.declared.request.StepRequest.TheVariants as requests
-use Rattle.pcfs_top.specs.declared.reply.Reply.{Reply}
-use Rattle.pcfs_top.specs.WellFormed.{IsWellFormed}
+use Rattle.access_history.specs.declared.request.StepRequest.{StepRequest}
+use Rattle.access_history.specs.declared.request.StepRequest.TheVariants as requests
+use Rattle.access_history.specs.declared.reply.Reply.{Reply}
+use Rattle.access_history.specs.WellFormed.{IsWellFormed}
 use Rattle.proof_verifier.specs.Checking.{checking}
-use Rattle.pcfs_top.specs.Answer.{Answers}
-use Rattle.pcfs_top.specs.Replay.{replay}
-use Rattle.pcfs_top.specs.Lawful.{IsLawful, IsLawfulBase, AreLawful, no_event, one_more}
+use Rattle.access_history.specs.Answer.{Answers}
+use Rattle.access_history.specs.Replay.{replay}
+use Rattle.access_history.specs.Lawful.{IsLawful, IsLawfulBase, AreLawful, no_event, one_more}
 use Rattle.pcfs_top.specs.Desk.{IsAllowed}
 use Rattle.pcfs_top.specs.Lines.{IsLine}
 use Rattle.pcfs_top.specs.Lines as lines
 use Rattle.pcfs_top.specs.Script.{Standing, AnswersLine, script_pass, IsRun}
 use Rattle.pcfs_top.specs.Script as script
-use Rattle.pcfs_top.proofs.Replays.{moment_in_range}
-use Rattle.pcfs_top.proofs.Following.{MayFollow-answered}
-use Rattle.pcfs_top.proofs.Backing.{AreGoodIssues-replay}
+use Rattle.access_history.proofs.Replays.{moment_in_range}
+use Rattle.op_gate.proofs.Following.{MayFollow-answered}
+use Rattle.access_history.proofs.Backing.{AreGoodIssues-replay}
 
 -- what a line asks for is allowed
 pub IsAllowed-line : (line : List ℕ) (command : Command) → IsLine line command → IsAllowed command

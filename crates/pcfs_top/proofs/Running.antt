@@ -8,13 +8,13 @@ use Rattle.bl_syntax.specs.declared.grant.Goal.{Goal}
 use Rattle.bl_syntax.specs.Statement.{Saying}
 use Rattle.pcfs_ports.proofs.ToldLemmas.{with_back-with_back}
 use Rattle.pcfs_ports.specs.Told.{with_back, HoldsSome}
-use Rattle.pcfs_top.specs.declared.event.Event.{Event}
-use Rattle.pcfs_top.specs.declared.event.Base.{Base}
-use Rattle.pcfs_top.specs.declared.event.Op.{Op}
-use Rattle.pcfs_top.specs.declared.request.StepRequest.{StepRequest}
-use Rattle.pcfs_top.specs.declared.request.StepRequest.TheVariants as requests
-use Rattle.pcfs_top.specs.declared.reply.Reply.{Reply}
-use Rattle.pcfs_top.specs.declared.reply.Reply.TheVariants as replies
+use Rattle.access_history.specs.declared.event.Event.{Event}
+use Rattle.access_history.specs.declared.event.Base.{Base}
+use Rattle.access_history.specs.declared.event.Op.{Op}
+use Rattle.access_history.specs.declared.request.StepRequest.{StepRequest}
+use Rattle.access_history.specs.declared.request.StepRequest.TheVariants as requests
+use Rattle.access_history.specs.declared.reply.Reply.{Reply}
+use Rattle.access_history.specs.declared.reply.Reply.TheVariants as replies
 use Rattle.pcfs_top.specs.declared.command.Command.{Command}
 use Rattle.pcfs_top.specs.declared.command.Command.TheVariants as commands
 use Rattle.proof_term.specs.Proof.{Deduction}
@@ -25,13 +25,14 @@ use Rattle.proof_verifier.specs.Cited.{statements_of}
 use Rattle.proof_verifier.specs.Checking.{Checking, checking, IsChecked}
 use Rattle.proof_verifier.specs.Run.{IsFault}
 use Rattle.proof_verifier.specs.Verdict.{verdict}
-use Rattle.pcfs_top.specs.declared.cite.Citation.{Citation}
-use Rattle.pcfs_top.specs.declared.cite.Citation.TheVariants as citations
-use Rattle.pcfs_top.specs.Citing.{AreFound, Cites}
+use Rattle.op_gate.specs.declared.cite.Citation.{Citation}
+use Rattle.op_gate.specs.declared.cite.Citation.TheVariants as citations
+use Rattle.access_history.specs.Citing.{AreFound}
+use Rattle.op_gate.specs.Citations.{Cites}
 use Rattle.pcfs_top.specs.Faults.{unproved}
-use Rattle.pcfs_top.specs.Answer.{Answers}
-use Rattle.pcfs_top.specs.Decision.{Gated}
-use Rattle.pcfs_top.specs.Replay.{replay, fresh}
+use Rattle.access_history.specs.Answer.{Answers}
+use Rattle.op_gate.specs.Decision.{Gated}
+use Rattle.access_history.specs.Replay.{replay, fresh}
 use Rattle.pcfs_top.specs.Lines.{lines_of, with_byte, IsLine}
 use Rattle.pcfs_top.specs.ReplyText.{reply_text, output_of}
 use Rattle.pcfs_top.specs.Script.{Standing, beginning, AnswersLine, script_pass, IsRun}
@@ -39,10 +40,10 @@ use Rattle.pcfs_top.specs.Script as script
 use Rattle.pcfs_top.specs.Desk.{Seated, IsAsked, IsReplied, IsAllowed}
 use Rattle.pcfs_top.specs.Desk as desk
 use Rattle.pcfs_top.specs.Run.{RunsWhole, RunsPart}
-use Rattle.pcfs_top.specs.Headline.{Headline}
-use Rattle.pcfs_top.proofs.Replays.{count-replay}
-use Rattle.pcfs_top.proofs.Beginning.{IsLawful-fresh}
-use Rattle.pcfs_top.proofs.HeadlineLemmas.{Headline-lawful}
+use Rattle.access_history.specs.Headline.{Headline}
+use Rattle.access_history.proofs.Replays.{count-replay}
+use Rattle.access_history.proofs.Beginning.{IsLawful-fresh}
+use Rattle.access_history.proofs.HeadlineLemmas.{Headline-lawful}
 use Rattle.pcfs_top.proofs.RunLemmas.{run_events, IsLawful-run}
 
 -- no byte behind what is held is no change

@@ -2,8 +2,8 @@
 use Rattle.std.specs.Prelude.{Option, Some, None}
 use Rattle.proof_verifier.specs.declared.fault.CheckFault.{CheckFault}
 use Rattle.proof_verifier.specs.declared.fault.CheckFault.TheVariants as faults
-use Rattle.pcfs_top.specs.declared.reply.Reply.{Reply}
-use Rattle.pcfs_top.specs.declared.reply.Reply.TheVariants.{Unproved}
+use Rattle.access_history.specs.declared.reply.Reply.{Reply}
+use Rattle.access_history.specs.declared.reply.Reply.TheVariants.{Unproved}
 
 -- nothing where there was no memory, which is no fault of the proof
 abbrev pub unproved : CheckFault → Option Reply

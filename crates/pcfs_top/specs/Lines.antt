@@ -10,10 +10,10 @@ use Rattle.bl_syntax.specs.declared.grant.Goal.{Goal}
 use Rattle.bl_syntax.specs.Names.{is_digit, is_principal_name}
 use Rattle.bl_syntax.specs.TimeOrder.{IsMoment}
 use Rattle.bl_syntax.specs.Statement.{Saying}
-use Rattle.pcfs_top.specs.declared.event.Op.TheVariants.{Create}
+use Rattle.access_history.specs.declared.event.Op.TheVariants.{Create}
 use Rattle.pcfs_top.specs.declared.command.Command.{Command}
 use Rattle.pcfs_top.specs.declared.command.Command.TheVariants.{At, As, Register, Verify, Do}
-use Rattle.pcfs_top.specs.World.{is_node_name}
+use Rattle.access_history.specs.World.{is_node_name}
 use Rattle.bl_rules.specs.DirectGrant.{wanted}
 use Rattle.proof_term.specs.Proof.{Deduction, says_r, claim, init}
 use Rattle.pcfs_top.specs.Admin.{admin}

@@ -11,13 +11,13 @@ use Rattle.bl_syntax.specs.declared.terms.Term.TheVariants as terms
 use Rattle.bl_syntax.specs.declared.terms.StatePred.{StatePred}
 use Rattle.bl_syntax.specs.declared.terms.StatePred.TheVariants.{Owner, HasXattr, InDir}
 use Rattle.bl_syntax.specs.declared.terms.Constraint.{Constraint}
-use Rattle.pcfs_top.specs.declared.reply.RegisterFault.{RegisterFault}
-use Rattle.pcfs_top.specs.declared.reply.RegisterFault.TheVariants.{RegistryFull, Duplicate}
-use Rattle.pcfs_top.specs.declared.reply.Cause.{Cause}
-use Rattle.pcfs_top.specs.declared.reply.Cause.TheVariants as causes
-use Rattle.pcfs_top.specs.declared.reply.Denial.{Denial}
-use Rattle.pcfs_top.specs.declared.reply.Reply.{Reply}
-use Rattle.pcfs_top.specs.declared.reply.Reply.TheVariants as replies
+use Rattle.access_history.specs.declared.reply.RegisterFault.{RegisterFault}
+use Rattle.access_history.specs.declared.reply.RegisterFault.TheVariants.{RegistryFull, Duplicate}
+use Rattle.access_history.specs.declared.reply.Cause.{Cause}
+use Rattle.access_history.specs.declared.reply.Cause.TheVariants as causes
+use Rattle.access_history.specs.declared.reply.Denial.{Denial}
+use Rattle.access_history.specs.declared.reply.Reply.{Reply}
+use Rattle.access_history.specs.declared.reply.Reply.TheVariants as replies
 
 abbrev pub time_text : TimePoint → List ℕ
 time_text times.NegInf = codes "-inf"

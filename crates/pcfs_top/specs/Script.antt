@@ -3,19 +3,19 @@ use Rattle.std.specs.Prelude.{ℕ, ℤ, pos, List, [], ◌∷◌, ◌++◌, Opti
 use Rattle.std.specs.Option.{option_to_list}
 use Rattle.bl_syntax.specs.declared.grant.Goal.{Goal}
 use Rattle.bl_syntax.specs.Statement.{Saying}
-use Rattle.pcfs_top.specs.declared.event.Op.{Op}
-use Rattle.pcfs_top.specs.declared.event.Event.{Event}
-use Rattle.pcfs_top.specs.declared.event.Base.{Base}
-use Rattle.pcfs_top.specs.declared.request.StepRequest.TheVariants as requests
+use Rattle.access_history.specs.declared.event.Op.{Op}
+use Rattle.access_history.specs.declared.event.Event.{Event}
+use Rattle.access_history.specs.declared.event.Base.{Base}
+use Rattle.access_history.specs.declared.request.StepRequest.TheVariants as requests
 use Rattle.pcfs_top.specs.declared.command.Command.{Command}
 use Rattle.pcfs_top.specs.declared.command.Command.TheVariants as commands
-use Rattle.pcfs_top.specs.declared.reply.Reply.{Reply}
-use Rattle.pcfs_top.specs.declared.reply.Reply.TheVariants as replies
-use Rattle.pcfs_top.specs.Answer.{Answers}
-use Rattle.pcfs_top.specs.Replay.{replay}
+use Rattle.access_history.specs.declared.reply.Reply.{Reply}
+use Rattle.access_history.specs.declared.reply.Reply.TheVariants as replies
+use Rattle.access_history.specs.Answer.{Answers}
+use Rattle.access_history.specs.Replay.{replay}
 use Rattle.pcfs_top.specs.Lines.{IsLine}
 use Rattle.pcfs_top.specs.Admin.{admin}
-use Rattle.pcfs_top.specs.Citing.{AreFound, IsAbsent}
+use Rattle.access_history.specs.Citing.{AreFound, IsAbsent}
 use Rattle.pcfs_top.specs.Faults.{unproved}
 use Rattle.bl_syntax.specs.Grant.{Granted}
 use Rattle.proof_term.specs.Proof.{Deduction}

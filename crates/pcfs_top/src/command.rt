@@ -1,6 +1,6 @@
 //! What a line of a script asks for.
 
-use crate::event::Op;
+use access_history::Op;
 use bl_syntax::{Goal, Numbers, Principal, Statement};
 use proof_term::ProofTree;
 

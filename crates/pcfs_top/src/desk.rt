@@ -2,13 +2,11 @@
 
 ghost use Rattle.std.specs.Prelude.{◌≡◌, ◌<◌, ◌-◌, ◌^◌, List, ℕ, IfOk, OnErr};
 
-use crate::cite::Citation;
+use access_history::{Reply, StepRequest};
+use op_gate::{Citation, Decision, Gate};
 use crate::command::Command;
 use crate::fault::unproved;
 use crate::forms::read_line;
-use crate::gate::{Decision, Gate};
-use crate::reply::Reply;
-use crate::request::StepRequest;
 use bl_syntax::{Goal, NoMemory, Numbers, Principal};
 use proof_term::ProofTree;
 use proof_verifier::check;
@@ -45,11 +43,11 @@ impl Model for Desk {
 }
 
 impl Desk {
-    ghost use Rattle.pcfs_top.specs.WellFormed.{IsWellFormed};
+    ghost use Rattle.access_history.specs.WellFormed.{IsWellFormed};
     ghost use Rattle.pcfs_top.specs.Lines.{IsLine};
-    ghost use Rattle.pcfs_top.specs.Citing.{AreCitable};
+    ghost use Rattle.access_history.specs.Citing.{AreCitable};
     ghost use Rattle.pcfs_top.specs.declared.command.Command.TheVariants.{Verify};
-    ghost use Rattle.pcfs_top.specs.Replay.{replay, fresh};
+    ghost use Rattle.access_history.specs.Replay.{replay, fresh};
     ghost use Rattle.pcfs_top.specs.Script.{beginning, AnswersLine};
     ghost use Rattle.pcfs_top.specs.Desk.{IsAsked, IsReplied, IsAllowed};
 

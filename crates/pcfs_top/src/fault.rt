@@ -3,7 +3,7 @@
 ghost use Rattle.std.specs.Prelude.{◌≡◌, Some, None, IfOk, OnErr};
 ghost use Rattle.pcfs_top.specs.Faults.{unproved as unproved_reply};
 
-use crate::reply::Reply;
+use access_history::Reply;
 use bl_syntax::NoMemory;
 use proof_verifier::CheckFault;
 

@@ -4,13 +4,11 @@ ghost use Rattle.std.specs.Prelude.{◌≡◌, ◌++◌, [], ◌∷◌, codes, I
 ghost use Rattle.bl_syntax.specs.TimeOrder.{IsInRange};
 ghost use Rattle.pcfs_top.specs.declared.command.Command.{Command};
 ghost use Rattle.pcfs_top.specs.declared.command.Command.TheVariants.{Register, Verify, Do};
-ghost use Rattle.pcfs_top.specs.declared.event.Op.TheVariants.{Create};
+ghost use Rattle.access_history.specs.declared.event.Op.TheVariants.{Create};
 ghost use Rattle.pcfs_top.specs.Lines.{IsLine, says_may, writes_root, by_claim};
 
+use access_history::{Op, is_node_name};
 use crate::command::Command;
-use crate::decide::citing;
-use crate::event::Op;
-use crate::node_name::is_node_name;
 use crate::numerals::{bound, number, second};
 use crate::words::{after, two_words_before, word_before};
 use bl_syntax::{
@@ -124,7 +122,8 @@ fn verify_command(alloc: Global, who: Principal, number: u32) -> Result<Command,
         file: ROOT,
         perm: Perm::Write,
     };
-    let numbers = citing(alloc, number)?;
+    let mut numbers = Numbers::new(alloc);
+    numbers.extend(&[number])?;
     let proof = proof_by_claim(alloc)?;
     Ok(Command::Verify(goal, numbers, proof))
 }

@@ -10,8 +10,7 @@ ghost use Rattle.pcfs_top.specs.Lines.{IsDigits, IsInteger, IsSecond, IsBound, I
 use crate::words::after;
 use bl_syntax::{TimePoint, is_moment};
 
-/// Whether a byte is one of `0` to `9`.
-pub fn is_digit(byte: u8) -> bool
+fn is_digit(byte: u8) -> bool
     ensures { result ≡ is_digit byte }
 {
     b'0' <= byte && byte <= b'9'

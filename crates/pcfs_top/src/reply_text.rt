@@ -6,7 +6,7 @@ ghost use Rattle.std.specs.Fmt.{decimal, signed_decimal};
 ghost use Rattle.pcfs_top.specs.Written.{BeginsWith};
 ghost use Rattle.pcfs_top.specs.ReplyText.{time_text, permission_text, term_text, constraint_text, state_text, cause_text, rejection_text, denial_text, reply_text};
 
-use crate::reply::{Cause, Denial, RegisterFault, Reply};
+use access_history::{Cause, Denial, RegisterFault, Reply};
 use bl_syntax::{Bytes, Constraint, NoMemory, Perm, StatePred, Term, TimePoint};
 
 /// Writes a reply as a line with its end, all of it or nothing.

@@ -1,6 +1,6 @@
 -- The name and the issue are kept as they are read.
 use Rattle.std.proofs.Common.{◌≡◌, [], ◌∷◌, sym, ap, ◌∙◌, Some, rules}
-use Rattle.pcfs_top.specs.declared.event.Op.TheVariants.{Create}
+use Rattle.access_history.specs.declared.event.Op.TheVariants.{Create}
 use Rattle.pcfs_top.specs.declared.command.Command.TheVariants.{Do}
 use Rattle.pcfs_top.proofs.forms.creates.Goals as goal
 

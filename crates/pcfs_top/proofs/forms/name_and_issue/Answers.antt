@@ -2,9 +2,9 @@
 use Rattle.std.proofs.Common.{sym, ap, ◌∙◌, [], ◌∷◌, refl}
 use Rattle.std.proofs.lemmas.Bool.{false≢true}
 use Rattle.std.proofs.lemmas.Option.{none-some, same_Some}
-use Rattle.pcfs_top.specs.declared.event.Op.TheVariants.{Create}
+use Rattle.access_history.specs.declared.event.Op.TheVariants.{Create}
 use Rattle.pcfs_top.specs.declared.command.Command.TheVariants.{Do}
-use Rattle.pcfs_top.specs.World.{is_node_name}
+use Rattle.access_history.specs.World.{is_node_name}
 use Rattle.pcfs_top.proofs.FormLemmas.{create_line, HasNoStop-node_name, IsLine-create}
 use Rattle.pcfs_top.proofs.forms.name_and_issue.Goals as goal
 
