@@ -1,6 +1,6 @@
 //! What the server answers.
 
-use bl_syntax::{Constraint, NodeId, StatePred};
+use bl_syntax::{Constraint, Grant, NodeId, StatePred};
 
 /// Why a statement was not registered.
 #[derive(Clone, Copy, Debug)]
@@ -37,7 +37,7 @@ pub struct Denial {
 }
 
 /// An answer to a line.
-#[derive(Clone, Copy, Debug)]
+#[derive(Debug, Drop)]
 pub enum Reply {
     /// It was done, and there is nothing to tell.
     Done,
@@ -45,6 +45,8 @@ pub enum Reply {
     Statement(u32),
     /// The number of the issue, and how many conditions on time and on the state its grant has.
     Issue(u64, u32, u32),
+    /// What the proof grants, which is not issued.
+    Checked(Grant),
     /// The node.
     Node(NodeId),
     Denied(Denial),
@@ -57,6 +59,8 @@ pub enum Reply {
     Unproved(u32, u64),
     /// The line has this fault: 9, it is of none of the forms.
     Bad(u32),
+    /// The text in the line has this fault at this byte of the text, counted from 0.
+    BadText(u32, u64),
     /// There was no memory for it, and nothing changed.
     NoMemory,
 }

@@ -7,7 +7,7 @@ use Rattle.access_history.specs.declared.request.StepRequest.{StepRequest}
 use Rattle.access_history.specs.declared.reply.Reply.{Reply}
 use Rattle.access_history.specs.declared.reply.Reply.TheVariants as replies
 use Rattle.pcfs_top.specs.declared.command.Command.{Command}
-use Rattle.pcfs_top.specs.declared.command.Command.TheVariants.{At, As, Register, Verify, Do}
+use Rattle.pcfs_top.specs.declared.command.Command.TheVariants.{At, As, Register, Verify, Check, Do}
 use Rattle.bl_syntax.specs.TimeOrder.{IsMoment}
 use Rattle.access_history.specs.Needs.{slots}
 use Rattle.access_history.specs.Citing.{AreCitable}
@@ -37,4 +37,5 @@ IsAllowed (At second) = IsMoment second
 IsAllowed (As who) = Unit {0}
 IsAllowed (Register statement) = Unit {0}
 IsAllowed (Verify goal numbers proof) = AreCitable numbers
+IsAllowed (Check goal numbers proof) = AreCitable numbers
 IsAllowed (Do op procaps) = length procaps ≡ slots op

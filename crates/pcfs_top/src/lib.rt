@@ -4,10 +4,12 @@
 //! headline holds.
 #![tactic(auto)]
 
+mod cited;
 mod command;
 mod desk;
 mod fault;
 mod forms;
+mod inquiry;
 mod laws;
 pub mod line_laws;
 mod lines;

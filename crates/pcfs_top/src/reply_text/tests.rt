@@ -41,6 +41,7 @@ fn replies_are_written(rt: HostRuntime) -> Result<(), Fail> {
         (Reply::Absent(4294967295), "absent 4294967295\n"),
         (Reply::Unproved(2, 2), "unproved 2 2\n"),
         (Reply::Bad(9), "bad 9\n"),
+        (Reply::BadText(5, 523), "bad 4 5 523\n"),
         (Reply::NoMemory, "nomemory\n"),
     ];
     let mut out = Sequence::new(rt.alloc());
@@ -125,7 +126,7 @@ fn terms_are_written(rt: HostRuntime) -> Result<(), Fail> {
         ),
         (
             attribute(Term::Bound(0)),
-            "denied 1 state 1 has_xattr(ctime,ctime,) at 3\n",
+            "denied 1 state 1 has_xattr(ctime,ctime,X0) at 3\n",
         ),
     ];
     let mut out = Sequence::new(rt.alloc());
