@@ -4,17 +4,17 @@ use Rattle.std.specs.Prelude.{◌<◌, ◌≤◌, ◌&&◌, ◌||◌, nat_lt, If
 use Rattle.std.proofs.lemmas.Bool.Decides.{nat_tests}
 use Rattle.std.proofs.lemmas.Bool.{false≢true}
 use Rattle.bl_syntax.specs.declared.terms.Term.{Term}
-use Rattle.bl_text.specs.declared.faults.TextFault.{TextFault}
+use Rattle.bl_tokens.specs.declared.faults.TextFault.{TextFault}
 use Rattle.bl_syntax.specs.Formula.{Form}
-use Rattle.bl_text.specs.declared.faults.TextFault.TheVariants.{NoMemory}
-use Rattle.bl_text.specs.declared.tokens.Sign.{Sign}
-use Rattle.bl_text.specs.declared.tokens.Sign.TheVariants as signs
-use Rattle.bl_text.specs.declared.tokens.Keyword.TheVariants as keywords
-use Rattle.bl_text.specs.declared.tokens.Token.{Token}
-use Rattle.bl_text.specs.declared.tokens.Token.TheVariants.{Name, LongWord, Variable, Constant, BadDate, SortName, Keyword, End, Bad}
-use Rattle.bl_text.specs.declared.tokens.Token.TheVariants as tokens
-use Rattle.bl_text.specs.declared.tokens.Here.{Here}
-use Rattle.bl_text.specs.Tokens.{behind, behind_node, is_sign, is_word}
+use Rattle.bl_tokens.specs.declared.faults.TextFault.TheVariants.{NoMemory}
+use Rattle.bl_tokens.specs.declared.tokens.Sign.{Sign}
+use Rattle.bl_tokens.specs.declared.tokens.Sign.TheVariants as signs
+use Rattle.bl_tokens.specs.declared.tokens.Keyword.TheVariants as keywords
+use Rattle.bl_tokens.specs.declared.tokens.Token.{Token}
+use Rattle.bl_tokens.specs.declared.tokens.Token.TheVariants.{Name, LongWord, Variable, Constant, BadDate, SortName, Keyword, End, Bad}
+use Rattle.bl_tokens.specs.declared.tokens.Token.TheVariants as tokens
+use Rattle.bl_tokens.specs.declared.tokens.Here.{Here}
+use Rattle.bl_tokens.specs.Tokens.{behind, behind_node, is_sign, is_word}
 use Rattle.bl_text.specs.Scope as scopes
 use Rattle.bl_text.specs.Pieces.{expected}
 use Rattle.bl_text.specs.Grammar.{Level, is_call, is_call_token, is_quantifier, goes_on, AreArguments, Is}

@@ -7,17 +7,17 @@ use Rattle.bl_syntax.specs.declared.formula.Formula.{Formula}
 use Rattle.bl_syntax.specs.Formula.{Form}
 use Rattle.bl_syntax.specs.Formula as syntax
 use Rattle.bl_syntax.specs.Statement.{Saying, saying, IsStatement}
-use Rattle.bl_text.specs.declared.faults.TextFault.{TextFault}
-use Rattle.bl_text.specs.declared.faults.TextFault.TheVariants.{Unexpected, NoMemory}
-use Rattle.bl_text.specs.declared.tokens.Sign.{Sign}
-use Rattle.bl_text.specs.declared.tokens.Sign.TheVariants as signs
-use Rattle.bl_text.specs.declared.tokens.Keyword.{Keyword as Word}
-use Rattle.bl_text.specs.declared.tokens.Keyword.TheVariants as keywords
-use Rattle.bl_text.specs.declared.tokens.Token.{Token}
-use Rattle.bl_text.specs.declared.tokens.Token.TheVariants.{Name, LongWord, Constant, BadDate, SortName, Keyword, End, Bad}
-use Rattle.bl_text.specs.declared.tokens.Token.TheVariants as tokens
-use Rattle.bl_text.specs.declared.tokens.Here.{Here}
-use Rattle.bl_text.specs.Tokens.{behind, is_sign, is_word}
+use Rattle.bl_tokens.specs.declared.faults.TextFault.{TextFault}
+use Rattle.bl_tokens.specs.declared.faults.TextFault.TheVariants.{Unexpected, NoMemory}
+use Rattle.bl_tokens.specs.declared.tokens.Sign.{Sign}
+use Rattle.bl_tokens.specs.declared.tokens.Sign.TheVariants as signs
+use Rattle.bl_tokens.specs.declared.tokens.Keyword.{Keyword as Word}
+use Rattle.bl_tokens.specs.declared.tokens.Keyword.TheVariants as keywords
+use Rattle.bl_tokens.specs.declared.tokens.Token.{Token}
+use Rattle.bl_tokens.specs.declared.tokens.Token.TheVariants.{Name, LongWord, Constant, BadDate, SortName, Keyword, End, Bad}
+use Rattle.bl_tokens.specs.declared.tokens.Token.TheVariants as tokens
+use Rattle.bl_tokens.specs.declared.tokens.Here.{Here}
+use Rattle.bl_tokens.specs.Tokens.{behind, is_sign, is_word}
 use Rattle.bl_text.specs.Pieces.{◌>>=◌}
 use Rattle.bl_text.specs.Grammar.{formula, goes_on, Is}
 use Rattle.bl_text.specs.Stops.{Stops}

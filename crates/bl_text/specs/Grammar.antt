@@ -5,12 +5,12 @@ use Rattle.bl_syntax.specs.declared.terms.Sort.{Sort}
 use Rattle.bl_syntax.specs.declared.terms.Term.{Term}
 use Rattle.bl_syntax.specs.Formula.{Form, both, either, implies, forall_, exists_, says, on}
 use Rattle.bl_syntax.specs.Names.{is_predicate_name}
-use Rattle.bl_text.specs.declared.tokens.Sign.TheVariants as signs
-use Rattle.bl_text.specs.declared.tokens.Keyword.TheVariants as keywords
-use Rattle.bl_text.specs.declared.tokens.Token.{Token}
-use Rattle.bl_text.specs.declared.tokens.Token.TheVariants as tokens
-use Rattle.bl_text.specs.declared.tokens.Here.{Here}
-use Rattle.bl_text.specs.Tokens.{behind, behind_node, is_sign, is_word}
+use Rattle.bl_tokens.specs.declared.tokens.Sign.TheVariants as signs
+use Rattle.bl_tokens.specs.declared.tokens.Keyword.TheVariants as keywords
+use Rattle.bl_tokens.specs.declared.tokens.Token.{Token}
+use Rattle.bl_tokens.specs.declared.tokens.Token.TheVariants as tokens
+use Rattle.bl_tokens.specs.declared.tokens.Here.{Here}
+use Rattle.bl_tokens.specs.Tokens.{behind, behind_node, is_sign, is_word}
 use Rattle.bl_text.specs.Scope.{Variable}
 use Rattle.bl_text.specs.Pieces.{count, expected, argument, next_argument, interval, binder, speaker, applied, simple}
 

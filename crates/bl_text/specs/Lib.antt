@@ -1,14 +1,8 @@
-pub mod Classes
-pub mod Dates
 pub mod Grammar
-pub mod Numerals
 pub mod Pieces
 pub mod Printed
 pub mod Read
 pub mod Scope
 pub mod Stops
 pub mod Texts
-pub mod Times
-pub mod Tokens
-pub mod Words
 pub mod Written

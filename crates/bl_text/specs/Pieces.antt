@@ -11,17 +11,17 @@ use Rattle.bl_syntax.specs.declared.formula.Formula.{Formula}
 use Rattle.bl_syntax.specs.Formula.{Form, atom, compare, state, truth, falsity, formula}
 use Rattle.bl_syntax.specs.Names.{is_predicate_name}
 use Rattle.bl_syntax.specs.WellSorted.{may}
-use Rattle.bl_text.specs.declared.faults.TextFault.{TextFault}
-use Rattle.bl_text.specs.declared.faults.TextFault.TheVariants.{Unexpected, UnknownName, TooLarge}
-use Rattle.bl_text.specs.declared.faults.TextFault.TheVariants as faults
-use Rattle.bl_text.specs.declared.tokens.Sign.{Sign}
-use Rattle.bl_text.specs.declared.tokens.Sign.TheVariants as signs
-use Rattle.bl_text.specs.declared.tokens.Keyword.TheVariants as keywords
-use Rattle.bl_text.specs.declared.tokens.Token.{Token}
-use Rattle.bl_text.specs.declared.tokens.Token.TheVariants.{Name, LongWord, Constant, BadDate, SortName}
-use Rattle.bl_text.specs.declared.tokens.Token.TheVariants as tokens
-use Rattle.bl_text.specs.declared.tokens.Here.{Here}
-use Rattle.bl_text.specs.Tokens.{behind, behind_node, is_sign}
+use Rattle.bl_tokens.specs.declared.faults.TextFault.{TextFault}
+use Rattle.bl_tokens.specs.declared.faults.TextFault.TheVariants.{Unexpected, UnknownName, TooLarge}
+use Rattle.bl_tokens.specs.declared.faults.TextFault.TheVariants as faults
+use Rattle.bl_tokens.specs.declared.tokens.Sign.{Sign}
+use Rattle.bl_tokens.specs.declared.tokens.Sign.TheVariants as signs
+use Rattle.bl_tokens.specs.declared.tokens.Keyword.TheVariants as keywords
+use Rattle.bl_tokens.specs.declared.tokens.Token.{Token}
+use Rattle.bl_tokens.specs.declared.tokens.Token.TheVariants.{Name, LongWord, Constant, BadDate, SortName}
+use Rattle.bl_tokens.specs.declared.tokens.Token.TheVariants as tokens
+use Rattle.bl_tokens.specs.declared.tokens.Here.{Here}
+use Rattle.bl_tokens.specs.Tokens.{behind, behind_node, is_sign}
 use Rattle.bl_text.specs.Scope.{Variable, place_of, fits}
 
 infixl 10 ◌>>=◌

@@ -2,12 +2,12 @@
 use Rattle.std.specs.Prelude.{◌≡◌, ◌≤◌, ◌+◌, ℕ, List, length, Bool, false, Ok, Err}
 use Rattle.bl_syntax.specs.declared.terms.Term.{Term}
 use Rattle.bl_syntax.specs.Formula.{Form, on}
-use Rattle.bl_text.specs.declared.faults.TextFault.{TextFault}
-use Rattle.bl_text.specs.declared.faults.TextFault.TheVariants.{NoMemory}
+use Rattle.bl_tokens.specs.declared.faults.TextFault.{TextFault}
+use Rattle.bl_tokens.specs.declared.faults.TextFault.TheVariants.{NoMemory}
 use Rattle.bl_text.specs.Pieces.{interval}
-use Rattle.bl_text.specs.declared.tokens.Here.{Here}
-use Rattle.bl_text.specs.declared.tokens.Sign.TheVariants as signs
-use Rattle.bl_text.specs.Tokens.{is_sign}
+use Rattle.bl_tokens.specs.declared.tokens.Here.{Here}
+use Rattle.bl_tokens.specs.declared.tokens.Sign.TheVariants as signs
+use Rattle.bl_tokens.specs.Tokens.{is_sign}
 use Rattle.bl_text.specs.Scope.{Variable}
 use Rattle.bl_text.specs.Grammar.{Level, goes_on, AreArguments, IsCall, Is}
 

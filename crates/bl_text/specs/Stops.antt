@@ -4,12 +4,12 @@ use Rattle.bl_syntax.specs.declared.terms.Sort.{Sort}
 use Rattle.bl_syntax.specs.declared.terms.Term.{Term}
 use Rattle.bl_syntax.specs.Formula.{Form}
 use Rattle.bl_syntax.specs.Names.{is_predicate_name}
-use Rattle.bl_text.specs.declared.faults.TextFault.{TextFault}
-use Rattle.bl_text.specs.declared.faults.TextFault.TheVariants.{TooLarge, NoMemory}
-use Rattle.bl_text.specs.declared.tokens.Sign.TheVariants as signs
-use Rattle.bl_text.specs.declared.tokens.Token.TheVariants as tokens
-use Rattle.bl_text.specs.declared.tokens.Here.{Here}
-use Rattle.bl_text.specs.Tokens.{behind, behind_node, is_sign}
+use Rattle.bl_tokens.specs.declared.faults.TextFault.{TextFault}
+use Rattle.bl_tokens.specs.declared.faults.TextFault.TheVariants.{TooLarge, NoMemory}
+use Rattle.bl_tokens.specs.declared.tokens.Sign.TheVariants as signs
+use Rattle.bl_tokens.specs.declared.tokens.Token.TheVariants as tokens
+use Rattle.bl_tokens.specs.declared.tokens.Here.{Here}
+use Rattle.bl_tokens.specs.Tokens.{behind, behind_node, is_sign}
 use Rattle.bl_text.specs.Scope.{Variable}
 use Rattle.bl_text.specs.Pieces.{count, expected, argument, next_argument, interval, binder, speaker, applied, simple}
 use Rattle.bl_text.specs.Grammar.{Level, formula, disjunction, conjunction, unary, postfix, primary, is_quantifier, is_saying, is_call, goes_on, AreArguments, Is}

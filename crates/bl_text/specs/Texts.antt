@@ -4,15 +4,15 @@ use Rattle.bl_syntax.specs.declared.terms.TimePoint.{TimePoint}
 use Rattle.bl_syntax.specs.declared.terms.Term.TheVariants.{Time}
 use Rattle.bl_syntax.specs.Formula.{Form}
 use Rattle.bl_syntax.specs.Statement.{Saying, saying, IsStatement}
-use Rattle.bl_text.specs.declared.faults.TextFault.{TextFault}
-use Rattle.bl_text.specs.declared.faults.TextFault.TheVariants.{Unexpected}
-use Rattle.bl_text.specs.declared.faults.TextFault.TheVariants as faults
-use Rattle.bl_text.specs.declared.tokens.Keyword.{Keyword}
-use Rattle.bl_text.specs.declared.tokens.Keyword.TheVariants as keywords
-use Rattle.bl_text.specs.declared.tokens.Token.{Token}
-use Rattle.bl_text.specs.declared.tokens.Token.TheVariants.{Name, Constant, BadDate, End}
-use Rattle.bl_text.specs.declared.tokens.Here.{Here}
-use Rattle.bl_text.specs.Tokens.{token_from, behind, is_word}
+use Rattle.bl_tokens.specs.declared.faults.TextFault.{TextFault}
+use Rattle.bl_tokens.specs.declared.faults.TextFault.TheVariants.{Unexpected}
+use Rattle.bl_tokens.specs.declared.faults.TextFault.TheVariants as faults
+use Rattle.bl_tokens.specs.declared.tokens.Keyword.{Keyword}
+use Rattle.bl_tokens.specs.declared.tokens.Keyword.TheVariants as keywords
+use Rattle.bl_tokens.specs.declared.tokens.Token.{Token}
+use Rattle.bl_tokens.specs.declared.tokens.Token.TheVariants.{Name, Constant, BadDate, End}
+use Rattle.bl_tokens.specs.declared.tokens.Here.{Here}
+use Rattle.bl_tokens.specs.Tokens.{token_from, behind, is_word}
 use Rattle.bl_text.specs.Pieces.{◌>>=◌}
 use Rattle.bl_text.specs.Grammar.{formula, goes_on, Is}
 use Rattle.bl_text.specs.Stops.{Stops}

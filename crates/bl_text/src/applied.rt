@@ -5,9 +5,9 @@ ghost use Rattle.bl_syntax.specs.Names.{is_predicate_name};
 ghost use Rattle.bl_text.specs.Scope.{variables};
 ghost use Rattle.bl_text.specs.Pieces.{fits_may, atom_applied, owner_applied, attribute_applied, directory_applied, state_applied, applied, Gives};
 
-use crate::faults::TextFault;
 use crate::scope::Scope;
 use bl_syntax::{Formula, Principal, Sort, StatePred, Term, Terms, Word};
+use bl_tokens::TextFault;
 
 /// The predicate by which a policy gives a principal a permission on a file.
 const MAY: &[u8] = b"may";

@@ -3,23 +3,22 @@
 
 ghost use Rattle.std.specs.Prelude.{◌≡◌, ℕ, ◌+◌, ◌≤◌, length, true, false, IfOk, IfErr, MatchResult};
 ghost use Rattle.bl_syntax.specs.Formula.{formula, both, either, implies, forall_, exists_, says, on};
-ghost use Rattle.bl_text.specs.declared.faults.TextFault.{TextFault};
+ghost use Rattle.bl_tokens.specs.declared.faults.TextFault.{TextFault};
 ghost use Rattle.bl_text.specs.Scope.{variables};
-ghost use Rattle.bl_text.specs.Tokens.{is_sign, is_word};
+ghost use Rattle.bl_tokens.specs.Tokens.{is_sign, is_word};
 ghost use Rattle.bl_text.specs.Grammar.{is_quantifier, is_saying, is_call};
 ghost use Rattle.bl_text.specs.Grammar as grammar;
 ghost use Rattle.bl_text.specs.Stops.{Stops, ArgumentsStop, CallStops};
 ghost use Rattle.bl_text.specs.Read.{Reads, ReadsArguments, ReadsCall, PutsOn, IntervalStops};
 
 use crate::applied::{applied, is_atom};
-use crate::faults::TextFault;
 use crate::pieces::{
     argument, binder, count, expected, go_behind, interval, next_argument, simple, speaker, step,
     step_node,
 };
 use crate::scope::Scope;
-use crate::tokens::{Here, Keyword, Sign, Token, behind, behind_node, is_sign, is_word};
 use bl_syntax::{Formula, NoMemory, Principal, Sequence, Sort, Term, Terms};
+use bl_tokens::{Here, Keyword, Sign, TextFault, Token, behind, behind_node, is_sign, is_word};
 use std::alloc::Global;
 
 fn both_of(alloc: Global, a: Box<Formula>, b: Box<Formula>) -> Result<Box<Formula>, TextFault>

@@ -3,15 +3,14 @@
 ghost use Rattle.std.specs.Prelude.{◌≡◌, ◌≤◌, length, Ok, Err, IfOk, IfErr, OnOk, MatchResult};
 ghost use Rattle.bl_syntax.specs.Formula.{Form, formula};
 ghost use Rattle.bl_syntax.specs.Statement.{Saying};
-ghost use Rattle.bl_text.specs.declared.faults.TextFault.{TextFault};
+ghost use Rattle.bl_tokens.specs.declared.faults.TextFault.{TextFault};
 ghost use Rattle.bl_text.specs.Texts.{IsFormulaText, FormulaFault, IsStatementText, StatementFault, AreOneFault, beginning, is_end, word_expected, time_constant, principal_name, opening, ended, span};
 
-use crate::faults::TextFault;
 use crate::formulas::formula_at;
 use crate::pieces::step;
 use crate::scope::Scope;
-use crate::tokens::{Here, Keyword, Token, is_word, token_from};
 use bl_syntax::{Formula, Principal, Statement, Term, TimePoint};
+use bl_tokens::{Here, Keyword, TextFault, Token, is_word, token_from};
 use std::alloc::Global;
 
 /// The greatest number of nodes of a formula.

@@ -4,14 +4,13 @@
 ghost use Rattle.std.specs.Prelude.{◌≡◌, ◌+◌, ◌-◌, ◌≤◌, length, Ok, Err, OnOk, IfOk, MatchResult, if◌then◌else◌};
 ghost use Rattle.bl_syntax.specs.Formula.{truth, falsity};
 ghost use Rattle.bl_text.specs.Scope.{variables};
-ghost use Rattle.bl_text.specs.Tokens.{behind, behind_node};
+ghost use Rattle.bl_tokens.specs.Tokens.{behind, behind_node};
 ghost use Rattle.bl_text.specs.Pieces.{count, expected, term_of, sayable, sorted, argument, next_argument, time_argument, interval, variable_name, sort_at, binder, speaker, less_sign, comparison, bare, named_time, name_alone, constant_formula, simple, GivesWith};
 
 use crate::applied::applied;
-use crate::faults::TextFault;
 use crate::scope::Scope;
-use crate::tokens::{Here, Keyword, Sign, Token, behind, behind_node, is_sign};
 use bl_syntax::{Constraint, Formula, Principal, Sequence, Short, Sort, Term};
+use bl_tokens::{Here, Keyword, Sign, TextFault, Token, behind, behind_node, is_sign};
 use std::alloc::Global;
 
 /// Takes a node for the token, where one is left.
@@ -115,7 +114,7 @@ fn sayable(in_statement: bool, at: usize, term: &Term) -> Result<(), TextFault>
 
 /// The term may stand where that sort is wanted.
 #[tactic(auto, unfolding(crate::specs::Pieces::sorted))]
-fn sorted(scope: &Scope<'_>, wanted: Sort, at: usize, term: &Term) -> Result<(), TextFault>
+pub fn sorted(scope: &Scope<'_>, wanted: Sort, at: usize, term: &Term) -> Result<(), TextFault>
     ensures { result ≡ sorted (variables scope.now) wanted at term.now }
 {
     if scope.fits(wanted, term) {

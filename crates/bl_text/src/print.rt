@@ -259,7 +259,8 @@ fn write_following(out: &mut Bytes, before: &str, depth: u64, term: &Term) -> Re
     write_term(out, depth, term)
 }
 
-fn write_term(out: &mut Bytes, depth: u64, term: &Term) -> Result<(), NoMemory>
+/// Writes a term within this many binders, or a part of it where there is no memory.
+pub fn write_term(out: &mut Bytes, depth: u64, term: &Term) -> Result<(), NoMemory>
     ensures ok { OnOk result (out.new ≡ out.old ++ term_text depth term.now) }
     ensures err { OnErr result (BeginsWith out.new out.old) }
 {
@@ -347,7 +348,8 @@ fn write_counted(out: &mut Bytes, before: &str, number: u64) -> Result<(), NoMem
     write_number(out, number)
 }
 
-fn write_number(out: &mut Bytes, number: u64) -> Result<(), NoMemory>
+/// Writes a number in decimal, or a part of it where there is no memory.
+pub fn write_number(out: &mut Bytes, number: u64) -> Result<(), NoMemory>
     ensures ok { OnOk result (out.new ≡ out.old ++ decimal number) }
     ensures err { OnErr result (BeginsWith out.new out.old) }
 {

@@ -19,6 +19,7 @@ pub use fault::ProofFault;
 pub use part::proof_at;
 pub use proof::Proof;
 pub use reading::read_proof;
+pub use rule::{Axiom, OnePremise, Parts, Rule, TwoPremises};
 pub use tree::{LimitFault, ProofTree};
 pub use writing::write_proof;
 

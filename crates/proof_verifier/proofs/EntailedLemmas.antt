@@ -1,12 +1,11 @@
 -- The computed entailment is the relation of entailment.
-use Rattle.std.proofs.Common.{◌≡◌, ◌⊎◌, inl, inr, Bool, true, false, not, ◌&&◌, ◌||◌, List, [], ◌∷◌, refl, sym, subst, ap, ◌∙◌, arith, rules}
+use Rattle.std.proofs.Common.{◌≡◌, ◌⊎◌, inl, inr, Bool, true, false, not, ◌&&◌, ◌||◌, List, [], ◌∷◌, refl, sym, subst, ap, ◌∙◌, arith}
 use Rattle.std.specs.Prelude.{Contains}
 use Rattle.std.specs.Bool.{Decides}
 use Rattle.std.specs.List.{list_any}
 use Rattle.std.proofs.lemmas.Bool.{false≢true}
 use Rattle.std.proofs.lemmas.Bool.Decides.{Decides-or, Decides-and, Decides-like}
 use Rattle.std.proofs.lemmas.List.Elements.{Contains-append_left, Contains-append_right, Contains-append_cases, Contains-push, Contains-push_cases}
-use borrow.Author.Tests.{tests}
 use Rattle.bl_syntax.specs.declared.terms.Term.{Term}
 use Rattle.bl_syntax.specs.declared.terms.Term.TheVariants.{Time}
 use Rattle.bl_syntax.specs.declared.terms.TimePoint.{TimePoint}
@@ -18,16 +17,8 @@ use Rattle.bl_syntax.specs.Entailment.{IsLink, same, constants, from_the_start, 
 use Rattle.bl_syntax.proofs.EntailmentLemmas.{IsUpTo-itself, IsUpTo-PosInf, IsUpTo-transitive, IsChain-joined}
 use Rattle.bl_syntax.proofs.Same.{Decides-term_eq}
 use Rattle.proof_verifier.specs.Tests.{is_up_to}
+use Rattle.proof_verifier.proofs.SoundnessTests.{Decides-is_up_to, both_true, either_true}
 use Rattle.proof_verifier.specs.Entailed.{are_in_order, are_out_of_order, is_plain_link, leads, is_contradictory, is_entailed}
-
-Decides-is_up_to : (u v : TimePoint) → Decides (is_up_to u v) (IsUpTo u v)
-Decides-is_up_to NegInf v = (λ _. tt, λ _. refl)
-Decides-is_up_to (At t) NegInf = (λ e. absurd (false≢true e), λ h. absurd h)
-Decides-is_up_to (At t) (At u) = (λ e. search (tests, rules), λ h. search (tests, rules))
-Decides-is_up_to (At t) PosInf = (λ _. tt, λ _. refl)
-Decides-is_up_to PosInf NegInf = (λ e. absurd (false≢true e), λ h. absurd h)
-Decides-is_up_to PosInf (At u) = (λ e. absurd (false≢true e), λ h. absurd h)
-Decides-is_up_to PosInf PosInf = (λ _. tt, λ _. refl)
 
 in_order_told : {u v : TimePoint} → AreInOrder (Time u) (Time v) → IsUpTo u v
 in_order_told (in_order h) = h
@@ -258,21 +249,13 @@ any_test p (d ∷ others) c among e = by (λ there. any_test p others c there e)
     by behind (inl here) = or_true (p d) (list_any p others) (ap p here ∙ e)
     by behind (inr there) = true_or (p d) (list_any p others) (behind there)
 
-or_cases : (a b : Bool) → (a || b) ≡ true → (a ≡ true) ⊎ (b ≡ true)
-or_cases true b e = inl refl
-or_cases false b e = inr e
-
 any_told : (p : Constraint → Bool) (psi : List Constraint) → list_any p psi ≡ true → (c : Constraint) × (p c ≡ true)
 any_told p [] e = absurd (false≢true e)
-any_told p (c ∷ others) e = by (any_told p others) (or_cases (p c) (list_any p others) e)
+any_told p (c ∷ others) e = by (any_told p others) (either_true (p c) (list_any p others) e)
   where
     by : (list_any p others ≡ true → (d : Constraint) × (p d ≡ true)) → (p c ≡ true) ⊎ (list_any p others ≡ true) → (d : Constraint) × (p d ≡ true)
     by behind (inl here) = (c, here)
     by behind (inr there) = behind there
-
-and_true : (a b : Bool) → (a && b) ≡ true → (a ≡ true) × (b ≡ true)
-and_true true b e = (refl, e)
-and_true false b e = absurd (false≢true e)
 
 true_and : (a b : Bool) → a ≡ true → b ≡ true → (a && b) ≡ true
 true_and true b e f = f
@@ -298,7 +281,7 @@ contradiction_told : (psi : List Constraint) → is_contradictory psi ≡ true �
 contradiction_told psi e =
     let outer = any_told _ psi e in
     let inner = any_told _ psi outer.1 in
-    let parts = and_true _ _ inner.1 in
+    let parts = both_true _ _ inner.1 in
     by outer.0.low inner.0.high (out_told outer.0.low inner.0.high parts.0) (chain_leads psi outer.0.low inner.0.high ((Decides-leads psi outer.0.low inner.0.high).0 parts.1))
   where
     by : (u v : Term) → OutOfOrder u v → IsChain psi u v → IsContradictory psi

@@ -1,31 +1,16 @@
 -- Lemmas on conditions that are kept.
 use Rattle.std.proofs.Common.{◌≡◌, ℕ, Bool, true, false, List, [], ◌∷◌, ◌++◌, refl, sym, ap, ◌∙◌, eqb-true, eq-eqb}
 use Rattle.std.specs.Prelude.{Contains, Result, Ok, Err}
-use Rattle.std.specs.Bool.{Decides}
-use Rattle.std.specs.List.{list_any}
-use Rattle.std.proofs.lemmas.Bool.Decides.{Decides-by_or, Decides-like}
-use Rattle.std.proofs.lemmas.List.Elements.{Contains-from_at, at_from_Contains}
 use Rattle.bl_syntax.specs.declared.terms.Constraint.{Constraint}
 use Rattle.bl_syntax.specs.declared.terms.StatePred.{StatePred}
 use Rattle.bl_syntax.specs.declared.grant.Goal.{Goal}
 use Rattle.bl_syntax.specs.Grant.{Granted}
-use Rattle.bl_syntax.proofs.Same.{constraint_eq, state_eq, Decides-constraint_eq, Decides-state_eq}
 use Rattle.condition_set.specs.Conditions.{IsFull, KeepsOnce, known, unknown, AddsTime, AddsState}
 use Rattle.proof_verifier.specs.declared.fault.CheckFault.{CheckFault}
 use Rattle.proof_verifier.specs.declared.fault.CheckFault.TheVariants.{TooManyConditions}
 use Rattle.proof_verifier.specs.Tests.{has_constraint, has_state}
 use Rattle.proof_verifier.specs.Conditions.{is_full, keep_time, keep_state}
-
-has-decides : {X : Type 0} (E : X → X → Bool) → ((a b : X) → Decides (E a b) (a ≡ b)) → (xs : List X) (x : X) → Decides (list_any (λ kept. E kept x) xs) (Contains xs x)
-has-decides E decides xs x =
-    Decides-like _ (Contains-from_at xs x) (at_from_Contains xs x)
-    (Decides-by_or (λ y. E y x) (λ y. y ≡ x) (list_any (λ kept. E kept x)) (λ y. decides y x) refl (λ y ys. refl) xs)
-
-pub Decides-has_constraint : (cs : List Constraint) (c : Constraint) → Decides (has_constraint cs c) (Contains cs c)
-Decides-has_constraint = has-decides constraint_eq Decides-constraint_eq
-
-pub Decides-has_state : (facts : List StatePred) (s : StatePred) → Decides (has_state facts s) (Contains facts s)
-Decides-has_state = has-decides state_eq Decides-state_eq
+use Rattle.proof_verifier.proofs.SoundnessTests.{Decides-has_constraint, Decides-has_state}
 
 abbrev passed : Granted → Result Granted CheckFault
 passed g = Ok g

@@ -3,13 +3,10 @@ pub mod GrantedLemmas
 pub mod KeepLemmas
 pub mod MemoryLemmas
 pub mod RoomLemmas
-pub mod SoundnessEntailed
-pub mod SoundnessEntailment
 pub mod SoundnessRules
 pub mod SoundnessShapes
 pub mod SoundnessSteps
 pub mod SoundnessTests
 pub mod SoundnessVerdict
 pub mod StandingLemmas
-pub mod TermLemmas
 pub mod TestLemmas

@@ -24,7 +24,7 @@ use Rattle.proof_verifier.specs.Tests.{has_constraint, has_state, may_stay_open,
 use Rattle.proof_verifier.specs.Entailed.{is_entailed}
 use Rattle.proof_verifier.specs.Conditions.{is_full, keep_time, keep_state, time_condition, state_condition}
 use Rattle.proof_verifier.proofs.SoundnessTests.{Decides-has_constraint, Decides-has_state, time_condition_kept, state_condition_kept}
-use Rattle.proof_verifier.proofs.SoundnessEntailed.{Entails-is_entailed}
+use Rattle.proof_verifier.proofs.EntailedLemmas.{Decides-is_entailed}
 use Rattle.proof_verifier.proofs.SoundnessShapes.{Gives, gives_here, gives_more, no_gift, either_way}
 
 -- the grant keeps its goal and its conditions, and may have more of these
@@ -153,7 +153,7 @@ unfolding between
 gives_time node constraints u v g =
     either_way (is_entailed constraints u v) _ _ (MeetsTime constraints u v g)
     (λ entailed. gives_here g (MeetsTime constraints u v g)
-    (record { grows = Grows-not g; entailed = λ psi all times. Entails-entailed constraints psi u v all (Entails-is_entailed constraints u v entailed) }))
+    (record { grows = Grows-not g; entailed = λ psi all times. Entails-entailed constraints psi u v all ((Decides-is_entailed constraints u v).0 entailed) }))
     (λ _. either_way (may_stay_open (between u v)) _ _ (MeetsTime constraints u v g)
     (λ open_. gives_more (gives_keep_time node (between u v) g (time_condition_kept (between u v) open_)) (λ new found.
     record { grows = found.grows; entailed = λ psi all times. times.each (between u v) found.kept }))

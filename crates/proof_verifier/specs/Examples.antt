@@ -84,9 +84,9 @@ q_of_bob = atom (codes "q") (Prin (codes "bob") ∷ [])
 abbrev pub bob_may_read_if_it_follows : Form
 bob_may_read_if_it_follows = implies (implies p_of_bob q_of_bob) (access (codes "bob") (number 2) Read)
 
--- q, which the second statement says, on a new interval
-abbrev pub by_new_interval : Deduction
-by_new_interval = says_r (claim 0 (imp_l 2 Ctime Ctime (imp_r (claim 1 (init 4))) (init 3)))
+-- on this interval q follows from p, since the second statement says q on a new interval within
+abbrev pub by_new_interval : Term → Term → Deduction
+by_new_interval u v = says_r (claim 0 (imp_l 2 u v (imp_r (claim 1 (init 4))) (init 3)))
 
 -- file n stands in file 1
 abbrev placed : ℕ → StatePred

@@ -5,6 +5,7 @@ ghost use Rattle.std.specs.List.{AllByRecursion};
 ghost use Rattle.bl_syntax.specs.declared.terms.Sort.{Sort};
 ghost use Rattle.bl_syntax.specs.declared.terms.StatePred.{StatePred};
 ghost use Rattle.bl_syntax.specs.declared.terms.Term.{Term};
+ghost use Rattle.bl_syntax.specs.declared.terms.Term.TheVariants.{Ctime};
 ghost use Rattle.bl_syntax.specs.declared.terms.Constraint.{Constraint};
 ghost use Rattle.bl_syntax.specs.declared.grant.Goal.{Goal};
 ghost use Rattle.bl_syntax.specs.Statement.{Saying, IsStatement};
@@ -20,7 +21,7 @@ ghost use Rattle.proof_verifier.specs.Tests.{are_same, has_constraint, has_state
 ghost use Rattle.proof_verifier.specs.Entailed.{is_entailed};
 ghost use Rattle.proof_verifier.specs.Verdict.{verdict};
 ghost use Rattle.proof_verifier.specs.ExampleTable.{Computes, accepted, refused};
-ghost use Rattle.proof_verifier.specs.Examples.{stated, may_write, writing, by_its_claim, between, employees_may_read, bob_is_employed, reading, by_employment, within_both, bob_may_read_if_employed, by_word, q_of_bob, bob_may_read_if_it_follows, by_new_interval, may_write_if_placed, by_places, within_places};
+ghost use Rattle.proof_verifier.specs.Examples.{second, stated, may_write, writing, by_its_claim, between, employees_may_read, bob_is_employed, reading, by_employment, within_both, bob_may_read_if_employed, by_word, q_of_bob, bob_may_read_if_it_follows, by_new_interval, may_write_if_placed, by_places, within_places};
 
 /// A grant that the verdict gives is sound: wherever its conditions hold, the statements allow what it grants.
 pub fn the_verdict_gives_sound_grants()
@@ -97,10 +98,12 @@ pub fn loc_speaks_for_all()
         ≡ Err (ViewTooWeak 4) }
 {}
 
-/// A condition that names a parameter is not left over.
+/// A condition that names a parameter is not left over. None comes up where the same is proved for the interval of the statements.
 pub fn a_condition_on_a_parameter_is_a_fault()
-    ensures { verdict (stated (codes "admin") bob_may_read_if_it_follows 0 200 ∷ stated (codes "admin") q_of_bob 0 200 ∷ []) reading by_new_interval
+    ensures fault { verdict (stated (codes "admin") bob_may_read_if_it_follows 0 200 ∷ stated (codes "admin") q_of_bob 0 200 ∷ []) reading (by_new_interval Ctime Ctime)
         ≡ Err (NotEntailed 5) }
+    ensures accepted { verdict (stated (codes "admin") bob_may_read_if_it_follows 0 200 ∷ stated (codes "admin") q_of_bob 0 200 ∷ []) reading (by_new_interval (second 0) (second 200))
+        ≡ Ok (between reading 0 200) }
 {}
 
 /// 2 conditions on time and 62 on the state are kept, and not 63.

@@ -15,6 +15,8 @@ mod left;
 mod place;
 mod right;
 mod root;
+#[cfg(test)]
+mod rule_tests;
 mod shapes;
 mod terms;
 #[cfg(test)]

@@ -1,14 +1,29 @@
-//! Calls of `check` with ample memory, over statements and proofs in canonical bytes that were made by hand from the format. What the grants hold is told by the laws.
+//! Calls of `check` and `verify` with ample memory, over statements and proofs in canonical bytes that were made by hand from the format.
 
-use crate::{CheckFault, Cite, Cites, check};
-use bl_codec::read_statement;
-use bl_syntax::{Goal, NodeId, Perm, Principal};
+use crate::{CheckFault, Cite, Cites, check, verify};
+use bl_codec::{read_formula, read_statement};
+use bl_syntax::{Formula, Goal, Grant, NodeId, Perm, Principal};
 use proof_term::read_proof;
 use std::alloc::Global;
 use std::test::Fail;
 
-/// A fault's number and its node, both 0 where there is none; and how many conditions on time and on the state there are.
-type Outcome = (u8, usize, usize, usize);
+/// What a proof comes to: the conditions of its grant as formulas, those on time first; or its fault.
+pub type Expected<'a> = Result<&'a [&'a [u8]], CheckFault>;
+
+/// The same, with how many conditions there are on time and on the state.
+pub type Counted = Result<(usize, usize), CheckFault>;
+
+/// `0 <= ctime`
+pub const AFTER: &[u8] = b"\x11\x04\x01\0\0\0\0\0\0\0\0\x06";
+
+/// `ctime <= 200`
+pub const UNTIL: &[u8] = b"\x11\x06\x04\x01\0\0\0\0\0\0\0\xc8";
+
+/// `50 <= ctime`
+const EMPLOYED_AFTER: &[u8] = b"\x11\x04\x01\0\0\0\0\0\0\0\x32\x06";
+
+/// `ctime <= 150`
+const EMPLOYED_UNTIL: &[u8] = b"\x11\x06\x04\x01\0\0\0\0\0\0\0\x96";
 
 /// `admin says may(alice,#1,write) from 0 to 200`
 const MAY_WRITE: &[u8] =
@@ -54,19 +69,6 @@ const IF_IMPLIED: &[u8] =
 const IMPLIED: &[u8] =
     b"\x05admin\x10\x01q\x01\x01\x03bob\x01\x00\x00\x00\x00\x00\x00\x00\x00\x01\x00\x00\x00\x00\x00\x00\x00\xc8";
 
-fn outcome_of(fault: CheckFault) -> Outcome {
-    match fault {
-        CheckFault::NoHypothesis(node) => (1, node, 0, 0),
-        CheckFault::WrongShape(node) => (2, node, 0, 0),
-        CheckFault::NotEntailed(node) => (3, node, 0, 0),
-        CheckFault::NotInState(node) => (4, node, 0, 0),
-        CheckFault::ViewTooWeak(node) => (5, node, 0, 0),
-        CheckFault::BadTerm(node) => (6, node, 0, 0),
-        CheckFault::TooManyConditions(node) => (7, node, 0, 0),
-        CheckFault::NoMemory => (8, 0, 0, 0),
-    }
-}
-
 fn cites_of(alloc: Global, statements: &[&[u8]]) -> Result<Cites, Fail> {
     let mut cites = Vec::new(alloc);
     let mut number: u32 = 0;
@@ -78,22 +80,85 @@ fn cites_of(alloc: Global, statements: &[&[u8]]) -> Result<Cites, Fail> {
     Ok(Cites::new(cites).ok_or("not cited")?)
 }
 
-fn outcome(alloc: Global, statements: &[&[u8]], goal: Goal, proof: &[u8]) -> Result<Outcome, Fail> {
+/// The condition at that place, those on time first.
+fn condition_at(grant: &Grant, place: usize) -> Option<Formula> {
+    let times = grant.times();
+    match times.get(place) {
+        Some(c) => Some(Formula::Cons(*c)),
+        None => match grant.states().get(place.wrapping_sub(times.len())) {
+            Some(s) => Some(Formula::State(*s)),
+            None => None,
+        },
+    }
+}
+
+/// Whether these are the conditions of the grant, and in this order.
+fn has_conditions(alloc: Global, grant: &Grant, formulas: &[&[u8]]) -> Result<bool, Fail> {
+    for (place, bytes) in formulas.iter().enumerate() {
+        let (expected, _) = read_formula(alloc, bytes)?;
+        match condition_at(grant, place) {
+            Some(found) if found.is_same(&expected) => {}
+            _ => return Ok(false),
+        }
+    }
+    Ok(condition_at(grant, formulas.len()).is_none())
+}
+
+fn is_granted(alloc: Global, grant: &Grant, expected: Expected<'_>) -> Result<bool, Fail> {
+    match expected {
+        Ok(formulas) => has_conditions(alloc, grant, formulas),
+        Err(_) => Ok(false),
+    }
+}
+
+fn is_refused(fault: CheckFault, expected: Expected<'_>) -> bool {
+    match expected {
+        Ok(_) => false,
+        Err(other) => fault == other,
+    }
+}
+
+/// Whether `verify` and `check` of the proof come to this.
+pub fn comes_to(
+    alloc: Global,
+    statements: &[&[u8]],
+    goal: Goal,
+    proof: &[u8],
+    expected: Expected<'_>,
+) -> Result<bool, Fail> {
+    let cites = cites_of(alloc, statements)?;
+    let (proof, _) = read_proof(alloc, proof)?;
+    let is_verified = match verify(alloc, &cites, &goal, &proof) {
+        Ok(grant) => is_granted(alloc, &grant, expected)?,
+        Err(fault) => is_refused(fault, expected),
+    };
+    let is_checked = match check(alloc, cites, goal, proof) {
+        Ok(checked) => is_granted(alloc, checked.grant(), expected)?,
+        Err(fault) => is_refused(fault, expected),
+    };
+    Ok(is_verified && is_checked)
+}
+
+/// What `check` of the proof comes to, with the numbers of conditions on time and on the state.
+pub fn counted(
+    alloc: Global,
+    statements: &[&[u8]],
+    goal: Goal,
+    proof: &[u8],
+) -> Result<Counted, Fail> {
     let cites = cites_of(alloc, statements)?;
     let (proof, _) = read_proof(alloc, proof)?;
     match check(alloc, cites, goal, proof) {
-        Ok(checked) => Ok((
-            0,
-            0,
-            checked.grant().times().len(),
-            checked.grant().states().len(),
-        )),
-        Err(fault) => Ok(outcome_of(fault)),
+        Ok(checked) => {
+            let grant = checked.grant();
+            Ok(Ok((grant.times().len(), grant.states().len())))
+        }
+        Err(fault) => Ok(Err(fault)),
     }
 }
 
 /// That alice may write file 1.
-fn writing() -> Result<Goal, Fail> {
+pub fn writing() -> Result<Goal, Fail> {
     Ok(Goal {
         who: Principal::new(b"alice").ok_or("no principal")?,
         file: NodeId(1),
@@ -112,115 +177,88 @@ fn reading() -> Result<Goal, Fail> {
 
 #[test]
 fn one_statement_and_each_of_its_faults(rt: HostRuntime) -> Result<(), Fail> {
-    let cases: [(&[&[u8]], &[u8], Outcome); 6] = [
+    let cases: [(&[&[u8]], &[u8], Expected<'_>); 6] = [
         // saysR(claim(0,init(1)))
-        (&[MAY_WRITE], b"\x0b\x1a\x00\x00\x01\x00\x01", (0, 0, 2, 0)),
+        (
+            &[MAY_WRITE],
+            b"\x0b\x1a\x00\x00\x01\x00\x01",
+            Ok(&[AFTER, UNTIL]),
+        ),
         // saysR(claim(1,init(1)))
-        (&[MAY_WRITE], b"\x0b\x1a\x00\x01\x01\x00\x01", (1, 1, 0, 0)),
+        (
+            &[MAY_WRITE],
+            b"\x0b\x1a\x00\x01\x01\x00\x01",
+            Err(CheckFault::NoHypothesis(1)),
+        ),
         // saysR(init(0))
-        (&[MAY_WRITE], b"\x0b\x01\x00\x00", (2, 1, 0, 0)),
+        (
+            &[MAY_WRITE],
+            b"\x0b\x01\x00\x00",
+            Err(CheckFault::WrongShape(1)),
+        ),
         // saysR(claim(0,impL(1,ctime,ctime,consR,init(2))))
         (
             &[NEVER],
             b"\x0b\x1a\x00\x00\x16\x00\x01\x06\x06\x02\x01\x00\x02",
-            (3, 3, 0, 0),
+            Err(CheckFault::NotEntailed(3)),
         ),
         // saysR(claim(0,impL(1,ctime,ctime,forallR(interR),init(2))))
         (
             &[IF_ALL_OWN],
             b"\x0b\x1a\x00\x00\x16\x00\x01\x06\x06\x09\x03\x01\x00\x02",
-            (4, 4, 0, 0),
+            Err(CheckFault::NotInState(4)),
         ),
         // saysR(claim(0,forallL(1,alice,init(2))))
         (
             &[ANY_FILE],
             b"\x0b\x1a\x00\x00\x17\x00\x01\x01\x05alice\x01\x00\x02",
-            (6, 2, 0, 0),
+            Err(CheckFault::BadTerm(2)),
         ),
     ];
-    for (statements, proof, expected) in cases {
-        assert_eq!(rt;
-            outcome(rt.alloc(), statements, writing()?, proof)?,
-            expected
-        );
+    for (place, (statements, proof, expected)) in cases.into_iter().enumerate() {
+        let holds = comes_to(rt.alloc(), statements, writing()?, proof, expected)?;
+        assert!(rt; holds, "{place}");
     }
     Ok(())
 }
 
 #[test]
 fn two_statements_together(rt: HostRuntime) -> Result<(), Fail> {
-    let cases: [(&[&[u8]], &[u8], Outcome); 4] = [
+    let cases: [(&[&[u8]], &[u8], Expected<'_>); 5] = [
         // saysR(claim(0,forallL(2,bob,impL(3,ctime,ctime,saysR(claim(1,init(4))),init(4)))))
         (
             &[EMPLOYEES, EMPLOYEE],
             b"\x0b\x1a\x00\x00\x17\x00\x02\x01\x03bob\x16\x00\x03\x06\x06\x0b\x1a\x00\x01\x01\x00\x04\x01\x00\x04",
-            (0, 0, 4, 0),
+            Ok(&[AFTER, UNTIL, EMPLOYED_AFTER, EMPLOYED_UNTIL]),
         ),
         // saysR(claim(0,impL(2,ctime,ctime,saysR(claim(1,init(3))),init(3))))
         (
             &[IF_EMPLOYED, BY_LOC],
             b"\x0b\x1a\x00\x00\x16\x00\x02\x06\x06\x0b\x1a\x00\x01\x01\x00\x03\x01\x00\x03",
-            (0, 0, 2, 0),
+            Ok(&[AFTER, UNTIL]),
         ),
         // the same
         (
             &[IF_EMPLOYED, BY_ADMIN],
             b"\x0b\x1a\x00\x00\x16\x00\x02\x06\x06\x0b\x1a\x00\x01\x01\x00\x03\x01\x00\x03",
-            (5, 4, 0, 0),
+            Err(CheckFault::ViewTooWeak(4)),
         ),
         // saysR(claim(0,impL(2,ctime,ctime,impR(claim(1,init(4))),init(3))))
         (
             &[IF_IMPLIED, IMPLIED],
             b"\x0b\x1a\x00\x00\x16\x00\x02\x06\x06\x08\x1a\x00\x01\x01\x00\x04\x01\x00\x03",
-            (3, 5, 0, 0),
+            Err(CheckFault::NotEntailed(5)),
+        ),
+        // saysR(claim(0,impL(2,0,200,impR(claim(1,init(4))),init(3))))
+        (
+            &[IF_IMPLIED, IMPLIED],
+            b"\x0b\x1a\x00\x00\x16\x00\x02\x04\x01\x00\x00\x00\x00\x00\x00\x00\x00\x04\x01\x00\x00\x00\x00\x00\x00\x00\xc8\x08\x1a\x00\x01\x01\x00\x04\x01\x00\x03",
+            Ok(&[AFTER, UNTIL]),
         ),
     ];
-    for (statements, proof, expected) in cases {
-        assert_eq!(rt;
-            outcome(rt.alloc(), statements, reading()?, proof)?,
-            expected
-        );
-    }
-    Ok(())
-}
-
-/// `admin says S => may(alice,#1,write) from 0 to 200`, where S is so many predicates `has_xattr(#1,"pcfs.tNN","1")` joined by `&`.
-fn marked(alloc: Global, marks: u8) -> Result<Vec<u8>, Fail> {
-    let mut bytes = b"\x05admin\x17".to_vec(alloc)?;
-    for _ in 1..marks {
-        bytes.push(0x15)?;
-    }
-    for mark in 0..marks {
-        let mut predicate = *b"\x13\x02\x00\x00\x00\x00\x00\x00\x00\x01\x05\x08pcfs.t00\x05\x011";
-        predicate[18] = b'0' + mark / 10;
-        predicate[19] = b'0' + mark % 10;
-        bytes.extend_from_slice(&predicate)?;
-    }
-    bytes.extend_from_slice(&MAY_WRITE[6..])?;
-    Ok(bytes)
-}
-
-/// `saysR(claim(0,impL(1,ctime,ctime,A,init(2))))`, where A is andR over so many interR.
-fn by_marks(alloc: Global, marks: u8) -> Result<Vec<u8>, Fail> {
-    let mut bytes = b"\x0b\x1a\x00\x00\x16\x00\x01\x06\x06".to_vec(alloc)?;
-    for _ in 1..marks {
-        bytes.push(0x04)?;
-    }
-    for _ in 0..marks {
-        bytes.push(0x03)?;
-    }
-    bytes.extend_from_slice(b"\x01\x00\x02")?;
-    Ok(bytes)
-}
-
-#[test]
-fn a_grant_keeps_64_conditions(rt: HostRuntime) -> Result<(), Fail> {
-    let alloc = rt.alloc();
-    for (marks, expected) in [(62, (0, 0, 2, 62)), (63, (7, 127, 0, 0))] {
-        let statement = marked(alloc, marks)?;
-        let proof = by_marks(alloc, marks)?;
-        let found = outcome(alloc, &[statement.as_slice()], writing()?, proof.as_slice())?;
-        assert_eq!(rt; found, expected);
+    for (place, (statements, proof, expected)) in cases.into_iter().enumerate() {
+        let holds = comes_to(rt.alloc(), statements, reading()?, proof, expected)?;
+        assert!(rt; holds, "{place}");
     }
     Ok(())
 }

@@ -5,7 +5,7 @@ use Rattle.std.proofs.lemmas.Bool.{false≢true}
 use Rattle.bl_syntax.specs.declared.terms.Term.{Term}
 use Rattle.bl_syntax.specs.Formula.{Form}
 use Rattle.bl_syntax.specs.Names.{is_predicate_name}
-use Rattle.bl_text.specs.declared.faults.TextFault.{TextFault}
+use Rattle.bl_tokens.specs.declared.faults.TextFault.{TextFault}
 use Rattle.bl_text.specs.Scope.{Variable, variables}
 use Rattle.bl_text.specs.Pieces.{applied, state_applied, Gives}
 use Rattle.bl_text.proofs.applied.applied.Goals as goal

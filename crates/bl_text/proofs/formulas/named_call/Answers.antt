@@ -2,10 +2,10 @@
 use Rattle.std.proofs.Common.{◌≡◌, ◌+◌, ℕ, Bool, List, Ok, Err, sym, ap, ap₂, ◌∙◌, subst, arith, rules, Result}
 use Rattle.bl_syntax.specs.Names.{is_predicate_name}
 use Rattle.bl_syntax.specs.Formula.{Form, formula}
-use Rattle.bl_text.specs.declared.faults.TextFault.{TextFault}
-use Rattle.bl_text.specs.declared.tokens.Sign.TheVariants.{Close}
-use Rattle.bl_text.specs.declared.tokens.Here.{Here}
-use Rattle.bl_text.specs.Tokens.{behind, behind_node}
+use Rattle.bl_tokens.specs.declared.faults.TextFault.{TextFault}
+use Rattle.bl_tokens.specs.declared.tokens.Sign.TheVariants.{Close}
+use Rattle.bl_tokens.specs.declared.tokens.Here.{Here}
+use Rattle.bl_tokens.specs.Tokens.{behind, behind_node}
 use Rattle.bl_text.specs.Pieces.{count, expected, applied}
 use Rattle.bl_text.specs.Scope.{variables}
 use Rattle.bl_text.specs.Grammar.{AreArguments, IsCall, call}

@@ -2,7 +2,7 @@
 use Rattle.std.proofs.Common.{◌≡◌, refl, sym, ap, ◌∙◌, rules}
 use Rattle.bl_syntax.specs.declared.formula.Formula.{Formula}
 use Rattle.bl_syntax.specs.Formula.{formula}
-use Rattle.bl_text.specs.declared.faults.TextFault.TheVariants.{NoMemory}
+use Rattle.bl_tokens.specs.declared.faults.TextFault.TheVariants.{NoMemory}
 use Rattle.bl_text.specs.Grammar.{one_simple}
 use Rattle.bl_text.specs.Stops.{in_simple, no_memory}
 use Rattle.bl_text.proofs.ReadLemmas.{passed, is_form}

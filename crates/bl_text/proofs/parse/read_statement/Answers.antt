@@ -3,8 +3,8 @@ use Rattle.std.proofs.Common.{◌≡◌, List, ℕ, Ok, Err, Result, true, false
 use Rattle.bl_syntax.specs.declared.formula.Formula.{Formula}
 use Rattle.bl_syntax.specs.Formula.{Form, formula}
 use Rattle.bl_syntax.specs.Statement.{Saying, saying, IsStatement}
-use Rattle.bl_text.specs.declared.faults.TextFault.{TextFault}
-use Rattle.bl_text.specs.declared.tokens.Here.{Here}
+use Rattle.bl_tokens.specs.declared.faults.TextFault.{TextFault}
+use Rattle.bl_tokens.specs.declared.tokens.Here.{Here}
 use Rattle.bl_text.specs.Texts.{beginning, opening, IsSayingText, whole_saying, IsStatementText, StatementFault, in_opening, in_body, in_span, not_said}
 use Rattle.std.proofs.lemmas.Bool.{false≢true}
 use Rattle.bl_text.proofs.ReadLemmas.{passed, is_form}

@@ -1,0 +1,3 @@
+pub mod DateLemmas
+pub mod NumeralLemmas
+pub mod RunLemmas

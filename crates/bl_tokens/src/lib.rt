@@ -1,0 +1,22 @@
+//! The tokens of texts of the authorization logic, and texts of points in time.
+//!
+//! A token takes as many bytes as it can. What is no token is a bad one at its first byte.
+#![tactic(auto)]
+
+mod classes;
+mod dates;
+mod faults;
+mod numerals;
+#[cfg(test)]
+mod tests;
+mod times;
+mod tokens;
+mod words;
+
+pub use classes::{Class, is_lower_case, is_upper_case, run_len};
+pub use faults::TextFault;
+pub use numerals::smallest_numeral;
+pub use times::parse_time;
+pub use tokens::{
+    Here, Keyword, Lexeme, Sign, Token, behind, behind_node, digits_of, is_sign, is_word, token_from,
+};

@@ -1,0 +1,3 @@
+pub mod HexWord
+pub mod Lines
+pub mod Words

@@ -1,0 +1,13 @@
+//! The lines of a text, the words of a line, and words of hexadecimal.
+//!
+//! A text falls into its lines, and a line into its first word and what stands behind it, in one way. A word of
+//! hexadecimal is read exactly where it is the one that is written for some bytes, and gives these bytes.
+#![tactic(auto)]
+
+mod hex_word;
+mod lines;
+mod words;
+
+pub use hex_word::{read_hex, write_hex};
+pub use lines::first_line;
+pub use words::{after, word_before};

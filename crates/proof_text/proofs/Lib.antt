@@ -1,0 +1,5 @@
+pub mod HeadLemmas
+pub mod ReadLemmas
+pub mod Reader
+pub mod TextLemmas
+pub mod WrittenLemmas

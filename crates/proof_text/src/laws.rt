@@ -1,0 +1,24 @@
+//! Laws of the texts of proofs. A law is the contract of an empty function, which nothing calls.
+
+ghost use Rattle.std.specs.Prelude.{◌≡◌, ℕ, List};
+ghost use Rattle.bl_tokens.specs.declared.faults.TextFault.{TextFault};
+ghost use Rattle.bl_text.specs.Texts.{AreOneFault};
+ghost use Rattle.proof_term.specs.Proof.{Deduction};
+ghost use Rattle.proof_text.specs.Texts.{IsProofText, ProofTextFault};
+
+/// A text is one proof.
+pub fn one_proof()
+    ensures { (text : List ℕ) (p q : Deduction) → IsProofText text p → IsProofText text q → p ≡ q }
+{}
+
+/// A text of a proof has no fault, want of memory aside.
+pub fn no_fault_of_a_proof()
+    ensures { (text : List ℕ) (p : Deduction) (e : TextFault) → IsProofText text p → ProofTextFault text e
+        → e ≡ TextFault.NoMemory }
+{}
+
+/// A text that is none of a proof has one fault, want of memory aside.
+pub fn one_fault_of_a_proof()
+    ensures { (text : List ℕ) (e f : TextFault) → ProofTextFault text e → ProofTextFault text f
+        → AreOneFault e f }
+{}

@@ -1,0 +1,181 @@
+//! The parts of a proof's text that hold no proof themselves. Each is read in one way, and has one
+//! first fault.
+
+ghost use Rattle.std.specs.Prelude.{◌≡◌, ◌+◌, ◌≤◌, length, IfOk, OnOk};
+ghost use Rattle.std.specs.List.{take_while};
+ghost use Rattle.bl_syntax.specs.Terms.{HasTimeInRange};
+ghost use Rattle.bl_tokens.specs.Classes.{is_in};
+ghost use Rattle.bl_tokens.specs.Ranges.{IsTokenInRange};
+ghost use Rattle.proof_text.specs.Places.{placed, first_byte, token_at, behind_token, behind_sign, term_at, time_at, hypothesis_at, is_letter, begins_word, rule_at, room, one_fewer};
+
+use crate::names::{RuleName, rule_named};
+use bl_syntax::{Sort, Term};
+use bl_text::{Scope, sorted, term_of};
+use bl_tokens::{
+    Class, Here, Sign, TextFault, digits_of, is_lower_case, is_sign, is_upper_case, run_len,
+    smallest_numeral, token_from,
+};
+
+/// A place in a proof's text: the byte from which the next token is read, and how many rules are
+/// left for the proof from there on.
+#[derive(Clone, Copy, Debug)]
+pub struct Place {
+    pub from: usize,
+    pub left: u16,
+}
+
+fn placed(from: usize, left: u16) -> Place
+    ensures { result ≡ placed from left }
+{
+    Place { from, left }
+}
+
+/// The first byte that is no space.
+fn first_byte(text: &[u8], here: Place) -> usize
+    requires { here.from ≤ length text.now }
+    ensures same { result ≡ first_byte text.now here }
+    ensures within { result ≤ length text.now }
+{
+    here.from + run_len(Class::Space, &text[here.from..])
+}
+
+/// The token of formulas at that place.
+pub fn token_at(text: &[u8], here: Place) -> Here
+    requires { here.from ≤ length text.now }
+    ensures same { result ≡ token_at text.now here }
+    ensures within { result.end ≤ length text.now }
+    ensures ranged { IsTokenInRange result.token }
+    ensures left { result.left ≡ here.left }
+{
+    token_from(text, here.from, here.left)
+}
+
+fn behind_token(token: &Here) -> Place
+    ensures { result ≡ behind_token token.now }
+{
+    placed(token.end, token.left)
+}
+
+/// What stands behind the sign, where it is there.
+#[tactic(auto, unfolding(crate::specs::Places::behind_sign))]
+pub fn behind_sign(text: &[u8], sign: Sign, here: Place) -> Result<Place, TextFault>
+    requires { here.from ≤ length text.now }
+    ensures value { result ≡ behind_sign text.now sign here }
+    ensures within { IfOk result (λ there. there.from ≤ length text.now) }
+    ensures left { IfOk result (λ there. there.left ≡ here.left) }
+{
+    let token = token_at(text, here);
+    if is_sign(sign, &token.token) {
+        Ok(behind_token(&token))
+    } else {
+        Err(TextFault::Unexpected(token.at))
+    }
+}
+
+/// The term at that place, and what follows it.
+#[tactic(auto, unfolding(crate::specs::Places::term_at))]
+pub fn term_at(text: &[u8], here: Place) -> Result<(Term, Place), TextFault>
+    requires { here.from ≤ length text.now }
+    ensures value { result ≡ term_at text.now here }
+    ensures within { IfOk result (λ r. r.1.from ≤ length text.now) }
+    ensures ranged { IfOk result (λ r. HasTimeInRange r.0) }
+    ensures left { IfOk result (λ r. r.1.left ≡ here.left) }
+{
+    let token = token_at(text, here);
+    let term = term_of(&Scope::Outermost, &token)?;
+    Ok((term, behind_token(&token)))
+}
+
+/// The time at that place, and what follows it.
+#[tactic(auto, unfolding(crate::specs::Places::time_at))]
+pub fn time_at(text: &[u8], here: Place) -> Result<(Term, Place), TextFault>
+    requires { here.from ≤ length text.now }
+    ensures value { result ≡ time_at text.now here }
+    ensures within { IfOk result (λ r. r.1.from ≤ length text.now) }
+    ensures ranged { IfOk result (λ r. HasTimeInRange r.0) }
+    ensures left { IfOk result (λ r. r.1.left ≡ here.left) }
+{
+    let token = token_at(text, here);
+    let term = term_of(&Scope::Outermost, &token)?;
+    sorted(&Scope::Outermost, Sort::Time, token.at, &term)?;
+    Ok((term, behind_token(&token)))
+}
+
+/// The number of a hypothesis at that place, and what follows it.
+#[tactic(auto, unfolding(crate::specs::Places::hypothesis_at))]
+pub fn hypothesis_at(text: &[u8], here: Place) -> Result<(u16, Place), TextFault>
+    requires { here.from ≤ length text.now }
+    ensures value { result ≡ hypothesis_at text.now here }
+    ensures within { IfOk result (λ r. r.1.from ≤ length text.now) }
+    ensures left { IfOk result (λ r. r.1.left ≡ here.left) }
+{
+    let at = first_byte(text, here);
+    let digits = digits_of(&text[at..]);
+    match smallest_numeral(digits) {
+        Some(number) => Ok((number, placed(at + digits.len(), here.left))),
+        None => Err(TextFault::Unexpected(at)),
+    }
+}
+
+fn is_letter(byte: u8) -> bool
+    ensures { result ≡ is_letter byte }
+{
+    is_lower_case(byte) || is_upper_case(byte)
+}
+
+fn begins_word(bytes: &[u8]) -> bool
+    ensures { result ≡ begins_word bytes.now }
+{
+    match bytes {
+        [] => false,
+        [first, ..] => is_letter(*first),
+    }
+}
+
+/// The letters, digits and `_` at the front.
+fn word_of(bytes: &[u8]) -> &[u8]
+    ensures same { result.now ≡ take_while (is_in Class.Word) bytes.now }
+    ensures within { length result.now ≤ length bytes.now }
+{
+    &bytes[..run_len(Class::Word, bytes)]
+}
+
+/// The rule at that place, and what follows its name.
+#[tactic(auto, unfolding(crate::specs::Places::rule_at))]
+pub fn rule_at(text: &[u8], here: Place) -> Result<(RuleName, Place), TextFault>
+    requires { here.from ≤ length text.now }
+    ensures value { result ≡ rule_at text.now here }
+    ensures within { IfOk result (λ r. r.1.from ≤ length text.now) }
+    ensures left { IfOk result (λ r. r.1.left ≡ here.left) }
+{
+    let at = first_byte(text, here);
+    if !begins_word(&text[at..]) {
+        return Err(TextFault::Unexpected(at));
+    }
+    let word = word_of(&text[at..]);
+    match rule_named(word) {
+        Some(rule) => Ok((rule, placed(at + word.len(), here.left))),
+        None => Err(TextFault::UnknownName(at)),
+    }
+}
+
+/// Takes a rule, where one is left and so many levels.
+#[tactic(auto, unfolding(crate::specs::Places::room))]
+pub fn room(text: &[u8], levels: u8, here: Place) -> Result<(), TextFault>
+    requires { here.from ≤ length text.now }
+    ensures value { result ≡ room text.now levels here }
+    ensures some { OnOk result ((1 ≤ here.left) × (1 ≤ levels)) }
+{
+    if 1 <= here.left && 1 <= levels {
+        Ok(())
+    } else {
+        Err(TextFault::TooLarge(first_byte(text, here)))
+    }
+}
+
+/// One rule fewer is left.
+pub fn one_fewer(here: Place) -> Place
+    ensures { result ≡ one_fewer here }
+{
+    placed(here.from, here.left.saturating_sub(1))
+}
