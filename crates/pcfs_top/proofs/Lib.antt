@@ -1,5 +1,8 @@
+pub mod CitedLemmas
 pub mod Ending
+pub mod FaultyLemmas
 pub mod FormLemmas
+pub mod InquiryLemmas
 pub mod LineLemmas
 pub mod NumeralLemmas
 pub mod OneCommand

@@ -68,7 +68,7 @@ permission-unique Govern Identity same = absurd (differ 0 refl same)
 
 -- ---- numbers between commas
 
-AreJoined-same : {word : List ℕ} {numbers : List ℕ} → AreJoined word numbers → (other others : List ℕ) → word ≡ other → AreJoined other others → numbers ≡ others
+pub AreJoined-same : {word : List ℕ} {numbers : List ℕ} → AreJoined word numbers → (other others : List ℕ) → word ≡ other → AreJoined other others → numbers ≡ others
 AreJoined-same (one_number word number h) other others same (one_number w n k) =
     ap (λ m. m ∷ []) (IsNumber-unique (subst (λ v. IsNumber v number) same h) k)
 AreJoined-same (one_number word number h) other others same (more_numbers w rest n ns k more) =
@@ -91,8 +91,13 @@ pub record IsOneGoal (first second : Goal) (x y : List ℕ) : Type 0 where
   pub goal : first ≡ second
   pub rest : x ≡ y
 
-goal-same : (first second : Goal) → first.who ≡ second.who → first.file ≡ second.file → first.perm ≡ second.perm → first ≡ second
-goal-same first second who file perm = cc
+make_goal : List ℕ → NodeId → Perm → Goal
+make_goal who file perm = record { who = who; file = file; perm = perm }
+
+pub goal-same : (first second : Goal) → first.who ≡ second.who → first.file ≡ second.file → first.perm ≡ second.perm → first ≡ second
+unfolding make_goal
+goal-same first second who file perm =
+    ap (λ w. make_goal w first.file first.perm) who ∙ ap (λ f. make_goal second.who f first.perm) file ∙ ap (λ p. make_goal second.who second.file p) perm
 
 pub NamesGoal-unique : {words : List ℕ} {first second : Goal} {x y : List ℕ} → NamesGoal words first x → NamesGoal words second y → IsOneGoal first second x y
 NamesGoal-unique {words} {first} {second} {x} {y} h k =

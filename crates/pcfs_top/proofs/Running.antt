@@ -6,6 +6,7 @@ use Rattle.std.proofs.lemmas.Option.{none-some}
 use Rattle.std.proofs.Math.Seq.{take-append-add}
 use Rattle.bl_syntax.specs.declared.grant.Goal.{Goal}
 use Rattle.bl_syntax.specs.Statement.{Saying}
+use Rattle.bl_syntax.specs.Grant.{Granted}
 use Rattle.pcfs_ports.proofs.ToldLemmas.{with_back-with_back}
 use Rattle.pcfs_ports.specs.Told.{with_back, HoldsSome}
 use Rattle.access_history.specs.declared.event.Event.{Event}

@@ -55,9 +55,11 @@ pub fn cited_numbers(alloc: Global, word: &[u8]) -> Result<Option<Numbers>, NoMe
     ensures { IfOk result (λ r. MatchOption r ((numbers : List ℕ) → IsCited word.now numbers → ⊥) (IsCited word.now)) }
 {
     let mut numbers = Numbers::new(alloc);
-    if read_numbers(word, &mut numbers)? && are_citable(numbers.as_slice()) {
-        Ok(Some(numbers))
-    } else {
-        Ok(None)
+    if !read_numbers(word, &mut numbers)? {
+        return Ok(None);
     }
+    if !are_citable(numbers.as_slice()) {
+        return Ok(None);
+    }
+    Ok(Some(numbers))
 }

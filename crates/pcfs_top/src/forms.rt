@@ -1,10 +1,9 @@
 //! The forms of a line.
 
-ghost use Rattle.std.specs.Prelude.{◌≡◌, ◌++◌, codes, ℕ, List, IfOk, IfSome, IsSomeAnd, MatchOption};
+ghost use Rattle.std.specs.Prelude.{◌++◌, codes, ℕ, List, IfOk, IfSome, IsSome};
 ghost use Rattle.bl_syntax.specs.declared.terms.NodeId.{NodeId};
-ghost use Rattle.bl_syntax.specs.declared.grant.Goal.{Goal};
-ghost use Rattle.pcfs_top.specs.Lines.{IsMaking, NamesGoal};
-ghost use Rattle.pcfs_top.specs.Forms.{Reads, ReadsInquiry, ReadsNothing};
+ghost use Rattle.pcfs_top.specs.Lines.{IsMaking};
+ghost use Rattle.pcfs_top.specs.Forms.{Reads};
 
 use crate::command::{Command, Line};
 use crate::fault::bad_text;
@@ -113,7 +112,7 @@ fn creates(alloc: Global, words: &[u8]) -> Result<Line, NoMemory>
 // The directory, the name and the issue of a file that is to be made.
 fn making(words: &[u8]) -> Option<(NodeId, &[u8], u32)>
     ensures found { IfSome result (λ p. IsMaking words.now p.0 p.1.now p.2) }
-    ensures only { (directory : NodeId) (name : List ℕ) (issue : ℕ) → IsMaking words.now directory name issue → IsSomeAnd result (λ p. IsMaking words.now p.0 p.1.now p.2) }
+    ensures only { (directory : NodeId) (name : List ℕ) (issue : ℕ) → IsMaking words.now directory name issue → IsSome result }
 {
     let (directory, name, word) = two_words_before(words, b" ", b" @")?;
     if !is_node_name(name) {

@@ -10,9 +10,6 @@ returns-in_err-rest-clause-only c word rest h same =
     let parts = c.split_word.ensures.only word (literal ++ rest) h (ends_word-append 32 literal rest c.requires) same in
     absurd (c.in_err-rest.ensures rest parts.1)
 
-pub returns-clause-found : goal.returns-clause-found
-returns-clause-found c = c.split_word.ensures.parts ∙ ap (λ behind. c.in-let.word.now ++ behind) c.in_ok-rest.ensures
-
 pub returns-clause-only : goal.returns-clause-only
 returns-clause-only c word rest h same =
     let literal = c.args.literal.now in
