@@ -1,5 +1,13 @@
 pub mod Determined
+pub mod LexedLemmas
+pub mod PieceLemmas
 pub mod ReadLemmas
 pub mod Reader
+pub mod SaidLemmas
+pub mod SettledLemmas
+pub mod SettledStatement
 pub mod TextLemmas
+pub mod ViableLemmas
+pub mod ViableTexts
+pub mod Walk
 pub mod WrittenLemmas

@@ -138,6 +138,17 @@ pub decode_of-IsHex : (word bytes : List ℕ) → (word ≡ codes "-" → ⊥) �
 decode_of-IsHex word [] other is = absurd (other is.word_is)
 decode_of-IsHex word (byte ∷ bytes) other is = rw is.word_is (decode_of-encode_lower (byte ∷ bytes) is.in_range)
 
+not_dash : (word bytes : List ℕ) (byte : ℕ) → IsHex word (byte ∷ bytes) → word ≡ codes "-" → ⊥
+not_dash word bytes byte is dash = let nothing = only_nothing word (byte ∷ bytes) dash is in cc
+
+-- a word is that of one list of bytes
+pub IsHex-same : (word a b : List ℕ) → IsHex word a → IsHex word b → a ≡ b
+IsHex-same word [] b first second = sym (only_nothing word b first.word_is second)
+IsHex-same word (x ∷ a) [] first second = only_nothing word (x ∷ a) second.word_is first
+IsHex-same word (x ∷ a) (y ∷ b) first second =
+    let other = not_dash word a x first in
+    decode_of-same word (x ∷ a) (y ∷ b) (decode_of-IsHex word (x ∷ a) other first) (decode_of-IsHex word (y ∷ b) other second)
+
 -- such a word is not empty, and has no upper-case letter
 pub IsHex-form : (word bytes : List ℕ) → (word ≡ codes "-" → ⊥) → IsHex word bytes → (1 < length word) × IsTrue (has_no_upper_case word)
 IsHex-form word [] other is = absurd (other is.word_is)

@@ -1,4 +1,5 @@
 pub mod Digest
+pub mod Digests
 pub mod Messages
 pub mod Registered
 pub mod RegisteredCode

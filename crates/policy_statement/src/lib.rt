@@ -5,6 +5,7 @@
 #![tactic(auto)]
 
 mod digest;
+mod digests;
 mod messages;
 mod registry;
 mod ring;

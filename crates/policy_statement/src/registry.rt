@@ -2,11 +2,13 @@
 
 ghost use Rattle.std.specs.Prelude.{◌≡◌, ◌≤◌, ◌<◌, ◌+◌, ◌∷◌, ◌++◌, [], true, IsNone, IfSome, IsErrOf, OnOk, OnErr, Some, length};
 ghost use Rattle.std.specs.Option.{option_copied};
+ghost use Rattle.policy_statement.specs.Digest.{digest_of};
 ghost use Rattle.policy_statement.specs.Messages.{statement_message};
 ghost use Rattle.policy_statement.specs.Registry.{IsNew, MayRegister, numbered};
 ghost use Rattle.policy_statement.specs.declared.registry.RegisterFault.TheVariants as faults;
 
 use crate::digest::digest;
+use crate::digests::{add_digest, has_digest};
 use crate::messages::statement_message;
 use bl_syntax::{Bytes, NoMemory, Statement};
 use pcfs_ports::Signatures;
@@ -90,20 +92,23 @@ impl Entry {
 #[derive(Drop)]
 pub struct Registry {
     entries: Vec<Entry>,
+    // The digests of the statements, in rising order.
+    digests: Vec<u64>,
 }
 
 impl Model for Registry {
-    ghost use Rattle.std.specs.Prelude.{◌≤◌, length};
+    ghost use Rattle.std.specs.Prelude.{min};
     ghost use Rattle.policy_statement.specs.Registered.{Register, spare_of};
     ghost use Rattle.policy_statement.specs.RegisteredCode.{register_code};
+    ghost use Rattle.policy_statement.specs.Digests.{IsIndexed};
 
     ghost Value = { Register };
 
     ghost coded = { register_code };
 
-    ghost view = { λ r. record { entries = r.entries.items; spare = spare_of r.entries } };
+    ghost view = { λ r. record { entries = r.entries.items; spare = min (spare_of r.entries) (spare_of r.digests) } };
 
-    ghost invariant = { λ r. length r.entries.items ≤ 4096 };
+    ghost invariant = { λ r. IsIndexed r.entries.items r.digests.items };
 }
 
 impl Registry {
@@ -113,6 +118,7 @@ impl Registry {
     {
         Registry {
             entries: Vec::new(alloc),
+            digests: Vec::new(alloc),
         }
     }
 
@@ -140,7 +146,7 @@ impl Registry {
         ensures no_signature { IsErrOf result faults.BadSignature → ⊥ }
         ensures no_memory { IsErrOf result faults.NoMemory → ⊥ }
     {
-        if let Some(place) = find(self.entries.as_slice(), s) {
+        if let Some(place) = self.find(s) {
             return Err(RegisterFault::Duplicate(place as u32 + 1));
         }
         if self.entries.len() >= MOST_STATEMENTS {
@@ -157,6 +163,7 @@ impl Registry {
         ensures err { OnErr result (self.new ≡ self.old) }
     {
         self.entries.reserve(1)?;
+        self.digests.reserve(1)?;
         Ok(())
     }
 
@@ -168,7 +175,9 @@ impl Registry {
         ensures spare { self.new.spare + 1 ≡ self.old.spare }
         ensures number { result ≡ length self.new.entries }
     {
-        self.entries.push_reserved(Entry::new(s, signature));
+        let entry = Entry::new(s, signature);
+        add_digest(&mut self.digests, entry.digest);
+        self.entries.push_reserved(entry);
         self.entries.len() as u32
     }
 
@@ -182,15 +191,29 @@ impl Registry {
             None => None,
         }
     }
+
+    // The place of an equal statement, from 0.
+    fn find(&self, s: &Statement) -> Option<usize>
+        ensures none { IsNone result → IsNew self.now.entries s.now }
+        ensures some { IfSome result (λ place. numbered self.now.entries (place + 1) ≡ Some s.now) }
+        ensures within { IfSome result (λ place. place < 4096) }
+    {
+        let known = digest(s);
+        if has_digest(self.digests.as_slice(), known) {
+            find_among(self.entries.as_slice(), s, known)
+        } else {
+            None
+        }
+    }
 }
 
-// The place of an equal statement, from 0.
-fn find(entries: &[Entry], s: &Statement) -> Option<usize>
+// The place among these of a statement that is the same as one with that digest.
+fn find_among(entries: &[Entry], s: &Statement, known: u64) -> Option<usize>
+    requires { known ≡ digest_of s.now }
     ensures none { IsNone result → IsNew entries.now s.now }
     ensures some { IfSome result (λ place. numbered entries.now (place + 1) ≡ Some s.now) }
     ensures within { IfSome result (λ place. place < length entries.now) }
 {
-    let known = digest(s);
     for (place, entry) in entries.iter().enumerate() {
         if entry.is_of(s, known) {
             return Some(place);

@@ -1,0 +1,5 @@
+pub mod FileLemmas
+pub mod LawLemmas
+pub mod LineLemmas
+pub mod NameLemmas
+pub mod RingLemmas

@@ -1,0 +1,3 @@
+pub mod Laws
+pub mod SecretLines
+pub mod SecretsFile

@@ -1,0 +1,22 @@
+-- The statement's digest is kept with it.
+use Rattle.std.proofs.Common.{◌≡◌, ◌+◌, ◌∷◌, [], length, sym, ap, ◌∙◌, subst, arith, length-append}
+use Rattle.policy_statement.specs.Digest.{digest_of}
+use Rattle.policy_statement.specs.Registered.{Registered}
+use Rattle.policy_statement.specs.Digests.{HasDigests}
+use Rattle.policy_statement.proofs.DigestLemmas.{HasDigests-push}
+use Rattle.policy_statement.proofs.registry.Registry.keep.Goals as goal
+
+pub invariant_of-self : goal.invariant_of-self
+invariant_of-self c =
+    let entries = c.self.inside.entries.items in
+    let e : Registered = c.new-entry.result in
+    let digest_is : c.entry.inside.digest ≡ digest_of e.statement = c.entry.invariant ∙ ap (λ (r : Registered). digest_of r.statement) c.entry.view_is in
+    let same : length entries ≡ length c.args.self.now.entries = ap (λ r. length r.entries) c.self.view_is in
+    let one_more : length c.push_reserved.new.self.items ≡ length entries + 1 = ap length c.push_reserved.ensures.items ∙ length-append entries (e ∷ []) in
+    let few = c.requires.few in
+    record {
+      few = omega arith;
+      rising = c.add_digest.ensures.rising;
+      known = subst (λ xs. HasDigests xs c.add_digest.new.rising.items) (sym c.push_reserved.ensures.items)
+          (HasDigests-push entries e c.entry.inside.digest c.self.inside.digests.items c.add_digest.new.rising.items digest_is c.self.invariant.known c.add_digest.ensures.missing);
+    }

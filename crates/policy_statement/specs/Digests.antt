@@ -1,0 +1,27 @@
+-- The digests of what is registered. This project's own; nothing but speed depends on it.
+use Rattle.std.specs.Prelude.{◌≡◌, ◌≢◌, ◌<◌, ◌≤◌, ℕ, List, length, slice_index, Some}
+use Rattle.std.specs.List.Sorted.{IsNonDecreasing}
+use Rattle.bl_syntax.specs.Statement.{Saying}
+use Rattle.policy_statement.specs.Digest.{digest_of}
+use Rattle.policy_statement.specs.Registered.{Registered}
+use Rattle.policy_statement.specs.Registry.{numbered}
+
+-- the digest is none of these
+abbrev pub IsMissing : List ℕ → ℕ → Type 0
+IsMissing digests digest = (place : ℕ) → place < length digests → slice_index digests place ≢ digest
+
+-- in rising order the digest may stand at this place
+pub record IsPlace (rising : List ℕ) (digest place : ℕ) : Type 0 where
+  pub within : place ≤ length rising
+  pub below : (k : ℕ) → k < place → slice_index rising k ≤ digest
+  pub above : (k : ℕ) → place ≤ k → k < length rising → digest ≤ slice_index rising k
+
+-- no digest of what is registered is missing
+abbrev pub HasDigests : List Registered → List ℕ → Type 0
+HasDigests entries digests = (number : ℕ) (s : Saying) → numbered entries number ≡ Some s → IsMissing digests (digest_of s) → ⊥
+
+-- there are at most 4,096 entries, and these are their digests in rising order
+pub record IsIndexed (entries : List Registered) (digests : List ℕ) : Type 0 where
+  pub few : length entries ≤ 4096
+  pub rising : IsNonDecreasing digests
+  pub known : HasDigests entries digests
