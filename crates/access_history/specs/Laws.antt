@@ -1,5 +1,5 @@
 -- Laws of the definitions: a tree stays a tree, also along a whole history; an answer is determined; the headline holds of what is lawful.
-use Rattle.std.specs.Prelude.{◌≡◌, ◌≤◌, ◌+◌, ◌-◌, ◌^◌, ℕ, ℤ, List, length, Option, Some}
+use Rattle.std.specs.Prelude.{◌≡◌, ℕ, ℤ, List, Option, Some}
 use Rattle.bl_syntax.specs.Grant.{AreDistinct}
 use Rattle.access_history.specs.declared.event.Op.{Op}
 use Rattle.access_history.specs.declared.event.Event.{Event}
@@ -9,7 +9,7 @@ use Rattle.access_history.specs.declared.reply.Reply.{Reply}
 use Rattle.access_history.specs.World.{FileTree, IsTree}
 use Rattle.access_history.specs.Effect.{OpReply, replied, effect}
 use Rattle.access_history.specs.Replay.{replay}
-use Rattle.access_history.specs.Lawful.{IsLawfulBase, IsLawful}
+use Rattle.access_history.specs.Lawful.{IsLawful}
 use Rattle.access_history.specs.Headline.{Headline}
 use Rattle.access_history.specs.declared.event.Event.TheVariants.{Acted}
 use Rattle.access_history.specs.declared.request.StepRequest.TheVariants.{Act}

@@ -5,9 +5,12 @@ ghost use Rattle.access_history.specs.History.{state_of};
 ghost use Rattle.access_history.specs.Needs.{slots};
 ghost use Rattle.op_gate.specs.Decision.{IsDecided, IsMade};
 
-use access_history::{AddedNode, Change, Denial, Event, History, Op, Reply, Row, Step, StepRequest, create_refusal, created_row};
 use crate::cause::cause_of;
 use crate::decide::{Decided, citing, told};
+use access_history::{
+    AddedNode, Change, Denial, Event, History, Op, Reply, Row, Step, StepRequest, create_refusal,
+    created_row,
+};
 use bl_syntax::{Bytes, NoMemory, NodeId, Numbers, Perm, Principal};
 use std::alloc::Global;
 

@@ -6,8 +6,8 @@ ghost use Rattle.access_history.specs.History.{state_of};
 ghost use Rattle.op_gate.specs.Decision.{IsDecided};
 ghost use Rattle.access_history.specs.Citing.{numbers_of};
 
-use access_history::{Change, Event, History, Issue, RegisterFault, Reply, Step, StepRequest};
 use crate::cite::{cited_numbers, first_moved};
+use access_history::{Change, Event, History, Issue, RegisterFault, Reply, Step, StepRequest};
 use bl_syntax::{NoMemory, Numbers, Statement};
 use proof_verifier::Checked;
 use std::alloc::Global;

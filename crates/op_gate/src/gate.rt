@@ -5,10 +5,10 @@ ghost use Rattle.access_history.specs.History.{state_of};
 ghost use Rattle.op_gate.specs.Decision.{IsDecided};
 ghost use Rattle.access_history.specs.WellFormed.{IsWellFormed};
 
-use access_history::{History, Reply, Step, StepRequest};
 use crate::act::decide_act;
 use crate::cite::{Citation, cite};
 use crate::decide::{Decided, decide_issue, decide_register};
+use access_history::{History, Reply, Step, StepRequest};
 use bl_syntax::NoMemory;
 use std::alloc::Global;
 use std::marker::Model;

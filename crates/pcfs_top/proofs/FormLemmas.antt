@@ -20,7 +20,7 @@ use Rattle.access_history.specs.World.{is_node_name, is_node_name_byte}
 use Rattle.pcfs_top.specs.declared.command.Command.{Command}
 use Rattle.pcfs_top.specs.declared.command.Command.TheVariants.{At, As, Register, Verify, Check, Do}
 use Rattle.pcfs_top.specs.Words.{HasNo}
-use Rattle.pcfs_top.specs.Lines.{IsSecond, IsNumberBelow, IsNumber, IsFile, AreJoined, one_number, more_numbers, IsInquiry, IsMaking, IsLine, sets_clock, sets_caller, registers, verifies, checks, creates, HasBadText, in_statement, in_proof, in_checked_proof}
+use Rattle.pcfs_top.specs.Lines.{IsSecond, IsNumber, IsFile, AreJoined, one_number, more_numbers, IsInquiry, IsMaking, IsLine, sets_clock, sets_caller, registers, verifies, checks, creates, HasBadText, in_statement, in_proof, in_checked_proof}
 use Rattle.pcfs_top.proofs.NumeralLemmas.{IsWritten-below}
 use Rattle.pcfs_top.proofs.WordLemmas.{differ}
 

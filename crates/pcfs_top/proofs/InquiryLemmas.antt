@@ -1,5 +1,5 @@
 -- What the words of a line with a proof ask.
-use Rattle.std.proofs.Common.{◌≡◌, ℕ, List, ◌++◌, sym, subst}
+use Rattle.std.proofs.Common.{ℕ, List, sym, subst}
 use Rattle.bl_syntax.specs.declared.grant.Goal.{Goal}
 use Rattle.pcfs_top.specs.declared.inquiry.Inquiry.{Inquiry}
 use Rattle.pcfs_top.specs.declared.inquiry.Inquiry.TheVariants.{Proof, BadText, Outside}

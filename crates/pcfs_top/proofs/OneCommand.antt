@@ -13,7 +13,6 @@ use Rattle.bl_text.specs.Texts.{AreOneFault}
 use Rattle.bl_text.proofs.TextLemmas.{saying_once, statement_or_fault, statement_fault_once}
 use Rattle.proof_text.specs.Texts.{IsProofText, ProofTextFault}
 use Rattle.proof_text.proofs.TextLemmas.{proof_once, proof_or_fault, fault_once}
-use Rattle.access_history.specs.declared.event.Op.TheVariants.{Create}
 use Rattle.pcfs_top.specs.declared.command.Command.{Command}
 use Rattle.pcfs_top.specs.declared.command.Command.TheVariants as commands
 use Rattle.pcfs_top.specs.Words.{starts_with, ends_word, HasNo}

@@ -2,12 +2,12 @@
 
 ghost use Rattle.std.specs.Prelude.{◌≡◌, ◌<◌, ◌-◌, ◌^◌, List, ℕ, IfOk, OnErr};
 
-use access_history::{Reply, StepRequest};
-use op_gate::{Citation, Decision, Gate};
 use crate::command::{Command, Line};
 use crate::fault::unproved;
 use crate::forms::read_line;
+use access_history::{Reply, StepRequest};
 use bl_syntax::{Goal, NoMemory, Numbers, Principal};
+use op_gate::{Citation, Decision, Gate};
 use proof_term::ProofTree;
 use proof_verifier::{check, verify};
 use std::alloc::Global;

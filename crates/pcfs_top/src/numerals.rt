@@ -33,10 +33,7 @@ fn is_numeral(word: &[u8]) -> bool
 fn is_plain(word: &[u8]) -> bool
     ensures { IsTrue result ↔ IsPlain word.now }
 {
-    1 <= word.len()
-        && word.len() <= 20
-        && are_digits(word)
-        && (word.len() == 1 || word[0] != b'0')
+    1 <= word.len() && word.len() <= 20 && are_digits(word) && (word.len() == 1 || word[0] != b'0')
 }
 
 fn digits_value(digits: &[u8]) -> u128

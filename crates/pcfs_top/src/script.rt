@@ -9,10 +9,10 @@ ghost use Rattle.pcfs_top.specs.ReplyText.{reply_text};
 ghost use Rattle.pcfs_top.specs.Run.{RunsWhole, RunsPart};
 ghost use Rattle.pcfs_top.specs.declared.script.ScriptFault.TheVariants.{NoMemory as OutOfMemory, Write as WriteFailed};
 
-use access_history::Reply;
 use crate::desk::Desk;
 use crate::lines::first_line;
 use crate::reply_text::write_reply;
+use access_history::Reply;
 use bl_syntax::{Bytes, NoMemory};
 use pcfs_ports::{Failed, Sink, write_all};
 use std::alloc::Global;

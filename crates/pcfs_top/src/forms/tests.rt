@@ -31,7 +31,10 @@ fn inquiry_text(
     let file = goal.file.0;
     let perm = goal.perm;
     let numbers = numbers.as_slice();
-    format!(in alloc; "{who} {perm:?} {file} {numbers:?} {} {printed}", text(out.as_slice()))
+    format!(in alloc;
+        "{who} {perm:?} {file} {numbers:?} {} {printed}",
+        text(out.as_slice())
+    )
 }
 
 fn shown(alloc: Global, line: &Line) -> Result<String, AllocError> {
@@ -111,8 +114,14 @@ fn texts_with_a_fault(rt: HostRuntime) -> Result<(), Fail> {
         ("register - ", "bad 4 1 0"),
         ("register - admin says true from 0 to 10 x", "bad 4 1 29"),
         ("register - admin says p(ctime) from 0 to 1", "bad 4 4 13"),
-        ("register - admin says may(alice,#1) from 0 to 1", "bad 4 4 11"),
-        ("register - admin says may(K,#1,write) from 0 to 1", "bad 4 2 15"),
+        (
+            "register - admin says may(alice,#1) from 0 to 1",
+            "bad 4 4 11",
+        ),
+        (
+            "register - admin says may(K,#1,write) from 0 to 1",
+            "bad 4 2 15",
+        ),
         (
             "register - admin says may(alice,#1,write) from 2026-02-30 to +inf",
             "bad 4 3 36",

@@ -1,7 +1,7 @@
 //! The line of each reply, of each cause, and of each kind of term.
 
-use access_history::{Cause, Denial, RegisterFault, Reply};
 use super::write_reply;
+use access_history::{Cause, Denial, RegisterFault, Reply};
 use bl_syntax::{Constraint, NodeId, Perm, Principal, Sequence, StatePred, Term, Text, TimePoint};
 use std::test::Fail;
 

@@ -208,16 +208,28 @@ fn a_text_with_a_fault_is_answered_with_its_place(rt: HostRuntime) -> Result<(),
     let table = [
         ("", "bad 9"),
         ("do fly #1", "bad 9"),
-        ("register - admin says may(alice,#1) from 0 to 1", "bad 4 4 11"),
-        ("register - admin says may(K,#1,write) from 0 to 1", "bad 4 2 15"),
+        (
+            "register - admin says may(alice,#1) from 0 to 1",
+            "bad 4 4 11",
+        ),
+        (
+            "register - admin says may(K,#1,write) from 0 to 1",
+            "bad 4 2 15",
+        ),
         (
             "register - admin says may(alice,#1,write) from 2026-02-30 to +inf",
             "bad 4 3 36",
         ),
         ("register - admin says true from 0 to 10 x", "bad 4 1 29"),
         ("register - admin says p(ctime) from 0 to 1", "bad 4 4 13"),
-        ("verify alice #1 write 1 saysR(claim(0,init(1))", "bad 4 1 22"),
-        ("check alice #1 write 1 saysR(claim(0,init(1))", "bad 4 1 22"),
+        (
+            "verify alice #1 write 1 saysR(claim(0,init(1))",
+            "bad 4 1 22",
+        ),
+        (
+            "check alice #1 write 1 saysR(claim(0,init(1))",
+            "bad 4 1 22",
+        ),
     ];
     assert!(rt; replies_are(&rt, &table)?);
     Ok(())
@@ -285,7 +297,10 @@ fn a_condition_on_a_parameter_is_not_left_over(rt: HostRuntime) -> Result<(), Fa
             "register - admin says (p(bob) => q(bob)) => may(bob,#2,read) from 0 to 200",
             "ok statement 1",
         ),
-        ("register - admin says q(bob) from 0 to 200", "ok statement 2"),
+        (
+            "register - admin says q(bob) from 0 to 200",
+            "ok statement 2",
+        ),
         (
             "verify bob #2 read 1,2 saysR(claim(0,impL(2,ctime,ctime,impR(claim(1,init(4))),init(3))))",
             "unproved 3 5",
@@ -338,10 +353,7 @@ fn an_operation_is_denied_or_refused_with_its_cause(rt: HostRuntime) -> Result<(
         ("as alice", "ok"),
         ("do create #2 x @1", "denied 1 file at 8"),
         ("do create #1 x @2", "denied 1 permission at 8"),
-        (
-            "do create #1 x @5",
-            "denied 1 state 1 owner(#1,bob) at 8",
-        ),
+        ("do create #1 x @5", "denied 1 state 1 owner(#1,bob) at 8"),
         ("do create #9 x @4", "refused 1 at 8"),
         ("do create #1 notes @1", "ok node #2"),
         ("do create #2 x @3", "refused 2 at 9"),

@@ -1,5 +1,5 @@
 -- The word has one list of numbers.
-use Rattle.std.proofs.Common.{◌≡◌, ◌++◌, [], true, refl, sym, ap, subst, ◌∙◌, rules}
+use Rattle.std.proofs.Common.{◌≡◌, ◌++◌, true, refl, sym, ap, subst, ◌∙◌, rules}
 use Rattle.std.proofs.lemmas.Bool.{false≢true}
 use Rattle.access_history.specs.Citing.{AreCitable}
 use Rattle.pcfs_top.proofs.OneCommand.{AreJoined-same}

@@ -1,5 +1,5 @@
 -- The line falls into its first word and the rest in one way.
-use Rattle.std.proofs.Common.{◌++◌, sym, ◌∙◌, not, ap, subst, take, arith}
+use Rattle.std.proofs.Common.{sym, ◌∙◌, not, ap, subst, take, arith}
 use Rattle.std.specs.Prelude.{◌==◌}
 use Rattle.std.proofs.lemmas.List.Sums.{prefix_len-le-length}
 use Rattle.pcfs_top.specs.Words.{HasNo}

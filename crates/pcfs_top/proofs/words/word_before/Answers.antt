@@ -1,5 +1,5 @@
 -- The literal stands behind the first word.
-use Rattle.std.proofs.Common.{◌++◌, sym, ◌∙◌, ap}
+use Rattle.std.proofs.Common.{◌++◌, sym, ◌∙◌}
 use Rattle.std.proofs.lemmas.List.{append_cancel_left}
 use Rattle.pcfs_top.proofs.WordLemmas.{ends_word-append}
 use Rattle.pcfs_top.proofs.words.word_before.Goals as goal
