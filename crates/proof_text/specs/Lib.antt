@@ -4,5 +4,6 @@ pub mod Printed
 pub mod Proofs
 pub mod Read
 pub mod Rules
+pub mod Settled
 pub mod Stops
 pub mod Texts
