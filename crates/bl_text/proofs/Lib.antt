@@ -1,6 +1,12 @@
 pub mod Determined
 pub mod LexedLemmas
 pub mod PieceLemmas
+pub mod PlaceLemmas
+pub mod PrintAtoms
+pub mod PrintForms
+pub mod PrintLemmas
+pub mod PrintTexts
+pub mod PrintedTerms
 pub mod ReadLemmas
 pub mod Reader
 pub mod SaidLemmas
@@ -10,4 +16,5 @@ pub mod TextLemmas
 pub mod ViableLemmas
 pub mod ViableTexts
 pub mod Walk
+pub mod WordLemmas
 pub mod WrittenLemmas

@@ -3,7 +3,9 @@ pub mod Grammar
 pub mod Met
 pub mod Pieces
 pub mod Printed
+pub mod PrintedTokens
 pub mod Read
+pub mod Readable
 pub mod Scope
 pub mod Sentences
 pub mod Stops

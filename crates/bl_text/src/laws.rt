@@ -6,6 +6,10 @@ ghost use Rattle.bl_syntax.specs.Statement.{Saying, IsStatement};
 ghost use Rattle.bl_tokens.specs.declared.faults.TextFault.{TextFault};
 ghost use Rattle.bl_text.specs.Texts.{IsFormulaText, FormulaFault, IsSayingText, IsStatementText, StatementFault, AreOneFault};
 ghost use Rattle.bl_text.specs.Met.{IsSettled};
+ghost use Rattle.bl_text.specs.Printed.{formula_text, statement_text};
+ghost use Rattle.bl_text.specs.Readable.{IsReadable};
+ghost use Rattle.bl_syntax.specs.FormulaSpelling.{IsSpellableStatement};
+ghost use Rattle.bl_syntax.specs.declared.terms.Sort.{Sort};
 ghost use Rattle.bl_text.specs.Sentences.{IsSentence, IsSentenceText, IsStatementSentence, IsViable};
 
 /// A text is one formula.
@@ -77,4 +81,14 @@ pub fn viable_fault_of_a_statement()
 /// the limits, and names no time outside the range of moments, nor the current time.
 pub fn sayable_text()
     ensures { (text : List ℕ) (s : Saying) → IsSayingText text s → IsStatement s }
+{}
+
+/// What a formula is written as is a text of it.
+pub fn written_formula()
+    ensures { (parameters : List Sort) (f : Form) → IsReadable parameters f → IsFormulaText (formula_text 0 f) f }
+{}
+
+/// What a statement is written as is a text of it.
+pub fn written_statement()
+    ensures { (s : Saying) → IsSpellableStatement s → IsStatementText (statement_text s) s }
 {}
