@@ -1,5 +1,5 @@
 -- The fields of a formula without formulas in it do not depend on how formulas are read.
-use Rattle.std.proofs.Common.{◌≡◌, ◌≤◌, ℕ, Bool, true, false, eqb, leb, List, refl, sym, subst, arith, inl, inr}
+use Rattle.std.proofs.Common.{◌≡◌, ◌≤◌, ℕ, true, eqb, leb, List, refl, sym, subst, arith, inl, inr}
 use Rattle.std.specs.Prelude.{◌&&◌, ◌||◌}
 use Rattle.std.proofs.lemmas.Bool.{cases_eq, or_cases, and_parts, leb-true, eqb-true}
 use Rattle.bl_syntax.specs.Formula.{Form}

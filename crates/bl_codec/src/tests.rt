@@ -133,16 +133,20 @@ fn formulas_have_these_faults(rt: HostRuntime) {
         (b"\x10\x01p\x01".as_slice(), CodecFault::Short),
         (b"\x11".as_slice(), CodecFault::Short),
         (b"\x11\x18".as_slice(), CodecFault::BadTag(1)),
+        (b"\x11\x05".as_slice(), CodecFault::Short),
         (b"\x11\x06".as_slice(), CodecFault::Short),
         (b"\x11\x06\x03\x06".as_slice(), CodecFault::BadTag(3)),
         (b"\x12\x06\x01\x21".as_slice(), CodecFault::NotCanonical(3)),
         (b"\x13\x06\x06".as_slice(), CodecFault::Short),
+        (b"\x14\x06".as_slice(), CodecFault::Short),
         (b"\x15".as_slice(), CodecFault::Short),
         (b"\x15\x18".as_slice(), CodecFault::Short),
         (b"\x15\x18\x1e".as_slice(), CodecFault::BadTag(2)),
         (b"\x1a".as_slice(), CodecFault::Short),
+        (b"\x1a\x02".as_slice(), CodecFault::Short),
         (b"\x1a\0\x18".as_slice(), CodecFault::BadTag(1)),
         (b"\x1b\x06\x18".as_slice(), CodecFault::BadTag(1)),
+        (b"\x1c".as_slice(), CodecFault::Short),
         (b"\x1c\x18".as_slice(), CodecFault::BadTag(1)),
         (b"\x1c\x06".as_slice(), CodecFault::Short),
         (b"\x1d\x18".as_slice(), CodecFault::Short),
@@ -152,6 +156,7 @@ fn formulas_have_these_faults(rt: HostRuntime) {
         assert_eq!(rt; formula_end(rt.alloc(), bytes), Err(fault), "{bytes:?}");
     }
     assert_eq!(rt; formula_end(rt.alloc(), b"\x18\x18"), Ok(1));
+    assert!(rt; matches!(&read_formula(rt.alloc(), b"\x18"), Ok((Formula::True, 1))));
 }
 
 /// So many binders, one inside the other, and these bytes.
@@ -181,6 +186,16 @@ fn formulas_end_at_the_limit_of_nodes(rt: HostRuntime) -> Result<(), Fail> {
             510,
             b"\x11\x06\x09".as_slice(),
             Err(CodecFault::BadTag(1022)),
+        ),
+        (
+            510,
+            b"\x10\x01p\x02\x06\x06".as_slice(),
+            Err(CodecFault::TooLarge(1025)),
+        ),
+        (
+            510,
+            b"\x1c\x06\x18".as_slice(),
+            Err(CodecFault::TooLarge(1022)),
         ),
         (4096, b"\x18".as_slice(), Err(CodecFault::TooLarge(1024))),
     ] {
@@ -223,6 +238,7 @@ fn statements_have_these_faults(rt: HostRuntime) {
         (b"\x01\x41".as_slice(), CodecFault::NotCanonical(0)),
         (b"\x01k".as_slice(), CodecFault::Short),
         (b"\x01k\x1e".as_slice(), CodecFault::BadTag(2)),
+        (b"\x01k\x10\x01p\x09".as_slice(), CodecFault::TooLarge(5)),
         (b"\x01k\x18".as_slice(), CodecFault::Short),
         (b"\x01k\x18\x03".as_slice(), CodecFault::NotCanonical(3)),
         (b"\x01k\x18\0".as_slice(), CodecFault::Short),
@@ -241,6 +257,10 @@ fn statements_have_these_faults(rt: HostRuntime) {
         ),
         (
             b"\x01k\x10\x03may\0\0\x02".as_slice(),
+            CodecFault::NotCanonical(0),
+        ),
+        (
+            b"\x01k\x14\x03\x01\x03\x01\0\x02".as_slice(),
             CodecFault::NotCanonical(0),
         ),
         (

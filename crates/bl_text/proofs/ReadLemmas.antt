@@ -1,5 +1,5 @@
 -- Steps of a reading.
-use Rattle.std.proofs.Common.{◌≡◌, ℕ, ◌+◌, Bool, true, false, List, [], ◌∷◌, ◌++◌, length, refl, sym, ap, ◌∙◌, subst, arith, rules, Result, Ok, Err}
+use Rattle.std.proofs.Common.{◌≡◌, ℕ, Bool, true, false, List, refl, sym, subst, arith, Result, Ok, Err}
 use Rattle.std.specs.Prelude.{◌<◌, ◌≤◌, ◌&&◌, ◌||◌, nat_lt, IfOk, IfErr, MatchResult}
 use Rattle.std.proofs.lemmas.Bool.Decides.{nat_tests}
 use Rattle.std.proofs.lemmas.Bool.{false≢true}
@@ -14,7 +14,7 @@ use Rattle.bl_tokens.specs.declared.tokens.Token.{Token}
 use Rattle.bl_tokens.specs.declared.tokens.Token.TheVariants.{Name, LongWord, Variable, Constant, BadDate, SortName, Keyword, End, Bad}
 use Rattle.bl_tokens.specs.declared.tokens.Token.TheVariants as tokens
 use Rattle.bl_tokens.specs.declared.tokens.Here.{Here}
-use Rattle.bl_tokens.specs.Tokens.{behind, behind_node, is_sign, is_word}
+use Rattle.bl_tokens.specs.Tokens.{behind, is_sign, is_word}
 use Rattle.bl_text.specs.Scope as scopes
 use Rattle.bl_text.specs.Pieces.{expected}
 use Rattle.bl_text.specs.Grammar.{Level, is_call, is_call_token, is_quantifier, goes_on, AreArguments, Is}

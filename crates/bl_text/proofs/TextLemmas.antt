@@ -1,6 +1,6 @@
 -- A whole text is one formula or one statement, or has one fault, and never both.
-use Rattle.std.proofs.Common.{◌≡◌, ℕ, Bool, true, false, List, [], refl, sym, ap, ◌∙◌, subst, Result, Ok, Err, ◌⊎◌, inl, inr}
-use Rattle.std.specs.Prelude.{if◌then◌else◌, ◌||◌, IfOk, IfErr, MatchResult}
+use Rattle.std.proofs.Common.{◌≡◌, ℕ, Bool, true, false, List, [], refl, sym, ap, ◌∙◌, subst, Result, Ok, Err, inl, inr}
+use Rattle.std.specs.Prelude.{if◌then◌else◌, IfOk, IfErr, MatchResult}
 use Rattle.std.proofs.lemmas.Bool.{false≢true}
 use Rattle.bl_syntax.specs.declared.terms.TimePoint.{TimePoint}
 use Rattle.bl_syntax.specs.declared.formula.Formula.{Formula}
@@ -21,7 +21,7 @@ use Rattle.bl_tokens.specs.Tokens.{behind, is_sign, is_word}
 use Rattle.bl_text.specs.Pieces.{◌>>=◌}
 use Rattle.bl_text.specs.Grammar.{formula, goes_on, Is}
 use Rattle.bl_text.specs.Stops.{Stops}
-use Rattle.bl_text.specs.Texts.{beginning, is_end, IsFormulaText, whole, FormulaFault, in_formula, behind_formula, opening, span, word_expected, time_constant, ended, IsSayingText, whole_saying, IsStatementText, StatementFault, in_opening, in_body, in_span, not_said, AreOneFault}
+use Rattle.bl_text.specs.Texts.{beginning, is_end, IsFormulaText, whole, FormulaFault, in_formula, behind_formula, opening, span, word_expected, ended, IsSayingText, whole_saying, IsStatementText, StatementFault, in_opening, in_body, in_span, AreOneFault}
 use Rattle.bl_text.proofs.Determined.{or_false, word_is, one_reading, read_or_fault, one_stop}
 
 -- no sign goes on behind what is no sign
@@ -121,7 +121,6 @@ saying_or_fault {text} (whole_saying who here there f from to o d p) st (in_open
 saying_or_fault {text} (whole_saying who here there f from to o d p) st (in_body who' here' e o' h) = read_or_fault d (span_ends text there _ p) (stop_at (opened_once text (beginning text) o o').1 h)
 saying_or_fault {text} (whole_saying who here there f from to o d p) st (in_span who' here' there' f' e o' d' ended' q) =
     absurd (spanned_or_fault text (one_reading d (span_ends text there _ p) (body_at (opened_once text (beginning text) o o').1 d') ended').1 p q)
-saying_or_fault {text} (whole_saying who here there f from to o d p) st (not_said s' t never) = absurd (never (subst IsStatement (saying_once (whole_saying who here there f from to o d p) t) st))
 
 pub statement_or_fault : {text : List ℕ} {s : Saying} {e : TextFault} → IsStatementText text s → StatementFault text e → e ≡ NoMemory
 statement_or_fault t h = saying_or_fault t.is_text t.is_statement h
@@ -130,22 +129,13 @@ pub statement_fault_once : {text : List ℕ} {e e' : TextFault} → StatementFau
 statement_fault_once {text} (in_opening e o) (in_opening e' o') = let both : ◌≡◌ {A = Result (List ℕ × Here) TextFault} (Err e) (Err e') = sym o ∙ o' in inr (inr (cc))
 statement_fault_once {text} (in_opening e o) (in_body who' here' e' o' h') = absurd (not_opened text (beginning text) o' o)
 statement_fault_once {text} (in_opening e o) (in_span who' here' there' f' e' o' d' ended' q') = absurd (not_opened text (beginning text) o' o)
-statement_fault_once {text} (in_opening e o) (not_said s (whole_saying who' here' there' f' from' to' o' d' p') never) = absurd (not_opened text (beginning text) o' o)
 statement_fault_once {text} (in_body who here e o h) (in_opening e' o') = absurd (not_opened text (beginning text) o o')
 statement_fault_once {text} (in_body who here e o h) (in_body who' here' e' o' h') = one_stop h (stop_at (opened_once text (beginning text) o o').1 h')
 statement_fault_once {text} (in_body who here e o h) (in_span who' here' there' f' e' o' d' ended' q') = inl (read_or_fault (body_at (opened_once text (beginning text) o o').1 d') ended' h)
-statement_fault_once {text} (in_body who here e o h) (not_said s (whole_saying who' here' there' f' from' to' o' d' p') never) = inl (read_or_fault (body_at (opened_once text (beginning text) o o').1 d') (span_ends text there' _ p') h)
 statement_fault_once {text} (in_span who here there f e o d ended q) (in_opening e' o') = absurd (not_opened text (beginning text) o o')
 statement_fault_once {text} (in_span who here there f e o d ended q) (in_body who' here' e' o' h') = inr (inl (read_or_fault d ended (stop_at (opened_once text (beginning text) o o').1 h')))
 statement_fault_once {text} (in_span who here there f e o d ended q) (in_span who' here' there' f' e' o' d' ended' q') =
     inr (inr (span_fault_once text (one_reading d ended (body_at (opened_once text (beginning text) o o').1 d') ended').1 q q'))
-statement_fault_once {text} (in_span who here there f e o d ended q) (not_said s (whole_saying who' here' there' f' from' to' o' d' p') never) =
-    absurd (spanned_or_fault text (sym (one_reading d ended (body_at (opened_once text (beginning text) o o').1 d') (span_ends text there' _ p')).1) p' q)
-statement_fault_once {text} (not_said s (whole_saying who here there f from to o d p) never) (in_opening e' o') = absurd (not_opened text (beginning text) o o')
-statement_fault_once {text} (not_said s (whole_saying who here there f from to o d p) never) (in_body who' here' e' o' h') = inr (inl (read_or_fault d (span_ends text there _ p) (stop_at (opened_once text (beginning text) o o').1 h')))
-statement_fault_once {text} (not_said s (whole_saying who here there f from to o d p) never) (in_span who' here' there' f' e' o' d' ended' q') =
-    absurd (spanned_or_fault text (one_reading d (span_ends text there _ p) (body_at (opened_once text (beginning text) o o').1 d') ended').1 p q')
-statement_fault_once {text} (not_said s t never) (not_said s' t' never') = inr (inr refl)
 
 -- ---- what a reading answers
 

@@ -1,6 +1,6 @@
 -- The texts of formulas (this project's own), as a relation between two places of a text: what stands from the one up to the other is a text of the formula. A level of the grammar is what may stand
 -- in one place of it: `&` and `|` group to the left, `=>` to the right.
-use Rattle.std.specs.Prelude.{◌≡◌, ℕ, ◌+◌, List, [], ◌∷◌, ◌++◌, length, Bool, true, false, nat_lt, ◌||◌, ◌&&◌, Ok, Err, Result}
+use Rattle.std.specs.Prelude.{◌≡◌, ℕ, ◌+◌, List, [], ◌∷◌, ◌++◌, length, Bool, true, false, nat_lt, ◌||◌, ◌&&◌, Ok}
 use Rattle.bl_syntax.specs.declared.terms.Sort.{Sort}
 use Rattle.bl_syntax.specs.declared.terms.Term.{Term}
 use Rattle.bl_syntax.specs.Formula.{Form, both, either, implies, forall_, exists_, says, on}

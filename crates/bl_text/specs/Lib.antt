@@ -1,8 +1,13 @@
+pub mod FirstTokens
 pub mod Grammar
+pub mod Met
 pub mod Pieces
 pub mod Printed
+pub mod PrintedTokens
 pub mod Read
+pub mod Readable
 pub mod Scope
+pub mod Sentences
 pub mod Stops
 pub mod Texts
 pub mod Written

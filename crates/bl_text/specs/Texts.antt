@@ -90,10 +90,9 @@ pub record IsStatementText (text : List ℕ) (s : Saying) : Type 0 where
   pub is_text : IsSayingText text s
   pub is_statement : IsStatement s
 
--- the text is none of a statement, and this is its first fault. Where it is a text of what may not be said, the whole of it is at fault
+-- the text is none of a statement, and this is its first fault
 pub data StatementFault (text : List ℕ) : TextFault → Type 0 where
   in_opening : (e : TextFault) → opening text (beginning text) ≡ Err e → StatementFault text e
   in_body : (who : List ℕ) (here : Here) (e : TextFault) → opening text (beginning text) ≡ Ok (who, here) → Stops text true formula [] 0 here e → StatementFault text e
   in_span : (who : List ℕ) (here there : Here) (f : Form) (e : TextFault) → opening text (beginning text) ≡ Ok (who, here) → Is text true formula [] 0 here there f
       → goes_on formula there.token ≡ false → span text there ≡ Err e → StatementFault text e
-  not_said : (s : Saying) → IsSayingText text s → (IsStatement s → ⊥) → StatementFault text (faults.Sort 0)

@@ -1,10 +1,16 @@
 //! Laws of the texts. A law is the contract of an empty function, which nothing calls.
 
-ghost use Rattle.std.specs.Prelude.{◌≡◌, ℕ, List};
+ghost use Rattle.std.specs.Prelude.{◌≡◌, ◌⊎◌, ℕ, List};
 ghost use Rattle.bl_syntax.specs.Formula.{Form};
-ghost use Rattle.bl_syntax.specs.Statement.{Saying};
+ghost use Rattle.bl_syntax.specs.Statement.{Saying, IsStatement};
 ghost use Rattle.bl_tokens.specs.declared.faults.TextFault.{TextFault};
-ghost use Rattle.bl_text.specs.Texts.{IsFormulaText, FormulaFault, IsStatementText, StatementFault, AreOneFault};
+ghost use Rattle.bl_text.specs.Texts.{IsFormulaText, FormulaFault, IsSayingText, IsStatementText, StatementFault, AreOneFault};
+ghost use Rattle.bl_text.specs.Met.{IsSettled};
+ghost use Rattle.bl_text.specs.Printed.{formula_text, statement_text};
+ghost use Rattle.bl_text.specs.Readable.{IsReadable};
+ghost use Rattle.bl_syntax.specs.FormulaSpelling.{IsSpellableStatement};
+ghost use Rattle.bl_syntax.specs.declared.terms.Sort.{Sort};
+ghost use Rattle.bl_text.specs.Sentences.{IsSentence, IsSentenceText, IsStatementSentence, IsViable};
 
 /// A text is one formula.
 pub fn one_formula()
@@ -38,4 +44,51 @@ pub fn no_fault_of_a_statement()
 pub fn one_fault_of_a_statement()
     ensures { (text : List ℕ) (e f : TextFault) → StatementFault text e → StatementFault text f
         → AreOneFault e f }
+{}
+
+/// The first fault of a text of no formula is met at the token at its place, or where arguments
+/// are wrong, at the predicate's `)`. What stands behind the next token does not matter.
+pub fn settled_fault_of_a_formula()
+    ensures { (text : List ℕ) (e : TextFault) → FormulaFault text e
+        → (e ≡ TextFault.NoMemory) ⊎ IsSettled FormulaFault text e }
+{}
+
+/// The tokens before the one at which a formula's fault is met can be completed to a sentence of
+/// the grammar, sorts and limits aside. So no fault is told too late.
+pub fn viable_fault_of_a_formula()
+    ensures { (text : List ℕ) (e : TextFault) → FormulaFault text e
+        → (e ≡ TextFault.NoMemory) ⊎ IsViable IsSentence text e }
+{}
+
+/// The tokens of a formula's text are a sentence of the grammar.
+pub fn sentence_of_a_formula()
+    ensures { (text : List ℕ) (f : Form) → IsFormulaText text f → IsSentenceText IsSentence text }
+{}
+
+/// The first fault of a text of no statement is met likewise.
+pub fn settled_fault_of_a_statement()
+    ensures { (text : List ℕ) (e : TextFault) → StatementFault text e
+        → (e ≡ TextFault.NoMemory) ⊎ IsSettled StatementFault text e }
+{}
+
+/// The tokens before the one at which a statement's fault is met can be completed likewise.
+pub fn viable_fault_of_a_statement()
+    ensures { (text : List ℕ) (e : TextFault) → StatementFault text e
+        → (e ≡ TextFault.NoMemory) ⊎ IsViable IsStatementSentence text e }
+{}
+
+/// What a text of the grammar of statements says may be said: it is closed and well sorted, within
+/// the limits, and names no time outside the range of moments, nor the current time.
+pub fn sayable_text()
+    ensures { (text : List ℕ) (s : Saying) → IsSayingText text s → IsStatement s }
+{}
+
+/// What a formula is written as is a text of it.
+pub fn written_formula()
+    ensures { (parameters : List Sort) (f : Form) → IsReadable parameters f → IsFormulaText (formula_text 0 f) f }
+{}
+
+/// What a statement is written as is a text of it.
+pub fn written_statement()
+    ensures { (s : Saying) → IsSpellableStatement s → IsStatementText (statement_text s) s }
 {}

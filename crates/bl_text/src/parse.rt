@@ -149,6 +149,7 @@ pub fn parse_statement(alloc: Global, text: &[u8]) -> Result<Statement, TextFaul
     read_statement(alloc, text)
 }
 
+/// What was read may be said, so that the last answer never comes.
 fn read_statement(alloc: Global, text: &[u8]) -> Result<Statement, TextFault>
     ensures read { IfOk result (IsStatementText text.now) }
     ensures fault { IfErr result (StatementFault text.now) }

@@ -1,65 +1,83 @@
--- The forms of a line differ in how they begin, and a line of a form names its parts in one way.
-use Rattle.std.proofs.Common.{Option, Some, None, Result, Ok, Err, MatchOption, IfSome, IfOk, ◌≢◌}
-use Rattle.std.proofs.lemmas.Option.{none-some}
-use Rattle.std.proofs.Common.{◌≡◌, ℕ, ℤ, Bool, true, false, not, List, [], ◌∷◌, ◌++◌, length, IsTrue, refl, sym, ap, subst}
-use Rattle.std.specs.Prelude.{codes, ◌==◌, ◌&&◌, ◌||◌}
+-- The forms of a line differ in how they begin, and a line of a form says one thing behind its beginning.
+use Rattle.std.proofs.Common.{◌≡◌, ◌≢◌, ◌^◌, ◌∙◌, arith, ℕ, ℤ, Bool, true, false, not, List, [], ◌∷◌, ◌++◌, IsTrue, refl, sym, ap, subst}
+use Rattle.std.specs.Prelude.{codes, ◌==◌, ◌&&◌}
 use Rattle.std.specs.List.{list_all}
 use Rattle.std.proofs.lemmas.Bool.{and_parts, and_from, false≢true, eqb-true}
-use Rattle.std.proofs.lemmas.List.{append_cancel_left, nil_from_length}
-use Rattle.bl_syntax.specs.declared.terms.TimePoint.{TimePoint}
+use Rattle.std.proofs.lemmas.List.{append_cancel_left}
+use Rattle.bl_syntax.specs.declared.grant.Goal.{Goal}
+use Rattle.bl_syntax.specs.declared.terms.NodeId.{NodeId}
+use Rattle.bl_syntax.specs.declared.terms.Perm.{Perm}
+use Rattle.bl_syntax.specs.declared.terms.Perm.TheVariants.{Read, Write, Execute, Identity, Govern}
 use Rattle.bl_syntax.specs.Names.{is_lower_case, is_digit, is_name_byte, is_identifier, is_among, reserved_words, is_principal_name}
-use Rattle.pcfs_top.specs.declared.event.Op.TheVariants.{Create}
+use Rattle.bl_syntax.specs.Statement.{Saying}
+use Rattle.bl_tokens.specs.declared.faults.TextFault.{TextFault}
+use Rattle.bl_text.specs.Printed.{permission_text}
+use Rattle.bl_text.specs.Texts.{IsStatementText, StatementFault}
+use Rattle.proof_term.specs.Proof.{Deduction}
+use Rattle.proof_text.specs.Texts.{IsProofText, ProofTextFault}
+use Rattle.access_history.specs.declared.event.Op.TheVariants.{Create}
+use Rattle.access_history.specs.World.{is_node_name, is_node_name_byte}
 use Rattle.pcfs_top.specs.declared.command.Command.{Command}
-use Rattle.pcfs_top.specs.declared.command.Command.TheVariants.{At, As, Register, Verify, Do}
-use Rattle.pcfs_top.specs.World.{is_node_name, is_node_name_byte}
-use Rattle.pcfs_top.specs.Words.{is_stop, HasNoStop}
-use Rattle.pcfs_top.specs.Lines.{IsDigits, IsInteger, plain, negated, IsSecond, IsBound, without_beginning, without_end, at_second, IsNumber, IsLine, sets_clock, sets_caller, registers, verifies, creates, writes_root, says_may, by_claim}
-use Rattle.pcfs_top.proofs.NumeralLemmas.{IsPlain-from_number}
+use Rattle.pcfs_top.specs.declared.command.Command.TheVariants.{At, As, Register, Verify, Check, Do}
+use Rattle.pcfs_top.specs.Words.{HasNo}
+use Rattle.pcfs_top.specs.Lines.{IsSecond, IsNumber, IsFile, AreJoined, one_number, more_numbers, IsInquiry, IsMaking, IsLine, sets_clock, sets_caller, registers, verifies, checks, creates, HasBadText, in_statement, in_proof, in_checked_proof}
+use Rattle.pcfs_top.proofs.NumeralLemmas.{IsWritten-below}
 use Rattle.pcfs_top.proofs.WordLemmas.{differ}
 
--- ---- no part of a line holds a space or a comma
+-- ---- which words have no stop byte
 
-no_stop_byte : (p : ℕ → Bool) → p 32 ≡ false → p 44 ≡ false → (byte : ℕ) (space comma : Bool) → (byte == 32) ≡ space → (byte == 44) ≡ comma → IsTrue (p byte) → IsTrue (not (space || comma))
-no_stop_byte p no_space no_comma byte true comma is_space is_comma h = absurd (let same = eqb-true byte 32 is_space in let h' = subst (λ b. IsTrue (p b)) same h in cc)
-no_stop_byte p no_space no_comma byte false true is_space is_comma h = absurd (let same = eqb-true byte 44 is_comma in let h' = subst (λ b. IsTrue (p b)) same h in cc)
-no_stop_byte p no_space no_comma byte false false is_space is_comma h = refl
+not_stop : (p : ℕ → Bool) (stop byte : ℕ) (test : Bool) → p stop ≡ false → (byte == stop) ≡ test → IsTrue (p byte) → IsTrue (not test)
+not_stop p stop byte true none is h = absurd (false≢true (sym none ∙ subst (λ b. p b ≡ true) (eqb-true byte stop is) h))
+not_stop p stop byte false none is h = refl
 
-pub HasNoStop-from_list_all : (p : ℕ → Bool) → p 32 ≡ false → p 44 ≡ false → (word : List ℕ) → IsTrue (list_all p word) → HasNoStop word
-HasNoStop-from_list_all p no_space no_comma [] h = refl
-HasNoStop-from_list_all p no_space no_comma (byte ∷ word) h =
+pub HasNo-all : (p : ℕ → Bool) (stop : ℕ) → p stop ≡ false → (word : List ℕ) → IsTrue (list_all p word) → HasNo stop word
+HasNo-all p stop none [] h = refl
+HasNo-all p stop none (byte ∷ word) h =
     let parts = and_parts (p byte) (list_all p word) h in
-    and_from (not (is_stop byte)) (list_all (λ b. not (is_stop b)) word)
-    (no_stop_byte p no_space no_comma byte (byte == 32) (byte == 44) refl refl parts.0) (HasNoStop-from_list_all p no_space no_comma word parts.1)
+    and_from (not (byte == stop)) (list_all (λ b. not (b == stop)) word) (not_stop p stop byte (byte == stop) none refl parts.0) (HasNo-all p stop none word parts.1)
+
+HasNo-more : (stop byte : ℕ) (word : List ℕ) → (byte == stop) ≡ false → HasNo stop word → HasNo stop (byte ∷ word)
+HasNo-more stop byte word other h = rw other h
+
+HasNo-append : (stop : ℕ) (word others : List ℕ) → HasNo stop word → HasNo stop others → HasNo stop (word ++ others)
+HasNo-append stop [] others h more = more
+HasNo-append stop (byte ∷ word) others h more =
+    let parts = and_parts (not (byte == stop)) (list_all (λ b. not (b == stop)) word) h in
+    and_from (not (byte == stop)) (list_all (λ b. not (b == stop)) (word ++ others)) parts.0 (HasNo-append stop word others parts.1 more)
 
 -- a name is a lower-case letter and bytes of a name
-name_bytes : (name : List ℕ) → IsTrue (is_identifier name) → HasNoStop name
+name_bytes : (name : List ℕ) → IsTrue (is_identifier name) → HasNo 32 name
 name_bytes [] h = absurd (false≢true h)
 name_bytes (first ∷ others) h =
     let parts = and_parts (is_lower_case first) (list_all is_name_byte others) (and_parts (is_lower_case first && list_all is_name_byte others) _ h).0 in
-    and_from (not (is_stop first)) (list_all (λ b. not (is_stop b)) others)
-    (no_stop_byte is_lower_case refl refl first (first == 32) (first == 44) refl refl parts.0) (HasNoStop-from_list_all is_name_byte refl refl others parts.1)
+    and_from (not (first == 32)) (list_all (λ b. not (b == 32)) others)
+    (not_stop is_lower_case 32 first (first == 32) refl refl parts.0) (HasNo-all is_name_byte 32 refl others parts.1)
 
-pub HasNoStop-principal : (who : List ℕ) → IsTrue (is_principal_name who) → HasNoStop who
-HasNoStop-principal who h = name_bytes who (and_parts (is_identifier who) (not (is_among reserved_words who)) h).0
+pub HasNo-principal : (who : List ℕ) → IsTrue (is_principal_name who) → HasNo 32 who
+HasNo-principal who h = name_bytes who (and_parts (is_identifier who) (not (is_among reserved_words who)) h).0
 
-pub HasNoStop-node_name : (name : List ℕ) → IsTrue (is_node_name name) → HasNoStop name
-HasNoStop-node_name name h =
-    HasNoStop-from_list_all is_node_name_byte refl refl name (and_parts _ _ (and_parts _ _ (and_parts _ _ h).0).0).1
+pub HasNo-node_name : (name : List ℕ) → IsTrue (is_node_name name) → HasNo 32 name
+HasNo-node_name name h =
+    HasNo-all is_node_name_byte 32 refl name (and_parts _ _ (and_parts _ _ (and_parts _ _ h).0).0).1
 
-pub HasNoStop-digits : (digits : List ℕ) → IsDigits digits → HasNoStop digits
-HasNoStop-digits digits h = HasNoStop-from_list_all is_digit refl refl digits h.digits
+pub HasNo-number : (stop : ℕ) → is_digit stop ≡ false → (word : List ℕ) (n : ℕ) → IsNumber word n → HasNo stop word
+HasNo-number stop none word n h = HasNo-all is_digit stop none word (IsWritten-below (2 ^ 32) (omega arith) word n h).plain.digits
 
-pub HasNoStop-number : {word : List ℕ} {number : ℕ} → IsNumber word number → HasNoStop word
-HasNoStop-number {word} h = HasNoStop-digits word (IsPlain-from_number h).digits
+pub HasNo-file : (word : List ℕ) (node : NodeId) → IsFile word node → HasNo 32 word
+HasNo-file word node h =
+    subst (HasNo 32) (sym h.word_is) (HasNo-more 32 35 h.digits refl (HasNo-all is_digit 32 refl h.digits (IsWritten-below (2 ^ 64) (omega arith) h.digits node.0 h.number).plain.digits))
 
-HasNoStop-integer : {word : List ℕ} {n : ℤ} → IsInteger word n → HasNoStop word
-HasNoStop-integer (plain digits h) = HasNoStop-digits digits h
-HasNoStop-integer (negated digits h) = HasNoStop-digits digits h
+pub HasNo-permission : (permission : Perm) → HasNo 32 (permission_text permission)
+HasNo-permission Read = refl
+HasNo-permission Write = refl
+HasNo-permission Execute = refl
+HasNo-permission Identity = refl
+HasNo-permission Govern = refl
 
-pub HasNoStop-bound : {word : List ℕ} {point : TimePoint} → IsBound word point → HasNoStop word
-HasNoStop-bound without_beginning = refl
-HasNoStop-bound without_end = refl
-HasNoStop-bound (at_second word second h) = HasNoStop-integer h.integer
+pub HasNo-joined : {word numbers : List ℕ} → AreJoined word numbers → HasNo 32 word
+HasNo-joined (one_number word number h) = HasNo-number 32 refl word number h
+HasNo-joined (more_numbers word others number numbers h more) =
+    HasNo-append 32 word (44 ∷ others) (HasNo-number 32 refl word number h) (HasNo-more 32 44 others refl (HasNo-joined more))
 
 -- ---- what a line of each form says
 
@@ -72,9 +90,10 @@ pub clock_line : {line : List ℕ} {command : Command} → IsLine line command �
 clock_line (sets_clock w second h) word same =
     record { second = second; is_second = subst (λ v. IsSecond v second) (append_cancel_left (codes "at ") w word same) h; command_is = refl }
 clock_line (sets_caller who h) word same = absurd (differ 1 refl same)
-clock_line (registers who lower upper from to h f t) word same = absurd (differ 0 refl same)
-clock_line (verifies who w number h n) word same = absurd (differ 0 refl same)
-clock_line (creates name w number h n) word same = absurd (differ 0 refl same)
+clock_line (registers text s h) word same = absurd (differ 0 refl same)
+clock_line (verifies w text goal numbers proof h t) word same = absurd (differ 0 refl same)
+clock_line (checks w text goal numbers proof h t) word same = absurd (differ 0 refl same)
+clock_line (creates w name directory issue h) word same = absurd (differ 0 refl same)
 
 pub record IsCallerLine (who : List ℕ) (command : Command) : Type 0 where
   pub named : IsTrue (is_principal_name who)
@@ -85,133 +104,124 @@ caller_line (sets_caller w h) who same =
     let cancelled = append_cancel_left (codes "as ") w who same in
     record { named = subst (λ v. IsTrue (is_principal_name v)) cancelled h; command_is = ap As cancelled }
 caller_line (sets_clock w second h) who same = absurd (differ 1 refl same)
-caller_line (registers w lower upper from to h f t) who same = absurd (differ 0 refl same)
-caller_line (verifies w v number h n) who same = absurd (differ 0 refl same)
-caller_line (creates name w number h n) who same = absurd (differ 0 refl same)
+caller_line (registers text s h) who same = absurd (differ 0 refl same)
+caller_line (verifies w text goal numbers proof h t) who same = absurd (differ 0 refl same)
+caller_line (checks w text goal numbers proof h t) who same = absurd (differ 0 refl same)
+caller_line (creates w name directory issue h) who same = absurd (differ 0 refl same)
 
-pub record IsRegisterLine (rest : List ℕ) (command : Command) : Type 0 where
-  pub who : List ℕ
-  pub lower : List ℕ
-  pub upper : List ℕ
-  pub from : TimePoint
-  pub to : TimePoint
-  pub named : IsTrue (is_principal_name who)
-  pub lower_is : IsBound lower from
-  pub upper_is : IsBound upper to
-  pub rest_is : rest ≡ who ++ (codes ",#1,write) from " ++ (lower ++ (codes " to " ++ upper)))
-  pub command_is : command ≡ Register (says_may who from to)
+pub record IsRegisterLine (text : List ℕ) (command : Command) : Type 0 where
+  pub statement : Saying
+  pub is_text : IsStatementText text statement
+  pub command_is : command ≡ Register statement
 
-pub register_line : {line : List ℕ} {command : Command} → IsLine line command → (rest : List ℕ) → line ≡ codes "register - admin says may(" ++ rest → IsRegisterLine rest command
-register_line (registers who lower upper from to h f t) rest same = record {
-  who = who;
-  lower = lower;
-  upper = upper;
-  from = from;
-  to = to;
-  named = h;
-  lower_is = f;
-  upper_is = t;
-  rest_is = sym (append_cancel_left (codes "register - admin says may(") _ rest same);
-  command_is = refl;
-}
-register_line (sets_clock w second h) rest same = absurd (differ 0 refl same)
-register_line (sets_caller who h) rest same = absurd (differ 0 refl same)
-register_line (verifies who w number h n) rest same = absurd (differ 0 refl same)
-register_line (creates name w number h n) rest same = absurd (differ 0 refl same)
+pub register_line : {line : List ℕ} {command : Command} → IsLine line command → (text : List ℕ) → line ≡ codes "register - " ++ text → IsRegisterLine text command
+register_line (registers t s h) text same =
+    record { statement = s; is_text = subst (λ v. IsStatementText v s) (append_cancel_left (codes "register - ") t text same) h; command_is = refl }
+register_line (sets_clock w second h) text same = absurd (differ 0 refl same)
+register_line (sets_caller who h) text same = absurd (differ 0 refl same)
+register_line (verifies w t goal numbers proof h p) text same = absurd (differ 0 refl same)
+register_line (checks w t goal numbers proof h p) text same = absurd (differ 0 refl same)
+register_line (creates w name directory issue h) text same = absurd (differ 0 refl same)
 
-pub record IsVerifyLine (rest : List ℕ) (command : Command) : Type 0 where
-  pub who : List ℕ
-  pub word : List ℕ
-  pub number : ℕ
-  pub named : IsTrue (is_principal_name who)
-  pub numbered : IsNumber word number
-  pub rest_is : rest ≡ who ++ (codes " #1 write " ++ (word ++ codes " saysR(claim(0,init(1)))"))
-  pub command_is : command ≡ Verify (writes_root who) (number ∷ []) by_claim
+-- a goal, numbers and a proof, and the command that these make
+pub record IsProofLine (words : List ℕ) (command : Command) (asking : Goal → List ℕ → Deduction → Command) : Type 0 where
+  pub goal : Goal
+  pub numbers : List ℕ
+  pub text : List ℕ
+  pub proof : Deduction
+  pub inquiry : IsInquiry words goal numbers text
+  pub is_text : IsProofText text proof
+  pub command_is : command ≡ asking goal numbers proof
 
-pub verify_line : {line : List ℕ} {command : Command} → IsLine line command → (rest : List ℕ) → line ≡ codes "verify " ++ rest → IsVerifyLine rest command
-verify_line (verifies who word number h n) rest same = record {
-  who = who;
-  word = word;
-  number = number;
-  named = h;
-  numbered = n;
-  rest_is = sym (append_cancel_left (codes "verify ") _ rest same);
-  command_is = refl;
-}
-verify_line (sets_clock w second h) rest same = absurd (differ 0 refl same)
-verify_line (sets_caller who h) rest same = absurd (differ 0 refl same)
-verify_line (registers who lower upper from to h f t) rest same = absurd (differ 0 refl same)
-verify_line (creates name w number h n) rest same = absurd (differ 0 refl same)
+pub verify_line : {line : List ℕ} {command : Command} → IsLine line command → (words : List ℕ) → line ≡ codes "verify " ++ words → IsProofLine words command Verify
+verify_line (verifies w text goal numbers proof h t) words same =
+    record { goal = goal; numbers = numbers; text = text; proof = proof; inquiry = subst (λ v. IsInquiry v goal numbers text) (append_cancel_left (codes "verify ") w words same) h; is_text = t; command_is = refl }
+verify_line (sets_clock w second h) words same = absurd (differ 0 refl same)
+verify_line (sets_caller who h) words same = absurd (differ 0 refl same)
+verify_line (registers text s h) words same = absurd (differ 0 refl same)
+verify_line (checks w text goal numbers proof h t) words same = absurd (differ 0 refl same)
+verify_line (creates w name directory issue h) words same = absurd (differ 0 refl same)
 
-pub record IsCreateLine (rest : List ℕ) (command : Command) : Type 0 where
+pub check_line : {line : List ℕ} {command : Command} → IsLine line command → (words : List ℕ) → line ≡ codes "check " ++ words → IsProofLine words command Check
+check_line (checks w text goal numbers proof h t) words same =
+    record { goal = goal; numbers = numbers; text = text; proof = proof; inquiry = subst (λ v. IsInquiry v goal numbers text) (append_cancel_left (codes "check ") w words same) h; is_text = t; command_is = refl }
+check_line (sets_clock w second h) words same = absurd (differ 0 refl same)
+check_line (sets_caller who h) words same = absurd (differ 0 refl same)
+check_line (registers text s h) words same = absurd (differ 0 refl same)
+check_line (verifies w text goal numbers proof h t) words same = absurd (differ 0 refl same)
+check_line (creates w name directory issue h) words same = absurd (differ 0 refl same)
+
+pub record IsCreateLine (words : List ℕ) (command : Command) : Type 0 where
+  pub directory : NodeId
   pub name : List ℕ
-  pub word : List ℕ
-  pub number : ℕ
-  pub named : IsTrue (is_node_name name)
-  pub numbered : IsNumber word number
-  pub rest_is : rest ≡ name ++ (codes " @" ++ word)
-  pub command_is : command ≡ Do (Create (record { 0 = 1 }) name) (number ∷ [])
+  pub issue : ℕ
+  pub making : IsMaking words directory name issue
+  pub command_is : command ≡ Do (Create directory name) (issue ∷ [])
 
-pub create_line : {line : List ℕ} {command : Command} → IsLine line command → (rest : List ℕ) → line ≡ codes "do create #1 " ++ rest → IsCreateLine rest command
-create_line (creates name word number h n) rest same = record {
-  name = name;
-  word = word;
-  number = number;
-  named = h;
-  numbered = n;
-  rest_is = sym (append_cancel_left (codes "do create #1 ") _ rest same);
-  command_is = refl;
-}
-create_line (sets_clock w second h) rest same = absurd (differ 0 refl same)
-create_line (sets_caller who h) rest same = absurd (differ 0 refl same)
-create_line (registers who lower upper from to h f t) rest same = absurd (differ 0 refl same)
-create_line (verifies who w number h n) rest same = absurd (differ 0 refl same)
+pub create_line : {line : List ℕ} {command : Command} → IsLine line command → (words : List ℕ) → line ≡ codes "do create " ++ words → IsCreateLine words command
+create_line (creates w name directory issue h) words same =
+    record { directory = directory; name = name; issue = issue; making = subst (λ v. IsMaking v directory name issue) (append_cancel_left (codes "do create ") w words same) h; command_is = refl }
+create_line (sets_clock w second h) words same = absurd (differ 0 refl same)
+create_line (sets_caller who h) words same = absurd (differ 0 refl same)
+create_line (registers text s h) words same = absurd (differ 0 refl same)
+create_line (verifies w text goal numbers proof h t) words same = absurd (differ 0 refl same)
+create_line (checks w text goal numbers proof h t) words same = absurd (differ 0 refl same)
 
--- ---- lines of the forms, from their parts
-
-pub IsLine-register : (rest name lower upper who : List ℕ) (from to : TimePoint) → rest ≡ name ++ (codes ",#1,write) from " ++ (lower ++ (codes " to " ++ upper)))
-    → IsTrue (is_principal_name name) → who ≡ name → IsBound lower from → IsBound upper to → IsLine (codes "register - admin says may(" ++ rest) (Register (says_may who from to))
-IsLine-register rest name lower upper who from to same named who_is lower_is upper_is =
-    rw (same, who_is) (registers name lower upper from to named lower_is upper_is)
-
-pub IsLine-verify : (rest name word behind who : List ℕ) (number : ℕ) → rest ≡ name ++ (codes " #1 write " ++ (word ++ (codes " saysR(claim(0,init(1)))" ++ behind))) → behind ≡ []
-    → IsTrue (is_principal_name name) → who ≡ name → IsNumber word number → IsLine (codes "verify " ++ rest) (Verify (writes_root who) (number ∷ []) by_claim)
-IsLine-verify rest name word behind who number same nothing named who_is numbered =
-    rw (same, nothing, who_is) (verifies name word number named numbered)
-
-pub IsLine-create : (rest name word : List ℕ) (number : ℕ) → rest ≡ name ++ (codes " @" ++ word) → IsTrue (is_node_name name) → IsNumber word number
-    → IsLine (codes "do create #1 " ++ rest) (Do (Create (record { 0 = 1 }) name) (number ∷ []))
-IsLine-create rest name word number same named numbered = rw same (creates name word number named numbered)
-
--- nothing stands behind
-pub nothing_behind : (behind : List ℕ) → true ≡ (length behind == 0) → behind ≡ []
-nothing_behind behind none = nil_from_length behind (eqb-true (length behind) 0 (sym none))
-
--- ---- what is read behind the beginning of a line is what the line asks for
-
-module _ (line beginning rest : List ℕ) (same : line ≡ beginning ++ rest) where
-  found_option : (answer : Option Command) → IfSome answer (IsLine (beginning ++ rest)) → ((command : Command) → IsLine (beginning ++ rest) command → answer ≡ Some command)
-      → MatchOption answer ((command : Command) → IsLine line command → ⊥) (IsLine line)
-  found_option None found only = λ command h. none-some command (only command (rw same at h))
-  found_option (Some command) found only = rw same found
-
-  pub found_behind : {E : Type 0} (r : Result (Option Command) E) → IfOk r (λ answer. IfSome answer (IsLine (beginning ++ rest)))
-      → IfOk r (λ answer. (command : Command) → IsLine (beginning ++ rest) command → answer ≡ Some command)
-      → IfOk r (λ answer. MatchOption answer ((command : Command) → IsLine line command → ⊥) (IsLine line))
-  found_behind (Ok answer) found only = found_option answer found only
-  found_behind (Err e) found only = tt
-
-  pub only_behind : {E : Type 0} (r : Result (Option Command) E) → IfOk r (λ answer. (command : Command) → IsLine (beginning ++ rest) command → answer ≡ Some command)
-      → IfOk r (λ answer. (command : Command) → IsLine line command → answer ≡ Some command)
-  only_behind (Ok answer) only = λ command h. only command (rw same at h)
-  only_behind (Err e) only = tt
-
--- each line of a form has one of the five beginnings
+-- each line of a form has one of the six beginnings
 pub no_beginning : {line : List ℕ} {command : Command} → IsLine line command
-    → ((rest : List ℕ) → line ≢ codes "at " ++ rest) → ((rest : List ℕ) → line ≢ codes "as " ++ rest) → ((rest : List ℕ) → line ≢ codes "register - admin says may(" ++ rest)
-    → ((rest : List ℕ) → line ≢ codes "verify " ++ rest) → ((rest : List ℕ) → line ≢ codes "do create #1 " ++ rest) → ⊥
-no_beginning (sets_clock w second h) at_ as_ register verify create = at_ _ refl
-no_beginning (sets_caller who h) at_ as_ register verify create = as_ _ refl
-no_beginning (registers who lower upper from to h f t) at_ as_ register verify create = register _ refl
-no_beginning (verifies who w number h n) at_ as_ register verify create = verify _ refl
-no_beginning (creates name w number h n) at_ as_ register verify create = create _ refl
+    → ((rest : List ℕ) → line ≢ codes "at " ++ rest) → ((rest : List ℕ) → line ≢ codes "as " ++ rest) → ((rest : List ℕ) → line ≢ codes "register - " ++ rest)
+    → ((rest : List ℕ) → line ≢ codes "verify " ++ rest) → ((rest : List ℕ) → line ≢ codes "check " ++ rest) → ((rest : List ℕ) → line ≢ codes "do create " ++ rest) → ⊥
+no_beginning (sets_clock w second h) at_ as_ register verify check create = at_ _ refl
+no_beginning (sets_caller who h) at_ as_ register verify check create = as_ _ refl
+no_beginning (registers text s h) at_ as_ register verify check create = register _ refl
+no_beginning (verifies w text goal numbers proof h t) at_ as_ register verify check create = verify _ refl
+no_beginning (checks w text goal numbers proof h t) at_ as_ register verify check create = check _ refl
+no_beginning (creates w name directory issue h) at_ as_ register verify check create = create _ refl
+
+-- ---- what a line with a fault in its text says
+
+pub no_bad_clock : {line : List ℕ} {fault : TextFault} → HasBadText line fault → (word : List ℕ) → line ≡ codes "at " ++ word → ⊥
+no_bad_clock (in_statement text fault h) word same = differ 0 refl same
+no_bad_clock (in_proof w text goal numbers fault h t) word same = differ 0 refl same
+no_bad_clock (in_checked_proof w text goal numbers fault h t) word same = differ 0 refl same
+
+pub no_bad_caller : {line : List ℕ} {fault : TextFault} → HasBadText line fault → (who : List ℕ) → line ≡ codes "as " ++ who → ⊥
+no_bad_caller (in_statement text fault h) who same = differ 0 refl same
+no_bad_caller (in_proof w text goal numbers fault h t) who same = differ 0 refl same
+no_bad_caller (in_checked_proof w text goal numbers fault h t) who same = differ 0 refl same
+
+pub no_bad_making : {line : List ℕ} {fault : TextFault} → HasBadText line fault → (words : List ℕ) → line ≡ codes "do create " ++ words → ⊥
+no_bad_making (in_statement text fault h) words same = differ 0 refl same
+no_bad_making (in_proof w text goal numbers fault h t) words same = differ 0 refl same
+no_bad_making (in_checked_proof w text goal numbers fault h t) words same = differ 0 refl same
+
+pub bad_statement : {line : List ℕ} {fault : TextFault} → HasBadText line fault → (text : List ℕ) → line ≡ codes "register - " ++ text → StatementFault text fault
+bad_statement (in_statement t fault h) text same = subst (λ v. StatementFault v fault) (append_cancel_left (codes "register - ") t text same) h
+bad_statement (in_proof w t goal numbers fault h p) text same = absurd (differ 0 refl same)
+bad_statement (in_checked_proof w t goal numbers fault h p) text same = absurd (differ 0 refl same)
+
+-- a goal and numbers, and a proof's text with its fault
+pub record IsBadProof (words : List ℕ) (fault : TextFault) : Type 0 where
+  pub goal : Goal
+  pub numbers : List ℕ
+  pub text : List ℕ
+  pub inquiry : IsInquiry words goal numbers text
+  pub fault_is : ProofTextFault text fault
+
+pub bad_verify : {line : List ℕ} {fault : TextFault} → HasBadText line fault → (words : List ℕ) → line ≡ codes "verify " ++ words → IsBadProof words fault
+bad_verify (in_proof w text goal numbers fault h t) words same =
+    record { goal = goal; numbers = numbers; text = text; inquiry = subst (λ v. IsInquiry v goal numbers text) (append_cancel_left (codes "verify ") w words same) h; fault_is = t }
+bad_verify (in_statement text fault h) words same = absurd (differ 0 refl same)
+bad_verify (in_checked_proof w text goal numbers fault h t) words same = absurd (differ 0 refl same)
+
+pub bad_check : {line : List ℕ} {fault : TextFault} → HasBadText line fault → (words : List ℕ) → line ≡ codes "check " ++ words → IsBadProof words fault
+bad_check (in_checked_proof w text goal numbers fault h t) words same =
+    record { goal = goal; numbers = numbers; text = text; inquiry = subst (λ v. IsInquiry v goal numbers text) (append_cancel_left (codes "check ") w words same) h; fault_is = t }
+bad_check (in_statement text fault h) words same = absurd (differ 0 refl same)
+bad_check (in_proof w text goal numbers fault h t) words same = absurd (differ 0 refl same)
+
+pub no_bad_beginning : {line : List ℕ} {fault : TextFault} → HasBadText line fault
+    → ((rest : List ℕ) → line ≢ codes "register - " ++ rest) → ((rest : List ℕ) → line ≢ codes "verify " ++ rest) → ((rest : List ℕ) → line ≢ codes "check " ++ rest) → ⊥
+no_bad_beginning (in_statement text fault h) register verify check = register _ refl
+no_bad_beginning (in_proof w text goal numbers fault h t) register verify check = verify _ refl
+no_bad_beginning (in_checked_proof w text goal numbers fault h t) register verify check = check _ refl

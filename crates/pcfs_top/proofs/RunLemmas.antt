@@ -3,34 +3,35 @@ use Rattle.std.proofs.Common.{◌≤◌, ◌+◌, ◌-◌, ◌^◌, ℕ, ℤ, Li
 use Rattle.std.specs.Option.{option_to_list}
 use Rattle.std.proofs.lemmas.Int.{ints}
 use Rattle.bl_syntax.specs.TimeOrder.{IsMoment}
-use Rattle.pcfs_top.specs.declared.event.Event.{Event}
-use Rattle.pcfs_top.specs.declared.event.Base.{Base}
+use Rattle.access_history.specs.declared.event.Event.{Event}
+use Rattle.access_history.specs.declared.event.Base.{Base}
 use Rattle.pcfs_top.specs.declared.command.Command.{Command}
 use Rattle.pcfs_top.specs.declared.command.Command.TheVariants as commands
-use Rattle.pcfs_top.specs.declared.request.StepRequest.{StepRequest}
-use Rattle.pcfs_top.specs.declared.request.StepRequest.TheVariants as requests
-use Rattle.pcfs_top.specs.declared.reply.Reply.{Reply}
-use Rattle.pcfs_top.specs.WellFormed.{IsWellFormed}
+use Rattle.access_history.specs.declared.request.StepRequest.{StepRequest}
+use Rattle.access_history.specs.declared.request.StepRequest.TheVariants as requests
+use Rattle.access_history.specs.declared.reply.Reply.{Reply}
+use Rattle.access_history.specs.WellFormed.{IsWellFormed}
 use Rattle.proof_verifier.specs.Checking.{checking}
-use Rattle.pcfs_top.specs.Answer.{Answers}
-use Rattle.pcfs_top.specs.Replay.{replay}
-use Rattle.pcfs_top.specs.Lawful.{IsLawful, IsLawfulBase, AreLawful, no_event, one_more}
+use Rattle.access_history.specs.Answer.{Answers}
+use Rattle.access_history.specs.Replay.{replay}
+use Rattle.access_history.specs.Lawful.{IsLawful, IsLawfulBase, AreLawful, no_event, one_more}
 use Rattle.pcfs_top.specs.Desk.{IsAllowed}
 use Rattle.pcfs_top.specs.Lines.{IsLine}
 use Rattle.pcfs_top.specs.Lines as lines
 use Rattle.pcfs_top.specs.Script.{Standing, AnswersLine, script_pass, IsRun}
 use Rattle.pcfs_top.specs.Script as script
-use Rattle.pcfs_top.proofs.Replays.{moment_in_range}
-use Rattle.pcfs_top.proofs.Following.{MayFollow-answered}
-use Rattle.pcfs_top.proofs.Backing.{AreGoodIssues-replay}
+use Rattle.access_history.proofs.Replays.{moment_in_range}
+use Rattle.op_gate.proofs.Following.{MayFollow-answered}
+use Rattle.access_history.proofs.Backing.{AreGoodIssues-replay}
 
 -- what a line asks for is allowed
 pub IsAllowed-line : (line : List ℕ) (command : Command) → IsLine line command → IsAllowed command
 IsAllowed-line line command (lines.sets_clock word second is) = is.in_range
 IsAllowed-line line command (lines.sets_caller who is) = tt
-IsAllowed-line line command (lines.registers who lower upper from to is l u) = tt
-IsAllowed-line line command (lines.verifies who word number is n) = record { some = omega arith; few = omega arith; rising = tt }
-IsAllowed-line line command (lines.creates name word number is n) = refl
+IsAllowed-line line command (lines.registers text statement is) = tt
+IsAllowed-line line command (lines.verifies words text goal numbers proof is t) = is.citing.cited_is.citable
+IsAllowed-line line command (lines.checks words text goal numbers proof is t) = is.citing.cited_is.citable
+IsAllowed-line line command (lines.creates words name directory issue is) = refl
 
 -- a line adds at most one event
 length-option : (event : Option Event) → length (option_to_list event) ≤ 1
@@ -41,13 +42,14 @@ more_events : (events : List Event) (event : Option Event) → length (events ++
 more_events events event = omega (arith, length-append events (option_to_list event), length-option event)
 
 one_event : (base : Base) (before after : Standing) (line : List ℕ) (reply : Reply) → AnswersLine base before line reply after → length after.events ≤ length before.events + 1
-one_event base before after line reply (script.outside none) = omega arith
+one_event base before after line reply (script.asks_for_nothing r is) = omega arith
 one_event base before after line reply (script.sets_clock second is) = omega arith
 one_event base before after line reply (script.sets_caller who is) = omega arith
 one_event base before after line reply (script.registers statement r event is answer) = more_events before.events event
-one_event base before after line reply (script.cites_none goal numbers proof number is absent) = omega arith
-one_event base before after line reply (script.proves_none goal numbers proof cites fault r is found verdict told) = omega arith
-one_event base before after line reply (script.verifies goal numbers proof cites g r event is found verdict answer) = more_events before.events event
+one_event base before after line reply (script.verifies_nothing goal numbers proof r is refused) = omega arith
+one_event base before after line reply (script.verifies goal numbers proof cites g r event is proved answer) = more_events before.events event
+one_event base before after line reply (script.checks_nothing goal numbers proof r is refused) = omega arith
+one_event base before after line reply (script.checks goal numbers proof cites g is proved) = omega arith
 one_event base before after line reply (script.acts op procaps r event is answer) = more_events before.events event
 
 -- so there are no more events than lines
@@ -71,15 +73,16 @@ AreLawful-answered base events pass clock request reply (Some event) lawful each
     one_more events event each (MayFollow-answered (replay base events) pass clock request reply event at (moment_in_range base events lawful.moment_in_range each) (AreGoodIssues-replay base events lawful.good_issues each) formed answer)
 
 IsLawfulStanding-answered : (base : Base) (before after : Standing) (line : List ℕ) (reply : Reply) → IsLawfulBase base → IsLawfulStanding base before → AnswersLine base before line reply after → IsLawfulStanding base after
-IsLawfulStanding-answered base before after line reply lawful stands (script.outside none) = stands
+IsLawfulStanding-answered base before after line reply lawful stands (script.asks_for_nothing r is) = stands
 IsLawfulStanding-answered base before after line reply lawful stands (script.sets_clock second is) = record { clock = IsAllowed-line line (commands.At second) is; each = stands.each }
 IsLawfulStanding-answered base before after line reply lawful stands (script.sets_caller who is) = record { clock = stands.clock; each = stands.each }
 IsLawfulStanding-answered base before after line reply lawful stands (script.registers statement r event is answer) =
     record { clock = stands.clock; each = AreLawful-answered base before.events script_pass before.clock (requests.Register statement) r event lawful stands.each stands.clock tt answer }
-IsLawfulStanding-answered base before after line reply lawful stands (script.cites_none goal numbers proof number is absent) = stands
-IsLawfulStanding-answered base before after line reply lawful stands (script.proves_none goal numbers proof cites fault r is found verdict told) = stands
-IsLawfulStanding-answered base before after line reply lawful stands (script.verifies goal numbers proof cites g r event is found verdict answer) =
+IsLawfulStanding-answered base before after line reply lawful stands (script.verifies_nothing goal numbers proof r is refused) = stands
+IsLawfulStanding-answered base before after line reply lawful stands (script.verifies goal numbers proof cites g r event is proved answer) =
     record { clock = stands.clock; each = AreLawful-answered base before.events script_pass before.clock (requests.Issue (checking cites goal proof g)) r event lawful stands.each stands.clock tt answer }
+IsLawfulStanding-answered base before after line reply lawful stands (script.checks_nothing goal numbers proof r is refused) = stands
+IsLawfulStanding-answered base before after line reply lawful stands (script.checks goal numbers proof cites g is proved) = stands
 IsLawfulStanding-answered base before after line reply lawful stands (script.acts op procaps r event is answer) =
     record { clock = stands.clock; each = AreLawful-answered base before.events script_pass before.clock (requests.Act before.caller op procaps) r event lawful stands.each stands.clock (IsAllowed-line line (commands.Do op procaps) is) answer }
 

@@ -1,48 +1,53 @@
 -- A script that was run as far as some rest of its input.
 use Rattle.std.proofs.Common.{◌≡◌, ℕ, ℤ, suc, ◌+◌, ◌-◌, ◌^◌, ◌≤◌, ◌<◌, Bool, true, false, cond, List, [], ◌∷◌, ◌++◌, length, take, Option, Some, None, Err, ⊎_elim, refl, sym, ap, subst, ◌∙◌, arith, append_assoc, append-nil, length-append}
-use Rattle.std.specs.Prelude.{◌==◌, IfSome, MatchOption}
+use Rattle.std.specs.Prelude.{◌==◌, IfSome}
 use Rattle.std.proofs.lemmas.Grind.{flat_map-append}
 use Rattle.std.proofs.lemmas.Option.{none-some}
 use Rattle.std.proofs.Math.Seq.{take-append-add}
 use Rattle.bl_syntax.specs.declared.grant.Goal.{Goal}
 use Rattle.bl_syntax.specs.Statement.{Saying}
+use Rattle.bl_syntax.specs.Grant.{Granted}
 use Rattle.pcfs_ports.proofs.ToldLemmas.{with_back-with_back}
 use Rattle.pcfs_ports.specs.Told.{with_back, HoldsSome}
-use Rattle.pcfs_top.specs.declared.event.Event.{Event}
-use Rattle.pcfs_top.specs.declared.event.Base.{Base}
-use Rattle.pcfs_top.specs.declared.event.Op.{Op}
-use Rattle.pcfs_top.specs.declared.request.StepRequest.{StepRequest}
-use Rattle.pcfs_top.specs.declared.request.StepRequest.TheVariants as requests
-use Rattle.pcfs_top.specs.declared.reply.Reply.{Reply}
-use Rattle.pcfs_top.specs.declared.reply.Reply.TheVariants as replies
+use Rattle.access_history.specs.declared.event.Event.{Event}
+use Rattle.access_history.specs.declared.event.Base.{Base}
+use Rattle.access_history.specs.declared.event.Op.{Op}
+use Rattle.access_history.specs.declared.request.StepRequest.{StepRequest}
+use Rattle.access_history.specs.declared.request.StepRequest.TheVariants as requests
+use Rattle.access_history.specs.declared.reply.Reply.{Reply}
+use Rattle.access_history.specs.declared.reply.Reply.TheVariants as replies
 use Rattle.pcfs_top.specs.declared.command.Command.{Command}
 use Rattle.pcfs_top.specs.declared.command.Command.TheVariants as commands
+use Rattle.pcfs_top.specs.declared.command.Line.{Line}
+use Rattle.pcfs_top.specs.declared.command.Line.TheVariants.{Asks, Faulty}
 use Rattle.proof_term.specs.Proof.{Deduction}
 use Rattle.proof_verifier.specs.declared.cites.Cite.{Cite}
 use Rattle.proof_verifier.specs.declared.fault.CheckFault.{CheckFault}
 use Rattle.proof_verifier.specs.declared.fault.CheckFault.TheVariants.{NoMemory}
 use Rattle.proof_verifier.specs.Cited.{statements_of}
-use Rattle.proof_verifier.specs.Checking.{Checking, checking, IsChecked}
+use Rattle.proof_verifier.specs.Checking.{Checking, checking, IsChecked, IsGranted}
 use Rattle.proof_verifier.specs.Run.{IsFault}
 use Rattle.proof_verifier.specs.Verdict.{verdict}
-use Rattle.pcfs_top.specs.declared.cite.Citation.{Citation}
-use Rattle.pcfs_top.specs.declared.cite.Citation.TheVariants as citations
-use Rattle.pcfs_top.specs.Citing.{AreFound, Cites}
+use Rattle.op_gate.specs.declared.cite.Citation.{Citation}
+use Rattle.op_gate.specs.declared.cite.Citation.TheVariants as citations
+use Rattle.access_history.specs.Citing.{AreFound}
+use Rattle.op_gate.specs.Citations.{Cites}
 use Rattle.pcfs_top.specs.Faults.{unproved}
-use Rattle.pcfs_top.specs.Answer.{Answers}
-use Rattle.pcfs_top.specs.Decision.{Gated}
-use Rattle.pcfs_top.specs.Replay.{replay, fresh}
+use Rattle.access_history.specs.Answer.{Answers}
+use Rattle.op_gate.specs.Decision.{Gated}
+use Rattle.access_history.specs.Replay.{replay, fresh}
 use Rattle.pcfs_top.specs.Lines.{lines_of, with_byte, IsLine}
 use Rattle.pcfs_top.specs.ReplyText.{reply_text, output_of}
-use Rattle.pcfs_top.specs.Script.{Standing, beginning, AnswersLine, script_pass, IsRun}
+use Rattle.pcfs_top.specs.Forms.{Reads}
+use Rattle.pcfs_top.specs.Script.{Standing, beginning, IsUnproved, IsProved, AnswersLine, script_pass, IsRun}
 use Rattle.pcfs_top.specs.Script as script
 use Rattle.pcfs_top.specs.Desk.{Seated, IsAsked, IsReplied, IsAllowed}
 use Rattle.pcfs_top.specs.Desk as desk
 use Rattle.pcfs_top.specs.Run.{RunsWhole, RunsPart}
-use Rattle.pcfs_top.specs.Headline.{Headline}
-use Rattle.pcfs_top.proofs.Replays.{count-replay}
-use Rattle.pcfs_top.proofs.Beginning.{IsLawful-fresh}
-use Rattle.pcfs_top.proofs.HeadlineLemmas.{Headline-lawful}
+use Rattle.access_history.specs.Headline.{Headline}
+use Rattle.access_history.proofs.Replays.{count-replay}
+use Rattle.access_history.proofs.Beginning.{IsLawful-fresh}
+use Rattle.access_history.proofs.HeadlineLemmas.{Headline-lawful}
 use Rattle.pcfs_top.proofs.RunLemmas.{run_events, IsLawful-run}
 
 -- no byte behind what is held is no change
@@ -80,11 +85,11 @@ AnswersLine-as seated base clock caller events line command who is asks line_is 
     (script.sets_caller who (subst (IsLine line) asks line_is))
 
 -- what was read of a line
-pub IsLine-found : (line : List ℕ) (read : Option Command) (command : Command) → read ≡ Some command → MatchOption read ((c : Command) → IsLine line c → ⊥) (IsLine line) → IsLine line command
-IsLine-found line read command is found = subst (λ (r : Option Command). MatchOption r ((c : Command) → IsLine line c → ⊥) (IsLine line)) is found
+pub IsLine-read : (line : List ℕ) (read : Line) (command : Command) → read ≡ Asks command → Reads line read → IsLine line command
+IsLine-read line read command is found = subst (Reads line) is found
 
-pub IsLine-none : (line : List ℕ) (read : Option Command) → read ≡ None → MatchOption read ((c : Command) → IsLine line c → ⊥) (IsLine line) → (c : Command) → IsLine line c → ⊥
-IsLine-none line read is found = subst (λ (r : Option Command). MatchOption r ((c : Command) → IsLine line c → ⊥) (IsLine line)) is found
+pub AnswersLine-faulty : (base : Base) (before : Standing) (line : List ℕ) (read : Line) (reply : Reply) → read ≡ Faulty reply → Reads line read → AnswersLine base before line reply before
+AnswersLine-faulty base before line read reply is found = script.asks_for_nothing reply (subst (Reads line) is found)
 
 pub AnswersLine-register : (base : Base) (before after : Standing) (line : List ℕ) (command : Command) (statement : Saying) (reply : Reply) → command ≡ commands.Register statement → IsLine line command →
     IsAsked base before (requests.Register statement) reply after → AnswersLine base before line reply after
@@ -98,36 +103,35 @@ Cites-seated inside seated shown numbers citation same numbers_are found =
     subst (λ (s : Seated). Cites (replay s.base s.standing.events).statements numbers citation) same (subst (λ (ns : List ℕ). Cites (replay inside.base inside.standing.events).statements ns citation) numbers_are found)
 
 -- no statement stands under one of the numbers
-pub AnswersLine-absent : (base : Base) (before : Standing) (line : List ℕ) (goal : Goal) (numbers : List ℕ) (proof : Deduction) (citation : Citation) (number : ℕ) → citation ≡ citations.Absent number →
-    Cites (replay base before.events).statements numbers citation → IsLine line (commands.Verify goal numbers proof) → AnswersLine base before line (replies.Absent number) before
-AnswersLine-absent base before line goal numbers proof citation number is found line_is =
-    script.cites_none goal numbers proof number line_is (subst (Cites (replay base before.events).statements numbers) is found)
-
--- the proof is refused
-refused_line : (base : Base) (before : Standing) (line : List ℕ) (goal : Goal) (numbers : List ℕ) (proof : Deduction) (cites : List Cite) (fault : CheckFault) (reply : Reply) →
-    AreFound (replay base before.events).statements numbers cites → unproved fault ≡ Some reply → IsFault fault (verdict (statements_of cites) goal proof) → IsLine line (commands.Verify goal numbers proof) →
-    AnswersLine base before line reply before
-refused_line base before line goal numbers proof cites fault reply found told refused line_is =
-    ⊎_elim (λ (none : fault ≡ NoMemory). absurd (none-some reply (ap unproved (sym none) ∙ told)))
-    (λ (same : verdict (statements_of cites) goal proof ≡ Err fault). script.proves_none goal numbers proof cites fault reply line_is found same told) refused
+pub IsUnproved-absent : (statements : List Saying) (goal : Goal) (numbers : List ℕ) (proof : Deduction) (citation : Citation) (number : ℕ) → citation ≡ citations.Absent number →
+    Cites statements numbers citation → IsUnproved statements goal numbers proof (replies.Absent number)
+IsUnproved-absent statements goal numbers proof citation number is found = script.cites_none number (subst (Cites statements numbers) is found)
 
 -- the statements that were found
 AreFound-cited : (statements : List Saying) (numbers : List ℕ) (citation : Citation) (cites : List Cite) → citation ≡ citations.Cited cites → Cites statements numbers citation → AreFound statements numbers cites
 AreFound-cited statements numbers citation cites is found = subst (Cites statements numbers) is found
 
-pub AnswersLine-refused : (base : Base) (before : Standing) (line : List ℕ) (goal : Goal) (numbers : List ℕ) (proof : Deduction) (citation : Citation) (cites : List Cite) (fault : CheckFault) (reply : Reply) →
-    citation ≡ citations.Cited cites → Cites (replay base before.events).statements numbers citation → unproved fault ≡ Some reply → IsFault fault (verdict (statements_of cites) goal proof) →
-    IsLine line (commands.Verify goal numbers proof) → AnswersLine base before line reply before
-AnswersLine-refused base before line goal numbers proof citation cites fault reply is found told refused line_is =
-    refused_line base before line goal numbers proof cites fault reply (AreFound-cited (replay base before.events).statements numbers citation cites is found) told refused line_is
+-- the proof is refused
+pub IsUnproved-refused : (statements : List Saying) (goal : Goal) (numbers : List ℕ) (proof : Deduction) (citation : Citation) (cites : List Cite) (fault : CheckFault) (reply : Reply) →
+    citation ≡ citations.Cited cites → Cites statements numbers citation → unproved fault ≡ Some reply → IsFault fault (verdict (statements_of cites) goal proof) →
+    IsUnproved statements goal numbers proof reply
+IsUnproved-refused statements goal numbers proof citation cites fault reply is found told refused =
+    ⊎_elim (λ (none : fault ≡ NoMemory). absurd (none-some reply (ap unproved (sym none) ∙ told)))
+    (λ (same : verdict (statements_of cites) goal proof ≡ Err fault). script.proves_none cites fault reply (AreFound-cited statements numbers citation cites is found) same told) refused
+
+-- the proof is accepted
+pub IsProved-granted : (statements : List Saying) (goal : Goal) (numbers : List ℕ) (proof : Deduction) (citation : Citation) (cites : List Cite) (g : Granted) →
+    citation ≡ citations.Cited cites → Cites statements numbers citation → IsGranted (statements_of cites) goal proof g → IsProved statements goal numbers proof cites g
+IsProved-granted statements goal numbers proof citation cites g is found granted =
+    record { found = AreFound-cited statements numbers citation cites is found; verdict_is = granted.verdict_is }
 
 pub AnswersLine-verify : (base : Base) (before after : Standing) (line : List ℕ) (goal : Goal) (numbers : List ℕ) (proof : Deduction) (citation : Citation) (cites : List Cite) (checked : Checking) (reply : Reply) →
     citation ≡ citations.Cited cites → Cites (replay base before.events).statements numbers citation → checked ≡ checking cites goal proof checked.grant → IsChecked checked → IsLine line (commands.Verify goal numbers proof) →
     IsAsked base before (requests.Issue checked) reply after → AnswersLine base before line reply after
 AnswersLine-verify base before after line goal numbers proof citation cites checked reply is found same granted line_is asked =
     subst (λ (s : Standing). AnswersLine base before line reply s) (sym asked.after_is)
-    (script.verifies goal numbers proof cites checked.grant reply asked.event line_is (AreFound-cited (replay base before.events).statements numbers citation cites is found)
-    (subst IsChecked same granted).verdict_is
+    (script.verifies goal numbers proof cites checked.grant reply asked.event line_is
+    (IsProved-granted (replay base before.events).statements goal numbers proof citation cites checked.grant is found (subst IsChecked same granted))
     (subst (λ (c : Checking). Answers (replay base before.events) script_pass before.clock (requests.Issue c) reply asked.event) same asked.answer))
 
 -- the line asks for what the command asks for

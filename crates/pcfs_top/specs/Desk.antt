@@ -1,18 +1,18 @@
 -- What is seen of a desk, at which the lines of a script are answered, and what it does with one (this project's own).
 use Rattle.std.specs.Prelude.{◌≡◌, ℕ, List, ◌++◌, length, Option}
 use Rattle.std.specs.Option.{option_to_list}
-use Rattle.pcfs_top.specs.declared.event.Event.{Event}
-use Rattle.pcfs_top.specs.declared.event.Base.{Base}
-use Rattle.pcfs_top.specs.declared.request.StepRequest.{StepRequest}
-use Rattle.pcfs_top.specs.declared.reply.Reply.{Reply}
-use Rattle.pcfs_top.specs.declared.reply.Reply.TheVariants as replies
+use Rattle.access_history.specs.declared.event.Event.{Event}
+use Rattle.access_history.specs.declared.event.Base.{Base}
+use Rattle.access_history.specs.declared.request.StepRequest.{StepRequest}
+use Rattle.access_history.specs.declared.reply.Reply.{Reply}
+use Rattle.access_history.specs.declared.reply.Reply.TheVariants as replies
 use Rattle.pcfs_top.specs.declared.command.Command.{Command}
-use Rattle.pcfs_top.specs.declared.command.Command.TheVariants.{At, As, Register, Verify, Do}
+use Rattle.pcfs_top.specs.declared.command.Command.TheVariants.{At, As, Register, Verify, Check, Do}
 use Rattle.bl_syntax.specs.TimeOrder.{IsMoment}
-use Rattle.pcfs_top.specs.Needs.{slots}
-use Rattle.pcfs_top.specs.Citing.{AreCitable}
-use Rattle.pcfs_top.specs.Answer.{Answers}
-use Rattle.pcfs_top.specs.Replay.{replay}
+use Rattle.access_history.specs.Needs.{slots}
+use Rattle.access_history.specs.Citing.{AreCitable}
+use Rattle.access_history.specs.Answer.{Answers}
+use Rattle.access_history.specs.Replay.{replay}
 use Rattle.pcfs_top.specs.Script.{Standing, AnswersLine, script_pass}
 
 -- the base that the events follow, and where the script stands
@@ -37,4 +37,5 @@ IsAllowed (At second) = IsMoment second
 IsAllowed (As who) = Unit {0}
 IsAllowed (Register statement) = Unit {0}
 IsAllowed (Verify goal numbers proof) = AreCitable numbers
+IsAllowed (Check goal numbers proof) = AreCitable numbers
 IsAllowed (Do op procaps) = length procaps ≡ slots op

@@ -1,10 +1,10 @@
 -- Desks can be told apart.
 use Rattle.std.specs.Prelude.{ℕ, ℤ, List, refl}
 use Rattle.std.specs.Coded.{Coded, code_by, coded×, coded_ℕ, coded_ℤ, coded_list}
-use Rattle.pcfs_top.specs.declared.event.Event.{Event}
-use Rattle.pcfs_top.specs.declared.event.Base.{Base}
-use Rattle.pcfs_top.specs.contracts.event.Event as event
-use Rattle.pcfs_top.specs.contracts.event.Base as base
+use Rattle.access_history.specs.declared.event.Event.{Event}
+use Rattle.access_history.specs.declared.event.Base.{Base}
+use Rattle.access_history.specs.contracts.event.Event as event
+use Rattle.access_history.specs.contracts.event.Base as base
 use Rattle.pcfs_top.specs.Desk.{Seated}
 
 abbrev pub seated_code : Coded Seated

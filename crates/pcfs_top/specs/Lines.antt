@@ -1,22 +1,23 @@
--- The lines of an input, and the forms of a line (this project's own).
+-- The lines of an input, the forms of a line, and the faults of the texts in it (this project's own).
 use Rattle.std.specs.Prelude.{◌≡◌, ◌≤◌, ◌<◌, ◌^◌, ◌-ℤ◌, pos, ℕ, ℤ, List, [], ◌∷◌, ◌++◌, length, codes, IsTrue, ◌==◌, if◌then◌else◌}
 use Rattle.std.specs.List.{list_all}
 use Rattle.std.specs.Fmt.{decimal}
 use Rattle.std.specs.Str.Parse.{digits_value}
-use Rattle.bl_syntax.specs.declared.terms.TimePoint.{TimePoint}
-use Rattle.bl_syntax.specs.declared.terms.TimePoint.TheVariants as times
-use Rattle.bl_syntax.specs.declared.terms.Perm.TheVariants.{Write}
+use Rattle.bl_syntax.specs.declared.terms.NodeId.{NodeId}
 use Rattle.bl_syntax.specs.declared.grant.Goal.{Goal}
 use Rattle.bl_syntax.specs.Names.{is_digit, is_principal_name}
 use Rattle.bl_syntax.specs.TimeOrder.{IsMoment}
 use Rattle.bl_syntax.specs.Statement.{Saying}
-use Rattle.pcfs_top.specs.declared.event.Op.TheVariants.{Create}
+use Rattle.bl_tokens.specs.declared.faults.TextFault.{TextFault}
+use Rattle.bl_text.specs.Printed.{permission_text}
+use Rattle.bl_text.specs.Texts.{IsStatementText, StatementFault}
+use Rattle.proof_term.specs.Proof.{Deduction}
+use Rattle.proof_text.specs.Texts.{IsProofText, ProofTextFault}
+use Rattle.access_history.specs.declared.event.Op.TheVariants.{Create}
+use Rattle.access_history.specs.Citing.{AreCitable}
+use Rattle.access_history.specs.World.{is_node_name}
 use Rattle.pcfs_top.specs.declared.command.Command.{Command}
-use Rattle.pcfs_top.specs.declared.command.Command.TheVariants.{At, As, Register, Verify, Do}
-use Rattle.pcfs_top.specs.World.{is_node_name}
-use Rattle.bl_rules.specs.DirectGrant.{wanted}
-use Rattle.proof_term.specs.Proof.{Deduction, says_r, claim, init}
-use Rattle.pcfs_top.specs.Admin.{admin}
+use Rattle.pcfs_top.specs.declared.command.Command.TheVariants.{At, As, Register, Verify, Check, Do}
 
 -- the byte before the first of these lines
 abbrev pub with_byte : ℕ → List (List ℕ) → List (List ℕ)
@@ -44,28 +45,58 @@ pub record IsSecond (word : List ℕ) (second : ℤ) : Type 0 where
   pub integer : IsInteger word second
   pub in_range : IsMoment second
 
--- an end of an interval
-pub data IsBound : List ℕ → TimePoint → Type 0 where
-  without_beginning : IsBound (codes "-inf") times.NegInf
-  without_end : IsBound (codes "+inf") times.PosInf
-  at_second : (word : List ℕ) (second : ℤ) → IsSecond word second → IsBound word (times.At second)
-
--- the number of a statement or an issue: decimal digits without leading zeros, below 2^32
-pub record IsNumber (word : List ℕ) (number : ℕ) : Type 0 where
+-- a number below the limit: decimal digits without leading zeros
+pub record IsNumberBelow (limit : ℕ) (word : List ℕ) (number : ℕ) : Type 0 where
   pub decimal_is : word ≡ decimal number
-  pub fits : number < 2 ^ 32
+  pub fits : number < limit
 
--- the goal of these lines: the principal may write in the root
-abbrev pub writes_root : List ℕ → Goal
-writes_root who = record { who = who; file = record { 0 = 1 }; perm = Write }
+-- the number of a statement or an issue
+abbrev pub IsNumber : List ℕ → ℕ → Type 0
+IsNumber word number = IsNumberBelow (2 ^ 32) word number
 
--- `admin` says it on the interval
-abbrev pub says_may : List ℕ → TimePoint → TimePoint → Saying
-says_may who from to = record { who = admin; body = wanted (writes_root who); from = from; to = to }
+-- a node by its number, with a `#` before it
+pub record IsFile (word : List ℕ) (node : NodeId) : Type 0 where
+  pub digits : List ℕ
+  pub word_is : word ≡ 35 ∷ digits
+  pub number : IsNumberBelow (2 ^ 64) digits node.0
 
--- the proof of these lines, which is the text `saysR(claim(0,init(1)))`: `admin` says it, for that is the claim of the statement that is cited
-abbrev pub by_claim : Deduction
-by_claim = says_r (claim 0 (init 1))
+-- numbers with commas between them
+pub data AreJoined : List ℕ → List ℕ → Type 0 where
+  one_number : (word : List ℕ) (number : ℕ) → IsNumber word number → AreJoined word (number ∷ [])
+  more_numbers : (word others : List ℕ) (number : ℕ) (numbers : List ℕ) → IsNumber word number → AreJoined others numbers → AreJoined (word ++ 44 ∷ others) (number ∷ numbers)
+
+-- the numbers of statements that can be cited together: 1 to 64, strictly rising
+pub record IsCited (word : List ℕ) (numbers : List ℕ) : Type 0 where
+  pub joined : AreJoined word numbers
+  pub citable : AreCitable numbers
+
+-- a principal, a file and a permission, with a space behind each
+pub record NamesGoal (words : List ℕ) (goal : Goal) (rest : List ℕ) : Type 0 where
+  pub file : List ℕ
+  pub named : IsTrue (is_principal_name goal.who)
+  pub file_is : IsFile file goal.file
+  pub words_are : words ≡ goal.who ++ (codes " " ++ (file ++ (codes " " ++ (permission_text goal.perm ++ (codes " " ++ rest)))))
+
+-- the numbers of statements, and behind one space a text
+pub record IsCiting (words : List ℕ) (numbers text : List ℕ) : Type 0 where
+  pub cited : List ℕ
+  pub cited_is : IsCited cited numbers
+  pub words_are : words ≡ cited ++ (codes " " ++ text)
+
+-- a goal, the numbers of statements, and the text of a proof
+pub record IsInquiry (words : List ℕ) (goal : Goal) (numbers text : List ℕ) : Type 0 where
+  pub rest : List ℕ
+  pub goal_is : NamesGoal words goal rest
+  pub citing : IsCiting rest numbers text
+
+-- a file is to be made: the directory, the name, and the issue behind an `@`
+pub record IsMaking (words : List ℕ) (directory : NodeId) (name : List ℕ) (issue : ℕ) : Type 0 where
+  pub file : List ℕ
+  pub number : List ℕ
+  pub directory_is : IsFile file directory
+  pub named : IsTrue (is_node_name name)
+  pub issue_is : IsNumber number issue
+  pub words_are : words ≡ file ++ (codes " " ++ (name ++ (codes " @" ++ number)))
 
 -- the line is of a form, and asks for this
 pub data IsLine : List ℕ → Command → Type 0 where
@@ -73,9 +104,20 @@ pub data IsLine : List ℕ → Command → Type 0 where
       IsLine (codes "at " ++ word) (At second)
   sets_caller : (who : List ℕ) → IsTrue (is_principal_name who) →
       IsLine (codes "as " ++ who) (As who)
-  registers : (who lower upper : List ℕ) (from to : TimePoint) → IsTrue (is_principal_name who) → IsBound lower from → IsBound upper to →
-      IsLine (codes "register - admin says may(" ++ (who ++ (codes ",#1,write) from " ++ (lower ++ (codes " to " ++ upper))))) (Register (says_may who from to))
-  verifies : (who word : List ℕ) (number : ℕ) → IsTrue (is_principal_name who) → IsNumber word number →
-      IsLine (codes "verify " ++ (who ++ (codes " #1 write " ++ (word ++ codes " saysR(claim(0,init(1)))")))) (Verify (writes_root who) (number ∷ []) by_claim)
-  creates : (name word : List ℕ) (number : ℕ) → IsTrue (is_node_name name) → IsNumber word number →
-      IsLine (codes "do create #1 " ++ (name ++ (codes " @" ++ word))) (Do (Create (record { 0 = 1 }) name) (number ∷ []))
+  registers : (text : List ℕ) (statement : Saying) → IsStatementText text statement →
+      IsLine (codes "register - " ++ text) (Register statement)
+  verifies : (words text : List ℕ) (goal : Goal) (numbers : List ℕ) (proof : Deduction) → IsInquiry words goal numbers text → IsProofText text proof →
+      IsLine (codes "verify " ++ words) (Verify goal numbers proof)
+  checks : (words text : List ℕ) (goal : Goal) (numbers : List ℕ) (proof : Deduction) → IsInquiry words goal numbers text → IsProofText text proof →
+      IsLine (codes "check " ++ words) (Check goal numbers proof)
+  creates : (words name : List ℕ) (directory : NodeId) (issue : ℕ) → IsMaking words directory name issue →
+      IsLine (codes "do create " ++ words) (Do (Create directory name) (issue ∷ []))
+
+-- the words of the line are of a form, and its text, which is none of what the form has there, has this first fault
+pub data HasBadText : List ℕ → TextFault → Type 0 where
+  in_statement : (text : List ℕ) (fault : TextFault) → StatementFault text fault →
+      HasBadText (codes "register - " ++ text) fault
+  in_proof : (words text : List ℕ) (goal : Goal) (numbers : List ℕ) (fault : TextFault) → IsInquiry words goal numbers text → ProofTextFault text fault →
+      HasBadText (codes "verify " ++ words) fault
+  in_checked_proof : (words text : List ℕ) (goal : Goal) (numbers : List ℕ) (fault : TextFault) → IsInquiry words goal numbers text → ProofTextFault text fault →
+      HasBadText (codes "check " ++ words) fault

@@ -5,13 +5,13 @@ use Rattle.std.specs.String.{string_bytes}
 use Rattle.std.specs.declared.alloc.Global.{Global}
 use Rattle.pcfs_ports.specs.Faults.{HasRisen}
 use Rattle.pcfs_ports.specs.Told.{with_back, ReadsWhole, TakesFirst, TakesSome, HoldsSome}
-use Rattle.pcfs_top.specs.declared.reply.Reply.{Reply}
-use Rattle.pcfs_top.specs.Replay.{fresh}
+use Rattle.access_history.specs.declared.reply.Reply.{Reply}
+use Rattle.access_history.specs.Replay.{fresh}
 use Rattle.pcfs_top.specs.Lines.{lines_of}
 use Rattle.pcfs_top.specs.ReplyText.{output_of}
 use Rattle.pcfs_top.specs.Script.{Standing, IsRun}
-use Rattle.pcfs_top.specs.World.{FileTree}
-use Rattle.pcfs_top.specs.Headline.{Headline}
+use Rattle.access_history.specs.World.{FileTree}
+use Rattle.access_history.specs.Headline.{Headline}
 
 -- the words are the one word `script`
 abbrev pub IsScript : List (String Global) → Type 0

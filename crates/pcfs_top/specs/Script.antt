@@ -3,20 +3,21 @@ use Rattle.std.specs.Prelude.{ℕ, ℤ, pos, List, [], ◌∷◌, ◌++◌, Opti
 use Rattle.std.specs.Option.{option_to_list}
 use Rattle.bl_syntax.specs.declared.grant.Goal.{Goal}
 use Rattle.bl_syntax.specs.Statement.{Saying}
-use Rattle.pcfs_top.specs.declared.event.Op.{Op}
-use Rattle.pcfs_top.specs.declared.event.Event.{Event}
-use Rattle.pcfs_top.specs.declared.event.Base.{Base}
-use Rattle.pcfs_top.specs.declared.request.StepRequest.TheVariants as requests
+use Rattle.access_history.specs.declared.event.Op.{Op}
+use Rattle.access_history.specs.declared.event.Event.{Event}
+use Rattle.access_history.specs.declared.event.Base.{Base}
+use Rattle.access_history.specs.declared.request.StepRequest.TheVariants as requests
 use Rattle.pcfs_top.specs.declared.command.Command.{Command}
 use Rattle.pcfs_top.specs.declared.command.Command.TheVariants as commands
-use Rattle.pcfs_top.specs.declared.reply.Reply.{Reply}
-use Rattle.pcfs_top.specs.declared.reply.Reply.TheVariants as replies
-use Rattle.pcfs_top.specs.Answer.{Answers}
-use Rattle.pcfs_top.specs.Replay.{replay}
-use Rattle.pcfs_top.specs.Lines.{IsLine}
+use Rattle.access_history.specs.declared.reply.Reply.{Reply}
+use Rattle.access_history.specs.declared.reply.Reply.TheVariants as replies
+use Rattle.access_history.specs.Answer.{Answers}
+use Rattle.access_history.specs.Replay.{replay}
+use Rattle.pcfs_top.specs.Lines.{IsLine, HasBadText}
 use Rattle.pcfs_top.specs.Admin.{admin}
-use Rattle.pcfs_top.specs.Citing.{AreFound, IsAbsent}
-use Rattle.pcfs_top.specs.Faults.{unproved}
+use Rattle.access_history.specs.Citing.{AreFound, IsAbsent}
+use Rattle.pcfs_top.specs.Faults.{unproved, bad_text}
+use Rattle.bl_tokens.specs.declared.faults.TextFault.{TextFault}
 use Rattle.bl_syntax.specs.Grant.{Granted}
 use Rattle.proof_term.specs.Proof.{Deduction}
 use Rattle.proof_verifier.specs.declared.cites.Cite.{Cite}
@@ -39,24 +40,43 @@ beginning = record { clock = pos 0; caller = admin; events = [] }
 abbrev pub script_pass : ℕ
 script_pass = 1
 
+-- why a line asks for nothing: it is of no form, or of a form whose text has a fault
+pub data IsFaulty (line : List ℕ) : Reply → Type 0 where
+  outside : ((command : Command) → IsLine line command → ⊥) → ((fault : TextFault) → HasBadText line fault → ⊥) → IsFaulty line (replies.Bad 9)
+  faulty_text : (fault : TextFault) (reply : Reply) → HasBadText line fault → bad_text fault ≡ Some reply → IsFaulty line reply
+
+-- why the proof of a goal from the statements of these numbers proves nothing: a statement is not there, or the proof has a fault
+pub data IsUnproved (statements : List Saying) (goal : Goal) (numbers : List ℕ) (proof : Deduction) : Reply → Type 0 where
+  cites_none : (number : ℕ) → IsAbsent statements numbers number → IsUnproved statements goal numbers proof (replies.Absent number)
+  proves_none : (cites : List Cite) (fault : CheckFault) (reply : Reply) → AreFound statements numbers cites → verdict (statements_of cites) goal proof ≡ Err fault → unproved fault ≡ Some reply →
+      IsUnproved statements goal numbers proof reply
+
+-- the statements of these numbers, and the grant that is the verdict on the proof of the goal from them
+pub record IsProved (statements : List Saying) (goal : Goal) (numbers : List ℕ) (proof : Deduction) (cites : List Cite) (g : Granted) : Type 0 where
+  pub found : AreFound statements numbers cites
+  pub verdict_is : verdict (statements_of cites) goal proof ≡ Ok g
+
 -- how a line is answered, where the events follow this base: the reply, and where the script stands then
 pub data AnswersLine (base : Base) (before : Standing) (line : List ℕ) : Reply → Standing → Type 0 where
-  outside : ((command : Command) → IsLine line command → ⊥) → AnswersLine base before line (replies.Bad 9) before
+  asks_for_nothing : (reply : Reply) → IsFaulty line reply → AnswersLine base before line reply before
   sets_clock : (second : ℤ) → IsLine line (commands.At second) → AnswersLine base before line replies.Done (record before { clock = second })
   sets_caller : (who : List ℕ) → IsLine line (commands.As who) → AnswersLine base before line replies.Done (record before { caller = who })
   registers : (statement : Saying) (reply : Reply) (event : Option Event) → IsLine line (commands.Register statement) →
       Answers (replay base before.events) script_pass before.clock (requests.Register statement) reply event →
       AnswersLine base before line reply (record before { events = before.events ++ option_to_list event })
-  cites_none : (goal : Goal) (numbers : List ℕ) (proof : Deduction) (number : ℕ) → IsLine line (commands.Verify goal numbers proof) →
-      IsAbsent (replay base before.events).statements numbers number →
-      AnswersLine base before line (replies.Absent number) before
-  proves_none : (goal : Goal) (numbers : List ℕ) (proof : Deduction) (cites : List Cite) (fault : CheckFault) (reply : Reply) → IsLine line (commands.Verify goal numbers proof) →
-      AreFound (replay base before.events).statements numbers cites → verdict (statements_of cites) goal proof ≡ Err fault → unproved fault ≡ Some reply →
+  verifies_nothing : (goal : Goal) (numbers : List ℕ) (proof : Deduction) (reply : Reply) → IsLine line (commands.Verify goal numbers proof) →
+      IsUnproved (replay base before.events).statements goal numbers proof reply →
       AnswersLine base before line reply before
   verifies : (goal : Goal) (numbers : List ℕ) (proof : Deduction) (cites : List Cite) (g : Granted) (reply : Reply) (event : Option Event) → IsLine line (commands.Verify goal numbers proof) →
-      AreFound (replay base before.events).statements numbers cites → verdict (statements_of cites) goal proof ≡ Ok g →
+      IsProved (replay base before.events).statements goal numbers proof cites g →
       Answers (replay base before.events) script_pass before.clock (requests.Issue (checking cites goal proof g)) reply event →
       AnswersLine base before line reply (record before { events = before.events ++ option_to_list event })
+  checks_nothing : (goal : Goal) (numbers : List ℕ) (proof : Deduction) (reply : Reply) → IsLine line (commands.Check goal numbers proof) →
+      IsUnproved (replay base before.events).statements goal numbers proof reply →
+      AnswersLine base before line reply before
+  checks : (goal : Goal) (numbers : List ℕ) (proof : Deduction) (cites : List Cite) (g : Granted) → IsLine line (commands.Check goal numbers proof) →
+      IsProved (replay base before.events).statements goal numbers proof cites g →
+      AnswersLine base before line (replies.Checked g) before
   acts : (op : Op) (procaps : List ℕ) (reply : Reply) (event : Option Event) → IsLine line (commands.Do op procaps) →
       Answers (replay base before.events) script_pass before.clock (requests.Act before.caller op procaps) reply event →
       AnswersLine base before line reply (record before { events = before.events ++ option_to_list event })

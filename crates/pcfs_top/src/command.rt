@@ -1,6 +1,6 @@
 //! What a line of a script asks for.
 
-use crate::event::Op;
+use access_history::{Op, Reply};
 use bl_syntax::{Goal, Numbers, Principal, Statement};
 use proof_term::ProofTree;
 
@@ -15,6 +15,17 @@ pub enum Command {
     Register(Statement),
     /// Verifies the proof of the goal from the statements of these numbers.
     Verify(Goal, Numbers, ProofTree),
+    /// Checks the proof of the goal from the statements of these numbers, and keeps nothing.
+    Check(Goal, Numbers, ProofTree),
     /// Does an operation under the procaps of these issues.
     Do(Op, Numbers),
+}
+
+/// What was read of a line.
+#[derive(Debug, Drop)]
+pub enum Line {
+    /// It is of a form, and asks for this.
+    Asks(Command),
+    /// It asks for nothing, and this is the answer.
+    Faulty(Reply),
 }

@@ -2,24 +2,19 @@
 
 ghost use Rattle.std.specs.Prelude.{◌≡◌, ◌<◌, ◌-◌, ◌^◌, List, ℕ, IfOk, OnErr};
 
-use crate::cite::Citation;
-use crate::command::Command;
+use crate::command::{Command, Line};
 use crate::fault::unproved;
 use crate::forms::read_line;
-use crate::gate::{Decision, Gate};
-use crate::reply::Reply;
-use crate::request::StepRequest;
+use access_history::{Reply, StepRequest};
 use bl_syntax::{Goal, NoMemory, Numbers, Principal};
+use op_gate::{Citation, Decision, Gate};
 use proof_term::ProofTree;
-use proof_verifier::check;
+use proof_verifier::{check, verify};
 use std::alloc::Global;
 use std::marker::Model;
 
 /// The events of a script carry this number.
 const SCRIPT_PASS: u64 = 1;
-
-/// The fault of a line that is of none of the forms.
-const NO_FORM: u32 = 9;
 
 /// A gate, what the clock shows in whole seconds from 1970-01-01T00:00:00Z, and who calls.
 #[derive(Debug, Drop)]
@@ -45,11 +40,11 @@ impl Model for Desk {
 }
 
 impl Desk {
-    ghost use Rattle.pcfs_top.specs.WellFormed.{IsWellFormed};
+    ghost use Rattle.access_history.specs.WellFormed.{IsWellFormed};
     ghost use Rattle.pcfs_top.specs.Lines.{IsLine};
-    ghost use Rattle.pcfs_top.specs.Citing.{AreCitable};
-    ghost use Rattle.pcfs_top.specs.declared.command.Command.TheVariants.{Verify};
-    ghost use Rattle.pcfs_top.specs.Replay.{replay, fresh};
+    ghost use Rattle.access_history.specs.Citing.{AreCitable};
+    ghost use Rattle.pcfs_top.specs.declared.command.Command.TheVariants.{Verify, Check};
+    ghost use Rattle.access_history.specs.Replay.{replay, fresh};
     ghost use Rattle.pcfs_top.specs.Script.{beginning, AnswersLine};
     ghost use Rattle.pcfs_top.specs.Desk.{IsAsked, IsReplied, IsAllowed};
 
@@ -105,6 +100,26 @@ impl Desk {
         }
     }
 
+    // Checks the proof of the goal from the statements of these numbers.
+    fn check(
+        &self,
+        alloc: Global,
+        goal: &Goal,
+        numbers: &Numbers,
+        proof: &ProofTree,
+    ) -> Result<Reply, NoMemory>
+        requires { AreCitable numbers.now }
+        ensures { IfOk result (λ reply. (line : List ℕ) → IsLine line (Check goal.now numbers.now proof.now) → AnswersLine self.now.base self.now.standing line reply self.now.standing) }
+    {
+        match self.gate.cite(alloc, numbers.as_slice())? {
+            Citation::Absent(number) => Ok(Reply::Absent(number as u64)),
+            Citation::Cited(cites) => match verify(alloc, &cites, goal, proof) {
+                Ok(grant) => Ok(Reply::Checked(grant)),
+                Err(fault) => unproved(fault),
+            },
+        }
+    }
+
     // Does what a line of a script asks for.
     fn follow(&mut self, alloc: Global, command: Command) -> Result<Reply, NoMemory>
         requires counted { (replay self.old.base self.old.standing.events).count < 2 ^ 48 - 1 }
@@ -124,6 +139,7 @@ impl Desk {
             }
             Command::Register(statement) => self.ask(alloc, &StepRequest::Register(statement)),
             Command::Verify(goal, numbers, proof) => self.verify(alloc, goal, &numbers, proof),
+            Command::Check(goal, numbers, proof) => self.check(alloc, &goal, &numbers, &proof),
             Command::Do(op, procaps) => {
                 self.ask(alloc, &StepRequest::Act(self.caller, op, procaps))
             }
@@ -138,8 +154,8 @@ impl Desk {
         ensures base { self.new.base ≡ self.old.base }
     {
         match read_line(alloc, line)? {
-            None => Ok(Reply::Bad(NO_FORM)),
-            Some(command) => self.follow(alloc, command),
+            Line::Asks(command) => self.follow(alloc, command),
+            Line::Faulty(reply) => Ok(reply),
         }
     }
 

@@ -1,10 +1,11 @@
-//! What is answered where a proof is refused.
+//! What is answered where a text or a proof is refused.
 
 ghost use Rattle.std.specs.Prelude.{◌≡◌, Some, None, IfOk, OnErr};
-ghost use Rattle.pcfs_top.specs.Faults.{unproved as unproved_reply};
+ghost use Rattle.pcfs_top.specs.Faults.{unproved as unproved_reply, bad_text as bad_text_reply};
 
-use crate::reply::Reply;
+use access_history::Reply;
 use bl_syntax::NoMemory;
+use bl_text::TextFault;
 use proof_verifier::CheckFault;
 
 /// The number of the fault and its node. An error exactly where there was no memory, which is no fault of the proof.
@@ -21,5 +22,21 @@ pub fn unproved(fault: CheckFault) -> Result<Reply, NoMemory>
         CheckFault::BadTerm(node) => Ok(Reply::Unproved(6, node as u64)),
         CheckFault::TooManyConditions(node) => Ok(Reply::Unproved(7, node as u64)),
         CheckFault::NoMemory => Err(NoMemory),
+    }
+}
+
+/// The number of the fault and its place in the text. An error exactly where there was no memory, which is no fault of
+/// the text.
+pub fn bad_text(fault: TextFault) -> Result<Reply, NoMemory>
+    ensures ok { IfOk result (λ reply. bad_text_reply fault ≡ Some reply) }
+    ensures err { OnErr result (bad_text_reply fault ≡ None) }
+{
+    match fault {
+        TextFault::Unexpected(at) => Ok(Reply::BadText(1, at as u64)),
+        TextFault::UnknownName(at) => Ok(Reply::BadText(2, at as u64)),
+        TextFault::BadDate(at) => Ok(Reply::BadText(3, at as u64)),
+        TextFault::Sort(at) => Ok(Reply::BadText(4, at as u64)),
+        TextFault::TooLarge(at) => Ok(Reply::BadText(5, at as u64)),
+        TextFault::NoMemory => Err(NoMemory),
     }
 }

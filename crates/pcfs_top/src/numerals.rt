@@ -1,17 +1,17 @@
-//! Numbers, seconds and ends of intervals in the text of a line.
+//! Numbers, files and seconds in the words of a line.
 
-ghost use Rattle.std.specs.Prelude.{◌≡◌, ◌↔◌, ◌<◌, ◌^◌, ℕ, ℤ, pos, length, slice_index, IsTrue, IfSome, MatchOption};
+ghost use Rattle.std.specs.Prelude.{◌≡◌, ◌↔◌, ◌<◌, ◌≤◌, ◌^◌, ℕ, ℤ, pos, length, IsTrue, IfSome, MatchOption};
 ghost use Rattle.std.specs.List.{list_all};
 ghost use Rattle.std.specs.Str.Parse.{digits_value};
 ghost use Rattle.bl_syntax.specs.Names.{is_digit};
-ghost use Rattle.bl_syntax.specs.declared.terms.TimePoint.{TimePoint};
-ghost use Rattle.pcfs_top.specs.Lines.{IsDigits, IsInteger, IsSecond, IsBound, IsNumber};
+ghost use Rattle.bl_syntax.specs.declared.terms.NodeId.{NodeId};
+ghost use Rattle.pcfs_top.specs.Lines.{IsDigits, IsInteger, IsSecond, IsFile, IsNumber, IsNumberBelow};
+ghost use Rattle.pcfs_top.specs.Numerals.{IsPlain};
 
 use crate::words::after;
-use bl_syntax::{TimePoint, is_moment};
+use bl_syntax::{NodeId, is_moment};
 
-/// Whether a byte is one of `0` to `9`.
-pub fn is_digit(byte: u8) -> bool
+fn is_digit(byte: u8) -> bool
     ensures { result ≡ is_digit byte }
 {
     b'0' <= byte && byte <= b'9'
@@ -29,20 +29,21 @@ fn is_numeral(word: &[u8]) -> bool
     1 <= word.len() && word.len() <= 18 && are_digits(word)
 }
 
-fn is_decimal(word: &[u8]) -> bool
-    ensures { IsTrue result ↔ (IsDigits word.now × (slice_index word.now 0 ≡ 48 → length word.now ≡ 1)) }
+// Whether the word is at most 20 digits that no zero leads.
+fn is_plain(word: &[u8]) -> bool
+    ensures { IsTrue result ↔ IsPlain word.now }
 {
-    is_numeral(word) && (word.len() == 1 || word[0] != b'0')
+    1 <= word.len() && word.len() <= 20 && are_digits(word) && (word.len() == 1 || word[0] != b'0')
 }
 
-fn digits_value(digits: &[u8]) -> u64
-    requires { IsDigits digits.now }
-    ensures value { result ≡ digits_value 10 digits.now }
-    ensures fits { result < 10 ^ 18 }
+fn digits_value(digits: &[u8]) -> u128
+    requires digits { IsTrue (list_all is_digit digits.now) }
+    requires few { length digits.now ≤ 20 }
+    ensures { result ≡ digits_value 10 digits.now }
 {
     let mut value = 0;
     for byte in digits {
-        value = value * 10 + u64::from(*byte - b'0');
+        value = value * 10 + u128::from(*byte - b'0');
     }
     value
 }
@@ -82,27 +83,33 @@ pub fn second(word: &[u8]) -> Option<i64>
     }
 }
 
-/// The end of an interval that the word writes: `-inf`, `+inf` or a second.
-pub fn bound(word: &[u8]) -> Option<TimePoint>
-    ensures found { MatchOption result ((point : TimePoint) → IsBound word.now point → ⊥) (IsBound word.now) }
-    ensures only { (point : TimePoint) → IsBound word.now point → result ≡ Some point }
-{
-    if word == b"-inf".as_slice() {
-        return Some(TimePoint::NegInf);
-    }
-    if word == b"+inf".as_slice() {
-        return Some(TimePoint::PosInf);
-    }
-    Some(TimePoint::At(second(word)?))
-}
-
 /// The number that the word writes: decimal digits without leading zeros, below 2^32.
 pub fn number(word: &[u8]) -> Option<u32>
     ensures found { MatchOption result ((n : ℕ) → IsNumber word.now n → ⊥) (IsNumber word.now) }
     ensures only { (n : ℕ) → IsNumber word.now n → result ≡ Some n }
 {
-    if !is_decimal(word) {
+    if !is_plain(word) {
         return None;
     }
     u32::try_from(digits_value(word)).ok()
+}
+
+// The number that the word writes: decimal digits without leading zeros, below 2^64.
+fn long_number(word: &[u8]) -> Option<u64>
+    ensures found { MatchOption result ((n : ℕ) → IsNumberBelow (2 ^ 64) word.now n → ⊥) (IsNumberBelow (2 ^ 64) word.now) }
+    ensures only { (n : ℕ) → IsNumberBelow (2 ^ 64) word.now n → result ≡ Some n }
+{
+    if !is_plain(word) {
+        return None;
+    }
+    u64::try_from(digits_value(word)).ok()
+}
+
+/// The node that the word writes: a `#` and its number.
+pub fn file(word: &[u8]) -> Option<NodeId>
+    ensures found { MatchOption result ((n : NodeId) → IsFile word.now n → ⊥) (IsFile word.now) }
+    ensures only { (n : NodeId) → IsFile word.now n → result ≡ Some n }
+{
+    let digits = after(word, b"#")?;
+    Some(NodeId(long_number(digits)?))
 }

@@ -1,13 +1,15 @@
 //! The line that a reply is written as.
 #![tactic(auto, using(crate::proofs::WrittenLemmas::writing))]
 
-ghost use Rattle.std.specs.Prelude.{◌≡◌, ◌++◌, ◌∷◌, [], OnOk, OnErr};
-ghost use Rattle.std.specs.Fmt.{decimal, signed_decimal};
+ghost use Rattle.std.specs.Prelude.{◌≡◌, ◌++◌, ◌∷◌, [], map, OnOk, OnErr};
+ghost use Rattle.std.specs.Fmt.{decimal};
+ghost use Rattle.bl_text.specs.Printed.{constraint_text, state_text};
 ghost use Rattle.pcfs_top.specs.Written.{BeginsWith};
-ghost use Rattle.pcfs_top.specs.ReplyText.{time_text, permission_text, term_text, constraint_text, state_text, cause_text, rejection_text, denial_text, reply_text};
+ghost use Rattle.pcfs_top.specs.ReplyText.{cause_text, rejection_text, denial_text, listed_text, checked_text, reply_text};
 
-use crate::reply::{Cause, Denial, RegisterFault, Reply};
-use bl_syntax::{Bytes, Constraint, NoMemory, Perm, StatePred, Term, TimePoint};
+use access_history::{Cause, Denial, RegisterFault, Reply};
+use bl_syntax::{Bytes, Constraint, Grant, NoMemory, StatePred};
+use bl_text::{print_constraint, print_state};
 
 /// Writes a reply as a line with its end, all of it or nothing.
 pub fn write_reply(out: &mut Bytes, reply: &Reply) -> Result<(), NoMemory>
@@ -42,6 +44,7 @@ fn write_text(out: &mut Bytes, reply: &Reply) -> Result<(), NoMemory>
             write_counted(out, " time ", u64::from(*times))?;
             write_counted(out, " state ", u64::from(*states))
         }
+        Reply::Checked(grant) => write_checked(out, grant),
         Reply::Node(number) => write_counted(out, "ok node #", number.0),
         Reply::Denied(denial) => write_denial(out, denial),
         Reply::Refused(refusal, at) => {
@@ -55,6 +58,10 @@ fn write_text(out: &mut Bytes, reply: &Reply) -> Result<(), NoMemory>
             write_counted(out, " ", *node)
         }
         Reply::Bad(fault) => write_counted(out, "bad ", u64::from(*fault)),
+        Reply::BadText(fault, at) => {
+            write_counted(out, "bad 4 ", u64::from(*fault))?;
+            write_counted(out, " ", *at)
+        }
         Reply::NoMemory => write(out, "nomemory"),
     }
 }
@@ -90,107 +97,58 @@ fn write_cause(out: &mut Bytes, cause: &Cause) -> Result<(), NoMemory>
         Cause::Time(place, constraint) => {
             write_counted(out, "time ", u64::from(*place))?;
             write(out, " ")?;
-            write_constraint(out, constraint)
+            print_constraint(constraint, out)
         }
         Cause::State(place, state) => {
             write_counted(out, "state ", u64::from(*place))?;
             write(out, " ")?;
-            write_state(out, state)
+            print_state(state, out)
         }
     }
 }
 
-fn write_constraint(out: &mut Bytes, constraint: &Constraint) -> Result<(), NoMemory>
-    ensures ok { OnOk result (out.new ≡ out.old ++ constraint_text constraint.now) }
+fn write_checked(out: &mut Bytes, grant: &Grant) -> Result<(), NoMemory>
+    ensures ok { OnOk result (out.new ≡ out.old ++ checked_text grant.now) }
     ensures err { OnErr result (BeginsWith out.new out.old) }
 {
-    write_term(out, &constraint.low)?;
-    write(out, " <= ")?;
-    write_term(out, &constraint.high)
+    let times = grant.times();
+    let states = grant.states();
+    write_counted(out, "ok checked time ", times.len() as u64)?;
+    write_counted(out, " state ", states.len() as u64)?;
+    write_times(out, " ", times, states)
 }
 
-fn write_state(out: &mut Bytes, state: &StatePred) -> Result<(), NoMemory>
-    ensures ok { OnOk result (out.new ≡ out.old ++ state_text state.now) }
+// Writes the conditions, each behind its lead.
+fn write_times(
+    out: &mut Bytes,
+    lead: &str,
+    times: &[Constraint],
+    states: &[StatePred],
+) -> Result<(), NoMemory>
+    ensures ok { OnOk result (out.new ≡ out.old ++ listed_text lead.now (map (constraint_text 0) times.now ++ map (state_text 0) states.now)) }
     ensures err { OnErr result (BeginsWith out.new out.old) }
 {
-    match state {
-        StatePred::Owner(file, owner) => {
-            write_following(out, "owner(", file)?;
-            write_following(out, ",", owner)?;
+    match times {
+        [] => write_states(out, lead, states),
+        [first, others @ ..] => {
+            write(out, lead)?;
+            print_constraint(first, out)?;
+            write_times(out, "; ", others, states)
         }
-        StatePred::HasXattr(file, name, value) => {
-            write_following(out, "has_xattr(", file)?;
-            write_following(out, ",", name)?;
-            write_following(out, ",", value)?;
-        }
-        StatePred::InDir(file, directory) => {
-            write_following(out, "in_dir(", file)?;
-            write_following(out, ",", directory)?;
-        }
-    }
-    write(out, ")")
-}
-
-fn write_following(out: &mut Bytes, before: &str, term: &Term) -> Result<(), NoMemory>
-    ensures ok { OnOk result (out.new ≡ out.old ++ (before.now ++ term_text term.now)) }
-    ensures err { OnErr result (BeginsWith out.new out.old) }
-{
-    write(out, before)?;
-    write_term(out, term)
-}
-
-fn write_term(out: &mut Bytes, term: &Term) -> Result<(), NoMemory>
-    ensures ok { OnOk result (out.new ≡ out.old ++ term_text term.now) }
-    ensures err { OnErr result (BeginsWith out.new out.old) }
-{
-    match term {
-        Term::Prin(name) => out.extend(name.bytes()),
-        Term::File(number) => write_counted(out, "#", number.0),
-        Term::Perm(permission) => write_permission(out, permission),
-        Term::Time(point) => write_time(out, point),
-        Term::Text(constant) => {
-            write(out, "\"")?;
-            out.extend(constant.bytes())?;
-            write(out, "\"")
-        }
-        Term::Ctime => write(out, "ctime"),
-        Term::Param(number) => write_counted(out, "?", u64::from(*number)),
-        Term::Bound(_) => Ok(()),
     }
 }
 
-fn write_permission(out: &mut Bytes, permission: &Perm) -> Result<(), NoMemory>
-    ensures ok { OnOk result (out.new ≡ out.old ++ permission_text permission.now) }
+fn write_states(out: &mut Bytes, lead: &str, states: &[StatePred]) -> Result<(), NoMemory>
+    ensures ok { OnOk result (out.new ≡ out.old ++ listed_text lead.now (map (state_text 0) states.now)) }
     ensures err { OnErr result (BeginsWith out.new out.old) }
 {
-    match permission {
-        Perm::Read => write(out, "read"),
-        Perm::Write => write(out, "write"),
-        Perm::Execute => write(out, "execute"),
-        Perm::Identity => write(out, "identity"),
-        Perm::Govern => write(out, "govern"),
-    }
-}
-
-fn write_time(out: &mut Bytes, point: &TimePoint) -> Result<(), NoMemory>
-    ensures ok { OnOk result (out.new ≡ out.old ++ time_text point.now) }
-    ensures err { OnErr result (BeginsWith out.new out.old) }
-{
-    match point {
-        TimePoint::NegInf => write(out, "-inf"),
-        TimePoint::At(second) => write_second(out, *second),
-        TimePoint::PosInf => write(out, "+inf"),
-    }
-}
-
-fn write_second(out: &mut Bytes, second: i64) -> Result<(), NoMemory>
-    ensures ok { OnOk result (out.new ≡ out.old ++ signed_decimal second) }
-    ensures err { OnErr result (BeginsWith out.new out.old) }
-{
-    if second < 0 {
-        write_counted(out, "-", second.unsigned_abs())
-    } else {
-        write_number(out, second.unsigned_abs())
+    match states {
+        [] => Ok(()),
+        [first, others @ ..] => {
+            write(out, lead)?;
+            print_state(first, out)?;
+            write_states(out, "; ", others)
+        }
     }
 }
 

@@ -3,7 +3,7 @@
 ghost use Rattle.std.specs.Prelude.{◌≡◌, ◌≤◌, ◌<◌, ◌+◌, ◌^◌, ◌++◌, ◌∷◌, [], List, ℕ, length, OnOk, OnErr, IsErrOf};
 ghost use Rattle.pcfs_ports.specs.Faults.{HasRisen};
 ghost use Rattle.pcfs_ports.specs.Told.{with_back, HoldsSome};
-ghost use Rattle.pcfs_top.specs.Replay.{fresh};
+ghost use Rattle.access_history.specs.Replay.{fresh};
 ghost use Rattle.pcfs_top.specs.Script.{beginning};
 ghost use Rattle.pcfs_top.specs.ReplyText.{reply_text};
 ghost use Rattle.pcfs_top.specs.Run.{RunsWhole, RunsPart};
@@ -11,8 +11,8 @@ ghost use Rattle.pcfs_top.specs.declared.script.ScriptFault.TheVariants.{NoMemor
 
 use crate::desk::Desk;
 use crate::lines::first_line;
-use crate::reply::Reply;
 use crate::reply_text::write_reply;
+use access_history::Reply;
 use bl_syntax::{Bytes, NoMemory};
 use pcfs_ports::{Failed, Sink, write_all};
 use std::alloc::Global;

@@ -1,5 +1,6 @@
 pub mod Faults
 pub mod Limits
+pub mod NodeReading
 pub mod Parts
 pub mod Premises
 pub mod Proof
@@ -7,6 +8,7 @@ pub mod ProofCode
 pub mod ProofCodec
 pub mod ProofReading
 pub mod ProofSpelling
+pub mod RuleKinds
 pub mod RuleTimes
 pub mod Rules
 pub mod Writing

@@ -73,7 +73,7 @@ fn places_count_from_the_first_byte_of_the_input(rt: HostRuntime) -> Result<(), 
 
 #[test]
 fn the_first_fault_is_told(rt: HostRuntime) {
-    let cases: [(&[u8], ProofFault); 19] = [
+    let cases: [(&[u8], ProofFault); 25] = [
         (&[], ProofFault::Short),
         (&[0x00], ProofFault::BadTag(0)),
         (&[0x0d], ProofFault::BadTag(0)),
@@ -83,6 +83,11 @@ fn the_first_fault_is_told(rt: HostRuntime) {
         (&[0x01, 0x00], ProofFault::Short),
         (&[0x15, 0x00], ProofFault::Short),
         (&[0x05], ProofFault::Short),
+        (&[0x12], ProofFault::Short),
+        (&[0x17, 0x00, 0x00], ProofFault::Short),
+        (&[0x16, 0x00, 0x00], ProofFault::Short),
+        (&[0x16, 0x00, 0x00, 0x06], ProofFault::Short),
+        (&[0x16, 0x00, 0x00, 0x06, 0x06], ProofFault::Short),
         (&[0x04, 0x07], ProofFault::Short),
         (&[0x04, 0x07, 0x00], ProofFault::BadTag(2)),
         (&[0x14, 0x00, 0x00, 0x20, 0x20], ProofFault::BadTag(3)),
@@ -100,6 +105,10 @@ fn the_first_fault_is_told(rt: HostRuntime) {
         (
             &[0x17, 0x00, 0x00, 0x01, 0x01, 0x41],
             ProofFault::BadTerm(CodecFault::NotCanonical(4)),
+        ),
+        (
+            &[0x16, 0x00, 0x00, 0x00],
+            ProofFault::BadTerm(CodecFault::BadTag(3)),
         ),
         (
             &[0x16, 0x00, 0x00, 0x06, 0x00],
@@ -149,5 +158,9 @@ fn large_proofs_are_not_read(rt: HostRuntime) -> Result<(), Fail> {
     write_proof(&tree, &mut large)?;
     let fault = read_proof(alloc, large.as_slice()).err();
     assert_eq!(rt; fault, Some(ProofFault::TooLarge(4096)));
+    large.truncate(4096);
+    large.push(0x1c)?;
+    let fault = read_proof(alloc, large.as_slice()).err();
+    assert_eq!(rt; fault, Some(ProofFault::BadTag(4096)));
     Ok(())
 }

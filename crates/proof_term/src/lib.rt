@@ -5,6 +5,7 @@
 #![tactic(auto)]
 
 mod fault;
+mod kinds;
 pub mod laws;
 mod measure;
 mod part;

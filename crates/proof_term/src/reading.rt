@@ -1,14 +1,20 @@
 //! The reader of proofs.
 
-ghost use Rattle.std.specs.Prelude.{◌≡◌, ◌<◌, OnOk};
+ghost use Rattle.std.specs.Prelude.{◌≡◌, ◌≢◌, ◌<◌, ◌⊎◌, ℕ, true, false, OnOk, IfOk, IfErr};
 ghost use Rattle.proof_term.specs.Proof.{deduction};
-ghost use Rattle.proof_term.specs.ProofReading.{Gives, is_right, is_left, right_rule_at, left_rule_at, interval_at, rule_at, rule_within, premises_at, proof_at, proof_reading};
+ghost use Rattle.bl_syntax.specs.Reading.{place};
+ghost use Rattle.proof_term.specs.ProofReading.{Gives, Fails, is_right, is_left, right_rule_at, left_rule_at, interval_at, rule_at, rule_within, premises_at, proof_at, proof_reading};
+ghost use Rattle.proof_term.specs.RuleKinds.{names_terms, one_rule, two_rule, plain_rule, termed_rule};
+ghost use Rattle.proof_term.specs.NodeReading.{behind_tag};
 ghost use Rattle.proof_term.specs.ProofCodec.{ReadsProof};
+ghost use Rattle.proof_term.specs.Rules.{by_axiom, by_one, by_two};
+ghost use Rattle.proof_term.specs.declared.fault.ProofFault.TheVariants.{NoMemory};
 
 use crate::fault::ProofFault;
+use crate::kinds::{Plain, PlainOne, PlainTwo, Termed};
 use crate::measure::{MOST_LEVELS, MOST_NODES};
 use crate::proof::Proof;
-use crate::rule::{Axiom, OnePremise, Rule, TwoPremises};
+use crate::rule::Axiom;
 use crate::tree::ProofTree;
 use bl_syntax::fields::{place, term_at, u16_at};
 use std::alloc::Global;
@@ -40,106 +46,126 @@ fn is_left(tag: u8) -> bool
     17 <= tag && tag <= 27
 }
 
-/// The fields of the right rule with that tag, which stands at `start`.
+fn names_terms(tag: u8) -> bool
+    ensures { result ≡ names_terms tag }
+{
+    tag == 0x0a || tag == 0x16 || tag == 0x17
+}
+
+/// The right rule with that tag, which stands at `start`, where it names no term.
 #[tactic(auto, unfolding(crate::specs::ProofReading::right_rule_at))]
-fn right_rule_at(
-    input: usize,
-    start: usize,
-    tag: u8,
-    rest: &[u8],
-) -> Result<(Rule, &[u8]), ProofFault>
-    ensures { Gives (λ x. (x.0, x.1.now)) result (right_rule_at input start tag rest.now) }
+fn plain_right_rule_at(start: usize, tag: u8, rest: &[u8]) -> Result<(Plain, &[u8]), ProofFault>
+    requires { tag ≢ 0x0a }
+    ensures { (input : ℕ) → Gives (λ x. (plain_rule x.0, x.1.now)) result (right_rule_at input start tag rest.now) }
 {
     match tag {
         0x01 => {
             let (h, rest) = u16_at(rest)?;
-            Ok((Rule::Axiom(Axiom::Init(h)), rest))
+            Ok((Plain::Axiom(Axiom::Init(h)), rest))
         }
-        0x02 => Ok((Rule::Axiom(Axiom::ConsR), rest)),
-        0x03 => Ok((Rule::Axiom(Axiom::InterR), rest)),
-        0x04 => Ok((Rule::Two(TwoPremises::AndR), rest)),
-        0x05 => Ok((Rule::One(OnePremise::OrR1), rest)),
-        0x06 => Ok((Rule::One(OnePremise::OrR2), rest)),
-        0x07 => Ok((Rule::Axiom(Axiom::TrueR), rest)),
-        0x08 => Ok((Rule::One(OnePremise::ImpR), rest)),
-        0x09 => Ok((Rule::One(OnePremise::ForallR), rest)),
-        0x0a => match term_at(input, rest) {
-            Ok((t, rest)) => Ok((Rule::One(OnePremise::ExistsR(t)), rest)),
-            Err(fault) => Err(ProofFault::from(fault)),
-        },
-        0x0b => Ok((Rule::One(OnePremise::SaysR), rest)),
-        0x0c => Ok((Rule::One(OnePremise::AtR), rest)),
+        0x02 => Ok((Plain::Axiom(Axiom::ConsR), rest)),
+        0x03 => Ok((Plain::Axiom(Axiom::InterR), rest)),
+        0x04 => Ok((Plain::Two(PlainTwo::AndR), rest)),
+        0x05 => Ok((Plain::One(PlainOne::OrR1), rest)),
+        0x06 => Ok((Plain::One(PlainOne::OrR2), rest)),
+        0x07 => Ok((Plain::Axiom(Axiom::TrueR), rest)),
+        0x08 => Ok((Plain::One(PlainOne::ImpR), rest)),
+        0x09 => Ok((Plain::One(PlainOne::ForallR), rest)),
+        0x0b => Ok((Plain::One(PlainOne::SaysR), rest)),
+        0x0c => Ok((Plain::One(PlainOne::AtR), rest)),
         _ => Err(ProofFault::BadTag(start)),
     }
 }
 
-/// The two times between which an implication is used.
-fn interval_at(input: usize, h: u16, bytes: &[u8]) -> Result<(Rule, &[u8]), ProofFault>
-    ensures { Gives (λ x. (x.0, x.1.now)) result (interval_at input h bytes.now) }
-{
-    match term_at(input, bytes) {
-        Ok((t1, rest)) => match term_at(input, rest) {
-            Ok((t2, rest)) => Ok((Rule::Two(TwoPremises::ImpL(h, t1, t2)), rest)),
-            Err(fault) => Err(ProofFault::from(fault)),
-        },
-        Err(fault) => Err(ProofFault::from(fault)),
-    }
-}
-
-/// The fields of the left rule with that tag, which stands at `start`. Each names a hypothesis first.
+/// The left rule with that tag, which stands at `start`, where it names no term. Each names a hypothesis.
 #[tactic(auto, unfolding(crate::specs::ProofReading::left_rule_at))]
-fn left_rule_at(
-    input: usize,
-    start: usize,
-    tag: u8,
-    rest: &[u8],
-) -> Result<(Rule, &[u8]), ProofFault>
-    ensures { Gives (λ x. (x.0, x.1.now)) result (left_rule_at input start tag rest.now) }
+fn plain_left_rule_at(start: usize, tag: u8, rest: &[u8]) -> Result<(Plain, &[u8]), ProofFault>
+    requires one { tag ≢ 0x16 }
+    requires other { tag ≢ 0x17 }
+    ensures { (input : ℕ) → Gives (λ x. (plain_rule x.0, x.1.now)) result (left_rule_at input start tag rest.now) }
 {
     if !is_left(tag) {
         return Err(ProofFault::BadTag(start));
     }
     let (h, rest) = u16_at(rest)?;
     match tag {
-        0x11 => Ok((Rule::One(OnePremise::ConsL(h)), rest)),
-        0x12 => Ok((Rule::One(OnePremise::InterL(h)), rest)),
-        0x13 => Ok((Rule::One(OnePremise::AndL(h)), rest)),
-        0x14 => Ok((Rule::Two(TwoPremises::OrL(h)), rest)),
-        0x15 => Ok((Rule::Axiom(Axiom::FalseL(h)), rest)),
-        0x16 => interval_at(input, h, rest),
-        0x17 => match term_at(input, rest) {
-            Ok((t, rest)) => Ok((Rule::One(OnePremise::ForallL(h, t)), rest)),
-            Err(fault) => Err(ProofFault::from(fault)),
-        },
-        0x18 => Ok((Rule::One(OnePremise::ExistsL(h)), rest)),
-        0x19 => Ok((Rule::One(OnePremise::SaysL(h)), rest)),
-        0x1a => Ok((Rule::One(OnePremise::Claim(h)), rest)),
-        _ => Ok((Rule::One(OnePremise::AtL(h)), rest)),
+        0x11 => Ok((Plain::One(PlainOne::ConsL(h)), rest)),
+        0x12 => Ok((Plain::One(PlainOne::InterL(h)), rest)),
+        0x13 => Ok((Plain::One(PlainOne::AndL(h)), rest)),
+        0x14 => Ok((Plain::Two(PlainTwo::OrL(h)), rest)),
+        0x15 => Ok((Plain::Axiom(Axiom::FalseL(h)), rest)),
+        0x18 => Ok((Plain::One(PlainOne::ExistsL(h)), rest)),
+        0x19 => Ok((Plain::One(PlainOne::SaysL(h)), rest)),
+        0x1a => Ok((Plain::One(PlainOne::Claim(h)), rest)),
+        _ => Ok((Plain::One(PlainOne::AtL(h)), rest)),
     }
 }
 
-/// The fields of the rule with that tag, which stands at `start`.
+/// The rule with that tag, which stands at `start`, where it names no term.
 #[tactic(auto, unfolding(crate::specs::ProofReading::rule_at))]
-fn rule_at(input: usize, start: usize, tag: u8, rest: &[u8]) -> Result<(Rule, &[u8]), ProofFault>
-    ensures { Gives (λ x. (x.0, x.1.now)) result (rule_at input start tag rest.now) }
+fn plain_rule_at(start: usize, tag: u8, rest: &[u8]) -> Result<(Plain, &[u8]), ProofFault>
+    requires { names_terms tag ≡ false }
+    ensures { (input : ℕ) → Gives (λ x. (plain_rule x.0, x.1.now)) result (rule_at input start tag rest.now) }
 {
     if is_right(tag) {
-        right_rule_at(input, start, tag, rest)
+        plain_right_rule_at(start, tag, rest)
     } else {
-        left_rule_at(input, start, tag, rest)
+        plain_left_rule_at(start, tag, rest)
     }
 }
 
-/// The rule at the root of a proof of at most so many levels and nodes: its tag is tested first, then
-/// the nodes, then the levels.
+/// The two times between which an implication is used.
+fn interval_at(input: usize, h: u16, bytes: &[u8]) -> Result<(Termed, &[u8]), ProofFault>
+    ensures { Gives (λ x. (termed_rule x.0, x.1.now)) result (interval_at input h bytes.now) }
+{
+    match term_at(input, bytes) {
+        Ok((t1, rest)) => match term_at(input, rest) {
+            Ok((t2, rest)) => Ok((Termed::ImpL(h, t1, t2), rest)),
+            Err(fault) => Err(ProofFault::from(fault)),
+        },
+        Err(fault) => Err(ProofFault::from(fault)),
+    }
+}
+
+/// The left rule with that tag that names a hypothesis and terms.
+#[tactic(auto, unfolding(crate::specs::ProofReading::left_rule_at))]
+fn termed_left_rule_at(input: usize, tag: u8, rest: &[u8]) -> Result<(Termed, &[u8]), ProofFault>
+    requires { (tag ≡ 0x16) ⊎ (tag ≡ 0x17) }
+    ensures { (start : ℕ) → Gives (λ x. (termed_rule x.0, x.1.now)) result (left_rule_at input start tag rest.now) }
+{
+    let (h, rest) = u16_at(rest)?;
+    if tag == 0x16 {
+        interval_at(input, h, rest)
+    } else {
+        match term_at(input, rest) {
+            Ok((t, rest)) => Ok((Termed::ForallL(h, t), rest)),
+            Err(fault) => Err(ProofFault::from(fault)),
+        }
+    }
+}
+
+/// The rule with that tag that names terms.
+#[tactic(auto, unfolding(crate::specs::ProofReading::rule_at, crate::specs::ProofReading::right_rule_at))]
+fn termed_rule_at(input: usize, tag: u8, rest: &[u8]) -> Result<(Termed, &[u8]), ProofFault>
+    requires { names_terms tag ≡ true }
+    ensures { (start : ℕ) → Gives (λ x. (termed_rule x.0, x.1.now)) result (rule_at input start tag rest.now) }
+{
+    if tag == 0x0a {
+        match term_at(input, rest) {
+            Ok((t, rest)) => Ok((Termed::ExistsR(t), rest)),
+            Err(fault) => Err(ProofFault::from(fault)),
+        }
+    } else {
+        termed_left_rule_at(input, tag, rest)
+    }
+}
+
+/// The tag at the root of a proof of at most so many levels and nodes, and the bytes behind it: the tag is tested
+/// first, then the nodes, then the levels.
 #[tactic(auto, unfolding(crate::specs::ProofReading::rule_within))]
-fn rule_within(
-    levels: u8,
-    nodes: u16,
-    input: usize,
-    bytes: &[u8],
-) -> Result<(Rule, &[u8]), ProofFault>
-    ensures same { Gives (λ x. (x.0, x.1.now)) result (rule_within levels nodes input bytes.now) }
+fn tag_within(levels: u8, nodes: u16, input: usize, bytes: &[u8]) -> Result<(u8, &[u8]), ProofFault>
+    ensures found { IfOk result (λ x. rule_within levels nodes input bytes.now ≡ rule_at input (place input bytes.now) x.0 x.1.now) }
+    ensures fault { IfErr result (λ fault. Fails fault (rule_within levels nodes input bytes.now)) }
     ensures room { OnOk result ((0 < levels) × (0 < nodes)) }
 {
     match bytes {
@@ -155,9 +181,50 @@ fn rule_within(
             if levels == 0 {
                 return Err(ProofFault::TooDeep(start));
             }
-            rule_at(input, start, *tag, rest)
+            Ok((*tag, rest))
         }
     }
+}
+
+// A proof is large, and a function clears its locals when it begins: so of those that call themselves, only the ones for
+// rules with terms hold a large one.
+
+/// The proof in memory of its own.
+#[inline(never)]
+fn boxed(alloc: Global, p: Proof) -> Result<Box<Proof>, ProofFault>
+    ensures ok { IfOk result (λ b. deduction b.value ≡ deduction p) }
+    ensures err { IfErr result (λ fault. fault ≡ NoMemory) }
+{
+    Ok(Box::new(alloc, p)?)
+}
+
+#[inline(never)]
+fn by_axiom(alloc: Global, r: Axiom) -> Result<Box<Proof>, ProofFault>
+    ensures ok { IfOk result (λ b. deduction b.value ≡ by_axiom r) }
+    ensures err { IfErr result (λ fault. fault ≡ NoMemory) }
+{
+    Ok(Box::new(alloc, r.proof())?)
+}
+
+#[inline(never)]
+fn by_one(alloc: Global, r: PlainOne, p: Box<Proof>) -> Result<Box<Proof>, ProofFault>
+    ensures ok { IfOk result (λ b. deduction b.value ≡ by_one (one_rule r) (deduction p.value)) }
+    ensures err { IfErr result (λ fault. fault ≡ NoMemory) }
+{
+    Ok(Box::new(alloc, r.proof(p))?)
+}
+
+#[inline(never)]
+fn by_two(
+    alloc: Global,
+    r: PlainTwo,
+    p: Box<Proof>,
+    q: Box<Proof>,
+) -> Result<Box<Proof>, ProofFault>
+    ensures ok { IfOk result (λ b. deduction b.value ≡ by_two (two_rule r) (deduction p.value) (deduction q.value)) }
+    ensures err { IfErr result (λ fault. fault ≡ NoMemory) }
+{
+    Ok(Box::new(alloc, r.proof(p, q))?)
 }
 
 /// A proof of at most so many levels and nodes, how many nodes are left, and the bytes behind it.
@@ -172,35 +239,109 @@ pub(crate) fn proof_at(
 ) -> Result<(Box<Proof>, u16, &[u8]), ProofFault>
     ensures { Gives (λ x. (deduction x.0.value, (x.1, x.2.now))) result (proof_at levels nodes input bytes.now) }
 {
-    match rule_within(levels, nodes, input, bytes) {
-        Ok((rule, rest)) => premises_at(alloc, levels - 1, nodes - 1, input, rule, rest),
+    match tag_within(levels, nodes, input, bytes) {
+        Ok((tag, rest)) => {
+            let start = place(input, bytes);
+            if names_terms(tag) {
+                termed_at(alloc, levels - 1, nodes - 1, input, start, tag, rest)
+            } else {
+                plain_at(alloc, levels - 1, nodes - 1, input, start, tag, rest)
+            }
+        }
+        Err(fault) => Err(fault),
+    }
+}
+
+/// The proof whose root has that tag, at `start`, where its rule names no term.
+#[cycle(proofs)]
+fn plain_at(
+    alloc: Global,
+    levels: u8,
+    nodes: u16,
+    input: usize,
+    start: usize,
+    tag: u8,
+    rest: &[u8],
+) -> Result<(Box<Proof>, u16, &[u8]), ProofFault>
+    requires { names_terms tag ≡ false }
+    ensures { Gives (λ x. (deduction x.0.value, (x.1, x.2.now))) result
+        (behind_tag (λ left more. proof_at levels left input more) nodes input start tag rest.now) }
+{
+    match plain_rule_at(start, tag, rest) {
+        Ok((rule, behind)) => plain_premises_at(alloc, levels, nodes, input, rule, behind),
         Err(fault) => Err(fault),
     }
 }
 
 /// The proof by the rule, whose premises are read.
 #[cycle(proofs)]
-fn premises_at(
+fn plain_premises_at(
     alloc: Global,
     levels: u8,
     nodes: u16,
     input: usize,
-    rule: Rule,
+    rule: Plain,
     bytes: &[u8],
 ) -> Result<(Box<Proof>, u16, &[u8]), ProofFault>
     ensures { Gives (λ x. (deduction x.0.value, (x.1, x.2.now))) result
-        (premises_at (λ left rest. proof_at levels left input rest) rule nodes bytes.now) }
+        (premises_at (λ left rest. proof_at levels left input rest) (plain_rule rule) nodes bytes.now) }
 {
     match rule {
-        Rule::Axiom(r) => Ok((Box::new(alloc, r.proof())?, nodes, bytes)),
-        Rule::One(r) => {
+        Plain::Axiom(r) => Ok((by_axiom(alloc, r)?, nodes, bytes)),
+        Plain::One(r) => {
             let (p, nodes, rest) = proof_at(alloc, levels, nodes, input, bytes)?;
-            Ok((Box::new(alloc, r.proof(p))?, nodes, rest))
+            Ok((by_one(alloc, r, p)?, nodes, rest))
         }
-        Rule::Two(r) => {
+        Plain::Two(r) => {
             let (p, nodes, rest) = proof_at(alloc, levels, nodes, input, bytes)?;
             let (q, nodes, rest) = proof_at(alloc, levels, nodes, input, rest)?;
-            Ok((Box::new(alloc, r.proof(p, q))?, nodes, rest))
+            Ok((by_two(alloc, r, p, q)?, nodes, rest))
+        }
+    }
+}
+
+/// The proof whose root has that tag, at `start`, where its rule names terms.
+#[inline(never)]
+#[cycle(proofs)]
+fn termed_at(
+    alloc: Global,
+    levels: u8,
+    nodes: u16,
+    input: usize,
+    start: usize,
+    tag: u8,
+    rest: &[u8],
+) -> Result<(Box<Proof>, u16, &[u8]), ProofFault>
+    requires { names_terms tag ≡ true }
+    ensures { Gives (λ x. (deduction x.0.value, (x.1, x.2.now))) result
+        (behind_tag (λ left more. proof_at levels left input more) nodes input start tag rest.now) }
+{
+    match termed_rule_at(input, tag, rest) {
+        Ok((rule, behind)) => termed_premises_at(alloc, levels, nodes, input, &rule, behind),
+        Err(fault) => Err(fault),
+    }
+}
+
+/// The proof by the rule, whose premises are read.
+#[cycle(proofs)]
+fn termed_premises_at<'a>(
+    alloc: Global,
+    levels: u8,
+    nodes: u16,
+    input: usize,
+    rule: &Termed,
+    bytes: &'a [u8],
+) -> Result<(Box<Proof>, u16, &'a [u8]), ProofFault>
+    ensures { Gives (λ x. (deduction x.0.value, (x.1, x.2.now))) result
+        (premises_at (λ left rest. proof_at levels left input rest) (termed_rule rule.now) nodes bytes.now) }
+{
+    let (p, nodes, rest) = proof_at(alloc, levels, nodes, input, bytes)?;
+    match rule {
+        Termed::ExistsR(t) => Ok((boxed(alloc, Proof::ExistsR(*t, p))?, nodes, rest)),
+        Termed::ForallL(h, t) => Ok((boxed(alloc, Proof::ForallL(*h, *t, p))?, nodes, rest)),
+        Termed::ImpL(h, t1, t2) => {
+            let (q, nodes, rest) = proof_at(alloc, levels, nodes, input, rest)?;
+            Ok((boxed(alloc, Proof::ImpL(*h, *t1, *t2, p, q))?, nodes, rest))
         }
     }
 }

@@ -1,8 +1,10 @@
 pub mod Heads
 pub mod Places
+pub mod Printable
 pub mod Printed
 pub mod Proofs
 pub mod Read
 pub mod Rules
+pub mod Settled
 pub mod Stops
 pub mod Texts

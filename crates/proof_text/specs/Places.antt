@@ -52,7 +52,7 @@ time_at text here = do
   _ ← sorted [] sorts.Time (token_at text here).at t
   Ok (t, behind_token (token_at text here))
 
-abbrev numbered : ℕ → ℕ → ℕ → Option ℕ → Result (ℕ × Place) TextFault
+abbrev pub numbered : ℕ → ℕ → ℕ → Option ℕ → Result (ℕ × Place) TextFault
 numbered at size left None = Err (Unexpected at)
 numbered at size left (Some number) = Ok (number, placed (at + size) left)
 
@@ -68,7 +68,7 @@ hypothesis_at text here = hypothesis_in (first_byte text here) here.left (take_w
 abbrev pub is_letter : ℕ → Bool
 is_letter byte = is_lower_case byte || is_upper_case byte
 
-abbrev named : ℕ → ℕ → ℕ → Option RuleName → Result (RuleName × Place) TextFault
+abbrev pub named : ℕ → ℕ → ℕ → Option RuleName → Result (RuleName × Place) TextFault
 named at size left None = Err (UnknownName at)
 named at size left (Some name) = Ok (name, placed (at + size) left)
 

@@ -1,9 +1,12 @@
 //! Laws of the texts of proofs. A law is the contract of an empty function, which nothing calls.
 
-ghost use Rattle.std.specs.Prelude.{◌≡◌, ℕ, List};
+ghost use Rattle.std.specs.Prelude.{◌≡◌, ℕ, List, Some};
 ghost use Rattle.bl_tokens.specs.declared.faults.TextFault.{TextFault};
 ghost use Rattle.bl_text.specs.Texts.{AreOneFault};
 ghost use Rattle.proof_term.specs.Proof.{Deduction};
+ghost use Rattle.proof_text.specs.Printable.{IsSayableProof};
+ghost use Rattle.proof_text.specs.Printed.{proof_text};
+ghost use Rattle.proof_text.specs.Settled.{fault_place, SameUpTo};
 ghost use Rattle.proof_text.specs.Texts.{IsProofText, ProofTextFault};
 
 /// A text is one proof.
@@ -21,4 +24,16 @@ pub fn no_fault_of_a_proof()
 pub fn one_fault_of_a_proof()
     ensures { (text : List ℕ) (e f : TextFault) → ProofTextFault text e → ProofTextFault text f
         → AreOneFault e f }
+{}
+
+/// A fault depends on the tokens up to its own alone: a text that has the same next token from each
+/// byte on, up to the place of the fault, has it too.
+pub fn settled_fault_of_a_proof()
+    ensures { (text other : List ℕ) (e : TextFault) (at : ℕ) → ProofTextFault text e → fault_place e ≡ Some at
+        → SameUpTo text other at → ProofTextFault other e }
+{}
+
+/// The text that a proof is written as is a text of it.
+pub fn printed_proof_is_read()
+    ensures { (d : Deduction) → IsSayableProof d → IsProofText (proof_text d) d }
 {}

@@ -1,6 +1,10 @@
-//! Lines of each form, and lines outside them.
+//! Lines of each form, lines with a fault in their text, and lines outside the forms.
 
 use super::*;
+use bl_syntax::{Goal, Statement};
+use bl_text::print_statement;
+use proof_term::ProofTree;
+use proof_text::print_proof;
 use std::alloc::AllocError;
 use std::str;
 use std::test::Fail;
@@ -9,26 +13,45 @@ fn text(bytes: &[u8]) -> &str {
     str::from_utf8(bytes).unwrap_or("no text")
 }
 
-fn shown(alloc: Global, command: &Option<Command>) -> Result<String, AllocError> {
-    match command {
-        None => format!(in alloc; "nothing"),
-        Some(Command::At(second)) => format!(in alloc; "the clock at {second}"),
-        Some(Command::As(who)) => format!(in alloc; "{} calls", text(who.bytes())),
-        Some(Command::Register(statement)) => {
-            let who = text(statement.who().bytes());
-            let from = statement.from();
-            let to = statement.to();
-            format!(in alloc; "{who} says it from {from:?} to {to:?}")
+fn statement_text(alloc: Global, statement: &Statement) -> Result<String, AllocError> {
+    let mut out = Bytes::new(alloc);
+    let printed = print_statement(statement, &mut out).is_ok();
+    format!(in alloc; "{} {printed}", text(out.as_slice()))
+}
+
+fn inquiry_text(
+    alloc: Global,
+    goal: &Goal,
+    numbers: &Numbers,
+    proof: &ProofTree,
+) -> Result<String, AllocError> {
+    let mut out = Bytes::new(alloc);
+    let printed = print_proof(proof, &mut out).is_ok();
+    let who = text(goal.who.bytes());
+    let file = goal.file.0;
+    let perm = goal.perm;
+    let numbers = numbers.as_slice();
+    format!(in alloc;
+        "{who} {perm:?} {file} {numbers:?} {} {printed}",
+        text(out.as_slice())
+    )
+}
+
+fn shown(alloc: Global, line: &Line) -> Result<String, AllocError> {
+    match line {
+        Line::Faulty(Reply::BadText(fault, at)) => format!(in alloc; "bad 4 {fault} {at}"),
+        Line::Faulty(Reply::Bad(fault)) => format!(in alloc; "bad {fault}"),
+        Line::Faulty(_) => format!(in alloc; "another fault"),
+        Line::Asks(Command::At(second)) => format!(in alloc; "the clock at {second}"),
+        Line::Asks(Command::As(who)) => format!(in alloc; "{} calls", text(who.bytes())),
+        Line::Asks(Command::Register(statement)) => statement_text(alloc, statement),
+        Line::Asks(Command::Verify(goal, numbers, proof)) => {
+            inquiry_text(alloc, goal, numbers, proof)
         }
-        Some(Command::Verify(goal, numbers, proof)) => {
-            let who = text(goal.who.bytes());
-            let file = goal.file.0;
-            let perm = goal.perm;
-            let numbers = numbers.as_slice();
-            let size = proof.size();
-            format!(in alloc; "{who} has {perm:?} on {file} by {numbers:?} and {size} nodes")
+        Line::Asks(Command::Check(goal, numbers, proof)) => {
+            inquiry_text(alloc, goal, numbers, proof)
         }
-        Some(Command::Do(Op::Create(directory, name), procaps)) => {
+        Line::Asks(Command::Do(Op::Create(directory, name), procaps)) => {
             let directory = directory.0;
             let name = text(name.as_slice());
             let procaps = procaps.as_slice();
@@ -51,63 +74,81 @@ fn lines_of_each_form(rt: HostRuntime) -> Result<(), Fail> {
             "a23456789_123456789_123456789_12 calls",
         ),
         (
-            "register - admin says may(bob,#1,write) from -inf to +inf",
-            "admin says it from NegInf to PosInf",
+            "register - admin  says may(bob, #1,write) from -inf to +inf ",
+            "admin says may(bob,#1,write) from -inf to +inf true",
         ),
         (
-            "register - admin says may(b,#1,write) from +inf to -007",
-            "admin says it from PosInf to At(-7)",
+            "register - bob says (forall K:principal. p(K)) & q from +inf to -007",
+            "bob says (forall X0:principal. p(X0)) & q from +inf to -7 true",
         ),
         (
             "verify bob #1 write 0 saysR(claim(0,init(1)))",
-            "bob has Write on 1 by [0] and 3 nodes",
+            "bob Write 1 [0] saysR(claim(0,init(1))) true",
         ),
         (
-            "verify forall_ #1 write 4294967295 saysR(claim(0,init(1)))",
-            "forall_ has Write on 1 by [4294967295] and 3 nodes",
+            "verify forall_ #18446744073709551615 govern 1,22,4294967295  trueR ",
+            "forall_ Govern 18446744073709551615 [1, 22, 4294967295] trueR true",
+        ),
+        (
+            "check hr #0 identity 7 andR(trueR, trueR)",
+            "hr Identity 0 [7] andR(trueR,trueR) true",
         ),
         ("do create #1 a @0", "a in 1 by [0]"),
-        ("do create #1 -Z_9.. @10", "-Z_9.. in 1 by [10]"),
+        ("do create #7 -Z_9.. @10", "-Z_9.. in 7 by [10]"),
         (
             "do create #1 a123456789012345678901234567890123456789012345678901234567890123 @1",
             "a123456789012345678901234567890123456789012345678901234567890123 in 1 by [1]",
         ),
     ];
     for (line, want) in cases {
-        let command = read_line(rt.alloc(), line.as_bytes())?;
-        let seen = shown(rt.alloc(), &command)?;
+        let read = read_line(rt.alloc(), line.as_bytes())?;
+        let seen = shown(rt.alloc(), &read)?;
         assert_eq!(rt; seen.as_str(), want, "{line}");
     }
     Ok(())
 }
 
 #[test]
-fn the_statement_of_a_line(rt: HostRuntime) -> Result<(), Fail> {
-    let line = b"register - admin says may(bob,#1,write) from 5 to 6";
-    let command = read_line(rt.alloc(), line)?;
-    let bob = Principal::new(b"bob").ok_or("a name")?;
-    let admin = Principal::new(b"admin").ok_or("a name")?;
-    let may = Word::new(b"may").ok_or("a name")?;
-    let mut terms = Terms::new(rt.alloc());
-    terms.extend(&[
-        Term::Prin(bob),
-        Term::File(NodeId(1)),
-        Term::Perm(Perm::Write),
-    ])?;
-    let body = Formula::Atom(may, terms);
-    let want = Statement::new(admin, body, TimePoint::At(5), TimePoint::At(6)).ok_or(
-        "a statement",
-    )?;
-    match &command {
-        Some(Command::Register(statement)) => assert!(rt; statement.is_same(&want)),
-        _ => assert!(rt; false),
+fn texts_with_a_fault(rt: HostRuntime) -> Result<(), Fail> {
+    let cases = [
+        ("register - ", "bad 4 1 0"),
+        ("register - admin says true from 0 to 10 x", "bad 4 1 29"),
+        ("register - admin says p(ctime) from 0 to 1", "bad 4 4 13"),
+        (
+            "register - admin says may(alice,#1) from 0 to 1",
+            "bad 4 4 11",
+        ),
+        (
+            "register - admin says may(K,#1,write) from 0 to 1",
+            "bad 4 2 15",
+        ),
+        (
+            "register - admin says may(alice,#1,write) from 2026-02-30 to +inf",
+            "bad 4 3 36",
+        ),
+        ("verify bob #1 write 1 ", "bad 4 1 0"),
+        ("verify bob #1 write 1 saysR", "bad 4 1 5"),
+        ("verify bob #1 write 1 said(trueR)", "bad 4 2 0"),
+        ("check bob #1 write 1 init(65536)", "bad 4 1 5"),
+        ("check bob #1 write 1 trueR trueR", "bad 4 1 6"),
+    ];
+    for (line, want) in cases {
+        let read = read_line(rt.alloc(), line.as_bytes())?;
+        let seen = shown(rt.alloc(), &read)?;
+        assert_eq!(rt; seen.as_str(), want, "{line}");
     }
+    let mut many = Bytes::new(rt.alloc());
+    many.extend(b"register - admin says ")?;
+    many.extend(vec![in rt.alloc(); b'('; 513]?.as_slice())?;
+    let read = read_line(rt.alloc(), many.as_slice())?;
+    let seen = shown(rt.alloc(), &read)?;
+    assert_eq!(rt; seen.as_str(), "bad 4 5 523");
     Ok(())
 }
 
 #[test]
 fn lines_outside_the_forms(rt: HostRuntime) -> Result<(), Fail> {
-    let cases: [&[u8]; 64] = [
+    let cases: [&[u8]; 67] = [
         b"",
         b" ",
         b"at",
@@ -124,6 +165,7 @@ fn lines_outside_the_forms(rt: HostRuntime) -> Result<(), Fail> {
         b"at -62135596801",
         b"at 253402300800",
         b"at +inf",
+        b"at 2026-01-01",
         b"At 1",
         b" at 1",
         b"at\t1",
@@ -140,43 +182,68 @@ fn lines_outside_the_forms(rt: HostRuntime) -> Result<(), Fail> {
         b"as forall",
         b"as text",
         b"as a23456789_123456789_123456789_123",
-        b"register - admin says may(bob,#1,write) from -inf to",
-        b"register - admin says may(bob,#1,write) from -inf to ",
-        b"register - admin says may(bob,#1,write) from -inf  to +inf",
-        b"register - admin says may(bob,#1,write) from  -inf to +inf",
-        b"register - admin says may(bob,#1,write) from -inf to +inf ",
-        b"register - admin says may(bob,#1,write) from inf to +inf",
-        b"register - admin says may(bob,#1,write) from -inf to 253402300800",
-        b"register - admin says may(bob,#01,write) from -inf to +inf",
-        b"register - admin says may(bob,#2,write) from -inf to +inf",
-        b"register - admin says may(bob,#1,read) from -inf to +inf",
-        b"register - admin says may(bob, #1,write) from -inf to +inf",
-        b"register - admin says may(Bob,#1,write) from -inf to +inf",
-        b"register - admin says may(,#1,write) from -inf to +inf",
-        b"register - bob says may(bob,#1,write) from -inf to +inf",
+        b"register",
+        b"register -",
+        b"register 00 admin says may(bob,#1,write) from -inf to +inf",
         b"register admin says may(bob,#1,write) from -inf to +inf",
-        b"verify bob #1 write 00 saysR(claim(0,init(1)))",
-        b"verify bob #1 write 4294967296 saysR(claim(0,init(1)))",
-        b"verify bob #1 write  saysR(claim(0,init(1)))",
-        b"verify bob #1 write -1 saysR(claim(0,init(1)))",
-        b"verify bob #1 write 1 saysR(claim(0,init(1))) ",
-        b"verify bob #1 write 1 saysR(claim(0,init(2)))",
+        b"verify",
         b"verify bob #1 write 1",
-        b"verify time #1 write 1 saysR(claim(0,init(1)))",
+        b"verify bob #1 write 00 trueR",
+        b"verify bob #1 write 4294967296 trueR",
+        b"verify bob #1 write  trueR",
+        b"verify bob #1 write -1 trueR",
+        b"verify bob #1 write 1, trueR",
+        b"verify bob #1 write ,1 trueR",
+        b"verify bob #1 write 1,1 trueR",
+        b"verify bob #1 write 2,1 trueR",
+        b"verify bob #1 write 1,,2 trueR",
+        b"verify bob #1  write 1 trueR",
+        b"verify bob #01 write 1 trueR",
+        b"verify bob #18446744073709551616 write 1 trueR",
+        b"verify bob 1 write 1 trueR",
+        b"verify bob #1 Write 1 trueR",
+        b"verify bob #1 own 1 trueR",
+        b"verify time #1 write 1 trueR",
+        b"check bob #1 write trueR",
         b"do create #1 a",
         b"do create #1 a @",
         b"do create #1 a @01",
         b"do create #1 a @1 ",
         b"do create #1  @1",
+        b"do create 1 a @1",
         b"do create #1 . @1",
         b"do create #1 .. @1",
         b"do create #1 a/b @1",
+        b"do read #1 @1",
         b"do create #1 a1234567890123456789012345678901234567890123456789012345678901234 @1",
     ];
     for line in cases {
-        assert!(rt; read_line(rt.alloc(), line)?.is_none(), "{}", text(line));
+        let read = read_line(rt.alloc(), line)?;
+        let seen = shown(rt.alloc(), &read)?;
+        assert_eq!(rt; seen.as_str(), "bad 9", "{}", text(line));
     }
     let long = vec![in rt.alloc(); b'a'; 1 << 20]?;
-    assert!(rt; read_line(rt.alloc(), long.as_slice())?.is_none());
+    let read = read_line(rt.alloc(), long.as_slice())?;
+    let seen = shown(rt.alloc(), &read)?;
+    assert_eq!(rt; seen.as_str(), "bad 9");
+    Ok(())
+}
+
+#[test]
+fn at_most_64_statements_are_cited(rt: HostRuntime) -> Result<(), Fail> {
+    let mut line = Bytes::new(rt.alloc());
+    line.extend(b"verify bob #1 write 1")?;
+    for number in 2..65u32 {
+        let more = format!(in rt.alloc(); ",{number}")?;
+        line.extend(more.as_bytes())?;
+    }
+    let mut more = line.copy(rt.alloc())?;
+    line.extend(b" trueR")?;
+    more.extend(b",65 trueR")?;
+    let read = read_line(rt.alloc(), line.as_slice())?;
+    assert!(rt; matches!(read, Line::Asks(_)));
+    let read = read_line(rt.alloc(), more.as_slice())?;
+    let seen = shown(rt.alloc(), &read)?;
+    assert_eq!(rt; seen.as_str(), "bad 9");
     Ok(())
 }

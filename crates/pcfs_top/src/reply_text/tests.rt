@@ -1,7 +1,7 @@
 //! The line of each reply, of each cause, and of each kind of term.
 
 use super::write_reply;
-use crate::reply::{Cause, Denial, RegisterFault, Reply};
+use access_history::{Cause, Denial, RegisterFault, Reply};
 use bl_syntax::{Constraint, NodeId, Perm, Principal, Sequence, StatePred, Term, Text, TimePoint};
 use std::test::Fail;
 
@@ -41,6 +41,7 @@ fn replies_are_written(rt: HostRuntime) -> Result<(), Fail> {
         (Reply::Absent(4294967295), "absent 4294967295\n"),
         (Reply::Unproved(2, 2), "unproved 2 2\n"),
         (Reply::Bad(9), "bad 9\n"),
+        (Reply::BadText(5, 523), "bad 4 5 523\n"),
         (Reply::NoMemory, "nomemory\n"),
     ];
     let mut out = Sequence::new(rt.alloc());
@@ -125,7 +126,7 @@ fn terms_are_written(rt: HostRuntime) -> Result<(), Fail> {
         ),
         (
             attribute(Term::Bound(0)),
-            "denied 1 state 1 has_xattr(ctime,ctime,) at 3\n",
+            "denied 1 state 1 has_xattr(ctime,ctime,X0) at 3\n",
         ),
     ];
     let mut out = Sequence::new(rt.alloc());

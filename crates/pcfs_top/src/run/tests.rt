@@ -165,28 +165,204 @@ fn a_line_of_no_form_is_bad(rt: HostRuntime) -> Result<(), Fail> {
         "as Alice",
         "as inf",
         "as ",
-        "register - admin says may(alice,#1,read) from 0 to 200",
-        "register - admin says may(alice,#2,write) from 0 to 200",
-        "register - loc says may(alice,#1,write) from 0 to 200",
-        "register - admin says may(alice,#1,write) from 0",
-        "register - admin says may(alice,#1,write) from 0 to inf",
+        "register",
         "register 00 admin says may(alice,#1,write) from 0 to 200",
         "verify alice #1 write 01 saysR(claim(0,init(1)))",
         "verify alice #1 write 4294967296 saysR(claim(0,init(1)))",
-        "verify alice #1 write 1 saysR(claim(0,init(2)))",
         "verify alice #1 write 1",
+        "check alice #1 write 2,1 trueR",
         "do create #1 notes",
         "do create #1 notes @",
         "do create #1 notes 1",
-        "do create #2 notes @1",
+        "do create 2 notes @1",
         "do create #1 a/b @1",
         "do read #1 @1",
         "stop",
     ];
     let got = run_over(&rt, &["script"], text_of(rt.alloc(), &lines)?, &[], &[])?;
     assert_eq!(rt; got.status, 0);
-    let want = text_of(rt.alloc(), &["bad 9"; 33])?;
+    let want = text_of(rt.alloc(), &["bad 9"; 29])?;
     assert_eq!(rt; got.output.held(), want.as_slice());
+    Ok(())
+}
+
+// The lines of a table, each with its reply, run over a fresh store.
+fn replies_are<R: Threads + Wait + Sync + AllocGlobal>(
+    rt: &R,
+    table: &[(&str, &str)],
+) -> Result<bool, Fail> {
+    let mut text = Bytes::new(rt.alloc());
+    let mut want = Bytes::new(rt.alloc());
+    for (line, reply) in table {
+        text.extend(line.as_bytes())?;
+        text.push(b'\n')?;
+        want.extend(reply.as_bytes())?;
+        want.push(b'\n')?;
+    }
+    let got = run_over(rt, &["script"], text, &[], &[])?;
+    Ok(got.status == 0 && got.output.held() == want.as_slice())
+}
+
+#[test]
+fn a_text_with_a_fault_is_answered_with_its_place(rt: HostRuntime) -> Result<(), Fail> {
+    let table = [
+        ("", "bad 9"),
+        ("do fly #1", "bad 9"),
+        (
+            "register - admin says may(alice,#1) from 0 to 1",
+            "bad 4 4 11",
+        ),
+        (
+            "register - admin says may(K,#1,write) from 0 to 1",
+            "bad 4 2 15",
+        ),
+        (
+            "register - admin says may(alice,#1,write) from 2026-02-30 to +inf",
+            "bad 4 3 36",
+        ),
+        ("register - admin says true from 0 to 10 x", "bad 4 1 29"),
+        ("register - admin says p(ctime) from 0 to 1", "bad 4 4 13"),
+        (
+            "verify alice #1 write 1 saysR(claim(0,init(1))",
+            "bad 4 1 22",
+        ),
+        (
+            "check alice #1 write 1 saysR(claim(0,init(1))",
+            "bad 4 1 22",
+        ),
+    ];
+    assert!(rt; replies_are(&rt, &table)?);
+    Ok(())
+}
+
+#[test]
+fn statements_of_others_are_used(rt: HostRuntime) -> Result<(), Fail> {
+    let table = [
+        (
+            "register - admin says forall K:principal. (hr says employee(K)) => may(K,#2,read) from 0 to 200",
+            "ok statement 1",
+        ),
+        (
+            "register - hr says employee(bob) from 50 to 150",
+            "ok statement 2",
+        ),
+        ("at 100", "ok"),
+        (
+            "check bob #2 read 1,2 saysR(claim(0,forallL(2,bob,impL(3,ctime,ctime,saysR(claim(1,init(4))),init(4)))))",
+            "ok checked time 4 state 0 0 <= ctime; ctime <= 200; 50 <= ctime; ctime <= 150",
+        ),
+        (
+            "verify bob #2 read 1,2 saysR(claim(0,forallL(2,bob,impL(3,ctime,ctime,saysR(claim(1,init(4))),init(4)))))",
+            "ok issue 1 time 4 state 0",
+        ),
+        ("check bob #2 read 7 trueR", "absent 7"),
+        ("check bob #2 read 1 trueR", "unproved 2 0"),
+    ];
+    assert!(rt; replies_are(&rt, &table)?);
+    Ok(())
+}
+
+#[test]
+fn loc_speaks_for_all(rt: HostRuntime) -> Result<(), Fail> {
+    let table = [
+        (
+            "register - admin says (hr says employee(bob)) => may(bob,#2,read) from 0 to 200",
+            "ok statement 1",
+        ),
+        (
+            "register - loc says employee(bob) from 0 to 200",
+            "ok statement 2",
+        ),
+        (
+            "register - admin says employee(bob) from 0 to 200",
+            "ok statement 3",
+        ),
+        (
+            "verify bob #2 read 1,2 saysR(claim(0,impL(2,ctime,ctime,saysR(claim(1,init(3))),init(3))))",
+            "ok issue 1 time 2 state 0",
+        ),
+        (
+            "verify bob #2 read 1,3 saysR(claim(0,impL(2,ctime,ctime,saysR(claim(1,init(3))),init(3))))",
+            "unproved 5 4",
+        ),
+    ];
+    assert!(rt; replies_are(&rt, &table)?);
+    Ok(())
+}
+
+#[test]
+fn a_condition_on_a_parameter_is_not_left_over(rt: HostRuntime) -> Result<(), Fail> {
+    let table = [
+        (
+            "register - admin says (p(bob) => q(bob)) => may(bob,#2,read) from 0 to 200",
+            "ok statement 1",
+        ),
+        (
+            "register - admin says q(bob) from 0 to 200",
+            "ok statement 2",
+        ),
+        (
+            "verify bob #2 read 1,2 saysR(claim(0,impL(2,ctime,ctime,impR(claim(1,init(4))),init(3))))",
+            "unproved 3 5",
+        ),
+        ("verify bob #2 read 7 trueR", "absent 7"),
+    ];
+    assert!(rt; replies_are(&rt, &table)?);
+    Ok(())
+}
+
+// Each cause of a denial, and each refusal of the making of a file.
+#[test]
+fn an_operation_is_denied_or_refused_with_its_cause(rt: HostRuntime) -> Result<(), Fail> {
+    let table = [
+        ("at 100", "ok"),
+        (
+            "register - admin says may(alice,#1,write) from 0 to 200",
+            "ok statement 1",
+        ),
+        (
+            "verify alice #1 write 1 saysR(claim(0,init(1)))",
+            "ok issue 1 time 2 state 0",
+        ),
+        (
+            "register - admin says may(alice,#1,read) & may(alice,#2,write) & may(alice,#9,write) from 0 to 200",
+            "ok statement 2",
+        ),
+        (
+            "verify alice #1 read 2 saysR(claim(0,andL(1,andL(2,init(4)))))",
+            "ok issue 2 time 2 state 0",
+        ),
+        (
+            "verify alice #2 write 2 saysR(claim(0,andL(1,andL(2,init(5)))))",
+            "ok issue 3 time 2 state 0",
+        ),
+        (
+            "verify alice #9 write 2 saysR(claim(0,andL(1,init(3))))",
+            "ok issue 4 time 2 state 0",
+        ),
+        (
+            "register - admin says owner(#1,bob) => may(alice,#1,write) from -inf to +inf",
+            "ok statement 3",
+        ),
+        (
+            "verify alice #1 write 3 saysR(claim(0,impL(1,ctime,ctime,interR,init(2))))",
+            "ok issue 5 time 0 state 1",
+        ),
+        ("as bob", "ok"),
+        ("do create #1 x @1", "denied 1 principal at 8"),
+        ("as alice", "ok"),
+        ("do create #2 x @1", "denied 1 file at 8"),
+        ("do create #1 x @2", "denied 1 permission at 8"),
+        ("do create #1 x @5", "denied 1 state 1 owner(#1,bob) at 8"),
+        ("do create #9 x @4", "refused 1 at 8"),
+        ("do create #1 notes @1", "ok node #2"),
+        ("do create #2 x @3", "refused 2 at 9"),
+        ("do create #1 notes @1", "refused 5 at 9"),
+        ("at 201", "ok"),
+        ("do create #1 x @1", "denied 1 time 2 ctime <= 200 at 9"),
+        ("do create #1 x @6", "absent 6"),
+    ];
+    assert!(rt; replies_are(&rt, &table)?);
     Ok(())
 }
 

@@ -5,9 +5,10 @@ use Rattle.bl_syntax.specs.Formula.{Form, formula}
 use Rattle.bl_syntax.specs.Statement.{Saying, saying, IsStatement}
 use Rattle.bl_tokens.specs.declared.faults.TextFault.{TextFault}
 use Rattle.bl_tokens.specs.declared.tokens.Here.{Here}
-use Rattle.bl_text.specs.Texts.{beginning, opening, IsSayingText, whole_saying, IsStatementText, StatementFault, in_opening, in_body, in_span, not_said}
+use Rattle.bl_text.specs.Texts.{beginning, opening, IsSayingText, whole_saying, IsStatementText, StatementFault, in_opening, in_body, in_span}
 use Rattle.std.proofs.lemmas.Bool.{false≢true}
 use Rattle.bl_text.proofs.ReadLemmas.{passed, is_form}
+use Rattle.bl_text.proofs.SaidLemmas.{statement_said}
 use Rattle.bl_text.proofs.parse.read_statement.Goals as goal
 
 pub returns-in_err-who-clause-fault : goal.returns-in_err-who-clause-fault
@@ -37,4 +38,4 @@ returns-in-None-clause-fault c =
     let h = c.in-None.ensures in
     let said = whole_saying c.in_ok-who.who _ _ (formula c.into_inner.result) c.in_ok-from.from c.in_ok-from.to (sym (ap (opening c.args.text.now) c.beginning-here.ensures.same) ∙ c.in_ok-who.ensures.value)
     (is_form (ap formula c.into_inner.ensures) c.in_ok-body.ensures.read.is_text) (sym c.in_ok-from.ensures) in
-    not_said _ said (λ st. false≢true (h.some.1 st))
+    absurd (false≢true (h.some.1 (statement_said said)))

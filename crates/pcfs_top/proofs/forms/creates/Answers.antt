@@ -1,15 +1,18 @@
 -- The name and the issue are kept as they are read.
-use Rattle.std.proofs.Common.{◌≡◌, [], ◌∷◌, sym, ap, ◌∙◌, Some, rules}
-use Rattle.pcfs_top.specs.declared.event.Op.TheVariants.{Create}
-use Rattle.pcfs_top.specs.declared.command.Command.TheVariants.{Do}
+use Rattle.std.proofs.Common.{◌≡◌, [], ◌∷◌, refl, rules}
+use Rattle.std.proofs.lemmas.Bool.{false≢true}
+use Rattle.pcfs_top.specs.Lines as lines
+use Rattle.pcfs_top.specs.Script.{outside}
+use Rattle.pcfs_top.proofs.FormLemmas.{create_line, no_bad_making}
 use Rattle.pcfs_top.proofs.forms.creates.Goals as goal
 
-pub returns-in_ok-extend-in-Some-2-clause-only : goal.returns-in_ok-extend-in-Some-2-clause-only
-returns-in_ok-extend-in-Some-2-clause-only c command h =
+pub returns-in_ok-extend-in-Some-2 : goal.returns-in_ok-extend-in-Some-2
+returns-in_ok-extend-in-Some-2 c =
     let name : c.extend.new.self ≡ c.in-Some.name.now = search rules in
     let procaps : c.extend-in-Some.new.self ≡ c.in-Some.issue ∷ [] = search rules in
-    ap (λ bytes. Some (Do (Create (record { 0 = 1 }) bytes) c.extend-in-Some.new.self)) name ∙ ap (λ issues. Some (Do (Create (record { 0 = 1 }) c.in-Some.name.now) issues)) procaps
-    ∙ ap Some (sym (c.in-Some.ensures.only command h))
+    rw (name, procaps) (lines.creates c.args.words.now c.in-Some.name.now c.in-Some.directory c.in-Some.issue c.in-Some.ensures.found)
 
-pub returns-in-None-clause-only : goal.returns-in-None-clause-only
-returns-in-None-clause-only c command h = absurd (c.in-None.ensures.only command h)
+pub returns-in-None : goal.returns-in-None
+returns-in-None c =
+    outside (λ command h. let line = create_line h c.args.words.now refl in false≢true (c.in-None.ensures.only line.directory line.name line.issue line.making))
+    (λ fault h. no_bad_making h c.args.words.now refl)

@@ -1,11 +1,10 @@
--- The statement is the one that the line names.
-use Rattle.std.proofs.Common.{sym, ap, ◌∙◌, Some}
-use Rattle.pcfs_top.specs.declared.command.Command.TheVariants.{Register}
+-- The text is a statement, or has a fault.
+use Rattle.pcfs_top.specs.Lines.{registers, in_statement}
+use Rattle.pcfs_top.specs.Script.{faulty_text}
 use Rattle.pcfs_top.proofs.forms.registers.Goals as goal
 
-pub returns-in_ok-statement-in-Some-clause-only : goal.returns-in_ok-statement-in-Some-clause-only
-returns-in_ok-statement-in-Some-clause-only c command h =
-    ap (λ statement. Some (Register statement)) c.in_ok-statement-in-Some.ensures ∙ ap Some (sym (c.in-Some.ensures.only command h))
+pub returns-in-Ok : goal.returns-in-Ok
+returns-in-Ok c = registers c.args.text.now c.in-Ok.statement c.in-Ok.ensures.read
 
-pub returns-in-None-clause-only : goal.returns-in-None-clause-only
-returns-in-None-clause-only c command h = absurd (c.in-None.ensures.only command h)
+pub returns-in_ok-bad_text-in-Err : goal.returns-in_ok-bad_text-in-Err
+returns-in_ok-bad_text-in-Err c = faulty_text c.in-Err.fault _ (in_statement c.args.text.now c.in-Err.fault c.in-Err.ensures.fault) c.in_ok-bad_text-in-Err.ensures.ok

@@ -1,9 +1,12 @@
--- The command is the one that the line names.
-use Rattle.std.proofs.Common.{sym, ap, ◌∙◌, Some}
+-- The words ask whether a proof proves its goal.
+use Rattle.pcfs_top.proofs.FaultyLemmas.{IsLine-verify, IsFaulty-verify, outside-verify}
 use Rattle.pcfs_top.proofs.forms.verifies.Goals as goal
 
-pub returns-in_ok-verify-in-Some-clause-only : goal.returns-in_ok-verify-in-Some-clause-only
-returns-in_ok-verify-in-Some-clause-only c command h = ap Some c.in_ok-verify-in-Some.ensures ∙ ap Some (sym (c.in-Some.ensures.only command h))
+pub returns-in-Proof : goal.returns-in-Proof
+returns-in-Proof c = IsLine-verify c.args.words.now _ c.in_ok-goal.ensures c.in-Proof.goal c.in-Proof.numbers c.in-Proof.proof c.in-Proof.is
 
-pub returns-in-None-clause-only : goal.returns-in-None-clause-only
-returns-in-None-clause-only c command h = absurd (c.in-None.ensures.only command h)
+pub returns-in_ok-bad_text-in-BadText : goal.returns-in_ok-bad_text-in-BadText
+returns-in_ok-bad_text-in-BadText c = IsFaulty-verify c.args.words.now _ c.in_ok-goal.ensures c.in-BadText.fault _ c.in-BadText.is c.in_ok-bad_text-in-BadText.ensures.ok
+
+pub returns-in-Outside : goal.returns-in-Outside
+returns-in-Outside c = outside-verify c.args.words.now _ c.in_ok-goal.ensures c.in-Outside.is

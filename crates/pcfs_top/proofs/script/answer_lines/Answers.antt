@@ -26,5 +26,12 @@ loop-line-preserved g c = record {
   never_falls = omega (arith, c.in_ok-send.ensures.never_falls);
 }
 
+pub loop-line-preserved-in_ok-send : goal.loop-line-preserved-in_ok-send
+loop-line-preserved-in_ok-send g c = record {
+  base = c.reply_to-reply.ensures.base ∙ c.loop-line.invariant.base;
+  run = HasRun-more _ _ c.in-Some.others.now _ _ _ _ _ _ _ _ c.loop-line.invariant.base c.loop-line.invariant.run c.in-Some.ensures.lines c.reply_to-reply.ensures.reply c.in_ok-send.ensures.ok;
+  never_falls = omega (arith, c.in_ok-send.ensures.never_falls);
+}
+
 pub returns-clause-ok : goal.returns-clause-ok
 returns-clause-ok g c = HasRun-whole _ _ _ _ _ c.requires.short c.loop-line.invariant.run c.in_default.ensures.lines

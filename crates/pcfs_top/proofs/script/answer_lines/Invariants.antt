@@ -1,5 +1,5 @@
 use Rattle.std.proofs.Common.{◌≡◌, ◌≤◌, length}
-use Rattle.pcfs_top.specs.Replay.{fresh}
+use Rattle.access_history.specs.Replay.{fresh}
 use Rattle.pcfs_top.proofs.Running.{HasRun}
 use Rattle.pcfs_top.proofs.script.answer_lines.Given as goal
 

@@ -2,7 +2,7 @@
 use Rattle.std.proofs.Common.{sym}
 use Rattle.std.proofs.lemmas.Int.{to_z-of_z}
 use Rattle.std.specs.Int.{w64}
-use Rattle.pcfs_top.proofs.Keeping.{SFits-moment}
+use Rattle.access_history.proofs.Keeping.{SFits-moment}
 use Rattle.pcfs_top.proofs.Running.{IsAsked-keep}
 use Rattle.pcfs_top.proofs.desk.Desk.ask.Goals as goal
 

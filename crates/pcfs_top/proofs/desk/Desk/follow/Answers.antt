@@ -4,7 +4,7 @@ use Rattle.std.proofs.lemmas.Result.{IfOk-weaker}
 use Rattle.std.proofs.lemmas.Int.{to_z-of_z}
 use Rattle.std.specs.Int.{w64}
 use Rattle.pcfs_top.specs.Desk.{IsAllowed}
-use Rattle.pcfs_top.proofs.Keeping.{SFits-moment}
+use Rattle.access_history.proofs.Keeping.{SFits-moment}
 use Rattle.pcfs_top.proofs.Running.{AnswersLine-at, AnswersLine-as, AnswersLine-register, IsLine-same, AnswersLine-do}
 use Rattle.pcfs_top.proofs.desk.Desk.follow.Goals as goal
 

@@ -1,0 +1,88 @@
+-- The issues of a lawful history are good, and so the statements allow what an admitted operation needs.
+use Rattle.std.proofs.Common.{◌≡◌, ℕ, ℤ, zero, suc, List, [], ◌∷◌, ◌++◌, Some, subst}
+use Rattle.std.specs.Prelude.{Contains}
+use Rattle.std.specs.List.{AllByRecursion, slice_get}
+use Rattle.bl_syntax.specs.declared.terms.NodeId.{NodeId}
+use Rattle.bl_syntax.specs.declared.terms.Perm.{Perm as Permission}
+use Rattle.bl_syntax.specs.Statement.{Saying}
+use Rattle.bl_syntax.specs.Grant.{Granted}
+use Rattle.bl_rules.specs.Allowed.{Allows, SoundGrant}
+use Rattle.access_history.specs.declared.event.Issue.{Issue}
+use Rattle.access_history.specs.declared.event.Event.{Event}
+use Rattle.access_history.specs.declared.event.Base.{Base}
+use Rattle.access_history.specs.declared.event.Op.{Op}
+use Rattle.access_history.specs.Facts.{facts}
+use Rattle.access_history.specs.Needs.{Need, needs}
+use Rattle.access_history.specs.Answer.{Gives, IsMet, IsAdmitted}
+use Rattle.access_history.specs.Replay.{replay, next_state}
+use Rattle.proof_verifier.specs.declared.cites.Cite.{Cite}
+use Rattle.proof_verifier.specs.Cited.{statements_of}
+use Rattle.access_history.specs.Citing.{Stands, IsGoodIssue}
+use Rattle.access_history.specs.Lawful.{IsDerived, AreDerived, MayFollow, may_register, may_issue, may_act, AreLawful, no_event, one_more}
+use Rattle.bl_rules.specs.Richer.{Includes}
+use Rattle.bl_rules.proofs.SoundGrantLemmas.{SoundGrant-more}
+use Rattle.access_history.proofs.AnswerLemmas.{procap_grant}
+use Rattle.access_history.proofs.ListLemmas.{AllByRecursion-push, AllByRecursion-weaker, AllByRecursion-contains, IsImage-from_map}
+use Rattle.access_history.proofs.NumberedLemmas.{Contains-numbered}
+use Rattle.access_history.proofs.Replays.{replay-more}
+
+slice_get-more : {A : Type 0} (xs ys : List A) (place : ℕ) (x : A) → slice_get xs place ≡ Some x → slice_get (xs ++ ys) place ≡ Some x
+slice_get-more [] ys place x found = cc
+slice_get-more (first ∷ xs) ys zero x found = found
+slice_get-more (first ∷ xs) ys (suc place) x found = slice_get-more xs ys place x found
+
+-- an issue stays good where statements are added
+IsGoodIssue-more : (statements more : List Saying) (issue : Issue) → IsGoodIssue statements issue → IsGoodIssue (statements ++ more) issue
+IsGoodIssue-more statements more issue good = record {
+  cites = good.cites;
+  cited = good.cited;
+  rising = good.rising;
+  stand = AllByRecursion-weaker (Stands statements) (Stands (statements ++ more)) good.cites
+      (λ cite stands. record { place = stands.place; from_one = stands.from_one; found = slice_get-more statements more stands.place cite.statement stands.found }) good.stand;
+  granted = good.granted;
+}
+
+-- each issue of the state is good for its statements
+abbrev pub AreGoodIssues : Base → Type 0
+AreGoodIssues state = AllByRecursion (IsGoodIssue state.statements) state.issues
+
+AreGoodIssues-next : (state : Base) (event : Event) → MayFollow state event → AreGoodIssues state → AreGoodIssues (next_state state event)
+AreGoodIssues-next state event (may_register pass statement new room) good =
+    AllByRecursion-weaker (IsGoodIssue state.statements) (IsGoodIssue (state.statements ++ statement ∷ [])) state.issues (IsGoodIssue-more state.statements (statement ∷ [])) good
+AreGoodIssues-next state event (may_issue pass cited proof g issue) good = AllByRecursion-push (IsGoodIssue state.statements) state.issues (record { cited = cited; proof = proof; grant = g }) good issue
+AreGoodIssues-next state event (may_act pass caller op procaps moment reply after later in_range slots bytes issued admitted does derived) good = good
+
+pub AreGoodIssues-replay : (base : Base) (events : List Event) → AreGoodIssues base → AreLawful base events → AreGoodIssues (replay base events)
+AreGoodIssues-replay base events good no_event = good
+AreGoodIssues-replay base events good (one_more before event lawful follows) =
+    rw (replay-more base before event) (AreGoodIssues-next (replay base before) event follows (AreGoodIssues-replay base before good lawful))
+
+-- the statements that stand are of the list
+Includes-cited : (statements : List Saying) (cites : List Cite) → AllByRecursion (Stands statements) cites → Includes statements (statements_of cites)
+Includes-cited statements cites stand x among =
+    let image = IsImage-from_map (λ (c : Cite). c.statement) cites x among in
+    let stands : Stands statements image.item = AllByRecursion-contains (Stands statements) cites image.item stand image.contained in
+    subst (Contains statements) image.same (Contains-numbered statements image.item.number image.item.statement stands)
+
+-- what a sound grant grants, under the names that it has
+Allows-named : (statements : List Saying) (state : Base) (moment : ℤ) (caller : List ℕ) (need : Need) (g : Granted) → SoundGrant statements g → Gives caller need moment (facts state.world) g →
+    Allows statements (facts state.world) moment caller need.file need.permission
+Allows-named statements state moment caller need g sound gives =
+    subst (λ (who : List ℕ). Allows statements (facts state.world) moment who need.file need.permission) gives.names.who
+    (subst (λ (file : NodeId). Allows statements (facts state.world) moment g.goal.who file need.permission) gives.names.file
+    (subst (λ (permission : Permission). Allows statements (facts state.world) moment g.goal.who g.goal.file permission) gives.names.permission
+    (sound.allows moment (facts state.world) gives.conditions)))
+
+IsDerived-met : (state : Base) (caller procaps : List ℕ) (moment : ℤ) → AreGoodIssues state → (need : Need) → IsMet state caller procaps moment need → IsDerived state caller procaps moment need
+IsDerived-met state caller procaps moment good need met g brought was =
+    let same : met.grant ≡ g = procap_grant state procaps need.place met.grant g met.brought brought in
+    let gives : Gives caller need moment (facts state.world) g = subst (Gives caller need moment (facts state.world)) same met.gives in
+    let issue : IsGoodIssue state.statements was.issue = AllByRecursion-contains (IsGoodIssue state.statements) state.issues was.issue good was.among in
+    let sound : SoundGrant state.statements was.issue.grant =
+    SoundGrant-more (statements_of issue.cites) state.statements was.issue.grant (Includes-cited state.statements issue.cites issue.stand) issue.granted.sound in
+    Allows-named state.statements state moment caller need g (subst (SoundGrant state.statements) was.grant_is sound) gives
+
+-- what an admitted operation needs is derivable, where the grants were issued
+pub AreDerived-admitted : (state : Base) (caller : List ℕ) (op : Op) (procaps : List ℕ) (moment : ℤ) → AreGoodIssues state → IsAdmitted state caller op procaps moment → AreDerived state caller op procaps moment
+AreDerived-admitted state caller op procaps moment good admitted =
+    AllByRecursion-weaker (IsMet state caller procaps moment) (IsDerived state caller procaps moment) (needs op state.world) (IsDerived-met state caller procaps moment good) admitted

@@ -1,0 +1,10 @@
+pub mod AnswerLemmas
+pub mod Backing
+pub mod Beginning
+pub mod HeadlineLemmas
+pub mod Keeping
+pub mod LawfulLemmas
+pub mod ListLemmas
+pub mod NumberedLemmas
+pub mod Replays
+pub mod TreeLemmas

@@ -1,0 +1,33 @@
+-- What a history keeps, and what its parts are for (this project's own).
+use Rattle.std.specs.Prelude.{◌≡◌, ◌-◌, ◌+◌, ◌++◌, ℕ, List, [], ◌∷◌, Vec, vec_len, vec_capacity}
+use Rattle.std.specs.declared.alloc.Global.{Global}
+use Rattle.access_history.specs.declared.event.Event.{Event}
+use Rattle.access_history.specs.declared.event.Base.{Base}
+use Rattle.access_history.specs.declared.step.Change.{Change}
+use Rattle.access_history.specs.declared.step.Change.TheVariants as changes
+use Rattle.access_history.specs.Effect.{with_row}
+use Rattle.access_history.specs.Replay.{replay, next_state}
+
+-- the base, the events since, and for how many events there is room
+pub record Kept : Type 0 where
+  pub base : Base
+  pub events : List Event
+  pub room : ℕ
+
+-- the state to which the events lead
+abbrev pub state_of : Kept → Base
+state_of h = replay h.base h.events
+
+-- how many items a vector takes without growing
+abbrev pub spare : {A : Type 0} → Vec A Global → ℕ
+spare v = vec_capacity v - vec_len v
+
+-- the state after a change
+abbrev pub changed : Base → Change → Base
+changed state (changes.Statement statement) = record state { statements = state.statements ++ statement ∷ []; count = state.count + 1 }
+changed state (changes.Issue issue) = record state { issues = state.issues ++ issue ∷ []; count = state.count + 1 }
+changed state (changes.Node added) = record state { world = with_row state.world added.row; moment = added.moment; count = state.count + 1 }
+
+-- the change is what the event does to the state
+abbrev pub Brings : Base → Event → Change → Type 0
+Brings state event change = changed state change ≡ next_state state event

@@ -1,0 +1,15 @@
+pub mod Answer
+pub mod Citing
+pub mod Effect
+pub mod Facts
+pub mod Headline
+pub mod History
+pub mod HistoryCode
+pub mod HistoryParts
+pub mod Lawful
+pub mod Laws
+pub mod Needs
+pub mod Numbered
+pub mod Replay
+pub mod WellFormed
+pub mod World

@@ -1,0 +1,5 @@
+pub mod CauseLemmas
+pub mod CitingLemmas
+pub mod Deciding
+pub mod Following
+pub mod Making

@@ -1,0 +1,121 @@
+-- The making of a file, over plain values.
+use Rattle.std.proofs.Common.{◌≡◌, ◌≤◌, ◌+◌, ℕ, List, [], ◌∷◌, length, refl, ap, subst, sym, ◌∙◌, None, Some, Option}
+use Rattle.std.specs.Prelude.{ℤ}
+use Rattle.bl_syntax.specs.declared.terms.NodeId.{NodeId}
+use Rattle.bl_syntax.specs.declared.terms.Perm.TheVariants.{Write}
+use Rattle.access_history.specs.declared.world.Row.{Row}
+use Rattle.access_history.specs.declared.event.Base.{Base}
+use Rattle.access_history.specs.declared.event.Issue.{Issue}
+use Rattle.access_history.specs.declared.event.Event.{Event}
+use Rattle.access_history.specs.declared.event.Event.TheVariants.{Acted}
+use Rattle.access_history.specs.declared.event.Op.TheVariants.{Create}
+use Rattle.access_history.specs.declared.request.StepRequest.TheVariants as requests
+use Rattle.access_history.specs.declared.reply.Cause.{Cause}
+use Rattle.access_history.specs.declared.reply.Reply.{Reply}
+use Rattle.access_history.specs.declared.reply.Reply.TheVariants as replies
+use Rattle.access_history.specs.declared.step.Step.{Step}
+use Rattle.access_history.specs.declared.step.Change.{Change}
+use Rattle.access_history.specs.declared.step.Change.TheVariants as changes
+use Rattle.access_history.specs.Numbered.{IsNumbered, HasNumber}
+use Rattle.access_history.specs.World.{FileTree}
+use Rattle.access_history.specs.Facts.{facts, facts_of}
+use Rattle.access_history.specs.Needs.{need_of}
+use Rattle.access_history.specs.Effect.{Outcome, OpReply, node, replied, created_row, with_row, create_refusal, create_outcome, effect}
+use Rattle.access_history.specs.Replay.{tree_after}
+use Rattle.access_history.specs.History.{Brings}
+use Rattle.op_gate.specs.Decision.{IsDecided, IsMade}
+use Rattle.access_history.specs.Answer.{Answers, IsProcapAt, Gives, Fails, IsMet, reply_of, moment_of, no_issue, denied, here, refused, acted}
+
+abbrev next_from : Base → ℤ → FileTree → Base
+next_from state moment world = record state { world = world; moment = moment; count = state.count + 1 }
+
+-- the refusal over the parts of the tree is the one over the tree
+pub refusal_over : (directory : ℕ) (name shown_name : List ℕ) (world : FileTree) (rows : List Row) (next : ℕ) (found : Option ℕ) → found ≡ create_refusal directory shown_name (record { rows = rows; next = next }) → shown_name ≡ name → rows ≡ world.rows → next ≡ world.next → found ≡ create_refusal directory name world
+refusal_over directory name shown_name world rows next found is name_is rows_is next_is =
+    is ∙ ap (λ (n : List ℕ). create_refusal directory n (record { rows = rows; next = next })) name_is
+    ∙ ap (λ (rs : List Row). create_refusal directory name (record { rows = rs; next = next })) rows_is
+    ∙ ap (λ (n : ℕ). create_refusal directory name (record { rows = world.rows; next = n })) next_is
+
+-- it is refused
+pub made_refused : (state : Base) (pass : ℕ) (caller : List ℕ) (directory : NodeId) (name : List ℕ) (procaps : List ℕ) (moment : ℤ) (number at : ℕ) →
+    Some number ≡ create_refusal directory.0 name state.world → at ≡ state.count → IsMade state pass caller directory name procaps moment (replies.Refused number at) None
+made_refused state pass caller directory name procaps moment number at why at_is =
+    (number, ap (λ r. create_outcome r caller directory.0 name state.world) (sym why), ap (λ (n : ℕ). replies.Refused number n) at_is)
+
+-- the change of a node made is what the event does
+brings_node : (state : Base) (pass : ℕ) (caller : List ℕ) (directory : NodeId) (name : List ℕ) (procaps : List ℕ) (moment : ℤ) (made : OpReply) (row : Row) →
+    effect caller (Create directory name) state.world ≡ replied made (with_row state.world row) → Brings state (Acted pass caller (Create directory name) procaps moment) (changes.Node (record { row = row; moment = moment }))
+brings_node state pass caller directory name procaps moment made row does =
+    sym (ap (λ (o : Outcome). next_from state moment (tree_after o state.world)) does)
+
+-- the node that is made, over the parts
+pub created_over : (caller : List ℕ) (directory : ℕ) (name shown_name : List ℕ) (world : FileTree) (next : ℕ) (row : Row) → row ≡ created_row caller directory shown_name (record { rows = []; next = next }) → shown_name ≡ name → next ≡ world.next → row ≡ created_row caller directory name world
+created_over caller directory name shown_name world next row is name_is next_is =
+    is ∙ ap (λ (n : List ℕ). created_row caller directory n (record { rows = []; next = next })) name_is
+    ∙ ap (λ (n : ℕ). created_row caller directory name (record { rows = []; next = n })) next_is
+
+-- it is made
+pub made_kept : (state : Base) (pass : ℕ) (caller : List ℕ) (directory : NodeId) (name : List ℕ) (procaps : List ℕ) (moment : ℤ) (number : ℕ) (row : Row) (step : Step) →
+    None ≡ create_refusal directory.0 name state.world → number ≡ state.world.next → row ≡ created_row caller directory.0 name state.world →
+    step.event ≡ Acted pass caller (Create directory name) procaps moment → step.change ≡ changes.Node (record { row = row; moment = moment }) →
+    IsMade state pass caller directory name procaps moment (replies.Node (record { 0 = number })) (Some step)
+made_kept state pass caller directory name procaps moment number row step free number_is row_is event_is change_is =
+    let does : effect caller (Create directory name) state.world ≡ replied (node (record { 0 = state.world.next })) (with_row state.world row) =
+    ap (λ r. create_outcome r caller directory.0 name state.world) (sym free) ∙ ap (λ (r : Row). replied (node (record { 0 = state.world.next })) (with_row state.world r)) (sym row_is) in
+    let brings = brings_node state pass caller directory name procaps moment (node (record { 0 = state.world.next })) row does in (
+      node (record { 0 = state.world.next }),
+      with_row state.world row,
+      does,
+      ap (λ (n : ℕ). replies.Node (record { 0 = n })) number_is,
+      event_is,
+      subst (λ (e : Event). Brings state e step.change) (sym event_is) (subst (λ (ch : Change). Brings state (Acted pass caller (Create directory name) procaps moment) ch) (sym change_is) brings),
+    )
+
+-- a procap that names no issue
+pub create_absent : (state : Base) (pass : ℕ) (clock : ℤ) (caller : List ℕ) (directory : NodeId) (name : List ℕ) (procap : ℕ) → (HasNumber state.issues procap → ⊥) →
+    Answers state pass clock (requests.Act caller (Create directory name) (procap ∷ [])) (replies.Absent procap) None
+create_absent state pass clock caller directory name procap none =
+    no_issue caller (Create directory name) (procap ∷ []) 0 procap (record { before = []; behind = []; parts = refl; place_is = refl; holds_before = tt; fails = none })
+
+-- the procap in the first place
+pub IsProcapAt-first : (state : Base) (procap : ℕ) (issue : Issue) → IsNumbered state.issues procap issue → IsProcapAt state (procap ∷ []) 1 issue.grant
+IsProcapAt-first state procap issue numbered = record { number = procap; issue = issue; brought = record { place = 0; from_one = refl; found = refl }; issued = numbered; grant_is = refl }
+
+-- an item with that number is there
+pub HasNumber-numbered : {A : Type 0} (items : List A) (number : ℕ) (item : A) → 1 ≤ number → number ≤ length items → HasNumber items number
+HasNumber-numbered items number item some within = (some, within)
+
+-- it is denied
+pub create_denied : (state : Base) (pass : ℕ) (clock : ℤ) (caller : List ℕ) (directory : NodeId) (name : List ℕ) (procap : ℕ) (issue : Issue) (moment : ℤ) (cause : Cause) (at : ℕ) (rows : List Row) →
+    HasNumber state.issues procap → IsNumbered state.issues procap issue → moment ≡ moment_of state clock → rows ≡ state.world.rows → Fails caller (need_of directory Write) moment (facts_of rows) issue.grant cause → at ≡ state.count →
+    Answers state pass clock (requests.Act caller (Create directory name) (procap ∷ [])) (replies.Denied (record { need = 1; cause = cause; at = at })) None
+create_denied state pass clock caller directory name procap issue moment cause at rows has numbered moment_is rows_is fails at_is =
+    let fails_now : Fails caller (need_of directory Write) (moment_of state clock) (facts state.world) issue.grant cause =
+    subst (λ (m : ℤ). Fails caller (need_of directory Write) m (facts state.world) issue.grant cause) moment_is
+    (subst (λ (rs : List Row). Fails caller (need_of directory Write) moment (facts_of rs) issue.grant cause) rows_is fails) in
+    subst (λ (n : ℕ). Answers state pass clock (requests.Act caller (Create directory name) (procap ∷ [])) (replies.Denied (record { need = 1; cause = cause; at = n })) None) (sym at_is)
+    (denied caller (Create directory name) (procap ∷ []) 1 cause (has, tt) (here (need_of directory Write) [] issue.grant cause (IsProcapAt-first state procap issue numbered) fails_now))
+
+-- it is admitted, and made or refused
+pub create_admitted : (state : Base) (pass : ℕ) (clock : ℤ) (caller : List ℕ) (directory : NodeId) (name : List ℕ) (procap : ℕ) (issue : Issue) (moment : ℤ) (rows : List Row) (reply : Reply) (step : Option Step) →
+    HasNumber state.issues procap → IsNumbered state.issues procap issue → moment ≡ moment_of state clock → rows ≡ state.world.rows → Gives caller (need_of directory Write) moment (facts_of rows) issue.grant →
+    IsMade state pass caller directory name (procap ∷ []) moment reply step →
+    IsDecided state pass clock (requests.Act caller (Create directory name) (procap ∷ [])) reply step
+create_admitted state pass clock caller directory name procap issue moment rows reply None has numbered moment_is rows_is gives made =
+    let gives_now : Gives caller (need_of directory Write) (moment_of state clock) (facts state.world) issue.grant =
+    subst (λ (m : ℤ). Gives caller (need_of directory Write) m (facts state.world) issue.grant) moment_is
+    (subst (λ (rs : List Row). Gives caller (need_of directory Write) moment (facts_of rs) issue.grant) rows_is gives) in
+    let met : IsMet state caller (procap ∷ []) (moment_of state clock) (need_of directory Write) = record { grant = issue.grant; brought = IsProcapAt-first state procap issue numbered; gives = gives_now } in
+    subst (λ (r : Reply). Answers state pass clock (requests.Act caller (Create directory name) (procap ∷ [])) r None) (sym made.2)
+    (refused caller (Create directory name) (procap ∷ []) made.0 (has, tt) (met, tt) made.1)
+create_admitted state pass clock caller directory name procap issue moment rows reply (Some s) has numbered moment_is rows_is gives made =
+    let gives_now : Gives caller (need_of directory Write) (moment_of state clock) (facts state.world) issue.grant =
+    subst (λ (m : ℤ). Gives caller (need_of directory Write) m (facts state.world) issue.grant) moment_is
+    (subst (λ (rs : List Row). Gives caller (need_of directory Write) moment (facts_of rs) issue.grant) rows_is gives) in
+    let met : IsMet state caller (procap ∷ []) (moment_of state clock) (need_of directory Write) = record { grant = issue.grant; brought = IsProcapAt-first state procap issue numbered; gives = gives_now } in
+    let event_is : s.event ≡ Acted pass caller (Create directory name) (procap ∷ []) (moment_of state clock) = made.4 ∙ ap (λ (m : ℤ). Acted pass caller (Create directory name) (procap ∷ []) m) moment_is in (
+      subst (λ (r : Reply). Answers state pass clock (requests.Act caller (Create directory name) (procap ∷ [])) r (Some s.event)) (sym made.3)
+          (subst (λ (e : Event). Answers state pass clock (requests.Act caller (Create directory name) (procap ∷ [])) (reply_of made.0) (Some e)) (sym event_is)
+          (acted caller (Create directory name) (procap ∷ []) made.0 made.1 (has, tt) (met, tt) made.2)),
+      made.5,
+    )

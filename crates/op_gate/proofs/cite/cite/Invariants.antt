@@ -1,0 +1,7 @@
+-- The statements of the numbers so far.
+use Rattle.std.proofs.Common.{take}
+use Rattle.access_history.specs.Citing.{AreFound}
+use Rattle.op_gate.proofs.cite.cite.Given as goal
+
+abbrev pub invariant-loop-number : goal.invariant-loop-number
+invariant-loop-number l = AreFound l.statements (take l.number-index l.numbers) l.cites.items

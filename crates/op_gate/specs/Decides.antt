@@ -1,0 +1,14 @@
+-- What a decision of the gate says (this project's own).
+use Rattle.std.specs.Prelude.{◌≡◌, ℕ, ℤ, Option, Some, None}
+use Rattle.access_history.specs.declared.event.Event.{Event}
+use Rattle.access_history.specs.declared.event.Base.{Base}
+use Rattle.op_gate.specs.declared.gate.Decision.{Decision}
+use Rattle.op_gate.specs.declared.gate.Decision.TheVariants.{Answer, Keep, NoMemory}
+use Rattle.access_history.specs.declared.request.StepRequest.{StepRequest}
+use Rattle.access_history.specs.Answer.{Answers}
+
+-- the decision is the answer to the request, and the event that the answer keeps is pending
+abbrev pub Decides : Base → ℕ → ℤ → StepRequest → Decision → Option Event → Type 0
+Decides state pass clock request (Answer reply) pending = Answers state pass clock request reply None × (pending ≡ None)
+Decides state pass clock request (Keep reply) pending = (event : Event) × Answers state pass clock request reply (Some event) × (pending ≡ Some event)
+Decides state pass clock request NoMemory pending = pending ≡ None

@@ -1,0 +1,5 @@
+pub mod Citations
+pub mod Decides
+pub mod Decision
+pub mod DecisionCode
+pub mod Differs

@@ -1,0 +1,125 @@
+//! The answer to an operation.
+
+ghost use Rattle.std.specs.Prelude.{◌≡◌, ◌≤◌, ◌<◌, ◌+◌, ◌∷◌, [], Some, None, IfOk, MatchOption, length, IsTrue};
+ghost use Rattle.access_history.specs.History.{state_of};
+ghost use Rattle.access_history.specs.Needs.{slots};
+ghost use Rattle.op_gate.specs.Decision.{IsDecided, IsMade};
+
+use crate::cause::cause_of;
+use crate::decide::{Decided, citing, told};
+use access_history::{
+    AddedNode, Change, Denial, Event, History, Op, Reply, Row, Step, StepRequest, create_refusal,
+    created_row,
+};
+use bl_syntax::{Bytes, NoMemory, NodeId, Numbers, Perm, Principal};
+use std::alloc::Global;
+
+// The step that makes a file.
+fn making(
+    alloc: Global,
+    pass: u64,
+    caller: &Principal,
+    row: Row,
+    name: &Bytes,
+    procap: u32,
+    moment: i64,
+) -> Result<Step, NoMemory>
+    ensures event { IfOk result (λ step. step.event ≡ Event.Acted pass caller.now (Op.Create (record { 0 = row.parent }) name.now) (procap ∷ []) moment) }
+    ensures change { IfOk result (λ step. step.change ≡ Change.Node (record { row = row; moment = moment })) }
+{
+    Ok(Step {
+        event: Event::Acted {
+            pass,
+            caller: *caller,
+            op: Op::Create(NodeId(row.parent), name.copy(alloc)?),
+            procaps: citing(alloc, procap)?,
+            moment,
+        },
+        change: Change::Node(AddedNode { row, moment }),
+    })
+}
+
+// What an admitted making of a file does.
+fn make(
+    alloc: Global,
+    history: &History,
+    pass: u64,
+    caller: &Principal,
+    directory: NodeId,
+    name: &Bytes,
+    procap: u32,
+    moment: i64,
+) -> Result<Decided, NoMemory>
+    ensures { IfOk result (λ d. IsMade (state_of history.now) pass caller.now directory name.now (procap ∷ []) moment d.reply d.step) }
+{
+    let next = history.next_number();
+    if let Some(refusal) = create_refusal(history.rows(), next, directory, name.as_slice()) {
+        return Ok(told(Reply::Refused(refusal, history.count())));
+    }
+    let row = created_row(*caller, directory, name.as_slice(), next);
+    Ok(Decided {
+        reply: Reply::Node(NodeId(next)),
+        step: Some(making(alloc, pass, caller, row, name, procap, moment)?),
+    })
+}
+
+// Whether the making of a file is admitted under the procap of this issue, and what it does.
+fn decide_create(
+    alloc: Global,
+    history: &History,
+    pass: u64,
+    caller: &Principal,
+    directory: NodeId,
+    name: &Bytes,
+    procap: u32,
+    clock: i64,
+) -> Result<Decided, NoMemory>
+    ensures { IfOk result (λ d. IsDecided (state_of history.now) pass clock (StepRequest.Act caller.now (Op.Create directory name.now) (procap ∷ [])) d.reply d.step) }
+{
+    let issues = history.issues();
+    if procap == 0 || issues.len() < procap as usize {
+        return Ok(told(Reply::Absent(procap as u64)));
+    }
+    let moment = clock.max(history.moment());
+    let grant = &issues[procap as usize - 1].grant;
+    if let Some(cause) = cause_of(
+        caller,
+        directory,
+        Perm::Write,
+        moment,
+        history.rows(),
+        grant,
+    ) {
+        return Ok(told(Reply::Denied(Denial {
+            need: 1,
+            cause,
+            at: history.count(),
+        })));
+    }
+    make(
+        alloc, history, pass, caller, directory, name, procap, moment,
+    )
+}
+
+/// Whether an operation is admitted, and what it does. There is one procap for each place of its needs.
+pub fn decide_act(
+    alloc: Global,
+    history: &History,
+    pass: u64,
+    caller: &Principal,
+    op: &Op,
+    procaps: &Numbers,
+    clock: i64,
+) -> Result<Decided, NoMemory>
+    requires { length procaps.now ≡ slots op.now }
+    ensures { IfOk result (λ d. IsDecided (state_of history.now) pass clock (StepRequest.Act caller.now op.now procaps.now) d.reply d.step) }
+{
+    let procap = procaps.as_slice()[0];
+    match op {
+        Op::Create(directory, name) => {
+            decide_create(
+                alloc, history, pass, caller, *directory, name, procap, clock,
+            )
+        }
+    }
+}

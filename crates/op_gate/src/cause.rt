@@ -1,0 +1,113 @@
+//! Why a procap does not give what is needed.
+
+ghost use Rattle.std.specs.Prelude.{◌≡◌, ◌↔◌, MatchOption, Contains, IsTrue, map, drop};
+ghost use Rattle.bl_syntax.specs.declared.terms.StatePred.TheVariants.{Owner, InDir};
+ghost use Rattle.bl_syntax.specs.declared.terms.Term.TheVariants as terms;
+ghost use Rattle.access_history.specs.Answer.{Fails, Gives};
+ghost use Rattle.access_history.specs.Needs.{need_of};
+ghost use Rattle.op_gate.specs.Differs.{Differs};
+ghost use Rattle.access_history.specs.Facts.{facts_of, ownership, containment};
+
+use access_history::{Cause, Row};
+use bl_syntax::{Goal, Grant, NodeId, Perm, Principal, StatePred, Term};
+use condition_set::{Facts, first_failing_state, first_failing_time};
+
+// The nodes of a tree, as what is known of the server's state.
+#[derive(Drop)]
+struct Nodes<'a> {
+    rows: &'a [Row],
+}
+
+impl Facts for Nodes<'_> {
+    ghost facts = { λ nodes. facts_of nodes.rows.now };
+
+    fn holds(&self, s: &StatePred) -> bool {
+        match s {
+            StatePred::Owner(file, owner) => is_owned(self.rows, file, owner),
+            StatePred::HasXattr(_, _, _) => false,
+            StatePred::InDir(file, directory) => is_contained(others(self.rows), file, directory),
+        }
+    }
+}
+
+// Whether a node of that number is owned by that principal.
+fn is_owned(rows: &[Row], file: &Term, owner: &Term) -> bool
+    ensures { IsTrue result ↔ Contains (map ownership rows.now) (Owner file.now owner.now) }
+{
+    for row in rows {
+        if Term::File(row.number).is_same(file) && Term::Prin(row.owner).is_same(owner) {
+            return true;
+        }
+    }
+    false
+}
+
+// The nodes but the first, which is the root.
+fn others(rows: &[Row]) -> &[Row]
+    ensures { result.now ≡ drop 1 rows.now }
+{
+    match rows {
+        [] => rows,
+        [_, others @ ..] => others,
+    }
+}
+
+// Whether one of these nodes has that number and is in that directory.
+fn is_contained(rows: &[Row], file: &Term, directory: &Term) -> bool
+    ensures { IsTrue result ↔ Contains (map containment rows.now) (InDir file.now directory.now) }
+{
+    for row in rows {
+        if Term::File(row.number).is_same(file)
+            && Term::File(NodeId(row.parent)).is_same(directory)
+        {
+            return true;
+        }
+    }
+    false
+}
+
+/// The first cause for which the grant does not give the caller the permission on the file at the moment over these
+/// nodes; none where it gives it.
+pub fn cause_of(
+    caller: &Principal,
+    file: NodeId,
+    permission: Perm,
+    moment: i64,
+    rows: &[Row],
+    grant: &Grant,
+) -> Option<Cause>
+    ensures { MatchOption result (Gives caller.now (need_of file permission) moment (facts_of rows.now) grant.now) (Fails caller.now (need_of file permission) moment (facts_of rows.now) grant.now) }
+{
+    let wanted = Goal {
+        who: *caller,
+        file,
+        perm: permission,
+    };
+    if let Some(cause) = other_name(&grant.goal(), &wanted) {
+        return Some(cause);
+    }
+    let times = grant.times();
+    if let Some(place) = first_failing_time(grant, moment) {
+        return Some(Cause::Time(place as u32 + 1, times[place]));
+    }
+    let states = grant.states();
+    if let Some(place) = first_failing_state(grant, &Nodes { rows }) {
+        return Some(Cause::State(place as u32 + 1, states[place]));
+    }
+    None
+}
+
+// The first name in which a goal differs from the one that is wanted.
+fn other_name(goal: &Goal, wanted: &Goal) -> Option<Cause>
+    ensures { MatchOption result (goal.now ≡ wanted.now) (λ cause. Differs goal.now wanted.now cause) }
+{
+    if !goal.who.is_same(&wanted.who) {
+        Some(Cause::Principal)
+    } else if !Term::File(goal.file).is_same(&Term::File(wanted.file)) {
+        Some(Cause::File)
+    } else if !Term::Perm(goal.perm).is_same(&Term::Perm(wanted.perm)) {
+        Some(Cause::Permission)
+    } else {
+        None
+    }
+}

@@ -1,0 +1,70 @@
+//! Statements by their numbers.
+
+ghost use Rattle.std.specs.Prelude.{◌≡◌, ◌↔◌, IsTrue, IfOk, MatchOption};
+ghost use Rattle.std.specs.List.{AllByRecursion};
+ghost use Rattle.access_history.specs.Citing.{AreCitable, Stands, IsMoved, numbers_of};
+ghost use Rattle.op_gate.specs.Citations.{Cites as AreStatements};
+
+use bl_syntax::{NoMemory, Numbers, Statement};
+use proof_verifier::{Cite, Cites};
+use std::alloc::Global;
+
+/// What the statements of some numbers are.
+#[derive(Debug, Drop)]
+pub enum Citation {
+    /// Each number with its statement.
+    Cited(Cites),
+    /// The first number under which no statement stands.
+    Absent(u32),
+}
+
+/// The statements of these numbers, which strictly rise and are 1 to 64.
+pub fn cite(alloc: Global, statements: &[Statement], numbers: &[u32]) -> Result<Citation, NoMemory>
+    requires { AreCitable numbers.now }
+    ensures { IfOk result (λ citation. AreStatements statements.now numbers.now citation) }
+{
+    let mut cites = Vec::new(alloc);
+    for number in numbers {
+        if *number == 0 || statements.len() < *number as usize {
+            return Ok(Citation::Absent(*number));
+        }
+        cites.push(Cite {
+            number: *number,
+            statement: statements[*number as usize - 1].copy(alloc)?,
+        })?;
+    }
+    Ok(Citation::Cited(Cites::new(cites).unwrap()))
+}
+
+// Whether its statement stands under its number.
+fn stands(statements: &[Statement], cite: &Cite) -> bool
+    ensures { IsTrue result ↔ Stands statements.now cite.now }
+{
+    if cite.number == 0 || statements.len() < cite.number as usize {
+        return false;
+    }
+    statements[cite.number as usize - 1].is_same(&cite.statement)
+}
+
+/// The first number under which the cited statement does not stand.
+pub fn first_moved(statements: &[Statement], cites: &[Cite]) -> Option<u32>
+    ensures { MatchOption result (AllByRecursion (Stands statements.now) cites.now) (IsMoved statements.now cites.now) }
+{
+    for cite in cites {
+        if !stands(statements, cite) {
+            return Some(cite.number);
+        }
+    }
+    None
+}
+
+/// The numbers of these.
+pub fn cited_numbers(alloc: Global, cites: &[Cite]) -> Result<Numbers, NoMemory>
+    ensures { IfOk result (λ numbers. numbers ≡ numbers_of cites.now) }
+{
+    let mut numbers = Numbers::new(alloc);
+    for cite in cites {
+        numbers.push(cite.number)?;
+    }
+    Ok(numbers)
+}

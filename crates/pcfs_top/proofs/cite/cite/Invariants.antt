@@ -1,7 +1,0 @@
--- The statements of the numbers so far.
-use Rattle.std.proofs.Common.{take}
-use Rattle.pcfs_top.specs.Citing.{AreFound}
-use Rattle.pcfs_top.proofs.cite.cite.Given as goal
-
-abbrev pub invariant-loop-number : goal.invariant-loop-number
-invariant-loop-number l = AreFound l.statements (take l.number-index l.numbers) l.cites.items

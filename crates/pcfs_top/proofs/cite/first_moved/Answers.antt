@@ -1,7 +1,0 @@
-use Rattle.std.proofs.lemmas.Bool.{false≢true}
-use Rattle.pcfs_top.proofs.CitingLemmas.{IsMoved-at}
-use Rattle.pcfs_top.proofs.cite.first_moved.Goals as goal
-
-pub returns-then-not-stands : goal.returns-then-not-stands
-returns-then-not-stands c =
-    IsMoved-at c.args.statements.now c.args.cites.now c.loop-cite.cite-index _ c.cite-item.result c.loop-cite-test.true c.cite-item.is c.loop-cite.invariant (λ stands. absurd (false≢true (c.if-not-stands.ensures.1 stands)))

@@ -1,6 +1,0 @@
-use Rattle.pcfs_top.proofs.AnswerLemmas.{one_answer}
-use Rattle.pcfs_top.proofs.laws.answers_are_determined.Goals as goal
-
--- src/laws.rt:16:1
-pub returns : goal.returns
-returns c = one_answer
