@@ -1,3 +1,4 @@
+pub mod DecideHex
 pub mod HexLemmas
 pub mod LineLemmas
 pub mod WordLemmas

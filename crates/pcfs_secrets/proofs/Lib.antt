@@ -1,3 +1,4 @@
+pub mod DecideLemmas
 pub mod FileLemmas
 pub mod LawLemmas
 pub mod LineLemmas

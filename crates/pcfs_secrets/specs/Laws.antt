@@ -1,5 +1,5 @@
 -- Laws of secrets files.
-use Rattle.std.specs.Prelude.{◌≡◌, ℕ, List}
+use Rattle.std.specs.Prelude.{◌≡◌, ◌⊎◌, ℕ, List}
 use Rattle.pcfs_secrets.specs.declared.secrets.Secrets.{Secrets}
 use Rattle.pcfs_secrets.specs.SecretsFile.{IsSecrets, IsFirstBad}
 
@@ -14,3 +14,7 @@ HasOneFirstBad = (lines : List (List ℕ)) (m n : ℕ) → IsFirstBad lines m �
 -- no line of a secrets file is a first bad one
 abbrev pub IsNeverBoth : Type 0
 IsNeverBoth = (lines : List (List ℕ)) (secrets : Secrets) (number : ℕ) → IsSecrets lines secrets → IsFirstBad lines number → ⊥
+
+-- lines are those of a secrets file, or one of them is the first bad one
+abbrev pub IsOneOrTheOther : Type 0
+IsOneOrTheOther = (lines : List (List ℕ)) → ((secrets : Secrets) × IsSecrets lines secrets) ⊎ ((number : ℕ) × IsFirstBad lines number)

@@ -1,6 +1,6 @@
 //! Laws of the definitions. A law is the contract of an empty function, which nothing calls.
 
-ghost use Rattle.pcfs_secrets.specs.Laws.{HasOneReading, HasOneFirstBad, IsNeverBoth};
+ghost use Rattle.pcfs_secrets.specs.Laws.{HasOneReading, HasOneFirstBad, IsNeverBoth, IsOneOrTheOther};
 
 /// A secrets file has one meaning.
 pub fn secrets_are_one()
@@ -15,4 +15,9 @@ pub fn first_bad_line_is_one()
 /// A secrets file has no bad line.
 pub fn never_both()
     ensures { IsNeverBoth }
+{}
+
+/// A text is a secrets file, or it has a first bad line.
+pub fn one_or_the_other()
+    ensures { IsOneOrTheOther }
 {}

@@ -1,6 +1,10 @@
 pub mod HeadLemmas
+pub mod HeadTexts
+pub mod LexLemmas
+pub mod PrintedTexts
 pub mod ReadLemmas
 pub mod Reader
 pub mod SettledLemmas
+pub mod TermLemmas
 pub mod TextLemmas
 pub mod WrittenLemmas

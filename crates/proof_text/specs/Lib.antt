@@ -1,5 +1,6 @@
 pub mod Heads
 pub mod Places
+pub mod Printable
 pub mod Printed
 pub mod Proofs
 pub mod Read

@@ -4,6 +4,8 @@ ghost use Rattle.std.specs.Prelude.{◌≡◌, ℕ, List, Some};
 ghost use Rattle.bl_tokens.specs.declared.faults.TextFault.{TextFault};
 ghost use Rattle.bl_text.specs.Texts.{AreOneFault};
 ghost use Rattle.proof_term.specs.Proof.{Deduction};
+ghost use Rattle.proof_text.specs.Printable.{IsSayableProof};
+ghost use Rattle.proof_text.specs.Printed.{proof_text};
 ghost use Rattle.proof_text.specs.Settled.{fault_place, SameUpTo};
 ghost use Rattle.proof_text.specs.Texts.{IsProofText, ProofTextFault};
 
@@ -29,4 +31,9 @@ pub fn one_fault_of_a_proof()
 pub fn settled_fault_of_a_proof()
     ensures { (text other : List ℕ) (e : TextFault) (at : ℕ) → ProofTextFault text e → fault_place e ≡ Some at
         → SameUpTo text other at → ProofTextFault other e }
+{}
+
+/// The text that a proof is written as is a text of it.
+pub fn printed_proof_is_read()
+    ensures { (d : Deduction) → IsSayableProof d → IsProofText (proof_text d) d }
 {}

@@ -1,0 +1,157 @@
+-- Whether a line gives a key is decided, and so a text is a secrets file or has a first bad line.
+use Rattle.std.proofs.Common.{◌≡◌, ℕ, zero, suc, ◌+◌, Bool, true, false, Option, Some, None, List, [], ◌∷◌, ◌++◌, length, take, drop, codes, IsTrue, IsSome, refl, sym, ap, ◌∙◌, subst, arith, ◌⊎◌, inl, inr}
+use Rattle.std.specs.Prelude.{nat_lt, ◌==◌}
+use Rattle.std.specs.List.{position_or_len}
+use Rattle.std.proofs.lemmas.Bool.{eqb-true, eqb-false, ltb-true, ltb-false, false≢true}
+use Rattle.std.proofs.lemmas.List.{append_cancel_left, take-append-drop}
+use Rattle.bl_syntax.specs.Names.{is_principal_name}
+use Rattle.line_text.specs.HexWord.{IsHex}
+use Rattle.line_text.specs.Words.{is_stop}
+use Rattle.line_text.proofs.DecideHex.{DecidesHex, decided_hex}
+use Rattle.line_text.proofs.HexLemmas.{IsHex-same}
+use Rattle.line_text.proofs.WordLemmas.{IsSplit-at_word}
+use Rattle.policy_statement.specs.Ring.{Key, HasKey, key_of}
+use Rattle.pcfs_secrets.specs.declared.secrets.Secrets.{Secrets}
+use Rattle.pcfs_secrets.specs.SecretLines.{IsKeyWord, IsSealLine, seal_line, IsKeyLine, key_line, GivesKey, GiveKeys, IsBadAt}
+use Rattle.pcfs_secrets.specs.SecretsFile.{IsSecrets, IsFirstBad, no_line, no_seal, no_key}
+use Rattle.pcfs_secrets.proofs.NameLemmas.{HasNoStop-principal}
+use Rattle.pcfs_secrets.proofs.LineLemmas.{seal_word, name_and_word, IsKeyLine-same}
+
+-- ---- a literal in front
+
+abbrev DecidesFront : List ℕ → List ℕ → Type 0
+DecidesFront literal line = ((rest : List ℕ) × (line ≡ literal ++ rest)) ⊎ ((rest : List ℕ) → line ≡ literal ++ rest → ⊥)
+
+front_step : (byte : ℕ) (literal : List ℕ) (first : ℕ) (line : List ℕ) (same : Bool) → (first == byte) ≡ same → DecidesFront literal line → DecidesFront (byte ∷ literal) (first ∷ line)
+front_step byte literal first line true is (inl h) =
+    inl (h.0, ap (λ b. b ∷ line) (eqb-true first byte is) ∙ ap (λ l. byte ∷ l) h.1)
+front_step byte literal first line true is (inr none) = inr (λ rest h. let tail : line ≡ literal ++ rest = cc in none rest tail)
+front_step byte literal first line false is _ = inr (λ rest h. let head : first ≡ byte = cc in eqb-false first byte is head)
+
+decided_front : (literal line : List ℕ) → DecidesFront literal line
+decided_front [] line = inl (line, refl)
+decided_front (byte ∷ literal) [] = inr (λ rest h. cc)
+decided_front (byte ∷ literal) (first ∷ line) = front_step byte literal first line (first == byte) refl (decided_front literal line)
+
+-- ---- keys
+
+abbrev DecidesKeyWord : List ℕ → Type 0
+DecidesKeyWord word = ((key : List ℕ) × IsKeyWord word key) ⊎ ((key : List ℕ) → IsKeyWord word key → ⊥)
+
+short_key : (word bytes : List ℕ) → IsHex word bytes → (long : Bool) → nat_lt 1024 (length bytes) ≡ long → DecidesKeyWord word
+short_key word bytes is true long = inr (λ key other.
+    let same = ap length (IsHex-same word key bytes other.hex is) in
+    let bound = other.short in
+    absurd (omega (arith, ltb-true 1024 (length bytes) long)))
+short_key word bytes is false long = inl (bytes, record { hex = is; short = ltb-false 1024 (length bytes) long })
+
+key_word_step : (word : List ℕ) → DecidesHex word → DecidesKeyWord word
+key_word_step word (inl h) = short_key word h.0 h.1 (nat_lt 1024 (length h.0)) refl
+key_word_step word (inr none) = inr (λ key is. none key is.hex)
+
+decided_key_word : (word : List ℕ) → DecidesKeyWord word
+decided_key_word word = key_word_step word (decided_hex word)
+
+-- ---- lines
+
+abbrev DecidesSeal : List ℕ → Type 0
+DecidesSeal line = ((key : List ℕ) × IsSealLine line key) ⊎ ((key : List ℕ) → IsSealLine line key → ⊥)
+
+seal_step : (line word : List ℕ) → line ≡ codes "seal " ++ word → DecidesKeyWord word → DecidesSeal line
+seal_step line word line_is (inl h) = inl (h.0, subst (λ l. IsSealLine l h.0) (sym line_is) (seal_line word h.0 h.1))
+seal_step line word line_is (inr none) = inr (λ key is.
+    let seal = seal_word is in
+    let same = append_cancel_left (codes "seal ") seal.word word (sym seal.line_is ∙ line_is) in
+    none key (subst (λ w. IsKeyWord w key) same seal.key_is))
+
+seal_front : (line : List ℕ) → DecidesFront (codes "seal ") line → DecidesSeal line
+seal_front line (inl h) = seal_step line h.0 h.1 (decided_key_word h.0)
+seal_front line (inr none) = inr (λ key is. let seal = seal_word is in none seal.word seal.line_is)
+
+decided_seal : (line : List ℕ) → DecidesSeal line
+decided_seal line = seal_front line (decided_front (codes "seal ") line)
+
+abbrev DecidesKeyLine : List ℕ → Type 0
+DecidesKeyLine line = ((k : Key) × IsKeyLine line k) ⊎ ((k : Key) → IsKeyLine line k → ⊥)
+
+-- a line with a key falls at its first stop
+pub record FallsAt (rest : List ℕ) (k : Key) : Type 0 where
+  pub word : List ℕ
+  pub named : IsTrue (is_principal_name k.who)
+  pub name_is : take (position_or_len is_stop rest) rest ≡ k.who
+  pub behind_is : drop (position_or_len is_stop rest) rest ≡ 32 ∷ word
+  pub key_is : IsKeyWord word k.key
+
+falls_at : (line rest : List ℕ) (k : Key) → line ≡ codes "key " ++ rest → IsKeyLine line k → FallsAt rest k
+falls_at line rest k line_is is =
+    let parts = name_and_word is in
+    let rest_is = append_cancel_left (codes "key ") rest (k.who ++ 32 ∷ parts.word) (sym line_is ∙ parts.line_is) in
+    let split = IsSplit-at_word rest k.who (32 ∷ parts.word) (position_or_len is_stop rest) refl rest_is (HasNoStop-principal k.who parts.named) refl in
+    record { word = parts.word; named = parts.named; name_is = split.front; behind_is = split.back; key_is = parts.key_is }
+
+key_step : (line rest word : List ℕ) → line ≡ codes "key " ++ rest → drop (position_or_len is_stop rest) rest ≡ 32 ∷ word → (named : Bool) → is_principal_name (take (position_or_len is_stop rest) rest) ≡ named → DecidesKeyWord word → DecidesKeyLine line
+key_step line rest word line_is behind_is false named _ = inr (λ k is.
+    let falls = falls_at line rest k line_is is in
+    false≢true (sym named ∙ ap is_principal_name falls.name_is ∙ falls.named))
+key_step line rest word line_is behind_is true named (inl h) =
+    let name : List ℕ = take (position_or_len is_stop rest) rest in
+    let k : Key = record { who = name; key = h.0 } in
+    let rest_is : rest ≡ name ++ 32 ∷ word = sym (take-append-drop (position_or_len is_stop rest) rest) ∙ ap (λ b. name ++ b) behind_is in
+    inl (k, subst (λ l. IsKeyLine l k) (sym (line_is ∙ ap (λ r. codes "key " ++ r) rest_is)) (key_line name word h.0 named h.1))
+key_step line rest word line_is behind_is true named (inr none) = inr (λ k is.
+    let falls = falls_at line rest k line_is is in
+    let both : 32 ∷ falls.word ≡ 32 ∷ word = sym falls.behind_is ∙ behind_is in
+    let same : falls.word ≡ word = cc in
+    none k.key (subst (λ w. IsKeyWord w k.key) same falls.key_is))
+
+key_behind : (line rest : List ℕ) → line ≡ codes "key " ++ rest → DecidesFront (32 ∷ []) (drop (position_or_len is_stop rest) rest) → DecidesKeyLine line
+key_behind line rest line_is (inl h) = key_step line rest h.0 line_is h.1 (is_principal_name (take (position_or_len is_stop rest) rest)) refl (decided_key_word h.0)
+key_behind line rest line_is (inr none) = inr (λ k is. let falls = falls_at line rest k line_is is in none falls.word falls.behind_is)
+
+key_front : (line : List ℕ) → DecidesFront (codes "key ") line → DecidesKeyLine line
+key_front line (inl h) = key_behind line h.0 h.1 (decided_front (32 ∷ []) (drop (position_or_len is_stop h.0) h.0))
+key_front line (inr none) = inr (λ k is. let parts = name_and_word is in none (k.who ++ 32 ∷ parts.word) parts.line_is)
+
+-- ---- the ring
+
+abbrev DecidesGiven : List Key → List ℕ → Type 0
+DecidesGiven ring line = ((k : Key) × GivesKey ring line k) ⊎ ((k : Key) → GivesKey ring line k → ⊥)
+
+unknown : {A : Type 0} (o : Option A) → IsSome o ⊎ (IsSome o → ⊥)
+unknown None = inr (λ h. cc)
+unknown (Some x) = inl refl
+
+known_step : (ring : List Key) (line : List ℕ) (k : Key) → IsKeyLine line k → IsSome (key_of ring k.who) ⊎ (IsSome (key_of ring k.who) → ⊥) → DecidesGiven ring line
+known_step ring line k is (inl known) = inr (λ other gives. gives.unknown (subst (λ l. HasKey ring l.who) (IsKeyLine-same line k other is gives.line_is) known))
+known_step ring line k is (inr none) = inl (k, record { line_is = is; unknown = none })
+
+given_step : (ring : List Key) (line : List ℕ) → DecidesKeyLine line → DecidesGiven ring line
+given_step ring line (inl h) = known_step ring line h.0 h.1 (unknown (key_of ring h.0.who))
+given_step ring line (inr none) = inr (λ k gives. none k gives.line_is)
+
+abbrev DecidesLines : List Key → List (List ℕ) → Type 0
+DecidesLines ring lines = ((after : List Key) × GiveKeys ring lines after) ⊎ ((place : ℕ) × IsBadAt ring lines place)
+
+more_step : (ring : List Key) (line : List ℕ) (lines : List (List ℕ)) (k : Key) → GivesKey ring line k → DecidesLines (ring ++ k ∷ []) lines → DecidesLines ring (line ∷ lines)
+more_step ring line lines k gives (inl h) = inl (h.0, (k, gives, h.1))
+more_step ring line lines k gives (inr h) = inr (suc h.0, (k, gives, h.1))
+
+lines_step : (ring : List Key) (line : List ℕ) (lines : List (List ℕ)) → DecidesGiven ring line → ((k : Key) → DecidesLines (ring ++ k ∷ []) lines) → DecidesLines ring (line ∷ lines)
+lines_step ring line lines (inl h) rest = more_step ring line lines h.0 h.1 (rest h.0)
+lines_step ring line lines (inr none) rest = inr (zero, none)
+
+decided_lines : (ring : List Key) (lines : List (List ℕ)) → DecidesLines ring lines
+decided_lines ring [] = inl (ring, refl)
+decided_lines ring (line ∷ lines) = lines_step ring line lines (given_step ring line (key_front line (decided_front (codes "key ") line))) (λ k. decided_lines (ring ++ k ∷ []) lines)
+
+abbrev DecidesFile : List (List ℕ) → Type 0
+DecidesFile lines = ((secrets : Secrets) × IsSecrets lines secrets) ⊎ ((number : ℕ) × IsFirstBad lines number)
+
+file_step : (line : List ℕ) (lines : List (List ℕ)) → DecidesSeal line → DecidesLines [] lines → DecidesFile (line ∷ lines)
+file_step line lines (inl seal) (inl keys) = inl (record { seal_key = seal.0; ring = keys.0 }, (seal.1, keys.1))
+file_step line lines (inl seal) (inr bad) = inr (bad.0 + 2, no_key line seal.0 lines bad.0 seal.1 bad.1)
+file_step line lines (inr none) keys = inr (1, no_seal line lines none)
+
+pub one_or_the_other : (lines : List (List ℕ)) → DecidesFile lines
+one_or_the_other [] = inr (1, no_line)
+one_or_the_other (line ∷ lines) = file_step line lines (decided_seal line) (decided_lines [] lines)
