@@ -18,5 +18,6 @@ pub use faults::TextFault;
 pub use numerals::smallest_numeral;
 pub use times::parse_time;
 pub use tokens::{
-    Here, Keyword, Lexeme, Sign, Token, behind, behind_node, digits_of, is_sign, is_word, token_from,
+    Here, Keyword, Lexeme, Sign, Token, behind, behind_node, digits_of, is_sign, is_word,
+    token_from,
 };
