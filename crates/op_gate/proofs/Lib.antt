@@ -3,3 +3,4 @@ pub mod CitingLemmas
 pub mod Deciding
 pub mod Following
 pub mod Making
+pub mod RegistryLemmas
