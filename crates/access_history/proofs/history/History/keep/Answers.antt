@@ -1,14 +1,14 @@
 -- The step's event comes next, and the fields show the state after it.
 use Rattle.std.specs.Int.{w64}
 use Rattle.std.proofs.lemmas.Int.{to_z-of_z}
-use Rattle.std.proofs.Common.{◌<◌, ◌^◌, ap, subst, sym, ◌∙◌, ◌+◌, arith}
+use Rattle.std.proofs.Common.{◌<◌, ◌^◌, length, ap, subst, sym, ◌∙◌, ◌+◌, arith}
 use Rattle.access_history.specs.declared.history.History.TheInside.{Inside}
 use Rattle.access_history.specs.declared.event.Base.{Base}
 use Rattle.access_history.specs.declared.step.Change.{Change}
 use Rattle.access_history.specs.History.{Kept, authority_of, state_of, Brings}
 use Rattle.access_history.specs.HistoryParts.{kept_by, shown_state}
 use Rattle.access_history.specs.Lawful.{MayFollow}
-use Rattle.access_history.proofs.Keeping.{IsKeeping-kept, pushed, statement_shown, issue_shown, node_shown, next_fits, SFits-moment, IsMoment-added}
+use Rattle.access_history.proofs.Keeping.{IsKeeping-kept, few_before, pushed, statement_shown, issue_shown, node_shown, next_fits, SFits-moment, IsMoment-added}
 use Rattle.access_history.proofs.history.History.keep.Goals as goal
 use Rattle.access_history.proofs.history.History.keep.Goals.{in-Statement, in-Issue, in-Node}
 
@@ -20,6 +20,15 @@ overflow_add-self c =
     let below : c.self.inside.next < 2 ^ 64 = omega arith in
     let fits = next_fits (authority_of (kept_by c.self.inside)) (state_of (kept_by c.self.inside)) c.args.step.event c.in-Node.added follows (subst (λ (change : Change). Brings (state_of (kept_by c.self.inside)) c.args.step.event change) c.in-Node.is brings) (omega (arith, below, next_is)) in
     omega (arith, fits, next_is)
+
+pub keep-requires-clause-few : goal.keep-requires-clause-few
+keep-requires-clause-few c =
+    let follows : MayFollow (authority_of (kept_by c.self.inside)) (state_of (kept_by c.self.inside)) c.args.step.event = subst (λ (k : Kept). MayFollow (authority_of k) (state_of k) c.args.step.event) (sym c.self.view_is) c.requires.lawful in
+    let brings : Brings (state_of (kept_by c.self.inside)) c.args.step.event c.args.step.change = subst (λ (k : Kept). Brings (state_of k) c.args.step.event c.args.step.change) (sym c.self.view_is) c.requires.brings in
+    let few = few_before (authority_of (kept_by c.self.inside)) (state_of (kept_by c.self.inside)) c.args.step.event c.in-Statement.statement c.in-Statement.signature follows
+    (subst (λ (change : Change). Brings (state_of (kept_by c.self.inside)) c.args.step.event change) c.in-Statement.is brings) in
+    let shown = ap (λ (b : Base). length b.statements) c.self.invariant.state_is in
+    omega (arith, few, shown)
 
 pub invariant_of-self : goal.invariant_of-self
 invariant_of-self c =
@@ -35,7 +44,7 @@ invariant_of-self c =
       | in-Issue w ↦
           IsKeeping-kept c.self.inside c.match-change.self-inside c.push-2.new.self c.args.step.event c.args.step.change c.self.invariant follows brings (omega (arith, count_is, c.requires.counted))
           (ap (λ (i : Inside). i.key) w.self-inside-is) (ap (λ (i : Inside). i.ring) w.self-inside-is) (ap (λ (i : Inside). i.base) w.self-inside-is) (ap (λ (i : Inside). i.events) w.self-inside-is) more
-          (ap (λ (i : Inside). shown_state (record i { count = i.count + 1 })) w.self-inside-is ∙ issue_shown c.self.inside w.push-in-Issue.new.self c.args.step.change w.in-Issue.issue w.in-Issue.is (pushed _ _ _ _ _ w.push-in-Issue.ensures.items w.unwrap-in-Issue.ensures))
+          (ap (λ (i : Inside). shown_state (record i { count = i.count + 1 })) w.self-inside-is ∙ issue_shown c.self.inside w.push.new.self c.args.step.change w.in-Issue.issue w.in-Issue.is (pushed _ _ _ _ _ w.push.ensures.items w.unwrap.ensures))
       | in-Node w ↦
           IsKeeping-kept c.self.inside c.match-change.self-inside c.push-2.new.self c.args.step.event c.args.step.change c.self.invariant follows brings (omega (arith, count_is, c.requires.counted))
           (ap (λ (i : Inside). i.key) w.self-inside-is) (ap (λ (i : Inside). i.ring) w.self-inside-is) (ap (λ (i : Inside). i.base) w.self-inside-is) (ap (λ (i : Inside). i.events) w.self-inside-is) more
