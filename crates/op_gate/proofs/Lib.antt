@@ -4,3 +4,4 @@ pub mod Deciding
 pub mod Following
 pub mod Making
 pub mod RegistryLemmas
+pub mod Showing

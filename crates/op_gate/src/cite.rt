@@ -21,11 +21,7 @@ pub enum Citation {
 }
 
 /// The statements of these numbers, which strictly rise and are 1 to 64.
-pub fn cite(
-    alloc: Global,
-    statements: &[Registered],
-    numbers: &[u32],
-) -> Result<Citation, NoMemory>
+pub fn cite(alloc: Global, statements: &[Registered], numbers: &[u32]) -> Result<Citation, NoMemory>
     requires { AreCitable numbers.now }
     ensures { IfOk result (λ citation. AreStatements (sayings statements.now) numbers.now citation) }
 {

@@ -1,8 +1,7 @@
 //! The answers to requests, and the steps to keep.
 
-ghost use Rattle.std.specs.Prelude.{◌≡◌, ◌∷◌, ◌↔◌, [], Some, None, IfOk, OnErr, MatchOption, IsTrue, Contains, ℤ, ⊥};
+ghost use Rattle.std.specs.Prelude.{◌≡◌, ◌∷◌, ◌↔◌, [], Some, None, IfOk, OnErr, MatchOption, IsTrue, ℕ, ℤ};
 ghost use Rattle.access_history.specs.Answer.{MaySee};
-ghost use Rattle.access_history.specs.Authority.{IsSigned, sayings};
 ghost use Rattle.access_history.specs.History.{authority_of, state_of};
 ghost use Rattle.op_gate.specs.Issued.{IsIssued, HasNone, IsProcapOf};
 ghost use Rattle.op_gate.specs.Rejection.{rejection_of};
