@@ -1,0 +1,10 @@
+-- The text is a statement, or has a fault.
+use Rattle.line_wire.specs.Lines.{registers, in_statement}
+use Rattle.line_wire.specs.Forms.{faulty_text}
+use Rattle.line_wire.proofs.forms.registers.Goals as goal
+
+pub returns-in-Ok : goal.returns-in-Ok
+returns-in-Ok c = registers c.args.text.now c.in-Ok.statement c.in-Ok.ensures.read
+
+pub returns-in_ok-bad_text-in-Err : goal.returns-in_ok-bad_text-in-Err
+returns-in_ok-bad_text-in-Err c = faulty_text c.in-Err.fault _ (in_statement c.args.text.now c.in-Err.fault c.in-Err.ensures.fault) c.in_ok-bad_text-in-Err.ensures.ok
