@@ -1,10 +1,13 @@
 //! What the server answers.
 
 use bl_syntax::{Constraint, Grant, NodeId, StatePred};
+use procap::Procap;
 
 /// Why a statement was not registered.
 #[derive(Clone, Copy, Debug)]
 pub enum RegisterFault {
+    /// The signature is not accepted from who says the statement.
+    BadSignature,
     /// As many statements as may be kept are there.
     RegistryFull,
     /// An equal statement has this number.
@@ -14,6 +17,8 @@ pub enum RegisterFault {
 /// Why a procap does not give what is needed. Places of conditions count from 1.
 #[derive(Clone, Copy, Debug)]
 pub enum Cause {
+    /// Its seal is not the one of its grant under the server's key.
+    Seal,
     /// It names another principal than the caller.
     Principal,
     /// It names another file.
@@ -47,6 +52,8 @@ pub enum Reply {
     Issue(u64, u32, u32),
     /// What the proof grants, which is not issued.
     Checked(Grant),
+    /// The procap of an issue.
+    Procap(Procap),
     /// The node.
     Node(NodeId),
     Denied(Denial),

@@ -1,5 +1,5 @@
 -- The forms of a line differ in how they begin, and a line of a form says one thing behind its beginning.
-use Rattle.std.proofs.Common.{◌≡◌, ◌≢◌, ◌^◌, ◌∙◌, arith, ℕ, ℤ, Bool, true, false, not, List, [], ◌∷◌, ◌++◌, IsTrue, refl, sym, ap, subst}
+use Rattle.std.proofs.Common.{◌≡◌, ◌≢◌, ◌^◌, ◌∙◌, arith, ℕ, ℤ, Bool, true, false, not, List, [], ◌∷◌, ◌++◌, Option, IsTrue, refl, sym, ap, subst}
 use Rattle.std.specs.Prelude.{codes, ◌==◌, ◌&&◌}
 use Rattle.std.specs.List.{list_all}
 use Rattle.std.proofs.lemmas.Bool.{and_parts, and_from, false≢true, eqb-true}
@@ -18,9 +18,11 @@ use Rattle.proof_text.specs.Texts.{IsProofText, ProofTextFault}
 use Rattle.access_history.specs.declared.event.Op.TheVariants.{Create}
 use Rattle.access_history.specs.World.{is_node_name, is_node_name_byte}
 use Rattle.line_wire.specs.declared.command.Command.{Command}
-use Rattle.line_wire.specs.declared.command.Command.TheVariants.{At, As, Register, Verify, Check, Do}
+use Rattle.line_wire.specs.declared.command.Command.TheVariants.{At, As, Verify, Check}
+use Rattle.line_wire.specs.declared.command.Command.TheVariants as commands
+use Rattle.line_wire.specs.declared.command.ProcapWord.{ProcapWord}
 use Rattle.line_wire.specs.Words.{HasNo}
-use Rattle.line_wire.specs.Lines.{IsSecond, IsNumber, IsFile, AreJoined, one_number, more_numbers, IsInquiry, IsMaking, IsLine, sets_clock, sets_caller, registers, verifies, checks, creates, HasBadText, in_statement, in_proof, in_checked_proof}
+use Rattle.line_wire.specs.Lines.{IsSecond, IsNumber, IsFile, AreJoined, one_number, more_numbers, IsIssue, IsInquiry, IsMaking, IsRegistering, IsLine, sets_clock, sets_caller, registers, shows_procap, verifies, checks, creates, HasBadText, in_statement, in_proof, in_checked_proof}
 use Rattle.line_wire.proofs.NumeralLemmas.{IsWritten-below}
 use Rattle.line_wire.proofs.WordLemmas.{differ}
 
@@ -90,10 +92,11 @@ pub clock_line : {line : List ℕ} {command : Command} → IsLine line command �
 clock_line (sets_clock w second h) word same =
     record { second = second; is_second = subst (λ v. IsSecond v second) (append_cancel_left (codes "at ") w word same) h; command_is = refl }
 clock_line (sets_caller who h) word same = absurd (differ 1 refl same)
-clock_line (registers text s h) word same = absurd (differ 0 refl same)
+clock_line (registers w t signature s h k) word same = absurd (differ 0 refl same)
 clock_line (verifies w text goal numbers proof h t) word same = absurd (differ 0 refl same)
 clock_line (checks w text goal numbers proof h t) word same = absurd (differ 0 refl same)
-clock_line (creates w name directory issue h) word same = absurd (differ 0 refl same)
+clock_line (shows_procap w number h) word same = absurd (differ 0 refl same)
+clock_line (creates w name directory procap h) word same = absurd (differ 0 refl same)
 
 pub record IsCallerLine (who : List ℕ) (command : Command) : Type 0 where
   pub named : IsTrue (is_principal_name who)
@@ -104,24 +107,44 @@ caller_line (sets_caller w h) who same =
     let cancelled = append_cancel_left (codes "as ") w who same in
     record { named = subst (λ v. IsTrue (is_principal_name v)) cancelled h; command_is = ap As cancelled }
 caller_line (sets_clock w second h) who same = absurd (differ 1 refl same)
-caller_line (registers text s h) who same = absurd (differ 0 refl same)
+caller_line (registers w t signature s h k) who same = absurd (differ 0 refl same)
 caller_line (verifies w text goal numbers proof h t) who same = absurd (differ 0 refl same)
 caller_line (checks w text goal numbers proof h t) who same = absurd (differ 0 refl same)
-caller_line (creates w name directory issue h) who same = absurd (differ 0 refl same)
+caller_line (shows_procap w number h) who same = absurd (differ 0 refl same)
+caller_line (creates w name directory procap h) who same = absurd (differ 0 refl same)
 
-pub record IsRegisterLine (text : List ℕ) (command : Command) : Type 0 where
+pub record IsRegisterLine (words : List ℕ) (command : Command) : Type 0 where
+  pub signature : Option (List ℕ)
+  pub text : List ℕ
   pub statement : Saying
+  pub registering : IsRegistering words signature text
   pub is_text : IsStatementText text statement
-  pub command_is : command ≡ Register statement
+  pub command_is : command ≡ commands.Register signature statement
 
-pub register_line : {line : List ℕ} {command : Command} → IsLine line command → (text : List ℕ) → line ≡ codes "register - " ++ text → IsRegisterLine text command
-register_line (registers t s h) text same =
-    record { statement = s; is_text = subst (λ v. IsStatementText v s) (append_cancel_left (codes "register - ") t text same) h; command_is = refl }
-register_line (sets_clock w second h) text same = absurd (differ 0 refl same)
-register_line (sets_caller who h) text same = absurd (differ 0 refl same)
-register_line (verifies w t goal numbers proof h p) text same = absurd (differ 0 refl same)
-register_line (checks w t goal numbers proof h p) text same = absurd (differ 0 refl same)
-register_line (creates w name directory issue h) text same = absurd (differ 0 refl same)
+pub register_line : {line : List ℕ} {command : Command} → IsLine line command → (words : List ℕ) → line ≡ codes "register " ++ words → IsRegisterLine words command
+register_line (registers w text signature s h k) words same =
+    record { signature = signature; text = text; statement = s; registering = subst (λ v. IsRegistering v signature text) (append_cancel_left (codes "register ") w words same) h; is_text = k; command_is = refl }
+register_line (sets_clock w second h) words same = absurd (differ 0 refl same)
+register_line (sets_caller who h) words same = absurd (differ 0 refl same)
+register_line (shows_procap w number h) words same = absurd (differ 0 refl same)
+register_line (verifies w t goal numbers proof h p) words same = absurd (differ 0 refl same)
+register_line (checks w t goal numbers proof h p) words same = absurd (differ 0 refl same)
+register_line (creates w name directory procap h) words same = absurd (differ 0 refl same)
+
+pub record IsShowLine (word : List ℕ) (command : Command) : Type 0 where
+  pub number : ℕ
+  pub issue_is : IsIssue word number
+  pub command_is : command ≡ commands.Procap number
+
+pub show_line : {line : List ℕ} {command : Command} → IsLine line command → (word : List ℕ) → line ≡ codes "procap " ++ word → IsShowLine word command
+show_line (shows_procap w number h) word same =
+    record { number = number; issue_is = subst (λ v. IsIssue v number) (append_cancel_left (codes "procap ") w word same) h; command_is = refl }
+show_line (sets_clock w second h) word same = absurd (differ 0 refl same)
+show_line (sets_caller who h) word same = absurd (differ 0 refl same)
+show_line (registers w t signature s h k) word same = absurd (differ 0 refl same)
+show_line (verifies w t goal numbers proof h p) word same = absurd (differ 0 refl same)
+show_line (checks w t goal numbers proof h p) word same = absurd (differ 0 refl same)
+show_line (creates w name directory procap h) word same = absurd (differ 0 refl same)
 
 -- a goal, numbers and a proof, and the command that these make
 pub record IsProofLine (words : List ℕ) (command : Command) (asking : Goal → List ℕ → Deduction → Command) : Type 0 where
@@ -138,67 +161,85 @@ verify_line (verifies w text goal numbers proof h t) words same =
     record { goal = goal; numbers = numbers; text = text; proof = proof; inquiry = subst (λ v. IsInquiry v goal numbers text) (append_cancel_left (codes "verify ") w words same) h; is_text = t; command_is = refl }
 verify_line (sets_clock w second h) words same = absurd (differ 0 refl same)
 verify_line (sets_caller who h) words same = absurd (differ 0 refl same)
-verify_line (registers text s h) words same = absurd (differ 0 refl same)
+verify_line (registers w t signature s h k) words same = absurd (differ 0 refl same)
 verify_line (checks w text goal numbers proof h t) words same = absurd (differ 0 refl same)
-verify_line (creates w name directory issue h) words same = absurd (differ 0 refl same)
+verify_line (shows_procap w number h) words same = absurd (differ 0 refl same)
+verify_line (creates w name directory procap h) words same = absurd (differ 0 refl same)
 
 pub check_line : {line : List ℕ} {command : Command} → IsLine line command → (words : List ℕ) → line ≡ codes "check " ++ words → IsProofLine words command Check
 check_line (checks w text goal numbers proof h t) words same =
     record { goal = goal; numbers = numbers; text = text; proof = proof; inquiry = subst (λ v. IsInquiry v goal numbers text) (append_cancel_left (codes "check ") w words same) h; is_text = t; command_is = refl }
 check_line (sets_clock w second h) words same = absurd (differ 0 refl same)
 check_line (sets_caller who h) words same = absurd (differ 0 refl same)
-check_line (registers text s h) words same = absurd (differ 0 refl same)
+check_line (registers w t signature s h k) words same = absurd (differ 0 refl same)
 check_line (verifies w text goal numbers proof h t) words same = absurd (differ 0 refl same)
-check_line (creates w name directory issue h) words same = absurd (differ 0 refl same)
+check_line (shows_procap w number h) words same = absurd (differ 0 refl same)
+check_line (creates w name directory procap h) words same = absurd (differ 0 refl same)
 
 pub record IsCreateLine (words : List ℕ) (command : Command) : Type 0 where
   pub directory : NodeId
   pub name : List ℕ
-  pub issue : ℕ
-  pub making : IsMaking words directory name issue
-  pub command_is : command ≡ Do (Create directory name) (issue ∷ [])
+  pub procap : ProcapWord
+  pub making : IsMaking words directory name procap
+  pub command_is : command ≡ commands.Do (Create directory name) (procap ∷ [])
 
 pub create_line : {line : List ℕ} {command : Command} → IsLine line command → (words : List ℕ) → line ≡ codes "do create " ++ words → IsCreateLine words command
-create_line (creates w name directory issue h) words same =
-    record { directory = directory; name = name; issue = issue; making = subst (λ v. IsMaking v directory name issue) (append_cancel_left (codes "do create ") w words same) h; command_is = refl }
+create_line (creates w name directory procap h) words same =
+    record { directory = directory; name = name; procap = procap; making = subst (λ v. IsMaking v directory name procap) (append_cancel_left (codes "do create ") w words same) h; command_is = refl }
 create_line (sets_clock w second h) words same = absurd (differ 0 refl same)
 create_line (sets_caller who h) words same = absurd (differ 0 refl same)
-create_line (registers text s h) words same = absurd (differ 0 refl same)
+create_line (registers w t signature s h k) words same = absurd (differ 0 refl same)
+create_line (shows_procap w number h) words same = absurd (differ 0 refl same)
 create_line (verifies w text goal numbers proof h t) words same = absurd (differ 0 refl same)
 create_line (checks w text goal numbers proof h t) words same = absurd (differ 0 refl same)
 
--- each line of a form has one of the six beginnings
+-- each line of a form has one of the seven beginnings
 pub no_beginning : {line : List ℕ} {command : Command} → IsLine line command
-    → ((rest : List ℕ) → line ≢ codes "at " ++ rest) → ((rest : List ℕ) → line ≢ codes "as " ++ rest) → ((rest : List ℕ) → line ≢ codes "register - " ++ rest)
-    → ((rest : List ℕ) → line ≢ codes "verify " ++ rest) → ((rest : List ℕ) → line ≢ codes "check " ++ rest) → ((rest : List ℕ) → line ≢ codes "do create " ++ rest) → ⊥
-no_beginning (sets_clock w second h) at_ as_ register verify check create = at_ _ refl
-no_beginning (sets_caller who h) at_ as_ register verify check create = as_ _ refl
-no_beginning (registers text s h) at_ as_ register verify check create = register _ refl
-no_beginning (verifies w text goal numbers proof h t) at_ as_ register verify check create = verify _ refl
-no_beginning (checks w text goal numbers proof h t) at_ as_ register verify check create = check _ refl
-no_beginning (creates w name directory issue h) at_ as_ register verify check create = create _ refl
+    → ((rest : List ℕ) → line ≢ codes "at " ++ rest) → ((rest : List ℕ) → line ≢ codes "as " ++ rest) → ((rest : List ℕ) → line ≢ codes "register " ++ rest)
+    → ((rest : List ℕ) → line ≢ codes "procap " ++ rest) → ((rest : List ℕ) → line ≢ codes "verify " ++ rest) → ((rest : List ℕ) → line ≢ codes "check " ++ rest)
+    → ((rest : List ℕ) → line ≢ codes "do create " ++ rest) → ⊥
+no_beginning (sets_clock w second h) at_ as_ register show verify check create = at_ _ refl
+no_beginning (sets_caller who h) at_ as_ register show verify check create = as_ _ refl
+no_beginning (registers w text signature s h k) at_ as_ register show verify check create = register _ refl
+no_beginning (shows_procap w number h) at_ as_ register show verify check create = show _ refl
+no_beginning (verifies w text goal numbers proof h t) at_ as_ register show verify check create = verify _ refl
+no_beginning (checks w text goal numbers proof h t) at_ as_ register show verify check create = check _ refl
+no_beginning (creates w name directory procap h) at_ as_ register show verify check create = create _ refl
 
 -- ---- what a line with a fault in its text says
 
 pub no_bad_clock : {line : List ℕ} {fault : TextFault} → HasBadText line fault → (word : List ℕ) → line ≡ codes "at " ++ word → ⊥
-no_bad_clock (in_statement text fault h) word same = differ 0 refl same
+no_bad_clock (in_statement w t signature fault h k) word same = differ 0 refl same
 no_bad_clock (in_proof w text goal numbers fault h t) word same = differ 0 refl same
 no_bad_clock (in_checked_proof w text goal numbers fault h t) word same = differ 0 refl same
 
 pub no_bad_caller : {line : List ℕ} {fault : TextFault} → HasBadText line fault → (who : List ℕ) → line ≡ codes "as " ++ who → ⊥
-no_bad_caller (in_statement text fault h) who same = differ 0 refl same
+no_bad_caller (in_statement w t signature fault h k) who same = differ 0 refl same
 no_bad_caller (in_proof w text goal numbers fault h t) who same = differ 0 refl same
 no_bad_caller (in_checked_proof w text goal numbers fault h t) who same = differ 0 refl same
 
 pub no_bad_making : {line : List ℕ} {fault : TextFault} → HasBadText line fault → (words : List ℕ) → line ≡ codes "do create " ++ words → ⊥
-no_bad_making (in_statement text fault h) words same = differ 0 refl same
+no_bad_making (in_statement w t signature fault h k) words same = differ 0 refl same
 no_bad_making (in_proof w text goal numbers fault h t) words same = differ 0 refl same
 no_bad_making (in_checked_proof w text goal numbers fault h t) words same = differ 0 refl same
 
-pub bad_statement : {line : List ℕ} {fault : TextFault} → HasBadText line fault → (text : List ℕ) → line ≡ codes "register - " ++ text → StatementFault text fault
-bad_statement (in_statement t fault h) text same = subst (λ v. StatementFault v fault) (append_cancel_left (codes "register - ") t text same) h
-bad_statement (in_proof w t goal numbers fault h p) text same = absurd (differ 0 refl same)
-bad_statement (in_checked_proof w t goal numbers fault h p) text same = absurd (differ 0 refl same)
+pub no_bad_show : {line : List ℕ} {fault : TextFault} → HasBadText line fault → (word : List ℕ) → line ≡ codes "procap " ++ word → ⊥
+no_bad_show (in_statement w t signature fault h k) word same = differ 0 refl same
+no_bad_show (in_proof w text goal numbers fault h t) word same = differ 0 refl same
+no_bad_show (in_checked_proof w text goal numbers fault h t) word same = differ 0 refl same
+
+-- a signature, and a statement's text with its fault
+pub record IsBadStatement (words : List ℕ) (fault : TextFault) : Type 0 where
+  pub signature : Option (List ℕ)
+  pub text : List ℕ
+  pub registering : IsRegistering words signature text
+  pub fault_is : StatementFault text fault
+
+pub bad_statement : {line : List ℕ} {fault : TextFault} → HasBadText line fault → (words : List ℕ) → line ≡ codes "register " ++ words → IsBadStatement words fault
+bad_statement (in_statement w text signature fault h k) words same =
+    record { signature = signature; text = text; registering = subst (λ v. IsRegistering v signature text) (append_cancel_left (codes "register ") w words same) h; fault_is = k }
+bad_statement (in_proof w t goal numbers fault h p) words same = absurd (differ 0 refl same)
+bad_statement (in_checked_proof w t goal numbers fault h p) words same = absurd (differ 0 refl same)
 
 -- a goal and numbers, and a proof's text with its fault
 pub record IsBadProof (words : List ℕ) (fault : TextFault) : Type 0 where
@@ -211,17 +252,17 @@ pub record IsBadProof (words : List ℕ) (fault : TextFault) : Type 0 where
 pub bad_verify : {line : List ℕ} {fault : TextFault} → HasBadText line fault → (words : List ℕ) → line ≡ codes "verify " ++ words → IsBadProof words fault
 bad_verify (in_proof w text goal numbers fault h t) words same =
     record { goal = goal; numbers = numbers; text = text; inquiry = subst (λ v. IsInquiry v goal numbers text) (append_cancel_left (codes "verify ") w words same) h; fault_is = t }
-bad_verify (in_statement text fault h) words same = absurd (differ 0 refl same)
+bad_verify (in_statement w t signature fault h k) words same = absurd (differ 0 refl same)
 bad_verify (in_checked_proof w text goal numbers fault h t) words same = absurd (differ 0 refl same)
 
 pub bad_check : {line : List ℕ} {fault : TextFault} → HasBadText line fault → (words : List ℕ) → line ≡ codes "check " ++ words → IsBadProof words fault
 bad_check (in_checked_proof w text goal numbers fault h t) words same =
     record { goal = goal; numbers = numbers; text = text; inquiry = subst (λ v. IsInquiry v goal numbers text) (append_cancel_left (codes "check ") w words same) h; fault_is = t }
-bad_check (in_statement text fault h) words same = absurd (differ 0 refl same)
+bad_check (in_statement w t signature fault h k) words same = absurd (differ 0 refl same)
 bad_check (in_proof w text goal numbers fault h t) words same = absurd (differ 0 refl same)
 
 pub no_bad_beginning : {line : List ℕ} {fault : TextFault} → HasBadText line fault
-    → ((rest : List ℕ) → line ≢ codes "register - " ++ rest) → ((rest : List ℕ) → line ≢ codes "verify " ++ rest) → ((rest : List ℕ) → line ≢ codes "check " ++ rest) → ⊥
-no_bad_beginning (in_statement text fault h) register verify check = register _ refl
+    → ((rest : List ℕ) → line ≢ codes "register " ++ rest) → ((rest : List ℕ) → line ≢ codes "verify " ++ rest) → ((rest : List ℕ) → line ≢ codes "check " ++ rest) → ⊥
+no_bad_beginning (in_statement w t signature fault h k) register verify check = register _ refl
 no_bad_beginning (in_proof w text goal numbers fault h t) register verify check = verify _ refl
 no_bad_beginning (in_checked_proof w text goal numbers fault h t) register verify check = check _ refl

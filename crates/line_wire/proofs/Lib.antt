@@ -5,5 +5,6 @@ pub mod InquiryLemmas
 pub mod NumeralLemmas
 pub mod OneCommand
 pub mod OptionLemmas
+pub mod ProcapLemmas
 pub mod WordLemmas
 pub mod WrittenLemmas

@@ -1,5 +1,5 @@
 -- Each part of a line is read in one way.
-use Rattle.std.proofs.Common.{◌≡◌, ℕ, List, [], ◌∷◌, ◌++◌, IsTrue, refl, sym, ap, ◌∙◌, subst, append-nil}
+use Rattle.std.proofs.Common.{◌≡◌, ℕ, List, [], ◌∷◌, ◌++◌, Option, IsTrue, refl, sym, ap, ◌∙◌, subst, append-nil}
 use Rattle.std.specs.Prelude.{codes}
 use Rattle.std.proofs.lemmas.List.{append_cancel_left}
 use Rattle.bl_syntax.specs.declared.grant.Goal.{Goal}
@@ -9,17 +9,19 @@ use Rattle.bl_syntax.specs.declared.terms.Perm.TheVariants.{Read, Write, Execute
 use Rattle.bl_tokens.specs.declared.faults.TextFault.{TextFault}
 use Rattle.bl_tokens.specs.declared.faults.TextFault.TheVariants.{NoMemory}
 use Rattle.bl_text.specs.Printed.{permission_text}
-use Rattle.bl_text.specs.Texts.{AreOneFault}
+use Rattle.bl_text.specs.Texts.{IsStatementText, StatementFault, AreOneFault}
 use Rattle.bl_text.proofs.TextLemmas.{saying_once, statement_or_fault, statement_fault_once}
 use Rattle.proof_text.specs.Texts.{IsProofText, ProofTextFault}
 use Rattle.proof_text.proofs.TextLemmas.{proof_once, proof_or_fault, fault_once}
 use Rattle.line_wire.specs.declared.command.Command.{Command}
 use Rattle.line_wire.specs.declared.command.Command.TheVariants as commands
 use Rattle.line_wire.specs.Words.{starts_with, ends_word, HasNo}
-use Rattle.line_wire.specs.Lines.{IsNumber, IsFile, AreJoined, one_number, more_numbers, NamesGoal, IsCiting, IsInquiry, IsMaking, IsLine, sets_clock, sets_caller, registers, verifies, checks, creates, HasBadText, in_statement, in_proof, in_checked_proof}
+use Rattle.line_wire.specs.Lines.{IsNumber, IsFile, AreJoined, one_number, more_numbers, NamesGoal, IsCiting, IsInquiry, NamesPlace, IsMaking, IsRegistering, IsLine, sets_clock, sets_caller, registers, shows_procap, verifies, checks, creates, HasBadText, in_statement, in_proof, in_checked_proof}
+use Rattle.line_wire.specs.declared.command.ProcapWord.{ProcapWord}
+use Rattle.line_wire.proofs.ProcapLemmas.{IsProcapWord-same, IsSigned-same, HasNo-signed}
 use Rattle.line_wire.proofs.NumeralLemmas.{IsInteger-unique, IsNumber-unique, IsFile-unique}
 use Rattle.line_wire.proofs.WordLemmas.{IsSplit-at_word, ends_word-append, differ}
-use Rattle.line_wire.proofs.FormLemmas.{HasNo-principal, HasNo-node_name, HasNo-number, HasNo-file, HasNo-permission, HasNo-joined, clock_line, caller_line, register_line, verify_line, check_line, create_line, bad_statement, bad_verify, bad_check}
+use Rattle.line_wire.proofs.FormLemmas.{HasNo-principal, HasNo-node_name, HasNo-number, HasNo-file, HasNo-permission, HasNo-joined, clock_line, caller_line, register_line, show_line, verify_line, check_line, create_line, bad_statement, bad_verify, bad_check}
 
 -- a word and what stands behind it
 pub record IsSame (a b x y : List ℕ) : Type 0 where
@@ -129,20 +131,39 @@ IsInquiry-unique {words} {first} {second} {numbers} {others} {x} {y} h k =
     let cited = IsCiting-unique (subst (λ r. IsCiting r numbers x) goals.rest h.citing) k.citing in
     record { goal = goals.goal; numbers_are = cited.numbers; text = cited.text }
 
-pub record IsOneMaking (first second : NodeId) (x y : List ℕ) (m n : ℕ) : Type 0 where
+pub record IsOnePlace (first second : NodeId) (x y v w : List ℕ) : Type 0 where
   pub directory : first ≡ second
   pub name : x ≡ y
-  pub issue : m ≡ n
+  pub rest : v ≡ w
 
-pub IsMaking-unique : {words : List ℕ} {first second : NodeId} {x y : List ℕ} {m n : ℕ} → IsMaking words first x m → IsMaking words second y n → IsOneMaking first second x y m n
-IsMaking-unique {words} {first} {second} {x} {y} {m} {n} h k =
+pub NamesPlace-unique : {words : List ℕ} {first second : NodeId} {x y v w : List ℕ} → NamesPlace words first x v → NamesPlace words second y w → IsOnePlace first second x y v w
+NamesPlace-unique {words} {first} {second} {x} {y} {v} {w} h k =
     let one = same_words (codes " ") h.file k.file _ _ refl (HasNo-file h.file first h.directory_is) (HasNo-file k.file second k.directory_is) (sym h.words_are ∙ k.words_are) in
-    let two = same_words (codes " @") x y h.number k.number refl (HasNo-node_name x h.named) (HasNo-node_name y k.named) one.rest in
+    let two = same_words (codes " ") x y v w refl (HasNo-node_name x h.named) (HasNo-node_name y k.named) one.rest in
     record {
-      directory = IsFile-unique (subst (λ w. IsFile w first) one.word h.directory_is) k.directory_is;
+      directory = IsFile-unique (subst (λ l. IsFile l first) one.word h.directory_is) k.directory_is;
       name = two.word;
-      issue = IsNumber-unique (subst (λ w. IsNumber w m) two.rest h.issue_is) k.issue_is;
+      rest = two.rest;
     }
+
+pub record IsOneMaking (first second : NodeId) (x y : List ℕ) (m n : ProcapWord) : Type 0 where
+  pub directory : first ≡ second
+  pub name : x ≡ y
+  pub procap : m ≡ n
+
+pub IsMaking-unique : {words : List ℕ} {first second : NodeId} {x y : List ℕ} {m n : ProcapWord} → IsMaking words first x m → IsMaking words second y n → IsOneMaking first second x y m n
+IsMaking-unique {n = n} h k =
+    let place = NamesPlace-unique h.place_is k.place_is in
+    record { directory = place.directory; name = place.name; procap = IsProcapWord-same h.procap_is k.word n place.rest k.procap_is }
+
+pub record IsOneRegistering (first second : Option (List ℕ)) (x y : List ℕ) : Type 0 where
+  pub signature : first ≡ second
+  pub text : x ≡ y
+
+pub IsRegistering-unique : {words : List ℕ} {first second : Option (List ℕ)} {x y : List ℕ} → IsRegistering words first x → IsRegistering words second y → IsOneRegistering first second x y
+IsRegistering-unique {words} {first} {second} {x} {y} h k =
+    let one = same_words (codes " ") h.word k.word x y refl (HasNo-signed h.signed) (HasNo-signed k.signed) (sym h.words_are ∙ k.words_are) in
+    record { signature = IsSigned-same h.signed k.word second one.word k.signed; text = one.rest }
 
 -- ---- lines
 
@@ -150,8 +171,13 @@ pub IsLine-unique : {line : List ℕ} {first second : Command} → IsLine line f
 IsLine-unique (sets_clock word second h) other =
     let line = clock_line other word refl in ap commands.At (IsInteger-unique h.integer line.is_second.integer) ∙ sym line.command_is
 IsLine-unique (sets_caller who h) other = sym (caller_line other who refl).command_is
-IsLine-unique (registers text s h) other =
-    let line = register_line other text refl in ap commands.Register (saying_once h.is_text line.is_text.is_text) ∙ sym line.command_is
+IsLine-unique (registers words text signature s h t) other =
+    let line = register_line other words refl in
+    let one = IsRegistering-unique h line.registering in
+    let statements : s ≡ line.statement = saying_once (subst (λ v. IsStatementText v s) one.text t).is_text line.is_text.is_text in
+    rw (one.signature, statements) (sym line.command_is)
+IsLine-unique (shows_procap word number h) other =
+    let line = show_line other word refl in ap commands.Procap (IsNumber-unique h.number_is line.issue_is.number_is) ∙ sym line.command_is
 IsLine-unique (verifies words text goal numbers proof h t) other =
     let line = verify_line other words refl in
     let one = IsInquiry-unique h line.inquiry in
@@ -162,13 +188,16 @@ IsLine-unique (checks words text goal numbers proof h t) other =
     let one = IsInquiry-unique h line.inquiry in
     let proofs : proof ≡ line.proof = proof_once (subst (λ v. IsProofText v proof) one.text t) line.is_text in
     rw (one.goal, one.numbers_are, proofs) (sym line.command_is)
-IsLine-unique (creates words name directory issue h) other =
+IsLine-unique (creates words name directory procap h) other =
     let line = create_line other words refl in
     let one = IsMaking-unique h line.making in
-    rw (one.directory, one.name, one.issue) (sym line.command_is)
+    rw (one.directory, one.name, one.procap) (sym line.command_is)
 
 pub command_or_fault : {line : List ℕ} {command : Command} {fault : TextFault} → IsLine line command → HasBadText line fault → fault ≡ NoMemory
-command_or_fault h (in_statement text fault k) = statement_or_fault (register_line h text refl).is_text k
+command_or_fault h (in_statement words text signature fault k t) =
+    let line = register_line h words refl in
+    let one = IsRegistering-unique line.registering k in
+    statement_or_fault (subst (λ v. IsStatementText v line.statement) one.text line.is_text) t
 command_or_fault h (in_proof words text goal numbers fault k t) =
     let line = verify_line h words refl in
     let one = IsInquiry-unique line.inquiry k in
@@ -179,7 +208,10 @@ command_or_fault h (in_checked_proof words text goal numbers fault k t) =
     proof_or_fault (subst (λ v. IsProofText v line.proof) one.text line.is_text) t
 
 pub one_bad_text : {line : List ℕ} {first second : TextFault} → HasBadText line first → HasBadText line second → AreOneFault first second
-one_bad_text (in_statement text fault h) other = statement_fault_once h (bad_statement other text refl)
+one_bad_text (in_statement words text signature fault h t) other =
+    let bad = bad_statement other words refl in
+    let one = IsRegistering-unique h bad.registering in
+    statement_fault_once (subst (λ v. StatementFault v fault) one.text t) bad.fault_is
 one_bad_text (in_proof words text goal numbers fault h t) other =
     let bad = bad_verify other words refl in
     let one = IsInquiry-unique h bad.inquiry in

@@ -1,5 +1,5 @@
 -- The forms of a line, and the faults of the texts in it (this project's own).
-use Rattle.std.specs.Prelude.{◌≡◌, ◌≤◌, ◌<◌, ◌^◌, ◌-ℤ◌, pos, ℕ, ℤ, List, [], ◌∷◌, ◌++◌, length, codes, IsTrue}
+use Rattle.std.specs.Prelude.{◌≡◌, ◌≤◌, ◌<◌, ◌^◌, ◌-ℤ◌, pos, ℕ, ℤ, List, [], ◌∷◌, ◌++◌, length, codes, Option, Some, None, IsTrue}
 use Rattle.std.specs.List.{list_all}
 use Rattle.std.specs.Fmt.{decimal}
 use Rattle.std.specs.Str.Parse.{digits_value}
@@ -13,11 +13,16 @@ use Rattle.bl_text.specs.Printed.{permission_text}
 use Rattle.bl_text.specs.Texts.{IsStatementText, StatementFault}
 use Rattle.proof_term.specs.Proof.{Deduction}
 use Rattle.proof_text.specs.Texts.{IsProofText, ProofTextFault}
+use Rattle.line_text.specs.HexWord.{IsHex}
+use Rattle.procap.specs.declared.procap.Procap.{Procap}
+use Rattle.procap.specs.Procap.{procap_spelling, IsSpellableProcap}
 use Rattle.access_history.specs.declared.event.Op.TheVariants.{Create}
 use Rattle.access_history.specs.Citing.{AreCitable}
 use Rattle.access_history.specs.World.{is_node_name}
 use Rattle.line_wire.specs.declared.command.Command.{Command}
-use Rattle.line_wire.specs.declared.command.Command.TheVariants.{At, As, Register, Verify, Check, Do}
+use Rattle.line_wire.specs.declared.command.Command.TheVariants as commands
+use Rattle.line_wire.specs.declared.command.ProcapWord.{ProcapWord}
+use Rattle.line_wire.specs.declared.command.ProcapWord.TheVariants.{Held, Issue}
 
 -- 1 to 18 digits
 pub record IsDigits (word : List ℕ) : Type 0 where
@@ -40,7 +45,7 @@ pub record IsNumberBelow (limit : ℕ) (word : List ℕ) (number : ℕ) : Type 0
   pub decimal_is : word ≡ decimal number
   pub fits : number < limit
 
--- the number of a statement or an issue
+-- the number of a statement
 abbrev pub IsNumber : List ℕ → ℕ → Type 0
 IsNumber word number = IsNumberBelow (2 ^ 32) word number
 
@@ -79,34 +84,72 @@ pub record IsInquiry (words : List ℕ) (goal : Goal) (numbers text : List ℕ) 
   pub goal_is : NamesGoal words goal rest
   pub citing : IsCiting rest numbers text
 
--- a file is to be made: the directory, the name, and the issue behind an `@`
-pub record IsMaking (words : List ℕ) (directory : NodeId) (name : List ℕ) (issue : ℕ) : Type 0 where
+-- the number of an issue, from 1
+pub record IsIssue (word : List ℕ) (number : ℕ) : Type 0 where
+  pub number_is : IsNumber word number
+  pub some : 1 ≤ number
+
+-- the bytes of a procap in hexadecimal
+pub record IsHeld (word : List ℕ) (p : Procap) : Type 0 where
+  pub spelled : IsSpellableProcap p
+  pub hex : IsHex word (procap_spelling p)
+
+-- in the place of a procap: an `@` and the number of an issue, or the procap itself
+pub data IsProcapWord : List ℕ → ProcapWord → Type 0 where
+  by_number : (digits : List ℕ) (number : ℕ) → IsNumber digits number → IsProcapWord (64 ∷ digits) (Issue number)
+  held : (word : List ℕ) (p : Procap) → IsHeld word p → IsProcapWord word (Held p)
+
+-- a directory and a name, with a space behind each
+pub record NamesPlace (words : List ℕ) (directory : NodeId) (name rest : List ℕ) : Type 0 where
   pub file : List ℕ
-  pub number : List ℕ
   pub directory_is : IsFile file directory
   pub named : IsTrue (is_node_name name)
-  pub issue_is : IsNumber number issue
-  pub words_are : words ≡ file ++ (codes " " ++ (name ++ (codes " @" ++ number)))
+  pub words_are : words ≡ file ++ (codes " " ++ (name ++ (codes " " ++ rest)))
+
+-- a file is to be made: the directory, the name, and a procap
+pub record IsMaking (words : List ℕ) (directory : NodeId) (name : List ℕ) (procap : ProcapWord) : Type 0 where
+  pub word : List ℕ
+  pub place_is : NamesPlace words directory name word
+  pub procap_is : IsProcapWord word procap
+
+-- the bytes of a signature in hexadecimal, 1 to 32,768 of them
+pub record IsSignature (word bytes : List ℕ) : Type 0 where
+  pub hex : IsHex word bytes
+  pub some : 1 ≤ length bytes
+  pub few : length bytes ≤ 32768
+
+-- in the place of a signature: a `-` for the ring's key, or the signature itself
+pub data IsSigned : List ℕ → Option (List ℕ) → Type 0 where
+  by_ring : IsSigned (codes "-") None
+  by_bytes : (word bytes : List ℕ) → IsSignature word bytes → IsSigned word (Some bytes)
+
+-- a signature, and behind one space a text
+pub record IsRegistering (words : List ℕ) (signature : Option (List ℕ)) (text : List ℕ) : Type 0 where
+  pub word : List ℕ
+  pub signed : IsSigned word signature
+  pub words_are : words ≡ word ++ (codes " " ++ text)
 
 -- the line is of a form, and asks for this
 pub data IsLine : List ℕ → Command → Type 0 where
   sets_clock : (word : List ℕ) (second : ℤ) → IsSecond word second →
-      IsLine (codes "at " ++ word) (At second)
+      IsLine (codes "at " ++ word) (commands.At second)
   sets_caller : (who : List ℕ) → IsTrue (is_principal_name who) →
-      IsLine (codes "as " ++ who) (As who)
-  registers : (text : List ℕ) (statement : Saying) → IsStatementText text statement →
-      IsLine (codes "register - " ++ text) (Register statement)
+      IsLine (codes "as " ++ who) (commands.As who)
+  registers : (words text : List ℕ) (signature : Option (List ℕ)) (statement : Saying) → IsRegistering words signature text → IsStatementText text statement →
+      IsLine (codes "register " ++ words) (commands.Register signature statement)
+  shows_procap : (word : List ℕ) (number : ℕ) → IsIssue word number →
+      IsLine (codes "procap " ++ word) (commands.Procap number)
   verifies : (words text : List ℕ) (goal : Goal) (numbers : List ℕ) (proof : Deduction) → IsInquiry words goal numbers text → IsProofText text proof →
-      IsLine (codes "verify " ++ words) (Verify goal numbers proof)
+      IsLine (codes "verify " ++ words) (commands.Verify goal numbers proof)
   checks : (words text : List ℕ) (goal : Goal) (numbers : List ℕ) (proof : Deduction) → IsInquiry words goal numbers text → IsProofText text proof →
-      IsLine (codes "check " ++ words) (Check goal numbers proof)
-  creates : (words name : List ℕ) (directory : NodeId) (issue : ℕ) → IsMaking words directory name issue →
-      IsLine (codes "do create " ++ words) (Do (Create directory name) (issue ∷ []))
+      IsLine (codes "check " ++ words) (commands.Check goal numbers proof)
+  creates : (words name : List ℕ) (directory : NodeId) (procap : ProcapWord) → IsMaking words directory name procap →
+      IsLine (codes "do create " ++ words) (commands.Do (Create directory name) (procap ∷ []))
 
 -- the words of the line are of a form, and its text, which is none of what the form has there, has this first fault
 pub data HasBadText : List ℕ → TextFault → Type 0 where
-  in_statement : (text : List ℕ) (fault : TextFault) → StatementFault text fault →
-      HasBadText (codes "register - " ++ text) fault
+  in_statement : (words text : List ℕ) (signature : Option (List ℕ)) (fault : TextFault) → IsRegistering words signature text → StatementFault text fault →
+      HasBadText (codes "register " ++ words) fault
   in_proof : (words text : List ℕ) (goal : Goal) (numbers : List ℕ) (fault : TextFault) → IsInquiry words goal numbers text → ProofTextFault text fault →
       HasBadText (codes "verify " ++ words) fault
   in_checked_proof : (words text : List ℕ) (goal : Goal) (numbers : List ℕ) (fault : TextFault) → IsInquiry words goal numbers text → ProofTextFault text fault →

@@ -4,8 +4,10 @@ use Rattle.std.specs.Fmt.{decimal}
 use Rattle.std.specs.List.{flat_map}
 use Rattle.bl_syntax.specs.Grant.{Granted}
 use Rattle.bl_text.specs.Printed.{constraint_text, state_text}
+use Rattle.line_text.specs.HexWord.{hex_word}
+use Rattle.procap.specs.Procap.{procap_spelling}
 use Rattle.access_history.specs.declared.reply.RegisterFault.{RegisterFault}
-use Rattle.access_history.specs.declared.reply.RegisterFault.TheVariants.{RegistryFull, Duplicate}
+use Rattle.access_history.specs.declared.reply.RegisterFault.TheVariants.{BadSignature, RegistryFull, Duplicate}
 use Rattle.access_history.specs.declared.reply.Cause.{Cause}
 use Rattle.access_history.specs.declared.reply.Cause.TheVariants as causes
 use Rattle.access_history.specs.declared.reply.Denial.{Denial}
@@ -13,6 +15,7 @@ use Rattle.access_history.specs.declared.reply.Reply.{Reply}
 use Rattle.access_history.specs.declared.reply.Reply.TheVariants as replies
 
 abbrev pub cause_text : Cause → List ℕ
+cause_text causes.Seal = codes "seal"
 cause_text causes.Principal = codes "principal"
 cause_text causes.File = codes "file"
 cause_text causes.Permission = codes "permission"
@@ -20,6 +23,7 @@ cause_text (causes.Time place c) = codes "time " ++ (decimal place ++ (codes " "
 cause_text (causes.State place s) = codes "state " ++ (decimal place ++ (codes " " ++ state_text 0 s))
 
 abbrev pub rejection_text : RegisterFault → List ℕ
+rejection_text BadSignature = codes "rejected 1"
 rejection_text RegistryFull = codes "rejected 2"
 rejection_text (Duplicate number) = codes "rejected 3 " ++ decimal number
 
@@ -43,6 +47,7 @@ reply_text replies.Done = codes "ok"
 reply_text (replies.Statement number) = codes "ok statement " ++ decimal number
 reply_text (replies.Issue number times states) = codes "ok issue " ++ (decimal number ++ (codes " time " ++ (decimal times ++ (codes " state " ++ decimal states))))
 reply_text (replies.Checked g) = checked_text g
+reply_text (replies.Procap p) = codes "ok procap " ++ hex_word (procap_spelling p)
 reply_text (replies.Node number) = codes "ok node #" ++ decimal number.0
 reply_text (replies.Denied denial) = denial_text denial
 reply_text (replies.Refused refusal at) = codes "refused " ++ (decimal refusal ++ (codes " at " ++ decimal at))

@@ -1,17 +1,20 @@
 //! The forms of a line.
 
-ghost use Rattle.std.specs.Prelude.{◌++◌, codes, ℕ, List, IfOk, IfSome, IsSome};
+ghost use Rattle.std.specs.Prelude.{◌≡◌, ◌++◌, codes, ℕ, List, IfOk, IfSome, IsSomeAnd, MatchOption};
 ghost use Rattle.bl_syntax.specs.declared.terms.NodeId.{NodeId};
-ghost use Rattle.line_wire.specs.Lines.{IsMaking};
+ghost use Rattle.line_wire.specs.declared.command.ProcapWord.{ProcapWord};
+ghost use Rattle.line_wire.specs.Lines.{NamesPlace, IsMaking, IsRegistering};
 ghost use Rattle.line_wire.specs.Forms.{Reads};
 
-use crate::command::{Command, Line};
+use crate::command::{Command, Line, ProcapWord, ProcapWords};
 use crate::fault::bad_text;
 use crate::inquiry::{Inquiry, read_inquiry};
-use crate::numerals::{file, number, second};
+use crate::numerals::{file, issue, second};
+use crate::procap_word::procap_word;
+use crate::signature::signature_and_text;
 use crate::words::two_words_before;
 use access_history::{Op, Reply, is_node_name};
-use bl_syntax::{Bytes, NoMemory, NodeId, Numbers, Principal};
+use bl_syntax::{Bytes, NoMemory, NodeId, Principal};
 use bl_text::parse_statement;
 use line_text::after;
 use std::alloc::Global;
@@ -29,8 +32,11 @@ pub fn read_line(alloc: Global, line: &[u8]) -> Result<Line, NoMemory>
     if let Some(who) = after(line, b"as ") {
         return Ok(sets_caller(who));
     }
-    if let Some(text) = after(line, b"register - ") {
-        return registers(alloc, text);
+    if let Some(words) = after(line, b"register ") {
+        return registers(alloc, words);
+    }
+    if let Some(word) = after(line, b"procap ") {
+        return Ok(shows_procap(word));
     }
     if let Some(words) = after(line, b"verify ") {
         return verifies(alloc, words);
@@ -62,12 +68,34 @@ fn sets_caller(who: &[u8]) -> Line
     }
 }
 
-fn registers(alloc: Global, text: &[u8]) -> Result<Line, NoMemory>
-    ensures { IfOk result (Reads (codes "register - " ++ text.now)) }
+fn registers(alloc: Global, words: &[u8]) -> Result<Line, NoMemory>
+    ensures { IfOk result (Reads (codes "register " ++ words.now)) }
+{
+    if let Some(text) = after(words, b"- ") {
+        return registers_text(alloc, None, text);
+    }
+    match signature_and_text(alloc, words)? {
+        Some((bytes, text)) => registers_text(alloc, Some(bytes), text),
+        None => Ok(Line::Faulty(Reply::Bad(NO_FORM))),
+    }
+}
+
+// What a line asks for whose words are this signature and this text.
+fn registers_text(alloc: Global, signature: Option<Bytes>, text: &[u8]) -> Result<Line, NoMemory>
+    ensures { IfOk result (λ line. (words : List ℕ) → IsRegistering words signature text.now → Reads (codes "register " ++ words) line) }
 {
     match parse_statement(alloc, text) {
-        Ok(statement) => Ok(Line::Asks(Command::Register(statement))),
+        Ok(statement) => Ok(Line::Asks(Command::Register(signature, statement))),
         Err(fault) => Ok(Line::Faulty(bad_text(fault)?)),
+    }
+}
+
+fn shows_procap(word: &[u8]) -> Line
+    ensures { Reads (codes "procap " ++ word.now) result }
+{
+    match issue(word) {
+        Some(number) => Line::Asks(Command::Procap(number)),
+        None => Line::Faulty(Reply::Bad(NO_FORM)),
     }
 }
 
@@ -98,30 +126,43 @@ fn checks(alloc: Global, words: &[u8]) -> Result<Line, NoMemory>
 fn creates(alloc: Global, words: &[u8]) -> Result<Line, NoMemory>
     ensures { IfOk result (Reads (codes "do create " ++ words.now)) }
 {
-    match making(words) {
-        Some((directory, name, issue)) => {
+    match making(alloc, words)? {
+        Some((directory, name, procap)) => {
             let mut bytes = Bytes::new(alloc);
             bytes.extend(name)?;
-            let mut procaps = Numbers::new(alloc);
-            procaps.extend(&[issue])?;
+            let mut procaps = ProcapWords::new(alloc);
+            procaps.push(procap)?;
             Ok(Line::Asks(Command::Do(Op::Create(directory, bytes), procaps)))
         }
         None => Ok(Line::Faulty(Reply::Bad(NO_FORM))),
     }
 }
 
-// The directory, the name and the issue of a file that is to be made.
-fn making(words: &[u8]) -> Option<(NodeId, &[u8], u32)>
-    ensures found { IfSome result (λ p. IsMaking words.now p.0 p.1.now p.2) }
-    ensures only { (directory : NodeId) (name : List ℕ) (issue : ℕ) → IsMaking words.now directory name issue → IsSome result }
+// The directory, the name and the procap of a file that is to be made.
+fn making(alloc: Global, words: &[u8]) -> Result<Option<(NodeId, &[u8], ProcapWord)>, NoMemory>
+    ensures { IfOk result (λ r. MatchOption r ((directory : NodeId) (name : List ℕ) (procap : ProcapWord) → IsMaking words.now directory name procap → ⊥) (λ p. IsMaking words.now p.0 p.1.now p.2)) }
 {
-    let (directory, name, word) = two_words_before(words, b" ", b" @")?;
+    match place(words) {
+        Some((directory, name, word)) => match procap_word(alloc, word)? {
+            Some(procap) => Ok(Some((directory, name, procap))),
+            None => Ok(None),
+        },
+        None => Ok(None),
+    }
+}
+
+// The directory and the name of a file that is to be made, and what stands behind them.
+fn place(words: &[u8]) -> Option<(NodeId, &[u8], &[u8])>
+    ensures found { IfSome result (λ p. NamesPlace words.now p.0 p.1.now p.2.now) }
+    ensures only { (directory : NodeId) (name rest : List ℕ) → NamesPlace words.now directory name rest
+        → IsSomeAnd result (λ p. (p.0 ≡ directory) × (p.1.now ≡ name) × (p.2.now ≡ rest)) }
+{
+    let (directory, name, rest) = two_words_before(words, b" ", b" ")?;
     if !is_node_name(name) {
         return None;
     }
     let directory = file(directory)?;
-    let issue = number(word)?;
-    Some((directory, name, issue))
+    Some((directory, name, rest))
 }
 
 #[cfg(test)]

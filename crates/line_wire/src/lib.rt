@@ -12,10 +12,12 @@ mod forms;
 mod inquiry;
 pub mod line_laws;
 mod numerals;
+mod procap_word;
 mod reply_text;
+mod signature;
 mod words;
 
-pub use command::{Command, Line};
+pub use command::{Command, Line, ProcapWord, ProcapWords};
 pub use fault::unproved;
 pub use forms::read_line;
 pub use reply_text::write_reply;

@@ -5,7 +5,7 @@ ghost use Rattle.std.specs.List.{list_all};
 ghost use Rattle.std.specs.Str.Parse.{digits_value};
 ghost use Rattle.bl_syntax.specs.Names.{is_digit};
 ghost use Rattle.bl_syntax.specs.declared.terms.NodeId.{NodeId};
-ghost use Rattle.line_wire.specs.Lines.{IsDigits, IsInteger, IsSecond, IsFile, IsNumber, IsNumberBelow};
+ghost use Rattle.line_wire.specs.Lines.{IsDigits, IsInteger, IsSecond, IsFile, IsNumber, IsNumberBelow, IsIssue};
 ghost use Rattle.line_wire.specs.Numerals.{IsPlain};
 
 use bl_syntax::{NodeId, is_moment};
@@ -92,6 +92,18 @@ pub fn number(word: &[u8]) -> Option<u32>
         return None;
     }
     u32::try_from(digits_value(word)).ok()
+}
+
+/// The number of an issue that the word writes: a number from 1.
+pub fn issue(word: &[u8]) -> Option<u64>
+    ensures { MatchOption result ((n : ℕ) → IsIssue word.now n → ⊥) (IsIssue word.now) }
+{
+    let number = number(word)?;
+    if 1 <= number {
+        Some(u64::from(number))
+    } else {
+        None
+    }
 }
 
 // The number that the word writes: decimal digits without leading zeros, below 2^64.

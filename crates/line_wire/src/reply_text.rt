@@ -1,38 +1,43 @@
 //! The line that a reply is written as.
 #![tactic(auto, using(crate::proofs::WrittenLemmas::writing))]
 
-ghost use Rattle.std.specs.Prelude.{◌≡◌, ◌++◌, ◌∷◌, [], map, OnOk, OnErr};
+ghost use Rattle.std.specs.Prelude.{◌≡◌, ◌++◌, ◌∷◌, [], codes, map, OnOk, OnErr};
 ghost use Rattle.std.specs.Fmt.{decimal};
 ghost use Rattle.bl_text.specs.Printed.{constraint_text, state_text};
+ghost use Rattle.procap.specs.Procap.{procap_spelling};
+ghost use Rattle.line_text.specs.HexWord.{hex_word};
 ghost use Rattle.line_wire.specs.Written.{BeginsWith};
 ghost use Rattle.line_wire.specs.ReplyText.{cause_text, rejection_text, denial_text, listed_text, checked_text, reply_text};
 
 use access_history::{Cause, Denial, RegisterFault, Reply};
 use bl_syntax::{Bytes, Constraint, Grant, NoMemory, StatePred};
 use bl_text::{print_constraint, print_state};
+use line_text::write_hex;
+use procap::{Procap, write_procap};
+use std::alloc::Global;
 
 /// Writes a reply as a line with its end, all of it or nothing.
-pub fn write_reply(out: &mut Bytes, reply: &Reply) -> Result<(), NoMemory>
+pub fn write_reply(alloc: Global, out: &mut Bytes, reply: &Reply) -> Result<(), NoMemory>
     ensures ok { OnOk result (out.new ≡ out.old ++ (reply_text reply.now ++ 10 ∷ [])) }
     ensures err { OnErr result (out.new ≡ out.old) }
 {
     let len = out.len();
-    let written = write_line(out, reply);
+    let written = write_line(alloc, out, reply);
     if written.is_err() {
         out.truncate(len);
     }
     written
 }
 
-fn write_line(out: &mut Bytes, reply: &Reply) -> Result<(), NoMemory>
+fn write_line(alloc: Global, out: &mut Bytes, reply: &Reply) -> Result<(), NoMemory>
     ensures ok { OnOk result (out.new ≡ out.old ++ (reply_text reply.now ++ 10 ∷ [])) }
     ensures err { OnErr result (BeginsWith out.new out.old) }
 {
-    write_text(out, reply)?;
+    write_text(alloc, out, reply)?;
     out.push(b'\n')
 }
 
-fn write_text(out: &mut Bytes, reply: &Reply) -> Result<(), NoMemory>
+fn write_text(alloc: Global, out: &mut Bytes, reply: &Reply) -> Result<(), NoMemory>
     ensures ok { OnOk result (out.new ≡ out.old ++ reply_text reply.now) }
     ensures err { OnErr result (BeginsWith out.new out.old) }
 {
@@ -45,6 +50,7 @@ fn write_text(out: &mut Bytes, reply: &Reply) -> Result<(), NoMemory>
             write_counted(out, " state ", u64::from(*states))
         }
         Reply::Checked(grant) => write_checked(out, grant),
+        Reply::Procap(p) => write_shown(alloc, out, p),
         Reply::Node(number) => write_counted(out, "ok node #", number.0),
         Reply::Denied(denial) => write_denial(out, denial),
         Reply::Refused(refusal, at) => {
@@ -81,6 +87,7 @@ fn write_rejection(out: &mut Bytes, fault: &RegisterFault) -> Result<(), NoMemor
     ensures err { OnErr result (BeginsWith out.new out.old) }
 {
     match fault {
+        RegisterFault::BadSignature => write(out, "rejected 1"),
         RegisterFault::RegistryFull => write(out, "rejected 2"),
         RegisterFault::Duplicate(number) => write_counted(out, "rejected 3 ", u64::from(*number)),
     }
@@ -91,6 +98,7 @@ fn write_cause(out: &mut Bytes, cause: &Cause) -> Result<(), NoMemory>
     ensures err { OnErr result (BeginsWith out.new out.old) }
 {
     match cause {
+        Cause::Seal => write(out, "seal"),
         Cause::Principal => write(out, "principal"),
         Cause::File => write(out, "file"),
         Cause::Permission => write(out, "permission"),
@@ -105,6 +113,16 @@ fn write_cause(out: &mut Bytes, cause: &Cause) -> Result<(), NoMemory>
             print_state(state, out)
         }
     }
+}
+
+fn write_shown(alloc: Global, out: &mut Bytes, p: &Procap) -> Result<(), NoMemory>
+    ensures ok { OnOk result (out.new ≡ out.old ++ (codes "ok procap " ++ hex_word (procap_spelling p.now))) }
+    ensures err { OnErr result (BeginsWith out.new out.old) }
+{
+    let mut bytes = Bytes::new(alloc);
+    write_procap(p, &mut bytes)?;
+    write(out, "ok procap ")?;
+    write_hex(alloc, bytes.as_slice(), out)
 }
 
 fn write_checked(out: &mut Bytes, grant: &Grant) -> Result<(), NoMemory>

@@ -1,37 +1,20 @@
--- The words name a directory, a name and an issue.
-use Rattle.std.proofs.Common.{sym, ap, subst, ◌∙◌}
-use Rattle.std.proofs.lemmas.Bool.{false≢true}
-use Rattle.std.proofs.lemmas.Option.{none-some}
-use Rattle.access_history.specs.World.{is_node_name}
-use Rattle.line_wire.specs.Lines.{IsFile, IsNumber}
-use Rattle.line_wire.proofs.FormLemmas.{HasNo-file, HasNo-node_name}
+-- A procap stands behind the directory and the name.
+use Rattle.std.proofs.Common.{sym, subst, MatchOption}
+use Rattle.line_wire.specs.declared.command.ProcapWord.{ProcapWord}
+use Rattle.line_wire.specs.Lines.{IsProcapWord}
 use Rattle.line_wire.proofs.forms.making.Goals as goal
 
-pub returns-in_err-directory-clause-only : goal.returns-in_err-directory-clause-only
-returns-in_err-directory-clause-only c directory name issue h =
-    absurd (c.in_err-directory.ensures.only h.file name h.number (HasNo-file h.file directory h.directory_is) (HasNo-node_name name h.named) h.words_are)
-
-pub returns-then-not-is_node_name-clause-only : goal.returns-then-not-is_node_name-clause-only
-returns-then-not-is_node_name-clause-only c directory name issue h =
-    let parts = c.in_ok-directory.ensures.only h.file name h.number (HasNo-file h.file directory h.directory_is) (HasNo-node_name name h.named) h.words_are in
-    absurd (false≢true (c.if-not-is_node_name.ensures ∙ ap is_node_name parts.1 ∙ h.named))
-
-pub returns-in_err-directory-2-clause-only : goal.returns-in_err-directory-2-clause-only
-returns-in_err-directory-2-clause-only c directory name issue h =
-    let parts = c.in_ok-directory.ensures.only h.file name h.number (HasNo-file h.file directory h.directory_is) (HasNo-node_name name h.named) h.words_are in
-    absurd (none-some directory (c.in_err-directory-2.ensures.only directory (subst (λ w. IsFile w directory) (sym parts.0) h.directory_is)))
-
-pub returns-in_err-issue-clause-only : goal.returns-in_err-issue-clause-only
-returns-in_err-issue-clause-only c directory name issue h =
-    let parts = c.in_ok-directory.ensures.only h.file name h.number (HasNo-file h.file directory h.directory_is) (HasNo-node_name name h.named) h.words_are in
-    absurd (none-some issue (c.in_err-issue.ensures.only issue (subst (λ w. IsNumber w issue) (sym parts.2) h.issue_is)))
-
-pub returns-clause-found : goal.returns-clause-found
-returns-clause-found c = record {
-  file = c.in_ok-directory.directory.now;
-  number = c.in_ok-directory.word.now;
-  directory_is = c.in_ok-directory-2.ensures.found;
-  named = sym c.if-not-is_node_name.ensures;
-  issue_is = c.in_ok-issue.ensures.found;
-  words_are = c.in_ok-directory.ensures.found;
+pub returns-in-Some-2 : goal.returns-in-Some-2
+returns-in-Some-2 c = record {
+  word = c.in-Some.word.now;
+  place_is = c.in-Some.ensures.found;
+  procap_is = subst (λ r. MatchOption r ((given : ProcapWord) → IsProcapWord c.in-Some.word.now given → ⊥) (IsProcapWord c.in-Some.word.now)) c.in-Some-2.is c.in_ok-procap-in-Some.ensures;
 }
+
+pub returns-in-None-2 : goal.returns-in-None-2
+returns-in-None-2 c directory name procap h =
+    let parts = c.in-Some.ensures.only directory name h.word h.place_is in
+    (subst (λ r. MatchOption r ((given : ProcapWord) → IsProcapWord c.in-Some.word.now given → ⊥) (IsProcapWord c.in-Some.word.now)) c.in-None-2.is c.in_ok-procap-in-Some.ensures) procap (subst (λ w. IsProcapWord w procap) (sym parts.2) h.procap_is)
+
+pub returns-in-None : goal.returns-in-None
+returns-in-None c directory name procap h = absurd (c.in-None.ensures.only directory name h.word h.place_is)

@@ -1,10 +1,20 @@
--- The text is a statement, or has a fault.
-use Rattle.line_wire.specs.Lines.{registers, in_statement}
-use Rattle.line_wire.specs.Forms.{faulty_text}
+-- The words begin with a signature, and a text stands behind it.
+use Rattle.std.specs.Prelude.{codes}
+use Rattle.std.proofs.lemmas.Result.{IfOk-weaker}
+use Rattle.line_wire.specs.Lines.{by_ring}
+use Rattle.line_wire.proofs.FaultyLemmas.{outside-register}
 use Rattle.line_wire.proofs.forms.registers.Goals as goal
 
-pub returns-in-Ok : goal.returns-in-Ok
-returns-in-Ok c = registers c.args.text.now c.in-Ok.statement c.in-Ok.ensures.read
+pub returns-in-Some : goal.returns-in-Some
+returns-in-Some c =
+    IfOk-weaker c.registers_text.result _ _ (λ line h. h c.args.words.now (record { word = codes "-"; signed = by_ring; words_are = c.in-Some.ensures })) c.registers_text.ensures
 
-pub returns-in_ok-bad_text-in-Err : goal.returns-in_ok-bad_text-in-Err
-returns-in_ok-bad_text-in-Err c = faulty_text c.in-Err.fault _ (in_statement c.args.text.now c.in-Err.fault c.in-Err.ensures.fault) c.in_ok-bad_text-in-Err.ensures.ok
+pub returns-in-Some-2 : goal.returns-in-Some-2
+returns-in-Some-2 c =
+    let found = rw c.in-Some-2.is at c.in_ok-bytes.ensures in
+    IfOk-weaker c.registers_text-in-Some-2.result _ _ (λ line h. h c.args.words.now found) c.registers_text-in-Some-2.ensures
+
+pub returns-in-None : goal.returns-in-None
+returns-in-None c =
+    let none = rw c.in-None.is at c.in_ok-bytes.ensures in
+    outside-register c.args.words.now c.in_default.ensures none
