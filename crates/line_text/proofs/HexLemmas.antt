@@ -1,6 +1,7 @@
 -- A word of hexadecimal is read as the bytes for which it is written.
 use Rattle.std.proofs.Common.{◌≡◌, ℕ, zero, suc, ◌+◌, ◌*◌, ◌/◌, ◌%◌, ◌<◌, ◌==◌, Bool, true, false, not, cond, ◌&&◌, List, [], ◌∷◌, length, slice_index, Option, MatchOption, Some, None, unwrap_or, Result, Ok, Err, is_some, IsTrue, codes, refl, sym, ap, ◌∙◌, arith, inl, inr}
 use Rattle.std.specs.Result.{result_unwrap_or}
+use Rattle.std.specs.List.{list_all}
 use Rattle.std.proofs.lemmas.Bool.{and_parts, and_from, cases_lt, eqb-true, false≢true}
 use Rattle.hex.specs.Hex.{IsBytes, decode_of, decode_pairs, digit_or_error, hex_digit_value, encode_lower, encode_with, lower_digits, pair_value, value_at, ◌>>=◌}
 use Rattle.hex.specs.declared.error.FromHexError.{FromHexError}
@@ -94,29 +95,33 @@ encode_lower-decode_pairs i (a ∷ b ∷ rest) bytes h lower =
 
 -- ---- what is written
 
--- no lower-case digit is an upper-case letter
-abbrev no_upper_among : ℕ → Bool
-no_upper_among zero = true
-no_upper_among (suc n) = not (is_upper_case_digit (slice_index lower_digits n)) && no_upper_among n
+-- each of the first n digits has the property
+abbrev pub all_digits : (ℕ → Bool) → ℕ → Bool
+all_digits p zero = true
+all_digits p (suc n) = p (slice_index lower_digits n) && all_digits p n
 
-no_upper_among-at : (n d : ℕ) → no_upper_among n ≡ true → d < n → IsTrue (not (is_upper_case_digit (slice_index lower_digits d)))
-no_upper_among-at zero d h lt = absurd (omega arith)
-no_upper_among-at (suc n) d h lt =
-    let parts = and_parts (not (is_upper_case_digit (slice_index lower_digits n))) (no_upper_among n) h in
+all_digits-at : (p : ℕ → Bool) (n d : ℕ) → all_digits p n ≡ true → d < n → IsTrue (p (slice_index lower_digits d))
+all_digits-at p zero d h lt = absurd (omega arith)
+all_digits-at p (suc n) d h lt =
+    let parts = and_parts (p (slice_index lower_digits n)) (all_digits p n) h in
     elim (cases_lt d n) [
-      | inl below ↦ no_upper_among-at n d parts.1 below
+      | inl below ↦ all_digits-at p n d parts.1 below
       | inr top ↦
           let e : d ≡ n = omega arith in
           rw e parts.0
     ]
 
-has_no_upper_case-encode_lower : (bytes : List ℕ) → IsBytes bytes → IsTrue (has_no_upper_case (encode_lower bytes))
+list_all-encode_lower : (p : ℕ → Bool) → all_digits p 16 ≡ true → (bytes : List ℕ) → IsBytes bytes → IsTrue (list_all p (encode_lower bytes))
 unfolding encode_with
-has_no_upper_case-encode_lower [] h = refl
-has_no_upper_case-encode_lower (byte ∷ bytes) h =
+list_all-encode_lower p digits [] h = refl
+list_all-encode_lower p digits (byte ∷ bytes) h =
     let fits : byte < 256 = h 0 in
-    let rest = has_no_upper_case-encode_lower bytes (λ i. h (suc i)) in
-    and_from _ _ (no_upper_among-at 16 (byte / 16) refl (omega arith)) (and_from _ _ (no_upper_among-at 16 (byte % 16) refl (omega arith)) rest)
+    let rest = list_all-encode_lower p digits bytes (λ i. h (suc i)) in
+    and_from _ _ (all_digits-at p 16 (byte / 16) digits (omega arith)) (and_from _ _ (all_digits-at p 16 (byte % 16) digits (omega arith)) rest)
+
+-- no lower-case digit is an upper-case letter
+has_no_upper_case-encode_lower : (bytes : List ℕ) → IsBytes bytes → IsTrue (has_no_upper_case (encode_lower bytes))
+has_no_upper_case-encode_lower bytes h = list_all-encode_lower (λ byte. not (is_upper_case_digit byte)) refl bytes h
 
 -- ---- the word of bytes
 
@@ -148,6 +153,11 @@ IsHex-same word (x ∷ a) [] first second = only_nothing word (x ∷ a) second.w
 IsHex-same word (x ∷ a) (y ∷ b) first second =
     let other = not_dash word a x first in
     decode_of-same word (x ∷ a) (y ∷ b) (decode_of-IsHex word (x ∷ a) other first) (decode_of-IsHex word (y ∷ b) other second)
+
+-- such a word has a `-` or digits alone
+pub IsHex-all : (p : ℕ → Bool) → p 45 ≡ true → all_digits p 16 ≡ true → (word bytes : List ℕ) → IsHex word bytes → IsTrue (list_all p word)
+IsHex-all p dash digits word [] is = rw is.word_is (and_from (p 45) true dash refl)
+IsHex-all p dash digits word (byte ∷ bytes) is = rw is.word_is (list_all-encode_lower p digits (byte ∷ bytes) is.in_range)
 
 -- such a word is not empty, and has no upper-case letter
 pub IsHex-form : (word bytes : List ℕ) → (word ≡ codes "-" → ⊥) → IsHex word bytes → (1 < length word) × IsTrue (has_no_upper_case word)

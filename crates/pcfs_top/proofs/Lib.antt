@@ -1,13 +1,3 @@
-pub mod CitedLemmas
 pub mod Ending
-pub mod FaultyLemmas
-pub mod FormLemmas
-pub mod InquiryLemmas
-pub mod LineLemmas
-pub mod NumeralLemmas
-pub mod OneCommand
-pub mod OptionLemmas
 pub mod RunLemmas
 pub mod Running
-pub mod WordLemmas
-pub mod WrittenLemmas

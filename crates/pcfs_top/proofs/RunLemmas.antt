@@ -5,8 +5,8 @@ use Rattle.std.proofs.lemmas.Int.{ints}
 use Rattle.bl_syntax.specs.TimeOrder.{IsMoment}
 use Rattle.access_history.specs.declared.event.Event.{Event}
 use Rattle.access_history.specs.declared.event.Base.{Base}
-use Rattle.pcfs_top.specs.declared.command.Command.{Command}
-use Rattle.pcfs_top.specs.declared.command.Command.TheVariants as commands
+use Rattle.line_wire.specs.declared.command.Command.{Command}
+use Rattle.line_wire.specs.declared.command.Command.TheVariants as commands
 use Rattle.access_history.specs.declared.request.StepRequest.{StepRequest}
 use Rattle.access_history.specs.declared.request.StepRequest.TheVariants as requests
 use Rattle.access_history.specs.declared.reply.Reply.{Reply}
@@ -16,8 +16,8 @@ use Rattle.access_history.specs.Answer.{Answers}
 use Rattle.access_history.specs.Replay.{replay}
 use Rattle.access_history.specs.Lawful.{IsLawful, IsLawfulBase, AreLawful, no_event, one_more}
 use Rattle.pcfs_top.specs.Desk.{IsAllowed}
-use Rattle.pcfs_top.specs.Lines.{IsLine}
-use Rattle.pcfs_top.specs.Lines as lines
+use Rattle.line_wire.specs.Lines.{IsLine}
+use Rattle.line_wire.specs.Lines as lines
 use Rattle.pcfs_top.specs.Script.{Standing, AnswersLine, script_pass, IsRun}
 use Rattle.pcfs_top.specs.Script as script
 use Rattle.access_history.proofs.Replays.{moment_in_range}

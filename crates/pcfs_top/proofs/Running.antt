@@ -16,10 +16,10 @@ use Rattle.access_history.specs.declared.request.StepRequest.{StepRequest}
 use Rattle.access_history.specs.declared.request.StepRequest.TheVariants as requests
 use Rattle.access_history.specs.declared.reply.Reply.{Reply}
 use Rattle.access_history.specs.declared.reply.Reply.TheVariants as replies
-use Rattle.pcfs_top.specs.declared.command.Command.{Command}
-use Rattle.pcfs_top.specs.declared.command.Command.TheVariants as commands
-use Rattle.pcfs_top.specs.declared.command.Line.{Line}
-use Rattle.pcfs_top.specs.declared.command.Line.TheVariants.{Asks, Faulty}
+use Rattle.line_wire.specs.declared.command.Command.{Command}
+use Rattle.line_wire.specs.declared.command.Command.TheVariants as commands
+use Rattle.line_wire.specs.declared.command.Line.{Line}
+use Rattle.line_wire.specs.declared.command.Line.TheVariants.{Asks, Faulty}
 use Rattle.proof_term.specs.Proof.{Deduction}
 use Rattle.proof_verifier.specs.declared.cites.Cite.{Cite}
 use Rattle.proof_verifier.specs.declared.fault.CheckFault.{CheckFault}
@@ -32,13 +32,14 @@ use Rattle.op_gate.specs.declared.cite.Citation.{Citation}
 use Rattle.op_gate.specs.declared.cite.Citation.TheVariants as citations
 use Rattle.access_history.specs.Citing.{AreFound}
 use Rattle.op_gate.specs.Citations.{Cites}
-use Rattle.pcfs_top.specs.Faults.{unproved}
+use Rattle.line_wire.specs.Faults.{unproved}
 use Rattle.access_history.specs.Answer.{Answers}
 use Rattle.op_gate.specs.Decision.{Gated}
 use Rattle.access_history.specs.Replay.{replay, fresh}
-use Rattle.pcfs_top.specs.Lines.{lines_of, with_byte, IsLine}
-use Rattle.pcfs_top.specs.ReplyText.{reply_text, output_of}
-use Rattle.pcfs_top.specs.Forms.{Reads}
+use Rattle.line_text.specs.Lines.{lines_of, with_byte}
+use Rattle.line_wire.specs.Lines.{IsLine}
+use Rattle.line_wire.specs.ReplyText.{reply_text, output_of}
+use Rattle.line_wire.specs.Forms.{Reads}
 use Rattle.pcfs_top.specs.Script.{Standing, beginning, IsUnproved, IsProved, AnswersLine, script_pass, IsRun}
 use Rattle.pcfs_top.specs.Script as script
 use Rattle.pcfs_top.specs.Desk.{Seated, IsAsked, IsReplied, IsAllowed}

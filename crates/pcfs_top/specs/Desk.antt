@@ -6,8 +6,8 @@ use Rattle.access_history.specs.declared.event.Base.{Base}
 use Rattle.access_history.specs.declared.request.StepRequest.{StepRequest}
 use Rattle.access_history.specs.declared.reply.Reply.{Reply}
 use Rattle.access_history.specs.declared.reply.Reply.TheVariants as replies
-use Rattle.pcfs_top.specs.declared.command.Command.{Command}
-use Rattle.pcfs_top.specs.declared.command.Command.TheVariants.{At, As, Register, Verify, Check, Do}
+use Rattle.line_wire.specs.declared.command.Command.{Command}
+use Rattle.line_wire.specs.declared.command.Command.TheVariants.{At, As, Register, Verify, Check, Do}
 use Rattle.bl_syntax.specs.TimeOrder.{IsMoment}
 use Rattle.access_history.specs.Needs.{slots}
 use Rattle.access_history.specs.Citing.{AreCitable}

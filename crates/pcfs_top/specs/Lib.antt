@@ -1,13 +1,6 @@
 pub mod Admin
 pub mod Desk
 pub mod DeskCode
-pub mod Faults
-pub mod Forms
 pub mod Laws
-pub mod Lines
-pub mod Numerals
-pub mod ReplyText
 pub mod Run
 pub mod Script
-pub mod Words
-pub mod Written

@@ -7,8 +7,8 @@ use Rattle.pcfs_ports.specs.Faults.{HasRisen}
 use Rattle.pcfs_ports.specs.Told.{with_back, ReadsWhole, TakesFirst, TakesSome, HoldsSome}
 use Rattle.access_history.specs.declared.reply.Reply.{Reply}
 use Rattle.access_history.specs.Replay.{fresh}
-use Rattle.pcfs_top.specs.Lines.{lines_of}
-use Rattle.pcfs_top.specs.ReplyText.{output_of}
+use Rattle.line_text.specs.Lines.{lines_of}
+use Rattle.line_wire.specs.ReplyText.{output_of}
 use Rattle.pcfs_top.specs.Script.{Standing, IsRun}
 use Rattle.access_history.specs.World.{FileTree}
 use Rattle.access_history.specs.Headline.{Headline}

@@ -7,17 +7,17 @@ use Rattle.access_history.specs.declared.event.Op.{Op}
 use Rattle.access_history.specs.declared.event.Event.{Event}
 use Rattle.access_history.specs.declared.event.Base.{Base}
 use Rattle.access_history.specs.declared.request.StepRequest.TheVariants as requests
-use Rattle.pcfs_top.specs.declared.command.Command.{Command}
-use Rattle.pcfs_top.specs.declared.command.Command.TheVariants as commands
+use Rattle.line_wire.specs.declared.command.Command.{Command}
+use Rattle.line_wire.specs.declared.command.Command.TheVariants as commands
 use Rattle.access_history.specs.declared.reply.Reply.{Reply}
 use Rattle.access_history.specs.declared.reply.Reply.TheVariants as replies
 use Rattle.access_history.specs.Answer.{Answers}
 use Rattle.access_history.specs.Replay.{replay}
-use Rattle.pcfs_top.specs.Lines.{IsLine, HasBadText}
+use Rattle.line_wire.specs.Lines.{IsLine}
+use Rattle.line_wire.specs.Forms.{IsFaulty}
 use Rattle.pcfs_top.specs.Admin.{admin}
 use Rattle.access_history.specs.Citing.{AreFound, IsAbsent}
-use Rattle.pcfs_top.specs.Faults.{unproved, bad_text}
-use Rattle.bl_tokens.specs.declared.faults.TextFault.{TextFault}
+use Rattle.line_wire.specs.Faults.{unproved}
 use Rattle.bl_syntax.specs.Grant.{Granted}
 use Rattle.proof_term.specs.Proof.{Deduction}
 use Rattle.proof_verifier.specs.declared.cites.Cite.{Cite}
@@ -39,11 +39,6 @@ beginning = record { clock = pos 0; caller = admin; events = [] }
 -- the events of a script carry this number
 abbrev pub script_pass : ℕ
 script_pass = 1
-
--- why a line asks for nothing: it is of no form, or of a form whose text has a fault
-pub data IsFaulty (line : List ℕ) : Reply → Type 0 where
-  outside : ((command : Command) → IsLine line command → ⊥) → ((fault : TextFault) → HasBadText line fault → ⊥) → IsFaulty line (replies.Bad 9)
-  faulty_text : (fault : TextFault) (reply : Reply) → HasBadText line fault → bad_text fault ≡ Some reply → IsFaulty line reply
 
 -- why the proof of a goal from the statements of these numbers proves nothing: a statement is not there, or the proof has a fault
 pub data IsUnproved (statements : List Saying) (goal : Goal) (numbers : List ℕ) (proof : Deduction) : Reply → Type 0 where

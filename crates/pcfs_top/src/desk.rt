@@ -2,11 +2,9 @@
 
 ghost use Rattle.std.specs.Prelude.{◌≡◌, ◌<◌, ◌-◌, ◌^◌, List, ℕ, IfOk, OnErr};
 
-use crate::command::{Command, Line};
-use crate::fault::unproved;
-use crate::forms::read_line;
 use access_history::{Reply, StepRequest};
 use bl_syntax::{Goal, NoMemory, Numbers, Principal};
+use line_wire::{Command, Line, read_line, unproved};
 use op_gate::{Citation, Decision, Gate};
 use proof_term::ProofTree;
 use proof_verifier::{check, verify};
@@ -41,9 +39,9 @@ impl Model for Desk {
 
 impl Desk {
     ghost use Rattle.access_history.specs.WellFormed.{IsWellFormed};
-    ghost use Rattle.pcfs_top.specs.Lines.{IsLine};
+    ghost use Rattle.line_wire.specs.Lines.{IsLine};
     ghost use Rattle.access_history.specs.Citing.{AreCitable};
-    ghost use Rattle.pcfs_top.specs.declared.command.Command.TheVariants.{Verify, Check};
+    ghost use Rattle.line_wire.specs.declared.command.Command.TheVariants.{Verify, Check};
     ghost use Rattle.access_history.specs.Replay.{replay, fresh};
     ghost use Rattle.pcfs_top.specs.Script.{beginning, AnswersLine};
     ghost use Rattle.pcfs_top.specs.Desk.{IsAsked, IsReplied, IsAllowed};

@@ -4,22 +4,10 @@
 //! headline holds.
 #![tactic(auto)]
 
-mod cited;
-mod command;
 mod desk;
-mod fault;
-mod forms;
-mod inquiry;
 mod laws;
-pub mod line_laws;
-mod lines;
-mod numerals;
-mod reply_text;
 pub mod run;
 mod script;
-mod words;
 
-pub use command::Command;
 pub use laws::runs_are_lawful;
-pub use reply_text::write_reply;
 pub use script::{ScriptFault, run_script};

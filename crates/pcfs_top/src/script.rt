@@ -5,15 +5,15 @@ ghost use Rattle.pcfs_ports.specs.Faults.{HasRisen};
 ghost use Rattle.pcfs_ports.specs.Told.{with_back, HoldsSome};
 ghost use Rattle.access_history.specs.Replay.{fresh};
 ghost use Rattle.pcfs_top.specs.Script.{beginning};
-ghost use Rattle.pcfs_top.specs.ReplyText.{reply_text};
+ghost use Rattle.line_wire.specs.ReplyText.{reply_text};
 ghost use Rattle.pcfs_top.specs.Run.{RunsWhole, RunsPart};
 ghost use Rattle.pcfs_top.specs.declared.script.ScriptFault.TheVariants.{NoMemory as OutOfMemory, Write as WriteFailed};
 
 use crate::desk::Desk;
-use crate::lines::first_line;
-use crate::reply_text::write_reply;
 use access_history::Reply;
 use bl_syntax::{Bytes, NoMemory};
+use line_text::first_line;
+use line_wire::write_reply;
 use pcfs_ports::{Failed, Sink, write_all};
 use std::alloc::Global;
 

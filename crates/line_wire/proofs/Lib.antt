@@ -1,0 +1,10 @@
+pub mod CitedLemmas
+pub mod FaultyLemmas
+pub mod FormLemmas
+pub mod InquiryLemmas
+pub mod NumeralLemmas
+pub mod OneCommand
+pub mod OptionLemmas
+pub mod ProcapLemmas
+pub mod WordLemmas
+pub mod WrittenLemmas

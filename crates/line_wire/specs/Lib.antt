@@ -1,0 +1,7 @@
+pub mod Faults
+pub mod Forms
+pub mod Lines
+pub mod Numerals
+pub mod ReplyText
+pub mod Words
+pub mod Written

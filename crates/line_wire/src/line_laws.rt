@@ -1,0 +1,24 @@
+//! Laws of lines. A law is the contract of an empty function, which nothing calls.
+
+ghost use Rattle.std.specs.Prelude.{◌≡◌, ℕ, List};
+ghost use Rattle.bl_tokens.specs.declared.faults.TextFault.{TextFault};
+ghost use Rattle.bl_text.specs.Texts.{AreOneFault};
+ghost use Rattle.line_wire.specs.declared.command.Command.{Command};
+ghost use Rattle.line_wire.specs.Lines.{IsLine, HasBadText};
+
+/// A line asks for one thing at most.
+pub fn one_command_of_a_line()
+    ensures { (line : List ℕ) (first second : Command) → IsLine line first → IsLine line second → first ≡ second }
+{}
+
+/// A line that asks for something has no fault in its text, want of memory aside.
+pub fn no_fault_of_a_command()
+    ensures { (line : List ℕ) (command : Command) (fault : TextFault) → IsLine line command → HasBadText line fault
+        → fault ≡ TextFault.NoMemory }
+{}
+
+/// A line has one fault in its text at most, want of memory aside.
+pub fn one_fault_of_a_line()
+    ensures { (line : List ℕ) (first second : TextFault) → HasBadText line first → HasBadText line second
+        → AreOneFault first second }
+{}
