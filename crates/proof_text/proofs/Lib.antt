@@ -7,4 +7,5 @@ pub mod Reader
 pub mod SettledLemmas
 pub mod TermLemmas
 pub mod TextLemmas
+pub mod ViableLemmas
 pub mod WrittenLemmas
