@@ -1,5 +1,5 @@
 -- What was read of a proof's text is a sentence of the grammar over words, and what was read up to a fault can be completed to one.
-use Rattle.std.proofs.Common.{◌≡◌, ℕ, ◌-◌, Bool, true, false, List, [], ◌∷◌, ◌++◌, append_assoc, append-nil, refl, sym, ap, ◌∙◌, subst, Option, Some, None, Result, Ok, Err, ◌⊎◌, inl, inr}
+use Rattle.std.proofs.Common.{◌≡◌, ℕ, Bool, true, false, List, [], ◌∷◌, ◌++◌, append_assoc, append-nil, refl, sym, ap, ◌∙◌, subst, Option, Some, None, Result, Ok, Err, ◌⊎◌, inl, inr}
 use Rattle.std.specs.Prelude.{if◌then◌else◌, ◌&&◌, nat_le, MatchResult, drop, length, ◌^◌}
 use Rattle.std.specs.List.{take_while}
 use Rattle.bl_syntax.specs.declared.terms.Sort.TheVariants as sorts

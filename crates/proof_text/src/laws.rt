@@ -45,6 +45,12 @@ pub fn sentence_of_a_proof()
     ensures { (text : List ℕ) (p : Deduction) → IsProofText text p → IsSentenceText text }
 {}
 
+/// A text whose words are a sentence of the grammar is one of a proof, or it is too large.
+pub fn text_of_a_sentence()
+    ensures { (text : List ℕ) → IsSentenceText text
+        → ((p : Deduction) × IsProofText text p) ⊎ ((at : ℕ) × ProofTextFault text (TextFault.TooLarge at)) }
+{}
+
 /// The text that a proof is written as is a text of it.
 pub fn printed_proof_is_read()
     ensures { (d : Deduction) → IsSayableProof d → IsProofText (proof_text d) d }
