@@ -9,11 +9,10 @@ use bl_syntax::Bytes;
 use pcfs_ports::{StdSink, StdSource, TakeFault, read_to_end};
 use pcfs_secrets::{SecretFault, Secrets};
 use pcfs_top::run::run;
-use std::env;
-use std::fs;
 use std::io::{self, ErrorKind};
 use std::process::ExitCode;
 use std::rt::{Files, Print};
+use std::{env, fs};
 
 /// There was no memory for the words or the secrets.
 const OUT_OF_MEMORY: u8 = 9;
@@ -100,12 +99,5 @@ fn main(rt: HostRuntime) -> ExitCode {
     };
     let mut input = StdSource::new(rt.reader());
     let mut output = StdSink::new(io::writer(&rt));
-    ExitCode::from(run(
-        &rt,
-        rt.alloc(),
-        &words,
-        &secrets,
-        &mut input,
-        &mut output,
-    ))
+    ExitCode::from(run(&rt, rt.alloc(), &words, &secrets, &mut input, &mut output))
 }

@@ -102,8 +102,11 @@ IsLawfulStanding-answered secrets base before after line reply lawful stands (sc
     record { clock = stands.clock; each = AreLawful-answered (authority_under secrets) base before.events script_pass before.clock (requests.ShowProcap number None) r event lawful stands.each stands.clock tt answer }
 IsLawfulStanding-answered secrets base before after line reply lawful stands (script.acts_under_none op words number is first) = stands
 IsLawfulStanding-answered secrets base before after line reply lawful stands (script.acts op words procaps r event is brought answer) =
-    record { clock = stands.clock; each = AreLawful-answered (authority_under secrets) base before.events script_pass before.clock (requests.Act before.caller op procaps) r event lawful stands.each stands.clock
-        (sym (same_length secrets.seal_key (replay base before.events).issues words procaps brought) ∙ IsAllowed-line line (commands.Do op words) is) answer }
+    record {
+      clock = stands.clock;
+      each = AreLawful-answered (authority_under secrets) base before.events script_pass before.clock (requests.Act before.caller op procaps) r event lawful stands.each stands.clock
+          (sym (same_length secrets.seal_key (replay base before.events).issues words procaps brought) ∙ IsAllowed-line line (commands.Do op words) is) answer;
+    }
 
 IsLawfulStanding-run : (secrets : Secrets) (base : Base) (done : List (List ℕ)) (answers : List Reply) (standing : Standing) → IsLawfulBase (authority_under secrets) base → IsRun secrets base done answers standing → IsLawfulStanding secrets base standing
 IsLawfulStanding-run secrets base done answers standing lawful script.begun = record { clock = record { not_before = omega (arith, ints); not_after = omega (arith, ints) }; each = no_event }

@@ -2,11 +2,11 @@
 
 ghost use Rattle.std.specs.Prelude.{◌≡◌, ◌<◌, ◌-◌, ◌^◌, List, ℕ, length, IfOk, OnErr};
 
+use crate::brought::add_procaps;
+use crate::signing::signature_of;
 use access_history::{Op, Procaps, Reply, StepRequest};
 use bl_syntax::{Bytes, Goal, NoMemory, Numbers, Principal, Statement};
 use line_wire::{Command, Line, ProcapWords, read_line, unproved};
-use crate::brought::add_procaps;
-use crate::signing::signature_of;
 use op_gate::{Citation, Decision, Gate};
 use pcfs_secrets::Secrets;
 use proof_term::ProofTree;

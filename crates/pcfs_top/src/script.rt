@@ -44,14 +44,19 @@ impl From<Failed> for ScriptFault {
 }
 
 // Writes a reply as a line with its end, by way of the buffer.
-fn send<O: Sink>(buffer: &mut Bytes, reply: &Reply, output: &mut O) -> Result<(), ScriptFault>
+fn send<O: Sink>(
+    alloc: Global,
+    buffer: &mut Bytes,
+    reply: &Reply,
+    output: &mut O,
+) -> Result<(), ScriptFault>
     ensures ok { OnOk result (O.held output.new ≡ with_back (O.held output.old) (reply_text reply.now ++ 10 ∷ [])) }
     ensures err { OnErr result (HoldsSome (O.held output.old) (O.held output.new) (reply_text reply.now ++ 10 ∷ [])) }
     ensures risen { IsErrOf result ScriptFault.Write → HasRisen (O.faults output.old) (O.faults output.new) }
     ensures never_falls { O.faults output.old ≤ O.faults output.new }
 {
     buffer.clear();
-    write_reply(buffer, reply)?;
+    write_reply(alloc, buffer, reply)?;
     write_all(output, buffer.as_slice())?;
     Ok(())
 }
@@ -75,7 +80,7 @@ fn answer_lines<O: Sink>(
     let mut rest = input;
     while let Some((line, others)) = first_line(rest) {
         let reply = desk.reply_to(alloc, line);
-        send(&mut buffer, &reply, output)?;
+        send(alloc, &mut buffer, &reply, output)?;
         rest = others;
     }
     Ok(())

@@ -8,11 +8,7 @@ use policy_statement::{Keyring, statement_message};
 use std::alloc::Global;
 
 // The signature that the ring makes for who says the statement; no bytes where that name has no key.
-fn signature_by(
-    alloc: Global,
-    ring: &Keyring,
-    statement: &Statement,
-) -> Result<Bytes, NoMemory>
+fn signature_by(alloc: Global, ring: &Keyring, statement: &Statement) -> Result<Bytes, NoMemory>
     ensures { IfOk result (λ signature. signature ≡ signature_under ring.now statement.now None) }
 {
     let message = statement_message(alloc, statement)?;
