@@ -11,7 +11,7 @@ use pcfs_secrets::{SecretFault, Secrets};
 use pcfs_top::run::run;
 use std::io::{self, ErrorKind};
 use std::process::ExitCode;
-use std::rt::{Files, Print};
+use std::rt::Files;
 use std::{env, fs};
 
 /// There was no memory for the words or the secrets.
