@@ -26,12 +26,14 @@ with open(sys.argv[1], "w") as out:
         out.write(f"do create #1 file{i} @{issue}\n")
 PYTHON
 
+printf 'seal 00\nkey admin 01\n' > "$work/pcfs.secrets"
+
 python3 - "$program" "$work/input" "$work/output" <<'PYTHON'
-import resource, subprocess, sys, time
+import os, resource, subprocess, sys, time
 program, source, target = sys.argv[1:]
 with open(source) as lines, open(target, "w") as replies:
     begun = time.monotonic()
-    status = subprocess.run([program, "script"], stdin=lines, stdout=replies).returncode
+    status = subprocess.run([program, "script"], stdin=lines, stdout=replies, cwd=os.path.dirname(target)).returncode
     seconds = time.monotonic() - begun
 kib = resource.getrusage(resource.RUSAGE_CHILDREN).ru_maxrss
 with open(target) as replies:
