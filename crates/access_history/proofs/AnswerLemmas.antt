@@ -14,12 +14,15 @@ use Rattle.access_history.specs.declared.event.Event.TheVariants as events
 use Rattle.access_history.specs.declared.event.Base.{Base}
 use Rattle.access_history.specs.declared.request.StepRequest.{StepRequest}
 use Rattle.access_history.specs.declared.request.StepRequest.TheVariants as requests
-use Rattle.access_history.specs.declared.reply.RegisterFault.TheVariants.{RegistryFull, Duplicate}
+use Rattle.access_history.specs.declared.reply.RegisterFault.TheVariants.{BadSignature, RegistryFull, Duplicate}
 use Rattle.access_history.specs.declared.reply.Cause.{Cause}
 use Rattle.access_history.specs.declared.reply.Cause.TheVariants as causes
 use Rattle.access_history.specs.declared.reply.Reply.{Reply}
 use Rattle.access_history.specs.declared.reply.Reply.TheVariants as replies
-use Rattle.access_history.specs.Numbered.{IsNumbered, HasNumber}
+use Rattle.access_history.specs.Numbered.{IsNumbered}
+use Rattle.access_history.specs.Authority.{Authority, IsSigned, sayings, procap_of}
+use Rattle.procap.specs.Genuine.{IsGenuine}
+use Rattle.procap.specs.declared.procap.Procap.{Procap}
 use Rattle.access_history.specs.World.{FileTree}
 use Rattle.access_history.specs.Facts.{facts}
 use Rattle.access_history.specs.Needs.{Need, needs}
@@ -27,16 +30,8 @@ use Rattle.access_history.specs.Effect.{refusal, replied, OpReply, effect}
 use Rattle.proof_verifier.specs.declared.cites.Cite.{Cite}
 use Rattle.proof_verifier.specs.Checking.{Checking}
 use Rattle.access_history.specs.Citing.{Stands, IsMoved, numbers_of}
-use Rattle.access_history.specs.Answer.{moment_of, IsProcapAt, NamesMatch, Gives, Fails, other_principal, other_file, other_permission, time_passed, state_differs, IsMet, IsAdmitted, IsDenied, here, further, AreIssued, reply_of, Answers, duplicate, registry_full, registered, moved, issued, no_issue, denied, refused, acted}
+use Rattle.access_history.specs.Answer.{moment_of, NamesMatch, Gives, Fails, other_principal, other_file, other_permission, time_passed, state_differs, Denies, other_seal, grant_fails, IsMet, IsAdmitted, IsDenied, here, further, IsShown, reply_of, Answers, unsigned, duplicate, registry_full, registered, moved, issued, denied, refused, acted, not_shown, shown}
 use Rattle.access_history.proofs.NumberedLemmas.{Contains-numbered, numbered_item, distinct_number, none_fails, first_failing}
-
--- the procap in a place stands for one grant
-pub procap_grant : (state : Base) (procaps : List ℕ) (place : ℕ) (g h : Granted) → IsProcapAt state procaps place g → IsProcapAt state procaps place h → g ≡ h
-procap_grant state procaps place g h one other =
-    let number : one.number ≡ other.number = numbered_item procaps place one.number other.number one.brought other.brought in
-    let brought : IsNumbered state.issues other.number one.issue = rw number at one.issued in
-    let issue : one.issue ≡ other.issue = numbered_item state.issues other.number one.issue other.issue brought other.issued in
-    sym one.grant_is ∙ (ap (λ (i : Issue). i.grant) issue ∙ other.grant_is)
 
 module _ (caller : List ℕ) (need : Need) (moment : ℤ) (known : List StatePred) (g : Granted) where
   fails_principal : (cause : Cause) → g.goal.who ≢ caller → Fails caller need moment known g cause → cause ≡ causes.Principal
@@ -95,136 +90,154 @@ module _ (caller : List ℕ) (need : Need) (moment : ℤ) (known : List StatePre
   gives_or_fails _ gives (time_passed place c names first) = none_fails (HoldsAt moment) g.times place c gives.conditions.times first
   gives_or_fails _ gives (state_differs place s names times first) = none_fails (Contains known) g.states place s gives.conditions.states first
 
-module _ (state : Base) (caller : List ℕ) (procaps : List ℕ) (moment : ℤ) where
-  met_or_fails : (need : Need) (g : Granted) (cause : Cause) → IsMet state caller procaps moment need → IsProcapAt state procaps need.place g → Fails caller need moment (facts state.world) g cause → ⊥
-  met_or_fails need g cause met brought fails =
-      let same : met.grant ≡ g = procap_grant state procaps need.place met.grant g met.brought brought in
-      let gives : Gives caller need moment (facts state.world) g = subst (Gives caller need moment (facts state.world)) same met.gives in
-      gives_or_fails caller need moment (facts state.world) g cause gives fails
+  -- a procap that does not give what is needed has one first cause
+  one_denial_cause : (key : List ℕ) (p : Procap) (cause cause' : Cause) → p.grant ≡ g → Denies key caller need moment known p cause → Denies key caller need moment known p cause' → cause ≡ cause'
+  one_denial_cause key p _ _ is (other_seal forged) (other_seal forged') = refl
+  one_denial_cause key p _ cause' is (other_seal forged) (grant_fails _ sealed fails) = absurd (forged sealed)
+  one_denial_cause key p cause _ is (grant_fails _ sealed fails) (other_seal forged) = absurd (forged sealed)
+  one_denial_cause key p cause cause' is (grant_fails _ sealed fails) (grant_fails _ sealed' fails') =
+      one_cause cause cause' (subst (λ (h : Granted). Fails caller need moment known h cause) is fails) (subst (λ (h : Granted). Fails caller need moment known h cause') is fails')
 
-  denied_here : (need : Need) (later : List Need) (g : Granted) (cause : Cause) (place' : ℕ) (cause' : Cause) → IsProcapAt state procaps need.place g → Fails caller need moment (facts state.world) g cause
-      → IsDenied state caller procaps moment (need ∷ later) place' cause' → (need.place ≡ place') × (cause ≡ cause')
-  denied_here need later g cause _ _ brought fails (here _ _ h cause' brought' fails') =
-      let same : h ≡ g = procap_grant state procaps need.place h g brought' brought in
-      let fails'' : Fails caller need moment (facts state.world) g cause' = subst (λ (k : Granted). Fails caller need moment (facts state.world) k cause') same fails' in
-      (refl, one_cause caller need moment (facts state.world) g cause cause' fails fails'')
-  denied_here need later g cause _ _ brought fails (further _ _ place' cause' met rest) = absurd (met_or_fails need g cause met brought fails)
+module _ (key : List ℕ) (state : Base) (caller : List ℕ) (procaps : List Procap) (moment : ℤ) where
+  gives_or_denies : (need : Need) (p : Procap) (cause : Cause) → IsGenuine key p → Gives caller need moment (facts state.world) p.grant → Denies key caller need moment (facts state.world) p cause → ⊥
+  gives_or_denies need p _ sealed gives (other_seal forged) = forged sealed
+  gives_or_denies need p cause sealed gives (grant_fails _ sealed' fails) = gives_or_fails caller need moment (facts state.world) p.grant cause gives fails
 
-  denied_later : (need : Need) (later : List Need) (place : ℕ) (cause : Cause) (place' : ℕ) (cause' : Cause) → IsMet state caller procaps moment need
-      → ((p : ℕ) (c : Cause) → IsDenied state caller procaps moment later p c → (place ≡ p) × (cause ≡ c))
-      → IsDenied state caller procaps moment (need ∷ later) place' cause' → (place ≡ place') × (cause ≡ cause')
-  denied_later need later place cause _ _ met same (here _ _ h cause' brought' fails') = absurd (met_or_fails need h cause' met brought' fails')
+  met_or_denies : (need : Need) (p : Procap) (cause : Cause) → IsMet key state caller procaps moment need → IsNumbered procaps need.place p → Denies key caller need moment (facts state.world) p cause → ⊥
+  met_or_denies need p cause met brought denies =
+      let same : met.procap ≡ p = numbered_item procaps need.place met.procap p met.brought brought in
+      gives_or_denies need p cause (subst (IsGenuine key) same met.sealed) (subst (λ (q : Procap). Gives caller need moment (facts state.world) q.grant) same met.gives) denies
+
+  denied_here : (need : Need) (later : List Need) (p : Procap) (cause : Cause) (place' : ℕ) (cause' : Cause) → IsNumbered procaps need.place p → Denies key caller need moment (facts state.world) p cause
+      → IsDenied key state caller procaps moment (need ∷ later) place' cause' → (need.place ≡ place') × (cause ≡ cause')
+  denied_here need later p cause _ _ brought denies (here _ _ q cause' brought' denies') =
+      let same : q ≡ p = numbered_item procaps need.place q p brought' brought in
+      let denies'' : Denies key caller need moment (facts state.world) p cause' = subst (λ (r : Procap). Denies key caller need moment (facts state.world) r cause') same denies' in
+      (refl, one_denial_cause caller need moment (facts state.world) p.grant key p cause cause' refl denies denies'')
+  denied_here need later p cause _ _ brought denies (further _ _ place' cause' met rest) = absurd (met_or_denies need p cause met brought denies)
+
+  denied_later : (need : Need) (later : List Need) (place : ℕ) (cause : Cause) (place' : ℕ) (cause' : Cause) → IsMet key state caller procaps moment need
+      → ((p : ℕ) (c : Cause) → IsDenied key state caller procaps moment later p c → (place ≡ p) × (cause ≡ c))
+      → IsDenied key state caller procaps moment (need ∷ later) place' cause' → (place ≡ place') × (cause ≡ cause')
+  denied_later need later place cause _ _ met same (here _ _ p cause' brought' denies') = absurd (met_or_denies need p cause' met brought' denies')
   denied_later need later place cause _ _ met same (further _ _ place' cause' met' rest) = same place' cause' rest
 
   -- there is one first need that is not met, and one cause
-  one_denial : (wants : List Need) (place : ℕ) (cause : Cause) (place' : ℕ) (cause' : Cause) → IsDenied state caller procaps moment wants place cause
-      → IsDenied state caller procaps moment wants place' cause' → (place ≡ place') × (cause ≡ cause')
-  one_denial _ _ _ place' cause' (here need later g cause brought fails) other = denied_here need later g cause place' cause' brought fails other
+  one_denial : (wants : List Need) (place : ℕ) (cause : Cause) (place' : ℕ) (cause' : Cause) → IsDenied key state caller procaps moment wants place cause
+      → IsDenied key state caller procaps moment wants place' cause' → (place ≡ place') × (cause ≡ cause')
+  one_denial _ _ _ place' cause' (here need later p cause brought denies) other = denied_here need later p cause place' cause' brought denies other
   one_denial _ _ _ place' cause' (further need later place cause met rest) other =
       denied_later need later place cause place' cause' met (λ p c d. one_denial later place cause p c rest d) other
 
   -- what is admitted is not denied
-  admitted_or_denied : (wants : List Need) (place : ℕ) (cause : Cause) → AllByRecursion (IsMet state caller procaps moment) wants → IsDenied state caller procaps moment wants place cause → ⊥
-  admitted_or_denied _ _ _ all (here need later g cause brought fails) = met_or_fails need g cause all.0 brought fails
+  admitted_or_denied : (wants : List Need) (place : ℕ) (cause : Cause) → AllByRecursion (IsMet key state caller procaps moment) wants → IsDenied key state caller procaps moment wants place cause → ⊥
+  admitted_or_denied _ _ _ all (here need later p cause brought denies) = met_or_denies need p cause all.0 brought denies
   admitted_or_denied _ _ _ all (further need later place cause met rest) = admitted_or_denied later place cause all.1 rest
 
-module _ (state : Base) (pass : ℕ) (clock : ℤ) where
+module _ (authority : Authority) (state : Base) (pass : ℕ) (clock : ℤ) where
   -- this answer, with this event, is the one
   abbrev IsOnly : StepRequest → Reply → Option Event → Type 0
-  IsOnly request reply event = (other : Reply) (other_event : Option Event) → Answers state pass clock request other other_event → (reply ≡ other) × (event ≡ other_event)
+  IsOnly request reply event = (other : Reply) (other_event : Option Event) → Answers authority state pass clock request other other_event → (reply ≡ other) × (event ≡ other_event)
 
-  only_duplicate : (statement : Saying) (number : ℕ) → AreDistinct state.statements → IsNumbered state.statements number statement → IsOnly (requests.Register statement) (replies.Rejected (Duplicate number)) None
-  only_duplicate statement number distinct numbered _ _ (duplicate _ other numbered') =
-      (ap (λ (n : ℕ). replies.Rejected (Duplicate n)) (distinct_number state.statements number other statement distinct numbered numbered'), refl)
-  only_duplicate statement number distinct numbered _ _ (registry_full _ new full) = absurd (new (Contains-numbered state.statements number statement numbered))
-  only_duplicate statement number distinct numbered _ _ (registered _ new room) = absurd (new (Contains-numbered state.statements number statement numbered))
+  only_unsigned : (statement : Saying) (signature : List ℕ) → (IsSigned authority statement signature → ⊥) → IsOnly (requests.Register statement signature) (replies.Rejected BadSignature) None
+  only_unsigned statement signature not_signed _ _ (unsigned _ _ not_signed') = (refl, refl)
+  only_unsigned statement signature not_signed _ _ (duplicate _ _ number signed numbered) = absurd (not_signed signed)
+  only_unsigned statement signature not_signed _ _ (registry_full _ _ signed new full) = absurd (not_signed signed)
+  only_unsigned statement signature not_signed _ _ (registered _ _ signed new room) = absurd (not_signed signed)
 
-  only_full : (statement : Saying) → (Contains state.statements statement → ⊥) → 4096 ≤ length state.statements → IsOnly (requests.Register statement) (replies.Rejected RegistryFull) None
-  only_full statement new full _ _ (duplicate _ other numbered) = absurd (new (Contains-numbered state.statements other statement numbered))
-  only_full statement new full _ _ (registry_full _ new' full') = (refl, refl)
-  only_full statement new full _ _ (registered _ new' room) = absurd (omega (arith, full, room))
+  only_duplicate : (statement : Saying) (signature : List ℕ) (number : ℕ) → AreDistinct (sayings state.statements) → IsSigned authority statement signature → IsNumbered (sayings state.statements) number statement
+      → IsOnly (requests.Register statement signature) (replies.Rejected (Duplicate number)) None
+  only_duplicate statement signature number distinct signed numbered _ _ (unsigned _ _ not_signed) = absurd (not_signed signed)
+  only_duplicate statement signature number distinct signed numbered _ _ (duplicate _ _ other signed' numbered') =
+      (ap (λ (n : ℕ). replies.Rejected (Duplicate n)) (distinct_number (sayings state.statements) number other statement distinct numbered numbered'), refl)
+  only_duplicate statement signature number distinct signed numbered _ _ (registry_full _ _ signed' new full) = absurd (new (Contains-numbered (sayings state.statements) number statement numbered))
+  only_duplicate statement signature number distinct signed numbered _ _ (registered _ _ signed' new room) = absurd (new (Contains-numbered (sayings state.statements) number statement numbered))
 
-  only_registered : (statement : Saying) → (Contains state.statements statement → ⊥) → length state.statements < 4096
-      → IsOnly (requests.Register statement) (replies.Statement (length state.statements + 1)) (Some (events.Registered pass statement))
-  only_registered statement new room _ _ (duplicate _ other numbered) = absurd (new (Contains-numbered state.statements other statement numbered))
-  only_registered statement new room _ _ (registry_full _ new' full) = absurd (omega (arith, full, room))
-  only_registered statement new room _ _ (registered _ new' room') = (refl, refl)
+  only_full : (statement : Saying) (signature : List ℕ) → IsSigned authority statement signature → (Contains (sayings state.statements) statement → ⊥) → 4096 ≤ length state.statements
+      → IsOnly (requests.Register statement signature) (replies.Rejected RegistryFull) None
+  only_full statement signature signed new full _ _ (unsigned _ _ not_signed) = absurd (not_signed signed)
+  only_full statement signature signed new full _ _ (duplicate _ _ other signed' numbered) = absurd (new (Contains-numbered (sayings state.statements) other statement numbered))
+  only_full statement signature signed new full _ _ (registry_full _ _ signed' new' full') = (refl, refl)
+  only_full statement signature signed new full _ _ (registered _ _ signed' new' room) = absurd (omega (arith, full, room))
 
-  only_moved : (checked : Checking) (number : ℕ) → IsMoved state.statements checked.cited number → IsOnly (requests.Issue checked) (replies.Absent number) None
+  only_registered : (statement : Saying) (signature : List ℕ) → IsSigned authority statement signature → (Contains (sayings state.statements) statement → ⊥) → length state.statements < 4096
+      → IsOnly (requests.Register statement signature) (replies.Statement (length state.statements + 1)) (Some (events.Registered pass statement signature))
+  only_registered statement signature signed new room _ _ (unsigned _ _ not_signed) = absurd (not_signed signed)
+  only_registered statement signature signed new room _ _ (duplicate _ _ other signed' numbered) = absurd (new (Contains-numbered (sayings state.statements) other statement numbered))
+  only_registered statement signature signed new room _ _ (registry_full _ _ signed' new' full) = absurd (omega (arith, full, room))
+  only_registered statement signature signed new room _ _ (registered _ _ signed' new' room') = (refl, refl)
+
+  only_moved : (checked : Checking) (number : ℕ) → IsMoved (sayings state.statements) checked.cited number → IsOnly (requests.Issue checked) (replies.Absent number) None
   only_moved checked number first _ _ (moved _ number' first') =
-      let same = first_failing (Stands state.statements) checked.cited first.place first'.place first.cite first'.cite first.first first'.first in
+      let same = first_failing (Stands (sayings state.statements)) checked.cited first.place first'.place first.cite first'.cite first.first first'.first in
       (ap replies.Absent (first.number_is ∙ (ap (λ (c : Cite). c.number) same.1 ∙ sym first'.number_is)), refl)
-  only_moved checked number first _ _ (issued _ rising granted stand) = absurd (none_fails (Stands state.statements) checked.cited first.place first.cite stand first.first)
+  only_moved checked number first _ _ (issued _ rising granted stand) = absurd (none_fails (Stands (sayings state.statements)) checked.cited first.place first.cite stand first.first)
 
-  only_issued : (checked : Checking) → AllByRecursion (Stands state.statements) checked.cited
+  only_issued : (checked : Checking) → AllByRecursion (Stands (sayings state.statements)) checked.cited
       → IsOnly (requests.Issue checked) (replies.Issue (length state.issues + 1) (length checked.grant.times) (length checked.grant.states)) (Some (events.Issued pass (numbers_of checked.cited) checked.proof checked.grant))
-  only_issued checked stand _ _ (moved _ number first) = absurd (none_fails (Stands state.statements) checked.cited first.place first.cite stand first.first)
+  only_issued checked stand _ _ (moved _ number first) = absurd (none_fails (Stands (sayings state.statements)) checked.cited first.place first.cite stand first.first)
   only_issued checked stand _ _ (issued _ rising granted stand') = (refl, refl)
-
-  abbrev IsNoMissing : ℕ → Type 0
-  IsNoMissing number = HasNumber state.issues number
-
-  only_no_issue : (caller : List ℕ) (op : Op) (procaps : List ℕ) (place number : ℕ) → IsFirstFailing IsNoMissing procaps place number
-      → IsOnly (requests.Act caller op procaps) (replies.Absent number) None
-  only_no_issue caller op procaps place number first _ _ (no_issue _ _ _ place' number' first') =
-      let same = first_failing IsNoMissing procaps place place' number number' first first' in
-      (ap replies.Absent same.1, refl)
-  only_no_issue caller op procaps place number first _ _ (denied _ _ _ need cause present denial) = absurd (none_fails IsNoMissing procaps place number present first)
-  only_no_issue caller op procaps place number first _ _ (refused _ _ _ code present admitted outcome) = absurd (none_fails IsNoMissing procaps place number present first)
-  only_no_issue caller op procaps place number first _ _ (acted _ _ _ reply after present admitted outcome) = absurd (none_fails IsNoMissing procaps place number present first)
 
   abbrev denial_of : ℕ → Cause → Reply
   denial_of place cause = replies.Denied (record { need = place; cause = cause; at = state.count })
 
-  only_denied : (caller : List ℕ) (op : Op) (procaps : List ℕ) (need : ℕ) (cause : Cause) → AreIssued state procaps → IsDenied state caller procaps (moment_of state clock) (needs op state.world) need cause
+  only_denied : (caller : List ℕ) (op : Op) (procaps : List Procap) (need : ℕ) (cause : Cause) → IsDenied authority.key state caller procaps (moment_of state clock) (needs op state.world) need cause
       → IsOnly (requests.Act caller op procaps) (denial_of need cause) None
-  only_denied caller op procaps need cause present denial _ _ (no_issue _ _ _ place' number' first') = absurd (none_fails IsNoMissing procaps place' number' present first')
-  only_denied caller op procaps need cause present denial _ _ (denied _ _ _ need' cause' present' denial') =
-      let same = one_denial state caller procaps (moment_of state clock) (needs op state.world) need cause need' cause' denial denial' in
+  only_denied caller op procaps need cause denial _ _ (denied _ _ _ need' cause' denial') =
+      let same = one_denial authority.key state caller procaps (moment_of state clock) (needs op state.world) need cause need' cause' denial denial' in
       (ap (λ (n : ℕ). denial_of n cause) same.0 ∙ ap (λ (c : Cause). denial_of need' c) same.1, refl)
-  only_denied caller op procaps need cause present denial _ _ (refused _ _ _ code present' admitted outcome) =
-      absurd (admitted_or_denied state caller procaps (moment_of state clock) (needs op state.world) need cause admitted denial)
-  only_denied caller op procaps need cause present denial _ _ (acted _ _ _ reply after present' admitted outcome) =
-      absurd (admitted_or_denied state caller procaps (moment_of state clock) (needs op state.world) need cause admitted denial)
+  only_denied caller op procaps need cause denial _ _ (refused _ _ _ code admitted outcome) =
+      absurd (admitted_or_denied authority.key state caller procaps (moment_of state clock) (needs op state.world) need cause admitted denial)
+  only_denied caller op procaps need cause denial _ _ (acted _ _ _ reply after admitted outcome) =
+      absurd (admitted_or_denied authority.key state caller procaps (moment_of state clock) (needs op state.world) need cause admitted denial)
 
-  only_refused : (caller : List ℕ) (op : Op) (procaps : List ℕ) (number : ℕ) → AreIssued state procaps → IsAdmitted state caller op procaps (moment_of state clock) → effect caller op state.world ≡ refusal number
+  only_refused : (caller : List ℕ) (op : Op) (procaps : List Procap) (number : ℕ) → IsAdmitted authority.key state caller op procaps (moment_of state clock) → effect caller op state.world ≡ refusal number
       → IsOnly (requests.Act caller op procaps) (replies.Refused number state.count) None
-  only_refused caller op procaps number present admitted outcome _ _ (no_issue _ _ _ place' number' first') = absurd (none_fails IsNoMissing procaps place' number' present first')
-  only_refused caller op procaps number present admitted outcome _ _ (denied _ _ _ need cause present' denial) =
-      absurd (admitted_or_denied state caller procaps (moment_of state clock) (needs op state.world) need cause admitted denial)
-  only_refused caller op procaps number present admitted outcome _ _ (refused _ _ _ number' present' admitted' outcome') =
+  only_refused caller op procaps number admitted outcome _ _ (denied _ _ _ need cause denial) =
+      absurd (admitted_or_denied authority.key state caller procaps (moment_of state clock) (needs op state.world) need cause admitted denial)
+  only_refused caller op procaps number admitted outcome _ _ (refused _ _ _ number' admitted' outcome') =
       let same : number ≡ number' = cc in (ap (λ (r : ℕ). replies.Refused r state.count) same, refl)
-  only_refused caller op procaps number present admitted outcome _ _ (acted _ _ _ reply after present' admitted' outcome') = cc
+  only_refused caller op procaps number admitted outcome _ _ (acted _ _ _ reply after admitted' outcome') = cc
 
-  only_acted : (caller : List ℕ) (op : Op) (procaps : List ℕ) (reply : OpReply) (after : FileTree) → AreIssued state procaps → IsAdmitted state caller op procaps (moment_of state clock) → effect caller op state.world ≡ replied reply after
+  only_acted : (caller : List ℕ) (op : Op) (procaps : List Procap) (reply : OpReply) (after : FileTree) → IsAdmitted authority.key state caller op procaps (moment_of state clock) → effect caller op state.world ≡ replied reply after
       → IsOnly (requests.Act caller op procaps) (reply_of reply) (Some (events.Acted pass caller op procaps (moment_of state clock)))
-  only_acted caller op procaps reply after present admitted outcome _ _ (no_issue _ _ _ place' number' first') = absurd (none_fails IsNoMissing procaps place' number' present first')
-  only_acted caller op procaps reply after present admitted outcome _ _ (denied _ _ _ need cause present' denial) =
-      absurd (admitted_or_denied state caller procaps (moment_of state clock) (needs op state.world) need cause admitted denial)
-  only_acted caller op procaps reply after present admitted outcome _ _ (refused _ _ _ number' present' admitted' outcome') = cc
-  only_acted caller op procaps reply after present admitted outcome _ _ (acted _ _ _ reply' after' present' admitted' outcome') =
+  only_acted caller op procaps reply after admitted outcome _ _ (denied _ _ _ need cause denial) =
+      absurd (admitted_or_denied authority.key state caller procaps (moment_of state clock) (needs op state.world) need cause admitted denial)
+  only_acted caller op procaps reply after admitted outcome _ _ (refused _ _ _ number' admitted' outcome') = cc
+  only_acted caller op procaps reply after admitted outcome _ _ (acted _ _ _ reply' after' admitted' outcome') =
       let same : reply ≡ reply' = cc in (ap reply_of same, refl)
 
-  only : (request : StepRequest) (first : Reply) (kept : Option Event) → AreDistinct state.statements → Answers state pass clock request first kept → IsOnly request first kept
-  only _ _ _ distinct (duplicate statement number numbered) = only_duplicate statement number distinct numbered
-  only _ _ _ distinct (registry_full statement new full) = only_full statement new full
-  only _ _ _ distinct (registered statement new room) = only_registered statement new room
+  only_not_shown : (number : ℕ) (who : Option (List ℕ)) → ((issue : Issue) → IsShown state number who issue → ⊥) → IsOnly (requests.ShowProcap number who) (replies.Absent number) None
+  only_not_shown number who none _ _ (not_shown _ _ none') = (refl, refl)
+  only_not_shown number who none _ _ (shown _ _ issue there) = absurd (none issue there)
+
+  only_shown : (number : ℕ) (who : Option (List ℕ)) (issue : Issue) → IsShown state number who issue → IsOnly (requests.ShowProcap number who) (replies.Procap (procap_of authority.key issue.grant)) None
+  only_shown number who issue there _ _ (not_shown _ _ none) = absurd (none issue there)
+  only_shown number who issue there _ _ (shown _ _ issue' there') =
+      (ap (λ (i : Issue). replies.Procap (procap_of authority.key i.grant)) (numbered_item state.issues number issue issue' there.issued there'.issued), refl)
+
+  only : (request : StepRequest) (first : Reply) (kept : Option Event) → AreDistinct (sayings state.statements) → Answers authority state pass clock request first kept → IsOnly request first kept
+  only _ _ _ distinct (unsigned statement signature not_signed) = only_unsigned statement signature not_signed
+  only _ _ _ distinct (duplicate statement signature number signed numbered) = only_duplicate statement signature number distinct signed numbered
+  only _ _ _ distinct (registry_full statement signature signed new full) = only_full statement signature signed new full
+  only _ _ _ distinct (registered statement signature signed new room) = only_registered statement signature signed new room
   only _ _ _ distinct (moved checked number first) = only_moved checked number first
   only _ _ _ distinct (issued checked rising granted stand) = only_issued checked stand
-  only _ _ _ distinct (no_issue caller op procaps place number first) = only_no_issue caller op procaps place number first
-  only _ _ _ distinct (denied caller op procaps need cause present denial) = only_denied caller op procaps need cause present denial
-  only _ _ _ distinct (refused caller op procaps number present admitted outcome) = only_refused caller op procaps number present admitted outcome
-  only _ _ _ distinct (acted caller op procaps reply after present admitted outcome) = only_acted caller op procaps reply after present admitted outcome
+  only _ _ _ distinct (denied caller op procaps need cause denial) = only_denied caller op procaps need cause denial
+  only _ _ _ distinct (refused caller op procaps number admitted outcome) = only_refused caller op procaps number admitted outcome
+  only _ _ _ distinct (acted caller op procaps reply after admitted outcome) = only_acted caller op procaps reply after admitted outcome
+  only _ _ _ distinct (not_shown number who none) = only_not_shown number who none
+  only _ _ _ distinct (shown number who issue there) = only_shown number who issue there
 
 -- a request has one answer over a state, and one event to keep
-pub one_answer : (state : Base) (pass : ℕ) (clock : ℤ) (request : StepRequest) (first second : Reply) (kept other : Option Event)
-    → AreDistinct state.statements → Answers state pass clock request first kept → Answers state pass clock request second other
+pub one_answer : (authority : Authority) (state : Base) (pass : ℕ) (clock : ℤ) (request : StepRequest) (first second : Reply) (kept other : Option Event)
+    → AreDistinct (sayings state.statements) → Answers authority state pass clock request first kept → Answers authority state pass clock request second other
     → (first ≡ second) × (kept ≡ other)
-one_answer state pass clock request first second kept other distinct one = only state pass clock request first kept distinct one second other
+one_answer authority state pass clock request first second kept other distinct one = only authority state pass clock request first kept distinct one second other
 
 -- an operation that is admitted and not refused gets its reply and is kept
-pub admitted_kept : (state : Base) (pass : ℕ) (clock : ℤ) (caller : List ℕ) (op : Op) (procaps : List ℕ) (made : OpReply) (after : FileTree) (reply : Reply) (event : Option Event)
-    → AreIssued state procaps → IsAdmitted state caller op procaps (moment_of state clock) → effect caller op state.world ≡ replied made after
-    → Answers state pass clock (requests.Act caller op procaps) reply event → (reply_of made ≡ reply) × (Some (events.Acted pass caller op procaps (moment_of state clock)) ≡ event)
-admitted_kept state pass clock caller op procaps made after reply event present admitted outcome answer =
-    only_acted state pass clock caller op procaps made after present admitted outcome reply event answer
+pub admitted_kept : (authority : Authority) (state : Base) (pass : ℕ) (clock : ℤ) (caller : List ℕ) (op : Op) (procaps : List Procap) (made : OpReply) (after : FileTree) (reply : Reply) (event : Option Event)
+    → IsAdmitted authority.key state caller op procaps (moment_of state clock) → effect caller op state.world ≡ replied made after
+    → Answers authority state pass clock (requests.Act caller op procaps) reply event → (reply_of made ≡ reply) × (Some (events.Acted pass caller op procaps (moment_of state clock)) ≡ event)
+admitted_kept authority state pass clock caller op procaps made after reply event admitted outcome answer =
+    only_acted authority state pass clock caller op procaps made after admitted outcome reply event answer

@@ -5,6 +5,8 @@ use Rattle.access_history.specs.declared.event.Event.{Event}
 use Rattle.access_history.specs.declared.event.Event.TheVariants.{Acted}
 use Rattle.access_history.specs.declared.event.Base.{Base}
 use Rattle.access_history.specs.declared.event.Op.{Op}
+use Rattle.access_history.specs.Authority.{Authority}
+use Rattle.procap.specs.declared.procap.Procap.{Procap}
 use Rattle.access_history.specs.Needs.{Need, needs}
 use Rattle.access_history.specs.Answer.{IsMet}
 use Rattle.access_history.specs.Replay.{replay, next_state}
@@ -13,53 +15,54 @@ use Rattle.access_history.specs.Headline.{WasRightful, Headline}
 use Rattle.access_history.proofs.LawfulLemmas.{IsTree-lawful}
 
 -- each event, over the state that the events before it left
-AreFollowing : Base → List Event → Type 0
-AreFollowing state [] = Unit {0}
-AreFollowing state (event ∷ events) = MayFollow state event × AreFollowing (next_state state event) events
+AreFollowing : Authority → Base → List Event → Type 0
+AreFollowing authority state [] = Unit {0}
+AreFollowing authority state (event ∷ events) = MayFollow authority state event × AreFollowing authority (next_state state event) events
 
-AreFollowing-push : (state : Base) (events : List Event) (event : Event) → AreFollowing state events → MayFollow (replay state events) event → AreFollowing state (events ++ event ∷ [])
+AreFollowing-push : (authority : Authority) (state : Base) (events : List Event) (event : Event) → AreFollowing authority state events → MayFollow authority (replay state events) event → AreFollowing authority state (events ++ event ∷ [])
 unfolding AreFollowing
-AreFollowing-push state [] event all here = (here, tt)
-AreFollowing-push state (first ∷ events) event all here = (all.0, AreFollowing-push (next_state state first) events event all.1 here)
+AreFollowing-push authority state [] event all here = (here, tt)
+AreFollowing-push authority state (first ∷ events) event all here = (all.0, AreFollowing-push authority (next_state state first) events event all.1 here)
 
-AreFollowing-lawful : (base : Base) (events : List Event) → AreLawful base events → AreFollowing base events
+AreFollowing-lawful : (authority : Authority) (base : Base) (events : List Event) → AreLawful authority base events → AreFollowing authority base events
 unfolding AreFollowing
-AreFollowing-lawful base events no_event = tt
-AreFollowing-lawful base events (one_more before event lawful follows) = AreFollowing-push base before event (AreFollowing-lawful base before lawful) follows
+AreFollowing-lawful authority base events no_event = tt
+AreFollowing-lawful authority base events (one_more before event lawful follows) = AreFollowing-push authority base before event (AreFollowing-lawful authority base before lawful) follows
 
-AreFollowing-at : (state : Base) (earlier later : List Event) (event : Event) → AreFollowing state (earlier ++ event ∷ later) → MayFollow (replay state earlier) event
+AreFollowing-at : (authority : Authority) (state : Base) (earlier later : List Event) (event : Event) → AreFollowing authority state (earlier ++ event ∷ later) → MayFollow authority (replay state earlier) event
 unfolding AreFollowing
-AreFollowing-at state [] later event all = all.0
-AreFollowing-at state (first ∷ earlier) later event all = AreFollowing-at (next_state state first) earlier later event all.1
+AreFollowing-at authority state [] later event all = all.0
+AreFollowing-at authority state (first ∷ earlier) later event all = AreFollowing-at authority (next_state state first) earlier later event all.1
 
-WasRightful-each : (state : Base) (caller procaps : List ℕ) (moment : ℤ) (wants : List Need) → AllByRecursion (IsMet state caller procaps moment) wants → AllByRecursion (IsDerived state caller procaps moment) wants →
-    AllByRecursion (WasRightful state caller procaps moment) wants
-WasRightful-each state caller procaps moment [] met derived = tt
-WasRightful-each state caller procaps moment (need ∷ wants) met derived = (
+WasRightful-each : (key : List ℕ) (state : Base) (caller : List ℕ) (procaps : List Procap) (moment : ℤ) (wants : List Need) → AllByRecursion (IsMet key state caller procaps moment) wants → AllByRecursion (IsDerived state caller procaps moment) wants →
+    AllByRecursion (WasRightful key state caller procaps moment) wants
+WasRightful-each key state caller procaps moment [] met derived = tt
+WasRightful-each key state caller procaps moment (need ∷ wants) met derived = (
   record {
-    grant = met.0.grant;
-    procap = met.0.brought;
+    procap = met.0.procap;
+    brought = met.0.brought;
+    sealed = met.0.sealed;
     names_caller = met.0.gives.names.who;
     names_file = met.0.gives.names.file;
     names_permission = met.0.gives.names.permission;
     times_held = met.0.gives.conditions.times;
     states_held = met.0.gives.conditions.states;
-    derivable = derived.0 met.0.grant met.0.brought;
+    derivable = derived.0 met.0.procap met.0.brought;
   },
-  WasRightful-each state caller procaps moment wants met.1 derived.1,
+  WasRightful-each key state caller procaps moment wants met.1 derived.1,
 )
 
 -- the needs of an operation that may come next
-WasRightful-acted : (state : Base) (pass : ℕ) (caller : List ℕ) (op : Op) (procaps : List ℕ) (moment : ℤ) → MayFollow state (Acted pass caller op procaps moment) → AllByRecursion (WasRightful state caller procaps moment) (needs op state.world)
-WasRightful-acted state _ _ _ _ _ (may_act pass caller op procaps moment reply after later in_range slots bytes issued admitted does derived) =
-    WasRightful-each state caller procaps moment (needs op state.world) admitted derived
+WasRightful-acted : (authority : Authority) (state : Base) (pass : ℕ) (caller : List ℕ) (op : Op) (procaps : List Procap) (moment : ℤ) → MayFollow authority state (Acted pass caller op procaps moment) → AllByRecursion (WasRightful authority.key state caller procaps moment) (needs op state.world)
+WasRightful-acted authority state _ _ _ _ _ (may_act pass caller op procaps moment reply after later in_range slots bytes admitted does derived) =
+    WasRightful-each authority.key state caller procaps moment (needs op state.world) admitted derived
 
-pub Headline-lawful : (base : Base) (events : List Event) → IsLawful base events → Headline base events (replay base events).world
-Headline-lawful base events lawful = record {
+pub Headline-lawful : (authority : Authority) (base : Base) (events : List Event) → IsLawful authority base events → Headline authority base events (replay base events).world
+Headline-lawful authority base events lawful = record {
   lawful = lawful;
   replays = refl;
-  tree = IsTree-lawful base events lawful;
+  tree = IsTree-lawful authority base events lawful;
   rightful = λ earlier later pass caller op procaps moment parts.
-      WasRightful-acted (replay base earlier) pass caller op procaps moment
-      (AreFollowing-at base earlier later (Acted pass caller op procaps moment) (subst (AreFollowing base) parts (AreFollowing-lawful base events lawful.each)));
+      WasRightful-acted authority (replay base earlier) pass caller op procaps moment
+      (AreFollowing-at authority base earlier later (Acted pass caller op procaps moment) (subst (AreFollowing authority base) parts (AreFollowing-lawful authority base events lawful.each)));
 }

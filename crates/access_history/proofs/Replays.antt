@@ -4,6 +4,7 @@ use Rattle.std.proofs.lemmas.List.{length-append}
 use Rattle.access_history.specs.declared.event.Event.{Event}
 use Rattle.access_history.specs.declared.event.Event.TheVariants.{Registered, Issued, Acted}
 use Rattle.access_history.specs.declared.event.Base.{Base}
+use Rattle.access_history.specs.Authority.{Authority}
 use Rattle.access_history.specs.World.{FileTree, is_node_name}
 use Rattle.access_history.specs.Effect.{has_node, has_directory, has_entry, is_full, create_refusal}
 use Rattle.bl_syntax.specs.TimeOrder.{IsMoment}
@@ -16,7 +17,7 @@ replay-more base [] event = refl
 replay-more base (e ∷ events) event = replay-more (next_state base e) events event
 
 next_count : (state : Base) (event : Event) → (next_state state event).count ≡ state.count + 1
-next_count state (Registered pass statement) = refl
+next_count state (Registered pass statement signature) = refl
 next_count state (Issued pass cited proof grant) = refl
 next_count state (Acted pass caller op procaps moment) = refl
 
@@ -25,27 +26,27 @@ pub count-replay : (base : Base) (events : List Event) → (replay base events).
 count-replay base [] = omega arith
 count-replay base (e ∷ events) = let now = count-replay (next_state base e) events in let one = next_count base e in omega (arith, now, one)
 
-next_statements : (state : Base) (event : Event) → MayFollow state event → length state.statements ≤ 4096 → length (next_state state event).statements ≤ 4096
-next_statements state event (may_register pass statement new room) few = omega (arith, length-append state.statements (statement ∷ []))
-next_statements state event (may_issue pass cited proof g good) few = few
-next_statements state event (may_act pass caller op procaps moment reply after later in_range slots bytes issued admitted does derived) few = few
+next_statements : (authority : Authority) (state : Base) (event : Event) → MayFollow authority state event → length state.statements ≤ 4096 → length (next_state state event).statements ≤ 4096
+next_statements authority state event (may_register pass statement signature signed new room) few = omega (arith, length-append state.statements (record { statement = statement; signature = signature } ∷ []))
+next_statements authority state event (may_issue pass cited proof g good) few = few
+next_statements authority state event (may_act pass caller op procaps moment reply after later in_range slots bytes admitted does derived) few = few
 
 -- no lawful history has more than 4,096 statements
-pub few_statements : (base : Base) (events : List Event) → length base.statements ≤ 4096 → AreLawful base events → length (replay base events).statements ≤ 4096
-few_statements base events few no_event = few
-few_statements base events few (one_more before event lawful follows) =
-    rw (replay-more base before event) (next_statements (replay base before) event follows (few_statements base before few lawful))
+pub few_statements : (authority : Authority) (base : Base) (events : List Event) → length base.statements ≤ 4096 → AreLawful authority base events → length (replay base events).statements ≤ 4096
+few_statements authority base events few no_event = few
+few_statements authority base events few (one_more before event lawful follows) =
+    rw (replay-more base before event) (next_statements authority (replay base before) event follows (few_statements authority base before few lawful))
 
-next_moment : (state : Base) (event : Event) → MayFollow state event → IsMoment state.moment → IsMoment (next_state state event).moment
-next_moment state event (may_register pass statement new room) m = m
-next_moment state event (may_issue pass cited proof g good) m = m
-next_moment state event (may_act pass caller op procaps moment reply after later in_range slots bytes issued admitted does derived) m = in_range
+next_moment : (authority : Authority) (state : Base) (event : Event) → MayFollow authority state event → IsMoment state.moment → IsMoment (next_state state event).moment
+next_moment authority state event (may_register pass statement signature signed new room) m = m
+next_moment authority state event (may_issue pass cited proof g good) m = m
+next_moment authority state event (may_act pass caller op procaps moment reply after later in_range slots bytes admitted does derived) m = in_range
 
 -- the moment of a lawful history's state lies in the range
-pub moment_in_range : (base : Base) (events : List Event) → IsMoment base.moment → AreLawful base events → IsMoment (replay base events).moment
-moment_in_range base events m no_event = m
-moment_in_range base events m (one_more before event lawful follows) =
-    rw (replay-more base before event) (next_moment (replay base before) event follows (moment_in_range base before m lawful))
+pub moment_in_range : (authority : Authority) (base : Base) (events : List Event) → IsMoment base.moment → AreLawful authority base events → IsMoment (replay base events).moment
+moment_in_range authority base events m no_event = m
+moment_in_range authority base events m (one_more before event lawful follows) =
+    rw (replay-more base before event) (next_moment authority (replay base before) event follows (moment_in_range authority base before m lawful))
 
 -- what a test that did not refuse says
 not_refused : (b : Bool) (number : ℕ) (rest : Option ℕ) → cond b (Some number) rest ≡ None → (b ≡ false) × (rest ≡ None)

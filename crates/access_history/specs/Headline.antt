@@ -11,27 +11,31 @@ use Rattle.access_history.specs.declared.event.Base.{Base}
 use Rattle.access_history.specs.World.{FileTree, IsTree}
 use Rattle.access_history.specs.Facts.{facts}
 use Rattle.access_history.specs.Needs.{Need, needs}
-use Rattle.access_history.specs.Answer.{IsProcapAt}
+use Rattle.access_history.specs.Authority.{Authority, sayings}
+use Rattle.access_history.specs.Numbered.{IsNumbered}
+use Rattle.procap.specs.Genuine.{IsGenuine}
+use Rattle.procap.specs.declared.procap.Procap.{Procap}
 use Rattle.access_history.specs.Replay.{replay}
 use Rattle.access_history.specs.Lawful.{IsLawful, WasIssued}
 
--- for a permission that the caller needs on a file, a procap was brought that names caller, file and permission, and whose conditions on time and on the state held in that state at
+-- for a permission that the caller needs on a file, a procap was brought that is sealed under the key, names caller, file and permission, and whose conditions on time and on the state held in that state at
 -- that moment; and if that procap was issued, the logic derives the permission from the statements registered then, over the facts of that state, at that moment
-pub record WasRightful (state : Base) (caller : List ℕ) (procaps : List ℕ) (moment : ℤ) (need : Need) : Type 0 where
-  pub grant : Granted
-  pub procap : IsProcapAt state procaps need.place grant
-  pub names_caller : grant.goal.who ≡ caller
-  pub names_file : grant.goal.file ≡ need.file
-  pub names_permission : grant.goal.perm ≡ need.permission
-  pub times_held : AllByRecursion (HoldsAt moment) grant.times
-  pub states_held : AllByRecursion (Contains (facts state.world)) grant.states
-  pub derivable : WasIssued state.issues grant → Allows state.statements (facts state.world) moment caller need.file need.permission
+pub record WasRightful (key : List ℕ) (state : Base) (caller : List ℕ) (procaps : List Procap) (moment : ℤ) (need : Need) : Type 0 where
+  pub procap : Procap
+  pub brought : IsNumbered procaps need.place procap
+  pub sealed : IsGenuine key procap
+  pub names_caller : procap.grant.goal.who ≡ caller
+  pub names_file : procap.grant.goal.file ≡ need.file
+  pub names_permission : procap.grant.goal.perm ≡ need.permission
+  pub times_held : AllByRecursion (HoldsAt moment) procap.grant.times
+  pub states_held : AllByRecursion (Contains (facts state.world)) procap.grant.states
+  pub derivable : WasIssued state.issues procap.grant → Allows (sayings state.statements) (facts state.world) moment caller need.file need.permission
 
 -- The history of these events replays from its base to the tree, which is one. And whichever operation in it is taken: over the state to which the events before it lead, and at its one
 -- moment, each permission that it needs was rightful.
-pub record Headline (base : Base) (events : List Event) (world : FileTree) : Type 0 where
-  pub lawful : IsLawful base events
+pub record Headline (authority : Authority) (base : Base) (events : List Event) (world : FileTree) : Type 0 where
+  pub lawful : IsLawful authority base events
   pub replays : (replay base events).world ≡ world
   pub tree : IsTree world
-  pub rightful : (earlier later : List Event) (pass : ℕ) (caller : List ℕ) (op : Op) (procaps : List ℕ) (moment : ℤ) → events ≡ earlier ++ Acted pass caller op procaps moment ∷ later →
-      let state = replay base earlier in AllByRecursion (WasRightful state caller procaps moment) (needs op state.world)
+  pub rightful : (earlier later : List Event) (pass : ℕ) (caller : List ℕ) (op : Op) (procaps : List Procap) (moment : ℤ) → events ≡ earlier ++ Acted pass caller op procaps moment ∷ later →
+      let state = replay base earlier in AllByRecursion (WasRightful authority.key state caller procaps moment) (needs op state.world)

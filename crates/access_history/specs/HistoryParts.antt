@@ -2,19 +2,19 @@
 use Rattle.std.specs.Prelude.{◌≡◌, min}
 use Rattle.access_history.specs.declared.event.Base.{Base}
 use Rattle.access_history.specs.declared.history.History.TheInside.{Inside}
-use Rattle.access_history.specs.History.{Kept, spare}
+use Rattle.access_history.specs.History.{Kept, authority_of, spare}
 use Rattle.access_history.specs.Lawful.{IsLawful}
 use Rattle.access_history.specs.Replay.{replay}
 
 -- the history that the fields stand for
 abbrev pub kept_by : Inside → Kept
-kept_by h = record { base = h.base; events = h.events.items; room = min (min (spare h.events) (spare h.rows)) (min (spare h.statements) (spare h.issues)) }
+kept_by h = record { key = h.key; ring = h.ring; base = h.base; events = h.events.items; room = min (min (spare h.events) (spare h.rows)) (min h.statements.spare (spare h.issues)) }
 
 -- the state that the fields show
 abbrev pub shown_state : Inside → Base
-shown_state h = record { world = record { rows = h.rows.items; next = h.next }; statements = h.statements.items; issues = h.issues.items; moment = h.moment; count = h.count }
+shown_state h = record { world = record { rows = h.rows.items; next = h.next }; statements = h.statements.entries; issues = h.issues.items; moment = h.moment; count = h.count }
 
 -- the events are lawful, and the fields show the state to which they lead
 pub record IsKeeping (h : Inside) : Type 0 where
-  pub lawful : IsLawful h.base h.events.items
+  pub lawful : IsLawful (authority_of (kept_by h)) h.base h.events.items
   pub state_is : shown_state h ≡ replay h.base h.events.items

@@ -16,7 +16,10 @@ use Rattle.access_history.specs.World.{FileTree, IsTree}
 use Rattle.access_history.specs.Facts.{facts}
 use Rattle.access_history.specs.Needs.{Need, needs, slots, bytes_to_write}
 use Rattle.access_history.specs.Effect.{OpReply, replied, effect}
-use Rattle.access_history.specs.Answer.{IsProcapAt, AreIssued, IsAdmitted}
+use Rattle.access_history.specs.Answer.{IsAdmitted}
+use Rattle.access_history.specs.Authority.{Authority, IsSigned, IsSignedEntry, sayings}
+use Rattle.access_history.specs.Numbered.{IsNumbered}
+use Rattle.procap.specs.declared.procap.Procap.{Procap}
 use Rattle.access_history.specs.Replay.{replay}
 
 -- the grant is that of an issue
@@ -26,37 +29,40 @@ pub record WasIssued (issues : List Issue) (g : Granted) : Type 0 where
   pub grant_is : issue.grant ≡ g
 
 -- where the grant of the procap in the need's place was issued, the logic derives what the caller needs from the registered statements, over the facts of the state, at that moment
-abbrev pub IsDerived : Base → List ℕ → List ℕ → ℤ → Need → Type 0
+abbrev pub IsDerived : Base → List ℕ → List Procap → ℤ → Need → Type 0
 IsDerived state caller procaps moment need =
-    (g : Granted) → IsProcapAt state procaps need.place g → WasIssued state.issues g → Allows state.statements (facts state.world) moment caller need.file need.permission
+    (p : Procap) → IsNumbered procaps need.place p → WasIssued state.issues p.grant → Allows (sayings state.statements) (facts state.world) moment caller need.file need.permission
 
 -- each need is derived
-abbrev pub AreDerived : Base → List ℕ → Op → List ℕ → ℤ → Type 0
+abbrev pub AreDerived : Base → List ℕ → Op → List Procap → ℤ → Type 0
 AreDerived state caller op procaps moment = AllByRecursion (IsDerived state caller procaps moment) (needs op state.world)
 
 -- the event may come next
-pub data MayFollow (state : Base) : Event → Type 0 where
-  may_register : (pass : ℕ) (statement : Saying) → (Contains state.statements statement → ⊥) → length state.statements < 4096 → MayFollow state (Registered pass statement)
-  may_issue : (pass : ℕ) (cited : List ℕ) (proof : Deduction) (g : Granted) → IsGoodIssue state.statements (record { cited = cited; proof = proof; grant = g }) → MayFollow state (Issued pass cited proof g)
-  may_act : (pass : ℕ) (caller : List ℕ) (op : Op) (procaps : List ℕ) (moment : ℤ) (reply : OpReply) (after : FileTree) →
+pub data MayFollow (authority : Authority) (state : Base) : Event → Type 0 where
+  may_register : (pass : ℕ) (statement : Saying) (signature : List ℕ) → IsSigned authority statement signature → (Contains (sayings state.statements) statement → ⊥) → length state.statements < 4096 →
+      MayFollow authority state (Registered pass statement signature)
+  may_issue : (pass : ℕ) (cited : List ℕ) (proof : Deduction) (g : Granted) → IsGoodIssue (sayings state.statements) (record { cited = cited; proof = proof; grant = g }) → MayFollow authority state (Issued pass cited proof g)
+  may_act : (pass : ℕ) (caller : List ℕ) (op : Op) (procaps : List Procap) (moment : ℤ) (reply : OpReply) (after : FileTree) →
       state.moment ≤ℤ moment → IsMoment moment → length procaps ≡ slots op → bytes_to_write op ≤ 65536 →
-      AreIssued state procaps → IsAdmitted state caller op procaps moment → effect caller op state.world ≡ replied reply after → AreDerived state caller op procaps moment →
-      MayFollow state (Acted pass caller op procaps moment)
+      IsAdmitted authority.key state caller op procaps moment → effect caller op state.world ≡ replied reply after → AreDerived state caller op procaps moment →
+      MayFollow authority state (Acted pass caller op procaps moment)
 
 -- each event could come where it came
-pub data AreLawful (base : Base) : List Event → Type 0 where
-  no_event : AreLawful base []
-  one_more : (events : List Event) (event : Event) → AreLawful base events → MayFollow (replay base events) event → AreLawful base (events ++ event ∷ [])
+pub data AreLawful (authority : Authority) (base : Base) : List Event → Type 0 where
+  no_event : AreLawful authority base []
+  one_more : (events : List Event) (event : Event) → AreLawful authority base events → MayFollow authority (replay base events) event → AreLawful authority base (events ++ event ∷ [])
 
 -- a state that a history may begin with
-pub record IsLawfulBase (base : Base) : Type 0 where
+pub record IsLawfulBase (authority : Authority) (base : Base) : Type 0 where
   pub tree : IsTree base.world
-  pub statements_differ : AreDistinct base.statements
+  pub statements_differ : AreDistinct (sayings base.statements)
+  pub statements_signed : AllByRecursion (IsSignedEntry authority) base.statements
   pub statements_fit : length base.statements ≤ 4096
   pub moment_in_range : IsMoment base.moment
-  pub good_issues : AllByRecursion (IsGoodIssue base.statements) base.issues
+  pub good_issues : AllByRecursion (IsGoodIssue (sayings base.statements)) base.issues
 
-pub record IsLawful (base : Base) (events : List Event) : Type 0 where
-  pub lawful_base : IsLawfulBase base
+-- a lawful base, and events that could each come where it came, under that authority
+pub record IsLawful (authority : Authority) (base : Base) (events : List Event) : Type 0 where
+  pub lawful_base : IsLawfulBase authority base
   pub counted : base.count + length events ≤ 2 ^ 48 - 1
-  pub each : AreLawful base events
+  pub each : AreLawful authority base events

@@ -13,7 +13,9 @@ use Rattle.access_history.specs.Lawful.{IsLawful}
 use Rattle.access_history.specs.Headline.{Headline}
 use Rattle.access_history.specs.declared.event.Event.TheVariants.{Acted}
 use Rattle.access_history.specs.declared.request.StepRequest.TheVariants.{Act}
-use Rattle.access_history.specs.Answer.{Answers, AreIssued, IsAdmitted, moment_of, reply_of}
+use Rattle.access_history.specs.Answer.{Answers, IsAdmitted, moment_of, reply_of}
+use Rattle.access_history.specs.Authority.{Authority, sayings}
+use Rattle.procap.specs.declared.procap.Procap.{Procap}
 
 -- whoever calls, an operation that is not refused leaves a tree a tree
 abbrev pub EffectKeepsTrees : Type 0
@@ -21,20 +23,20 @@ EffectKeepsTrees = (caller : List ℕ) (op : Op) (world after : FileTree) (reply
 
 -- the world of the state after a lawful history is a tree
 abbrev pub HistoriesKeepTrees : Type 0
-HistoriesKeepTrees = (base : Base) (events : List Event) → IsLawful base events → IsTree (replay base events).world
+HistoriesKeepTrees = (authority : Authority) (base : Base) (events : List Event) → IsLawful authority base events → IsTree (replay base events).world
 
 -- a request has one answer over a state, and one event to keep
 abbrev pub AnswersAreDetermined : Type 0
-AnswersAreDetermined = (state : Base) (pass : ℕ) (clock : ℤ) (request : StepRequest) (first second : Reply) (kept other : Option Event)
-    → AreDistinct state.statements → Answers state pass clock request first kept → Answers state pass clock request second other
+AnswersAreDetermined = (authority : Authority) (state : Base) (pass : ℕ) (clock : ℤ) (request : StepRequest) (first second : Reply) (kept other : Option Event)
+    → AreDistinct (sayings state.statements) → Answers authority state pass clock request first kept → Answers authority state pass clock request second other
     → (first ≡ second) × (kept ≡ other)
 
 -- an operation that is admitted and that the effect does not refuse gets the effect's reply and is kept
 abbrev pub AdmittedAreKept : Type 0
-AdmittedAreKept = (state : Base) (pass : ℕ) (clock : ℤ) (caller : List ℕ) (op : Op) (procaps : List ℕ) (made : OpReply) (after : FileTree) (reply : Reply) (event : Option Event)
-    → AreIssued state procaps → IsAdmitted state caller op procaps (moment_of state clock) → effect caller op state.world ≡ replied made after
-    → Answers state pass clock (Act caller op procaps) reply event → (reply_of made ≡ reply) × (Some (Acted pass caller op procaps (moment_of state clock)) ≡ event)
+AdmittedAreKept = (authority : Authority) (state : Base) (pass : ℕ) (clock : ℤ) (caller : List ℕ) (op : Op) (procaps : List Procap) (made : OpReply) (after : FileTree) (reply : Reply) (event : Option Event)
+    → IsAdmitted authority.key state caller op procaps (moment_of state clock) → effect caller op state.world ≡ replied made after
+    → Answers authority state pass clock (Act caller op procaps) reply event → (reply_of made ≡ reply) × (Some (Acted pass caller op procaps (moment_of state clock)) ≡ event)
 
 -- the headline holds of each lawful history and the tree to which it leads
 abbrev pub LawfulIsRightful : Type 0
-LawfulIsRightful = (base : Base) (events : List Event) → IsLawful base events → Headline base events (replay base events).world
+LawfulIsRightful = (authority : Authority) (base : Base) (events : List Event) → IsLawful authority base events → Headline authority base events (replay base events).world

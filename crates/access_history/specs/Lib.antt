@@ -1,4 +1,5 @@
 pub mod Answer
+pub mod Authority
 pub mod Citing
 pub mod Effect
 pub mod Facts

@@ -24,7 +24,7 @@ tree_after (replied reply after) world = after
 
 -- the state after an event. The number of a statement or an issue is its place, from 1
 abbrev pub next_state : Base → Event → Base
-next_state state (Registered pass statement) = record state { statements = state.statements ++ statement ∷ []; count = state.count + 1 }
+next_state state (Registered pass statement signature) = record state { statements = state.statements ++ record { statement = statement; signature = signature } ∷ []; count = state.count + 1 }
 next_state state (Issued pass cited proof grant) = record state { issues = state.issues ++ record { cited = cited; proof = proof; grant = grant } ∷ []; count = state.count + 1 }
 next_state state (Acted pass caller op procaps moment) =
     record state { world = tree_after (effect caller op state.world) state.world; moment = moment; count = state.count + 1 }

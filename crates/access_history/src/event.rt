@@ -1,7 +1,9 @@
 //! What the history keeps.
 
 use crate::world::World;
-use bl_syntax::{Bytes, Grant, NoMemory, NodeId, Numbers, Principal, Sequence, Statement};
+use bl_syntax::{Bytes, Grant, NodeId, Numbers, Principal, Sequence, Statement};
+use policy_statement::Registered;
+use procap::Procap;
 use proof_term::ProofTree;
 
 /// An operation on the file tree.
@@ -25,6 +27,7 @@ pub enum Event {
     Registered {
         pass: u64,
         statement: Statement,
+        signature: Bytes,
     },
     Issued {
         pass: u64,
@@ -36,14 +39,17 @@ pub enum Event {
         pass: u64,
         caller: Principal,
         op: Op,
-        procaps: Numbers,
+        procaps: Procaps,
         moment: i64,
     },
 }
 
 pub type Events = Sequence<Event>;
 
-pub type Statements = Sequence<Statement>;
+/// Procaps, one for each place of an operation's needs.
+pub type Procaps = Sequence<Procap>;
+
+pub type Statements = Sequence<Registered>;
 
 pub type Issues = Sequence<Issue>;
 

@@ -14,7 +14,7 @@ mod request;
 mod step;
 mod world;
 
-pub use event::{Base, Event, Events, Issue, Op};
+pub use event::{Base, Event, Events, Issue, Op, Procaps};
 pub use history::History;
 pub use laws::{
     admitted_operations_are_kept, answers_are_determined, effect_keeps_trees, histories_keep_trees,

@@ -1,16 +1,19 @@
 //! What the gate is asked.
 
-use crate::event::Op;
-use bl_syntax::{Numbers, Principal, Statement};
+use crate::event::{Op, Procaps};
+use bl_syntax::{Bytes, Principal, Statement};
 use proof_verifier::Checked;
 
 /// A request to the gate.
 #[derive(Debug, Drop)]
 pub enum StepRequest {
-    /// Keep a statement.
-    Register(Statement),
+    /// Keep a statement, under this signature of who says it.
+    Register(Statement, Bytes),
     /// Issue what the proof grants, where the statements that it cites stand under their numbers.
     Issue(Checked),
-    /// Let the caller act, under the procaps of these issues, one for each place.
-    Act(Principal, Op, Numbers),
+    /// Let the caller act, under these procaps, one for each place.
+    Act(Principal, Op, Procaps),
+    /// Show the procap of the issue of this number: to the principal that it names, or, where nobody is named, to the
+    /// operator, who may see each.
+    ShowProcap(u64, Option<Principal>),
 }

@@ -2,7 +2,7 @@
 
 use crate::event::{Event, Issue};
 use crate::world::Row;
-use bl_syntax::Statement;
+use bl_syntax::{Bytes, Statement};
 
 /// A node that is added at a moment.
 #[derive(Debug, Drop)]
@@ -14,8 +14,8 @@ pub struct AddedNode {
 /// What an event does to the state.
 #[derive(Debug, Drop)]
 pub enum Change {
-    /// A statement more.
-    Statement(Statement),
+    /// A statement more, with its signature.
+    Statement(Statement, Bytes),
     /// An issue more.
     Issue(Issue),
     /// A node more.

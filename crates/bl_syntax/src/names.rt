@@ -237,10 +237,15 @@ fn is_text_byte(byte: u8) -> bool
     32 <= byte && byte <= 126 && !(byte == b'"') && !(byte == b'\\')
 }
 
+// It looks at each byte, so that the compiler can have it look at many at once.
 fn are_text_bytes(bytes: &[u8]) -> bool
     ensures { result ≡ list_all is_text_byte bytes.now }
 {
-    bytes.iter().all(|byte| is_text_byte(*byte))
+    let mut fit = true;
+    for byte in bytes {
+        fit = fit & is_text_byte(*byte);
+    }
+    fit
 }
 
 fn is_text(bytes: &[u8]) -> bool

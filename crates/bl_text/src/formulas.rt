@@ -1,11 +1,12 @@
 //! Formulas are read by recursive descent: a function for each level of the grammar. It goes no
-//! deeper than there are nodes left and parentheses may be open.
+//! deeper than there are nodes left and parentheses may be open. Each token is read once: the one
+//! behind a formula's first token tells how it goes on, and is handed down as `ahead`.
 
-ghost use Rattle.std.specs.Prelude.{◌≡◌, ℕ, ◌+◌, ◌≤◌, length, true, false, IfOk, IfErr, MatchResult};
+ghost use Rattle.std.specs.Prelude.{◌≡◌, ℕ, ◌+◌, ◌-◌, ◌≤◌, List, length, true, false, IfOk, IfErr, MatchResult};
 ghost use Rattle.bl_syntax.specs.Formula.{formula, both, either, implies, forall_, exists_, says, on};
 ghost use Rattle.bl_tokens.specs.declared.faults.TextFault.{TextFault};
 ghost use Rattle.bl_text.specs.Scope.{variables};
-ghost use Rattle.bl_tokens.specs.Tokens.{is_sign, is_word};
+ghost use Rattle.bl_tokens.specs.Tokens.{behind_node, is_sign, is_word};
 ghost use Rattle.bl_text.specs.Grammar.{is_quantifier, is_saying, is_call};
 ghost use Rattle.bl_text.specs.Grammar as grammar;
 ghost use Rattle.bl_text.specs.Stops.{Stops, ArgumentsStop, CallStops};
@@ -13,8 +14,8 @@ ghost use Rattle.bl_text.specs.Read.{Reads, ReadsArguments, ReadsCall, PutsOn, I
 
 use crate::applied::{applied, is_atom};
 use crate::pieces::{
-    argument, binder, count, expected, go_behind, interval, next_argument, simple, speaker, step,
-    step_node,
+    argument, binder, count, expected, go_behind, interval, next_argument, simple, speaker,
+    step_into, step_node,
 };
 use crate::scope::Scope;
 use bl_syntax::{Formula, NoMemory, Principal, Sequence, Sort, Term, Terms};
@@ -83,26 +84,22 @@ fn on_interval(
 
 /// Whether a principal or a variable stands there, before `says`.
 #[tactic(auto, unfolding(crate::specs::Grammar::is_saying))]
-fn is_saying(text: &[u8], here: &Here) -> bool
-    requires { here.now.end ≤ length text.now }
-    ensures { result ≡ is_saying text.now here.now }
+fn is_saying(here: &Here, ahead: &Here) -> bool
+    ensures { (text : List ℕ) → ahead.now ≡ behind_node text here.now → result ≡ is_saying text here.now }
 {
     match &here.token {
-        Token::Name(_) | Token::Variable(_) => {
-            is_word(Keyword::Says, &behind_node(text, here).token)
-        }
+        Token::Name(_) | Token::Variable(_) => is_word(Keyword::Says, &ahead.token),
         _ => false,
     }
 }
 
 /// Whether a name stands there, before `(`.
 #[tactic(auto, unfolding(crate::specs::Grammar::is_call))]
-fn is_call(text: &[u8], here: &Here) -> bool
-    requires { here.now.end ≤ length text.now }
-    ensures { result ≡ is_call text.now here.now }
+fn is_call(here: &Here, ahead: &Here) -> bool
+    ensures { (text : List ℕ) → ahead.now ≡ behind_node text here.now → result ≡ is_call text here.now }
 {
     match &here.token {
-        Token::Name(_) => is_sign(Sign::Open, &behind_node(text, here).token),
+        Token::Name(_) => is_sign(Sign::Open, &ahead.token),
         _ => false,
     }
 }
@@ -142,22 +139,25 @@ fn named_call(
     scope: &Scope<'_>,
     name: &Principal,
     here: &Here,
+    ahead: &Here,
 ) -> Result<(Formula, Here), TextFault>
     requires scope { length (variables scope.now) ≤ 512 }
     requires within { here.now.end ≤ length text.now }
+    requires ahead { ahead.now ≡ behind_node text.now here.now }
+    requires ahead_within { ahead.now.end ≤ length text.now }
+    requires ahead_left { ahead.now.left ≡ here.now.left - 1 }
     requires name { here.now.token ≡ Token.Name name.now }
     ensures read { IfOk result (λ r. ReadsCall text.now in_statement (variables scope.now) here.now r.1 (formula r.0)) }
     ensures fault { IfErr result (λ e. CallStops text.now in_statement (variables scope.now) here.now e) }
 {
     count(here)?;
-    let open = behind_node(text, here);
     let (terms, mid) = arguments(
         alloc,
         text,
         in_statement,
         scope,
         is_atom(name),
-        &behind(text, &open),
+        &behind(text, ahead),
     )?;
     let there = expected(text, Sign::Close, &mid)?;
     let f = applied(scope, here.at, name, terms)?;
@@ -171,15 +171,19 @@ fn call(
     in_statement: bool,
     scope: &Scope<'_>,
     here: &Here,
+    ahead: &Here,
 ) -> Result<(Formula, Here), TextFault>
     requires scope { length (variables scope.now) ≤ 512 }
     requires within { here.now.end ≤ length text.now }
+    requires ahead { ahead.now ≡ behind_node text.now here.now }
+    requires ahead_within { ahead.now.end ≤ length text.now }
+    requires ahead_left { ahead.now.left ≡ here.now.left - 1 }
     requires call { is_call text.now here.now ≡ true }
     ensures read { IfOk result (λ r. ReadsCall text.now in_statement (variables scope.now) here.now r.1 (formula r.0)) }
     ensures fault { IfErr result (λ e. CallStops text.now in_statement (variables scope.now) here.now e) }
 {
     match &here.token {
-        Token::Name(name) => named_call(alloc, text, in_statement, scope, name, here),
+        Token::Name(name) => named_call(alloc, text, in_statement, scope, name, here, ahead),
         _ => unreachable!(),
     }
 }
@@ -191,15 +195,19 @@ fn simple_here(
     in_statement: bool,
     scope: &Scope<'_>,
     here: &mut Here,
+    ahead: &Here,
 ) -> Result<Box<Formula>, TextFault>
     requires scope { length (variables scope.now) ≤ 512 }
     requires within { here.old.end ≤ length text.now }
+    requires ahead { ahead.now ≡ behind_node text.now here.old }
+    requires ahead_within { ahead.now.end ≤ length text.now }
+    requires ahead_left { ahead.now.left ≡ here.old.left - 1 }
     requires not_open { is_sign Sign.Open here.old.token ≡ false }
     requires no_call { is_call text.now here.old ≡ false }
     ensures read { IfOk result (λ f. (depth : ℕ) → Reads text.now in_statement grammar.primary (variables scope.now) depth here.old here.new (formula f.value)) }
     ensures fault { IfErr result (λ e. (depth : ℕ) → Stops text.now in_statement grammar.primary (variables scope.now) depth here.old e) }
 {
-    let (f, there) = simple(alloc, text, in_statement, scope, here)?;
+    let (f, there) = simple(alloc, text, in_statement, scope, here, ahead)?;
     *here = there;
     Ok(Box::new(alloc, f)?)
 }
@@ -211,15 +219,19 @@ fn call_here(
     in_statement: bool,
     scope: &Scope<'_>,
     here: &mut Here,
+    ahead: &Here,
 ) -> Result<Box<Formula>, TextFault>
     requires scope { length (variables scope.now) ≤ 512 }
     requires within { here.old.end ≤ length text.now }
+    requires ahead { ahead.now ≡ behind_node text.now here.old }
+    requires ahead_within { ahead.now.end ≤ length text.now }
+    requires ahead_left { ahead.now.left ≡ here.old.left - 1 }
     requires not_open { is_sign Sign.Open here.old.token ≡ false }
     requires call { is_call text.now here.old ≡ true }
     ensures read { IfOk result (λ f. (depth : ℕ) → Reads text.now in_statement grammar.primary (variables scope.now) depth here.old here.new (formula f.value)) }
     ensures fault { IfErr result (λ e. (depth : ℕ) → Stops text.now in_statement grammar.primary (variables scope.now) depth here.old e) }
 {
-    let (f, there) = call(alloc, text, in_statement, scope, here)?;
+    let (f, there) = call(alloc, text, in_statement, scope, here, ahead)?;
     *here = there;
     Ok(Box::new(alloc, f)?)
 }
@@ -385,10 +397,11 @@ fn unary(
     ensures read { IfOk result (λ f. Reads text.now in_statement grammar.unary (variables scope.now) depth here.old here.new (formula f.value)) }
     ensures fault { IfErr result (λ e. Stops text.now in_statement grammar.unary (variables scope.now) depth here.old e) }
 {
-    if is_saying(text, here) {
-        said(alloc, text, in_statement, scope, depth, here)
+    let ahead = behind_node(text, here);
+    if is_saying(here, &ahead) {
+        said(alloc, text, in_statement, scope, depth, here, &ahead)
     } else {
-        postfix(alloc, text, in_statement, scope, depth, here)
+        postfix(alloc, text, in_statement, scope, depth, here, &ahead)
     }
 }
 
@@ -401,14 +414,18 @@ fn said(
     scope: &Scope<'_>,
     depth: u16,
     here: &mut Here,
+    ahead: &Here,
 ) -> Result<Box<Formula>, TextFault>
     requires scope { length (variables scope.now) + here.old.left ≤ 512 }
     requires within { here.old.end ≤ length text.now }
+    requires ahead { ahead.now ≡ behind_node text.now here.old }
+    requires ahead_within { ahead.now.end ≤ length text.now }
+    requires ahead_left { ahead.now.left ≡ here.old.left - 1 }
     requires saying { is_saying text.now here.old ≡ true }
     ensures read { IfOk result (λ f. Reads text.now in_statement grammar.unary (variables scope.now) depth here.old here.new (formula f.value)) }
     ensures fault { IfErr result (λ e. Stops text.now in_statement grammar.unary (variables scope.now) depth here.old e) }
 {
-    let who = speaker(text, scope, here)?;
+    let who = speaker(text, scope, here, ahead)?;
     let a = unary(alloc, text, in_statement, scope, depth, here)?;
     says_of(alloc, who, a)
 }
@@ -422,13 +439,17 @@ fn postfix(
     scope: &Scope<'_>,
     depth: u16,
     here: &mut Here,
+    ahead: &Here,
 ) -> Result<Box<Formula>, TextFault>
     requires scope { length (variables scope.now) + here.old.left ≤ 512 }
     requires within { here.old.end ≤ length text.now }
+    requires ahead { ahead.now ≡ behind_node text.now here.old }
+    requires ahead_within { ahead.now.end ≤ length text.now }
+    requires ahead_left { ahead.now.left ≡ here.old.left - 1 }
     ensures read { IfOk result (λ f. Reads text.now in_statement grammar.postfix (variables scope.now) depth here.old here.new (formula f.value)) }
     ensures fault { IfErr result (λ e. Stops text.now in_statement grammar.postfix (variables scope.now) depth here.old e) }
 {
-    let first = primary(alloc, text, in_statement, scope, depth, here)?;
+    let first = primary(alloc, text, in_statement, scope, depth, here, ahead)?;
     let mut a = first;
     'at: while is_sign(Sign::At, &here.token) {
         let (f, there) = on_interval(alloc, text, in_statement, scope, a, here)?;
@@ -447,18 +468,22 @@ fn primary(
     scope: &Scope<'_>,
     depth: u16,
     here: &mut Here,
+    ahead: &Here,
 ) -> Result<Box<Formula>, TextFault>
     requires scope { length (variables scope.now) + here.old.left ≤ 512 }
     requires within { here.old.end ≤ length text.now }
+    requires ahead { ahead.now ≡ behind_node text.now here.old }
+    requires ahead_within { ahead.now.end ≤ length text.now }
+    requires ahead_left { ahead.now.left ≡ here.old.left - 1 }
     ensures read { IfOk result (λ f. Reads text.now in_statement grammar.primary (variables scope.now) depth here.old here.new (formula f.value)) }
     ensures fault { IfErr result (λ e. Stops text.now in_statement grammar.primary (variables scope.now) depth here.old e) }
 {
     if is_sign(Sign::Open, &here.token) {
-        group(alloc, text, in_statement, scope, depth, here)
-    } else if is_call(text, here) {
-        call_here(alloc, text, in_statement, scope, here)
+        group(alloc, text, in_statement, scope, depth, here, ahead)
+    } else if is_call(here, ahead) {
+        call_here(alloc, text, in_statement, scope, here, ahead)
     } else {
-        simple_here(alloc, text, in_statement, scope, here)
+        simple_here(alloc, text, in_statement, scope, here, ahead)
     }
 }
 
@@ -471,9 +496,13 @@ fn group(
     scope: &Scope<'_>,
     depth: u16,
     here: &mut Here,
+    ahead: &Here,
 ) -> Result<Box<Formula>, TextFault>
     requires scope { length (variables scope.now) + here.old.left ≤ 512 }
     requires within { here.old.end ≤ length text.now }
+    requires ahead { ahead.now ≡ behind_node text.now here.old }
+    requires ahead_within { ahead.now.end ≤ length text.now }
+    requires ahead_left { ahead.now.left ≡ here.old.left - 1 }
     requires open { is_sign Sign.Open here.old.token ≡ true }
     ensures read { IfOk result (λ f. Reads text.now in_statement grammar.primary (variables scope.now) depth here.old here.new (formula f.value)) }
     ensures fault { IfErr result (λ e. Stops text.now in_statement grammar.primary (variables scope.now) depth here.old e) }
@@ -481,7 +510,7 @@ fn group(
     if depth >= 512 {
         return Err(TextFault::TooLarge(here.at));
     }
-    step(text, here);
+    step_into(text, here, ahead);
     let a = formula_at(alloc, text, in_statement, scope, depth + 1, here)?;
     go_behind(text, Sign::Close, here)?;
     Ok(a)

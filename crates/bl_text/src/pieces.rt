@@ -1,7 +1,7 @@
 //! The pieces of a formula's text that hold no formula themselves. Each is read in one way, and
 //! has one first fault.
 
-ghost use Rattle.std.specs.Prelude.{◌≡◌, ◌+◌, ◌-◌, ◌≤◌, length, Ok, Err, OnOk, IfOk, MatchResult, if◌then◌else◌};
+ghost use Rattle.std.specs.Prelude.{◌≡◌, ◌+◌, ◌-◌, ◌≤◌, ℕ, List, length, Ok, Err, OnOk, IfOk, MatchResult, if◌then◌else◌};
 ghost use Rattle.bl_syntax.specs.Formula.{truth, falsity};
 ghost use Rattle.bl_text.specs.Scope.{variables};
 ghost use Rattle.bl_tokens.specs.Tokens.{behind, behind_node};
@@ -49,6 +49,22 @@ pub fn step(text: &[u8], here: &mut Here)
     ensures left { here.new.left ≡ here.old.left }
 {
     *here = behind(text, here);
+}
+
+/// Goes to the place behind a token that is no node of the formula, by what was read ahead.
+#[tactic(auto, unfolding(bl_tokens::specs::Tokens::behind, bl_tokens::specs::Tokens::behind_node, bl_tokens::specs::Tokens::token_from))]
+pub fn step_into(text: &[u8], here: &mut Here, ahead: &Here)
+    requires ahead { ahead.now ≡ behind_node text.now here.old }
+    requires ahead_within { ahead.now.end ≤ length text.now }
+    requires ahead_left { ahead.now.left ≡ here.old.left - 1 }
+    ensures same { here.new ≡ behind text.now here.old }
+    ensures within { here.new.end ≤ length text.now }
+    ensures left { here.new.left ≡ here.old.left }
+{
+    *here = Here {
+        left: here.left,
+        ..*ahead
+    };
 }
 
 /// Goes to the place behind a token that is a node of the formula.
@@ -241,9 +257,16 @@ pub fn binder(text: &[u8], here: &mut Here) -> Result<(Short<32>, Sort), TextFau
 
 /// The principal at that place, before `says`. It goes behind that word.
 #[tactic(auto, unfolding(crate::specs::Pieces::speaker))]
-pub fn speaker(text: &[u8], scope: &Scope<'_>, here: &mut Here) -> Result<Term, TextFault>
+pub fn speaker(
+    text: &[u8],
+    scope: &Scope<'_>,
+    here: &mut Here,
+    ahead: &Here,
+) -> Result<Term, TextFault>
     requires scope { length (variables scope.now) ≤ 512 }
-    requires within { here.old.end ≤ length text.now }
+    requires ahead { ahead.now ≡ behind_node text.now here.old }
+    requires ahead_within { ahead.now.end ≤ length text.now }
+    requires ahead_left { ahead.now.left ≡ here.old.left - 1 }
     ensures value { MatchResult result (λ who. speaker text.now (variables scope.now) here.old ≡ Ok (who, here.new)) (λ e. speaker text.now (variables scope.now) here.old ≡ Err e) }
     ensures within { OnOk result (here.new.end ≤ length text.now) }
     ensures left { OnOk result (here.new.left + 1 ≤ here.old.left) }
@@ -251,7 +274,7 @@ pub fn speaker(text: &[u8], scope: &Scope<'_>, here: &mut Here) -> Result<Term, 
     let at = here.at;
     let who = term_of(scope, here)?;
     count(here)?;
-    step_node(text, here);
+    *here = *ahead;
     sorted(scope, Sort::Principal, at, &who)?;
     count(here)?;
     step_node(text, here);
@@ -277,21 +300,23 @@ fn comparison(
     in_statement: bool,
     scope: &Scope<'_>,
     here: &Here,
+    ahead: &Here,
 ) -> Result<(Formula, Here), TextFault>
     requires scope { length (variables scope.now) ≤ 512 }
-    requires within { here.now.end ≤ length text.now }
+    requires ahead { ahead.now ≡ behind_node text.now here.now }
+    requires ahead_within { ahead.now.end ≤ length text.now }
+    requires ahead_left { ahead.now.left ≡ here.now.left - 1 }
     ensures value { GivesWith result (comparison text.now in_statement (variables scope.now) here.now) }
     ensures within { IfOk result (λ r. r.1.end ≤ length text.now) }
     ensures left { IfOk result (λ r. r.1.left + 1 ≤ here.now.left) }
 {
     let low = term_of(scope, here)?;
     count(here)?;
-    let sign = behind_node(text, here);
-    less_sign(&sign)?;
+    less_sign(ahead)?;
     sayable(in_statement, here.at, &low)?;
     sorted(scope, Sort::Time, here.at, &low)?;
-    count(&sign)?;
-    let place = behind_node(text, &sign);
+    count(ahead)?;
+    let place = behind_node(text, ahead);
     let high = time_argument(in_statement, scope, &place)?;
     let f = Formula::Cons(Constraint { low, high });
     Ok((f, behind_node(text, &place)))
@@ -305,15 +330,18 @@ fn bare(
     scope: &Scope<'_>,
     name: &Principal,
     here: &Here,
+    ahead: &Here,
 ) -> Result<(Formula, Here), TextFault>
-    requires within { here.now.end ≤ length text.now }
+    requires ahead { ahead.now ≡ behind_node text.now here.now }
+    requires ahead_within { ahead.now.end ≤ length text.now }
+    requires ahead_left { ahead.now.left ≡ here.now.left - 1 }
     ensures value { GivesWith result (bare text.now (variables scope.now) name.now here.now) }
     ensures within { IfOk result (λ r. r.1.end ≤ length text.now) }
     ensures left { IfOk result (λ r. r.1.left + 1 ≤ here.now.left) }
 {
     let f = applied(scope, here.at, name, Sequence::new(alloc))?;
     count(here)?;
-    Ok((f, behind_node(text, here)))
+    Ok((f, *ahead))
 }
 
 /// A principal in the place of a time.
@@ -335,30 +363,33 @@ fn name_alone(
     scope: &Scope<'_>,
     name: &Principal,
     here: &Here,
+    ahead: &Here,
 ) -> Result<(Formula, Here), TextFault>
-    requires within { here.now.end ≤ length text.now }
+    requires ahead { ahead.now ≡ behind_node text.now here.now }
+    requires ahead_within { ahead.now.end ≤ length text.now }
+    requires ahead_left { ahead.now.left ≡ here.now.left - 1 }
     ensures value { GivesWith result (name_alone text.now (variables scope.now) name.now here.now) }
     ensures within { IfOk result (λ r. r.1.end ≤ length text.now) }
     ensures left { IfOk result (λ r. r.1.left + 1 ≤ here.now.left) }
 {
-    if is_sign(Sign::UpTo, &behind_node(text, here).token) {
+    if is_sign(Sign::UpTo, &ahead.token) {
         Err(named_time(here))
     } else {
-        bare(alloc, text, scope, name, here)
+        bare(alloc, text, scope, name, here, ahead)
     }
 }
 
 /// `true` or `false`.
 #[tactic(auto, unfolding(crate::specs::Pieces::constant_formula))]
-fn constant_formula(text: &[u8], holds: bool, here: &Here) -> Result<(Formula, Here), TextFault>
-    requires within { here.now.end ≤ length text.now }
-    ensures value { GivesWith result (constant_formula text.now (if holds then truth else falsity) here.now) }
-    ensures within { IfOk result (λ r. r.1.end ≤ length text.now) }
+fn constant_formula(holds: bool, here: &Here, ahead: &Here) -> Result<(Formula, Here), TextFault>
+    requires ahead_left { ahead.now.left ≡ here.now.left - 1 }
+    ensures value { (text : List ℕ) → ahead.now ≡ behind_node text here.now → GivesWith result (constant_formula text (if holds then truth else falsity) here.now) }
+    ensures ahead { IfOk result (λ r. r.1 ≡ ahead.now) }
     ensures left { IfOk result (λ r. r.1.left + 1 ≤ here.now.left) }
 {
     count(here)?;
     let f = if holds { Formula::True } else { Formula::False };
-    Ok((f, behind_node(text, here)))
+    Ok((f, *ahead))
 }
 
 /// A formula without parentheses at that place, and what follows it.
@@ -369,17 +400,20 @@ pub fn simple(
     in_statement: bool,
     scope: &Scope<'_>,
     here: &Here,
+    ahead: &Here,
 ) -> Result<(Formula, Here), TextFault>
     requires scope { length (variables scope.now) ≤ 512 }
-    requires within { here.now.end ≤ length text.now }
+    requires ahead { ahead.now ≡ behind_node text.now here.now }
+    requires ahead_within { ahead.now.end ≤ length text.now }
+    requires ahead_left { ahead.now.left ≡ here.now.left - 1 }
     ensures value { GivesWith result (simple text.now in_statement (variables scope.now) here.now) }
     ensures within { IfOk result (λ r. r.1.end ≤ length text.now) }
     ensures left { IfOk result (λ r. r.1.left + 1 ≤ here.now.left) }
 {
     match &here.token {
-        Token::Keyword(Keyword::True) => constant_formula(text, true, here),
-        Token::Keyword(Keyword::False) => constant_formula(text, false, here),
-        Token::Name(name) => name_alone(alloc, text, scope, name, here),
-        _ => comparison(text, in_statement, scope, here),
+        Token::Keyword(Keyword::True) => constant_formula(true, here, ahead),
+        Token::Keyword(Keyword::False) => constant_formula(false, here, ahead),
+        Token::Name(name) => name_alone(alloc, text, scope, name, here, ahead),
+        _ => comparison(text, in_statement, scope, here, ahead),
     }
 }

@@ -39,6 +39,22 @@ IsSplit-at_word line word behind len len_is same h stop =
     let at : length word ≡ len = sym (len_is ∙ ap (position_or_len is_stop) same ∙ position-append word behind h stop) in
     subst (λ l. IsSplit l word behind len) (sym same) (record { front = take_at word behind len at; back = drop_at word behind len at })
 
+no_stop_first : (is_end others : Bool) → is_end ≡ false → IsTrue others → IsTrue (not is_end && others)
+no_stop_first false others e h = h
+no_stop_first true others e h = absurd (false≢true (sym e))
+
+word_of : (is_end : Bool) (byte n : ℕ) (bytes : List ℕ) → is_stop byte ≡ is_end → HasNoStop (take n bytes) → HasNoStop (take (cond (not is_end) (1 + n) 0) (byte ∷ bytes))
+word_of true byte n bytes e h = refl
+word_of false byte n bytes e h = subst (λ k. HasNoStop (take k (byte ∷ bytes))) (sym (one-add n)) (no_stop_first (is_stop byte) (list_all (λ b. not (is_stop b)) (take n bytes)) e h)
+
+-- the first word has no space and no comma in it
+pub HasNoStop-first_word : (line : List ℕ) → HasNoStop (take (position_or_len is_stop line) line)
+HasNoStop-first_word [] = refl
+HasNoStop-first_word (byte ∷ bytes) = word_of (is_stop byte) byte (position_or_len is_stop bytes) bytes refl (HasNoStop-first_word bytes)
+
+pub HasNoStop-front : (line word : List ℕ) (len : ℕ) → len ≡ position_or_len is_stop line → word ≡ take len line → HasNoStop word
+HasNoStop-front line word len len_is word_is = subst HasNoStop (sym (word_is ∙ ap (λ n. take n line) len_is)) (HasNoStop-first_word line)
+
 place_or_len : (inside : Bool) (place len : ℕ) → (inside ≡ false → len ≡ place) → unwrap_or (cond inside (Some place) None) len ≡ place
 place_or_len true place len past = refl
 place_or_len false place len past = past refl

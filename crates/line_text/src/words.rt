@@ -34,6 +34,7 @@ pub fn after<'a>(line: &'a [u8], literal: &[u8]) -> Option<&'a [u8]>
 pub fn word_before<'a>(line: &'a [u8], literal: &[u8]) -> Option<(&'a [u8], &'a [u8])>
     requires { IsTrue (starts_with_stop literal.now) }
     ensures found { IfSome result (λ p. line.now ≡ p.0.now ++ (literal.now ++ p.1.now)) }
+    ensures named { IfSome result (λ p. HasNoStop p.0.now) }
     ensures only { (word rest : List ℕ) → HasNoStop word → line.now ≡ word ++ (literal.now ++ rest)
         → IsSomeAnd result (λ p. (p.0.now ≡ word) × (p.1.now ≡ rest)) }
 {

@@ -1,6 +1,6 @@
 -- Facts of a list of nodes, and why a grant does not give what is needed.
-use Rattle.std.proofs.Common.{◌≡◌, ◌<◌, ℕ, suc, zero, List, [], ◌∷◌, ◌++◌, length, get_or, refl, ap, subst, sym, ◌∙◌, arith, inl, inr}
-use Rattle.std.specs.Prelude.{ℤ, Contains, map, drop, ◌⊎◌}
+use Rattle.std.proofs.Common.{◌≡◌, ◌<◌, ℕ, suc, zero, List, [], ◌∷◌, ◌++◌, length, get_or, refl, ap, subst, sym, ◌∙◌, arith, inl, inr, Option, Some, None}
+use Rattle.std.specs.Prelude.{ℤ, Contains, MatchOption, map, drop, ◌⊎◌}
 use Rattle.std.proofs.lemmas.List.{length-append}
 use Rattle.std.specs.Prelude.{Bool, true, false, IsTrue, ◌↔◌}
 use Rattle.bl_syntax.specs.declared.terms.NodeId.{NodeId}
@@ -117,3 +117,8 @@ directory_among rows file directory has =
       | inl there ↦ absurd (Contains-map-none ownership rows (InDir file directory) (λ k d lt e. absurd cc) there)
       | inr behind ↦ behind
     ]
+
+-- what follows of an option from what holds of it
+pub MatchOption-map : {A : Type 0} {N M : Type 0} {P Q : A → Type 0} (o : Option A) → (N → M) → ((x : A) → P x → Q x) → MatchOption o N P → MatchOption o M Q
+MatchOption-map None none some holds = none holds
+MatchOption-map (Some x) none some holds = some x holds

@@ -16,33 +16,35 @@ use Rattle.access_history.specs.Numbered.{IsNumbered, HasNumber}
 use Rattle.proof_verifier.specs.Cited.{AreCited}
 use Rattle.proof_verifier.specs.Checking.{Checking, IsChecked}
 use Rattle.access_history.specs.Citing.{Stands, numbers_of}
+use Rattle.access_history.specs.Authority.{Authority, IsSigned, sayings}
 use Rattle.access_history.specs.History.{Brings}
 use Rattle.access_history.specs.Answer.{Answers, registered, issued}
 
--- a statement is registered, from two copies of it
-pub registered_decided : (state : Base) (pass : ℕ) (clock : ℤ) (statement one other : Saying) (statements : List Saying) → one ≡ statement → other ≡ statement → statements ≡ state.statements → (Contains statements statement → ⊥) → length statements < 4096 →
-    Answers state pass clock (requests.Register statement) (replies.Statement (length statements + 1)) (Some (Registered pass one)) × Brings state (Registered pass one) (changes.Statement other)
-registered_decided state pass clock statement one other statements first second same new room =
-    subst (λ (s : Saying). Answers state pass clock (requests.Register statement) (replies.Statement (length statements + 1)) (Some (Registered pass s)) × Brings state (Registered pass s) (changes.Statement other)) (sym first)
-    (subst (λ (s : Saying). Answers state pass clock (requests.Register statement) (replies.Statement (length statements + 1)) (Some (Registered pass statement)) × Brings state (Registered pass statement) (changes.Statement s)) (sym second)
-    (subst (λ (ss : List Saying). Answers state pass clock (requests.Register statement) (replies.Statement (length ss + 1)) (Some (Registered pass statement)) × Brings state (Registered pass statement) (changes.Statement statement)) (sym same)
-    (registered statement (subst (λ (ss : List Saying). Contains ss statement → ⊥) same new) (subst (λ (ss : List Saying). length ss < 4096) same room), refl)))
+-- a statement is registered
+pub registered_decided : (authority : Authority) (state : Base) (pass : ℕ) (clock : ℤ) (statement : Saying) (signature : List ℕ) (step : Step) (number : ℕ) → IsSigned authority statement signature → (Contains (sayings state.statements) statement → ⊥) → length state.statements < 4096 →
+    number ≡ length state.statements → step.event ≡ Registered pass statement signature → step.change ≡ changes.Statement statement signature →
+    Answers authority state pass clock (requests.Register statement signature) (replies.Statement (number + 1)) (Some step.event) × Brings state step.event step.change
+registered_decided authority state pass clock statement signature step number signed new room number_is event_is change_is =
+    subst (λ (n : ℕ). Answers authority state pass clock (requests.Register statement signature) (replies.Statement (n + 1)) (Some step.event) × Brings state step.event step.change) (sym number_is)
+    (subst (λ e. Answers authority state pass clock (requests.Register statement signature) (replies.Statement (length state.statements + 1)) (Some e) × Brings state e step.change) (sym event_is)
+    (subst (λ (ch : Change). Answers authority state pass clock (requests.Register statement signature) (replies.Statement (length state.statements + 1)) (Some (Registered pass statement signature)) × Brings state (Registered pass statement signature) ch) (sym change_is)
+    (registered statement signature signed new room, refl)))
 
 -- the item before the place of that number
 pub numbered_at : {A : Type 0} (items : List A) (number : ℕ) (item : A) → (number ≡ 0 → ⊥) → slice_get items (number - 1) ≡ Some item → IsNumbered items number item
 numbered_at items number item some found = record { place = number - 1; from_one = omega (arith, some); found = found }
 
 -- a grant is issued
-pub issued_decided : (state : Base) (pass : ℕ) (clock : ℤ) (checked : Checking) (times states : ℕ) (issues : ℕ) (step : Step) →
-    AreCited checked.cited → IsChecked checked → AllByRecursion (Stands state.statements) checked.cited → issues ≡ length state.issues → times ≡ length checked.grant.times → states ≡ length checked.grant.states →
+pub issued_decided : (authority : Authority) (state : Base) (pass : ℕ) (clock : ℤ) (checked : Checking) (times states : ℕ) (issues : ℕ) (step : Step) →
+    AreCited checked.cited → IsChecked checked → AllByRecursion (Stands (sayings state.statements)) checked.cited → issues ≡ length state.issues → times ≡ length checked.grant.times → states ≡ length checked.grant.states →
     step.event ≡ Issued pass (numbers_of checked.cited) checked.proof checked.grant → step.change ≡ changes.Issue (record { cited = numbers_of checked.cited; proof = checked.proof; grant = checked.grant }) →
-    Answers state pass clock (requests.Issue checked) (replies.Issue (issues + 1) times states) (Some step.event) × Brings state step.event step.change
-issued_decided state pass clock checked times states issues step rising granted stand issues_is times_is states_is event_is change_is =
-    subst (λ (n : ℕ). Answers state pass clock (requests.Issue checked) (replies.Issue (n + 1) times states) (Some step.event) × Brings state step.event step.change) (sym issues_is)
-    (subst (λ (n : ℕ). Answers state pass clock (requests.Issue checked) (replies.Issue (length state.issues + 1) n states) (Some step.event) × Brings state step.event step.change) (sym times_is)
-    (subst (λ (n : ℕ). Answers state pass clock (requests.Issue checked) (replies.Issue (length state.issues + 1) (length checked.grant.times) n) (Some step.event) × Brings state step.event step.change) (sym states_is)
-    (subst (λ e. Answers state pass clock (requests.Issue checked) (replies.Issue (length state.issues + 1) (length checked.grant.times) (length checked.grant.states)) (Some e) × Brings state e step.change) (sym event_is)
-    (subst (λ (ch : Change). Answers state pass clock (requests.Issue checked) (replies.Issue (length state.issues + 1) (length checked.grant.times) (length checked.grant.states))
+    Answers authority state pass clock (requests.Issue checked) (replies.Issue (issues + 1) times states) (Some step.event) × Brings state step.event step.change
+issued_decided authority state pass clock checked times states issues step rising granted stand issues_is times_is states_is event_is change_is =
+    subst (λ (n : ℕ). Answers authority state pass clock (requests.Issue checked) (replies.Issue (n + 1) times states) (Some step.event) × Brings state step.event step.change) (sym issues_is)
+    (subst (λ (n : ℕ). Answers authority state pass clock (requests.Issue checked) (replies.Issue (length state.issues + 1) n states) (Some step.event) × Brings state step.event step.change) (sym times_is)
+    (subst (λ (n : ℕ). Answers authority state pass clock (requests.Issue checked) (replies.Issue (length state.issues + 1) (length checked.grant.times) n) (Some step.event) × Brings state step.event step.change) (sym states_is)
+    (subst (λ e. Answers authority state pass clock (requests.Issue checked) (replies.Issue (length state.issues + 1) (length checked.grant.times) (length checked.grant.states)) (Some e) × Brings state e step.change) (sym event_is)
+    (subst (λ (ch : Change). Answers authority state pass clock (requests.Issue checked) (replies.Issue (length state.issues + 1) (length checked.grant.times) (length checked.grant.states))
     (Some (Issued pass (numbers_of checked.cited) checked.proof checked.grant)) × Brings state (Issued pass (numbers_of checked.cited) checked.proof checked.grant) ch) (sym change_is)
     (issued checked rising granted stand, refl)))))
 

@@ -24,7 +24,8 @@ use Rattle.access_history.specs.declared.reply.Reply.{Reply}
 use Rattle.access_history.specs.WellFormed.{IsWellFormed}
 use Rattle.access_history.specs.Needs.{bytes_to_write}
 use Rattle.access_history.specs.Answer.{Answers, registered, issued, acted, moment_of}
-use Rattle.access_history.specs.History.{Kept, state_of}
+use Rattle.access_history.specs.Authority.{Authority}
+use Rattle.access_history.specs.History.{Kept, authority_of, state_of}
 use Rattle.op_gate.specs.Decision.{IsDecided, CanKeep}
 use Rattle.access_history.proofs.Replays.{moment_in_range}
 use Rattle.access_history.proofs.Backing.{AreGoodIssues, AreGoodIssues-replay, AreDerived-admitted}
@@ -44,13 +45,13 @@ few_bytes (Create directory name) = omega arith
 IsGranted-goal : (statements : List Saying) (goal : Goal) (proof : Deduction) (g : Granted) → IsGranted statements goal proof g → IsGranted statements g.goal proof g
 IsGranted-goal statements goal proof g granted = subst (λ (x : Goal). IsGranted statements x proof g) (sym (goal-verdict statements goal proof g granted.verdict_is)) granted
 
-pub MayFollow-answered : (state : Base) (pass : ℕ) (clock : ℤ) (request : StepRequest) (reply : Reply) (event : Event) → IsMoment clock → IsMoment state.moment → AreGoodIssues state → IsWellFormed request → Answers state pass clock request reply (Some event) → MayFollow state event
-MayFollow-answered state pass clock request reply event at last issues_good formed (registered statement new room) = may_register pass statement new room
-MayFollow-answered state pass clock request reply event at last issues_good formed (issued checked rising granted stand) =
+pub MayFollow-answered : (authority : Authority) (state : Base) (pass : ℕ) (clock : ℤ) (request : StepRequest) (reply : Reply) (event : Event) → IsMoment clock → IsMoment state.moment → AreGoodIssues state → IsWellFormed request → Answers authority state pass clock request reply (Some event) → MayFollow authority state event
+MayFollow-answered authority state pass clock request reply event at last issues_good formed (registered statement signature signed new room) = may_register pass statement signature signed new room
+MayFollow-answered authority state pass clock request reply event at last issues_good formed (issued checked rising granted stand) =
     may_issue pass (numbers_of checked.cited) checked.proof checked.grant
     (record { cites = checked.cited; cited = refl; rising = rising; stand = stand; granted = IsGranted-goal (statements_of checked.cited) checked.goal checked.proof checked.grant granted })
-MayFollow-answered state pass clock request reply event at last issues_good formed (acted caller op procaps made after issues admitted does) =
-    may_act pass caller op procaps (moment_of state clock) made after (last_up_to_max clock state.moment) (max_in_range clock state.moment at last) formed (few_bytes op) issues admitted does (AreDerived-admitted state caller op procaps (moment_of state clock) issues_good admitted)
+MayFollow-answered authority state pass clock request reply event at last issues_good formed (acted caller op procaps made after admitted does) =
+    may_act pass caller op procaps (moment_of state clock) made after (last_up_to_max clock state.moment) (max_in_range clock state.moment at last) formed (few_bytes op) admitted does (AreDerived-admitted authority.key state caller op procaps (moment_of state clock) issues_good admitted)
 
 -- nothing is pending
 pub nothing : (p : Option Step) (f : Step → Event) (P : Step → Type 0) → option_map f p ≡ None → MatchOption p ⊤ P
@@ -58,13 +59,13 @@ nothing None f P e = tt
 nothing (Some s) f P e = absurd cc
 
 -- a step that was decided can be kept
-pub CanKeep-decided : (h : Kept) (pass : ℕ) (clock : ℤ) (request : StepRequest) (reply : Reply) (decided : Option Step) (step : Step) → decided ≡ Some step → 1 ≤ h.room → IsLawful h.base h.events → IsMoment clock → IsWellFormed request →
-    IsDecided (state_of h) pass clock request reply decided → CanKeep h step
+pub CanKeep-decided : (h : Kept) (pass : ℕ) (clock : ℤ) (request : StepRequest) (reply : Reply) (decided : Option Step) (step : Step) → decided ≡ Some step → 1 ≤ h.room → IsLawful (authority_of h) h.base h.events → IsMoment clock → IsWellFormed request →
+    IsDecided (authority_of h) (state_of h) pass clock request reply decided → CanKeep h step
 CanKeep-decided h pass clock request reply decided step is room lawful at formed answered =
-    let there : IsDecided (state_of h) pass clock request reply (Some step) = subst (λ (d : Option Step). IsDecided (state_of h) pass clock request reply d) is answered in
+    let there : IsDecided (authority_of h) (state_of h) pass clock request reply (Some step) = subst (λ (d : Option Step). IsDecided (authority_of h) (state_of h) pass clock request reply d) is answered in
     record {
       room = room;
-      lawful = MayFollow-answered (state_of h) pass clock request reply step.event at (moment_in_range h.base h.events lawful.lawful_base.moment_in_range lawful.each) (AreGoodIssues-replay h.base h.events lawful.lawful_base.good_issues lawful.each) formed there.0;
+      lawful = MayFollow-answered (authority_of h) (state_of h) pass clock request reply step.event at (moment_in_range (authority_of h) h.base h.events lawful.lawful_base.moment_in_range lawful.each) (AreGoodIssues-replay (authority_of h) h.base h.events lawful.lawful_base.good_issues lawful.each) formed there.0;
       brings = there.1;
     }
 

@@ -3,3 +3,5 @@ pub mod CitingLemmas
 pub mod Deciding
 pub mod Following
 pub mod Making
+pub mod RegistryLemmas
+pub mod Showing

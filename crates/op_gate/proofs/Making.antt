@@ -16,7 +16,7 @@ use Rattle.access_history.specs.declared.reply.Reply.TheVariants as replies
 use Rattle.access_history.specs.declared.step.Step.{Step}
 use Rattle.access_history.specs.declared.step.Change.{Change}
 use Rattle.access_history.specs.declared.step.Change.TheVariants as changes
-use Rattle.access_history.specs.Numbered.{IsNumbered, HasNumber}
+use Rattle.access_history.specs.Numbered.{IsNumbered}
 use Rattle.access_history.specs.World.{FileTree}
 use Rattle.access_history.specs.Facts.{facts, facts_of}
 use Rattle.access_history.specs.Needs.{need_of}
@@ -24,7 +24,10 @@ use Rattle.access_history.specs.Effect.{Outcome, OpReply, node, replied, created
 use Rattle.access_history.specs.Replay.{tree_after}
 use Rattle.access_history.specs.History.{Brings}
 use Rattle.op_gate.specs.Decision.{IsDecided, IsMade}
-use Rattle.access_history.specs.Answer.{Answers, IsProcapAt, Gives, Fails, IsMet, reply_of, moment_of, no_issue, denied, here, refused, acted}
+use Rattle.access_history.specs.Answer.{Answers, Gives, Denies, IsMet, reply_of, moment_of, denied, here, refused, acted}
+use Rattle.access_history.specs.Authority.{Authority}
+use Rattle.procap.specs.Genuine.{IsGenuine}
+use Rattle.procap.specs.declared.procap.Procap.{Procap}
 
 abbrev next_from : Base → ℤ → FileTree → Base
 next_from state moment world = record state { world = world; moment = moment; count = state.count + 1 }
@@ -37,13 +40,13 @@ refusal_over directory name shown_name world rows next found is name_is rows_is 
     ∙ ap (λ (n : ℕ). create_refusal directory name (record { rows = world.rows; next = n })) next_is
 
 -- it is refused
-pub made_refused : (state : Base) (pass : ℕ) (caller : List ℕ) (directory : NodeId) (name : List ℕ) (procaps : List ℕ) (moment : ℤ) (number at : ℕ) →
+pub made_refused : (state : Base) (pass : ℕ) (caller : List ℕ) (directory : NodeId) (name : List ℕ) (procaps : List Procap) (moment : ℤ) (number at : ℕ) →
     Some number ≡ create_refusal directory.0 name state.world → at ≡ state.count → IsMade state pass caller directory name procaps moment (replies.Refused number at) None
 made_refused state pass caller directory name procaps moment number at why at_is =
     (number, ap (λ r. create_outcome r caller directory.0 name state.world) (sym why), ap (λ (n : ℕ). replies.Refused number n) at_is)
 
 -- the change of a node made is what the event does
-brings_node : (state : Base) (pass : ℕ) (caller : List ℕ) (directory : NodeId) (name : List ℕ) (procaps : List ℕ) (moment : ℤ) (made : OpReply) (row : Row) →
+brings_node : (state : Base) (pass : ℕ) (caller : List ℕ) (directory : NodeId) (name : List ℕ) (procaps : List Procap) (moment : ℤ) (made : OpReply) (row : Row) →
     effect caller (Create directory name) state.world ≡ replied made (with_row state.world row) → Brings state (Acted pass caller (Create directory name) procaps moment) (changes.Node (record { row = row; moment = moment }))
 brings_node state pass caller directory name procaps moment made row does =
     sym (ap (λ (o : Outcome). next_from state moment (tree_after o state.world)) does)
@@ -55,7 +58,7 @@ created_over caller directory name shown_name world next row is name_is next_is 
     ∙ ap (λ (n : ℕ). created_row caller directory name (record { rows = []; next = n })) next_is
 
 -- it is made
-pub made_kept : (state : Base) (pass : ℕ) (caller : List ℕ) (directory : NodeId) (name : List ℕ) (procaps : List ℕ) (moment : ℤ) (number : ℕ) (row : Row) (step : Step) →
+pub made_kept : (state : Base) (pass : ℕ) (caller : List ℕ) (directory : NodeId) (name : List ℕ) (procaps : List Procap) (moment : ℤ) (number : ℕ) (row : Row) (step : Step) →
     None ≡ create_refusal directory.0 name state.world → number ≡ state.world.next → row ≡ created_row caller directory.0 name state.world →
     step.event ≡ Acted pass caller (Create directory name) procaps moment → step.change ≡ changes.Node (record { row = row; moment = moment }) →
     IsMade state pass caller directory name procaps moment (replies.Node (record { 0 = number })) (Some step)
@@ -71,51 +74,47 @@ made_kept state pass caller directory name procaps moment number row step free n
       subst (λ (e : Event). Brings state e step.change) (sym event_is) (subst (λ (ch : Change). Brings state (Acted pass caller (Create directory name) procaps moment) ch) (sym change_is) brings),
     )
 
--- a procap that names no issue
-pub create_absent : (state : Base) (pass : ℕ) (clock : ℤ) (caller : List ℕ) (directory : NodeId) (name : List ℕ) (procap : ℕ) → (HasNumber state.issues procap → ⊥) →
-    Answers state pass clock (requests.Act caller (Create directory name) (procap ∷ [])) (replies.Absent procap) None
-create_absent state pass clock caller directory name procap none =
-    no_issue caller (Create directory name) (procap ∷ []) 0 procap (record { before = []; behind = []; parts = refl; place_is = refl; holds_before = tt; fails = none })
-
 -- the procap in the first place
-pub IsProcapAt-first : (state : Base) (procap : ℕ) (issue : Issue) → IsNumbered state.issues procap issue → IsProcapAt state (procap ∷ []) 1 issue.grant
-IsProcapAt-first state procap issue numbered = record { number = procap; issue = issue; brought = record { place = 0; from_one = refl; found = refl }; issued = numbered; grant_is = refl }
-
--- an item with that number is there
-pub HasNumber-numbered : {A : Type 0} (items : List A) (number : ℕ) (item : A) → 1 ≤ number → number ≤ length items → HasNumber items number
-HasNumber-numbered items number item some within = (some, within)
+IsNumbered-first : (procap : Procap) → IsNumbered (procap ∷ []) 1 procap
+IsNumbered-first procap = record { place = 0; from_one = refl; found = refl }
 
 -- it is denied
-pub create_denied : (state : Base) (pass : ℕ) (clock : ℤ) (caller : List ℕ) (directory : NodeId) (name : List ℕ) (procap : ℕ) (issue : Issue) (moment : ℤ) (cause : Cause) (at : ℕ) (rows : List Row) →
-    HasNumber state.issues procap → IsNumbered state.issues procap issue → moment ≡ moment_of state clock → rows ≡ state.world.rows → Fails caller (need_of directory Write) moment (facts_of rows) issue.grant cause → at ≡ state.count →
-    Answers state pass clock (requests.Act caller (Create directory name) (procap ∷ [])) (replies.Denied (record { need = 1; cause = cause; at = at })) None
-create_denied state pass clock caller directory name procap issue moment cause at rows has numbered moment_is rows_is fails at_is =
-    let fails_now : Fails caller (need_of directory Write) (moment_of state clock) (facts state.world) issue.grant cause =
-    subst (λ (m : ℤ). Fails caller (need_of directory Write) m (facts state.world) issue.grant cause) moment_is
-    (subst (λ (rs : List Row). Fails caller (need_of directory Write) moment (facts_of rs) issue.grant cause) rows_is fails) in
-    subst (λ (n : ℕ). Answers state pass clock (requests.Act caller (Create directory name) (procap ∷ [])) (replies.Denied (record { need = 1; cause = cause; at = n })) None) (sym at_is)
-    (denied caller (Create directory name) (procap ∷ []) 1 cause (has, tt) (here (need_of directory Write) [] issue.grant cause (IsProcapAt-first state procap issue numbered) fails_now))
+pub create_denied : (authority : Authority) (state : Base) (pass : ℕ) (clock : ℤ) (caller : List ℕ) (directory : NodeId) (name : List ℕ) (procap : Procap) (moment : ℤ) (cause : Cause) (at : ℕ) (rows : List Row) →
+    moment ≡ moment_of state clock → rows ≡ state.world.rows → Denies authority.key caller (need_of directory Write) moment (facts_of rows) procap cause → at ≡ state.count →
+    Answers authority state pass clock (requests.Act caller (Create directory name) (procap ∷ [])) (replies.Denied (record { need = 1; cause = cause; at = at })) None
+create_denied authority state pass clock caller directory name procap moment cause at rows moment_is rows_is denies at_is =
+    let denies_now : Denies authority.key caller (need_of directory Write) (moment_of state clock) (facts state.world) procap cause =
+    subst (λ (m : ℤ). Denies authority.key caller (need_of directory Write) m (facts state.world) procap cause) moment_is
+    (subst (λ (rs : List Row). Denies authority.key caller (need_of directory Write) moment (facts_of rs) procap cause) rows_is denies) in
+    subst (λ (n : ℕ). Answers authority state pass clock (requests.Act caller (Create directory name) (procap ∷ [])) (replies.Denied (record { need = 1; cause = cause; at = n })) None) (sym at_is)
+    (denied caller (Create directory name) (procap ∷ []) 1 cause (here (need_of directory Write) [] procap cause (IsNumbered-first procap) denies_now))
+
+-- the need is met
+create_met : (key : List ℕ) (state : Base) (clock : ℤ) (caller : List ℕ) (directory : NodeId) (procap : Procap) (moment : ℤ) (rows : List Row) →
+    moment ≡ moment_of state clock → rows ≡ state.world.rows → IsGenuine key procap → Gives caller (need_of directory Write) moment (facts_of rows) procap.grant →
+    IsMet key state caller (procap ∷ []) (moment_of state clock) (need_of directory Write)
+create_met key state clock caller directory procap moment rows moment_is rows_is sealed gives = record {
+  procap = procap;
+  brought = IsNumbered-first procap;
+  sealed = sealed;
+  gives = subst (λ (m : ℤ). Gives caller (need_of directory Write) m (facts state.world) procap.grant) moment_is
+      (subst (λ (rs : List Row). Gives caller (need_of directory Write) moment (facts_of rs) procap.grant) rows_is gives);
+}
 
 -- it is admitted, and made or refused
-pub create_admitted : (state : Base) (pass : ℕ) (clock : ℤ) (caller : List ℕ) (directory : NodeId) (name : List ℕ) (procap : ℕ) (issue : Issue) (moment : ℤ) (rows : List Row) (reply : Reply) (step : Option Step) →
-    HasNumber state.issues procap → IsNumbered state.issues procap issue → moment ≡ moment_of state clock → rows ≡ state.world.rows → Gives caller (need_of directory Write) moment (facts_of rows) issue.grant →
+pub create_admitted : (authority : Authority) (state : Base) (pass : ℕ) (clock : ℤ) (caller : List ℕ) (directory : NodeId) (name : List ℕ) (procap : Procap) (moment : ℤ) (rows : List Row) (reply : Reply) (step : Option Step) →
+    moment ≡ moment_of state clock → rows ≡ state.world.rows → IsGenuine authority.key procap → Gives caller (need_of directory Write) moment (facts_of rows) procap.grant →
     IsMade state pass caller directory name (procap ∷ []) moment reply step →
-    IsDecided state pass clock (requests.Act caller (Create directory name) (procap ∷ [])) reply step
-create_admitted state pass clock caller directory name procap issue moment rows reply None has numbered moment_is rows_is gives made =
-    let gives_now : Gives caller (need_of directory Write) (moment_of state clock) (facts state.world) issue.grant =
-    subst (λ (m : ℤ). Gives caller (need_of directory Write) m (facts state.world) issue.grant) moment_is
-    (subst (λ (rs : List Row). Gives caller (need_of directory Write) moment (facts_of rs) issue.grant) rows_is gives) in
-    let met : IsMet state caller (procap ∷ []) (moment_of state clock) (need_of directory Write) = record { grant = issue.grant; brought = IsProcapAt-first state procap issue numbered; gives = gives_now } in
-    subst (λ (r : Reply). Answers state pass clock (requests.Act caller (Create directory name) (procap ∷ [])) r None) (sym made.2)
-    (refused caller (Create directory name) (procap ∷ []) made.0 (has, tt) (met, tt) made.1)
-create_admitted state pass clock caller directory name procap issue moment rows reply (Some s) has numbered moment_is rows_is gives made =
-    let gives_now : Gives caller (need_of directory Write) (moment_of state clock) (facts state.world) issue.grant =
-    subst (λ (m : ℤ). Gives caller (need_of directory Write) m (facts state.world) issue.grant) moment_is
-    (subst (λ (rs : List Row). Gives caller (need_of directory Write) moment (facts_of rs) issue.grant) rows_is gives) in
-    let met : IsMet state caller (procap ∷ []) (moment_of state clock) (need_of directory Write) = record { grant = issue.grant; brought = IsProcapAt-first state procap issue numbered; gives = gives_now } in
+    IsDecided authority state pass clock (requests.Act caller (Create directory name) (procap ∷ [])) reply step
+create_admitted authority state pass clock caller directory name procap moment rows reply None moment_is rows_is sealed gives made =
+    let met = create_met authority.key state clock caller directory procap moment rows moment_is rows_is sealed gives in
+    subst (λ (r : Reply). Answers authority state pass clock (requests.Act caller (Create directory name) (procap ∷ [])) r None) (sym made.2)
+    (refused caller (Create directory name) (procap ∷ []) made.0 (met, tt) made.1)
+create_admitted authority state pass clock caller directory name procap moment rows reply (Some s) moment_is rows_is sealed gives made =
+    let met = create_met authority.key state clock caller directory procap moment rows moment_is rows_is sealed gives in
     let event_is : s.event ≡ Acted pass caller (Create directory name) (procap ∷ []) (moment_of state clock) = made.4 ∙ ap (λ (m : ℤ). Acted pass caller (Create directory name) (procap ∷ []) m) moment_is in (
-      subst (λ (r : Reply). Answers state pass clock (requests.Act caller (Create directory name) (procap ∷ [])) r (Some s.event)) (sym made.3)
-          (subst (λ (e : Event). Answers state pass clock (requests.Act caller (Create directory name) (procap ∷ [])) (reply_of made.0) (Some e)) (sym event_is)
-          (acted caller (Create directory name) (procap ∷ []) made.0 made.1 (has, tt) (met, tt) made.2)),
+      subst (λ (r : Reply). Answers authority state pass clock (requests.Act caller (Create directory name) (procap ∷ [])) r (Some s.event)) (sym made.3)
+          (subst (λ (e : Event). Answers authority state pass clock (requests.Act caller (Create directory name) (procap ∷ [])) (reply_of made.0) (Some e)) (sym event_is)
+          (acted caller (Create directory name) (procap ∷ []) made.0 made.1 (met, tt) made.2)),
       made.5,
     )

@@ -3,3 +3,5 @@ pub mod Decides
 pub mod Decision
 pub mod DecisionCode
 pub mod Differs
+pub mod Issued
+pub mod Rejection

@@ -1,18 +1,28 @@
 //! The answer to an operation.
 
 ghost use Rattle.std.specs.Prelude.{◌≡◌, ◌≤◌, ◌<◌, ◌+◌, ◌∷◌, [], Some, None, IfOk, MatchOption, length, IsTrue};
-ghost use Rattle.access_history.specs.History.{state_of};
+ghost use Rattle.access_history.specs.History.{authority_of, state_of};
 ghost use Rattle.access_history.specs.Needs.{slots};
 ghost use Rattle.op_gate.specs.Decision.{IsDecided, IsMade};
 
-use crate::cause::cause_of;
-use crate::decide::{Decided, citing, told};
+use crate::cause::denial_cause;
+use crate::decide::{Decided, told};
 use access_history::{
-    AddedNode, Change, Denial, Event, History, Op, Reply, Row, Step, StepRequest, create_refusal,
-    created_row,
+    AddedNode, Change, Denial, Event, History, Op, Procaps, Reply, Row, Step, StepRequest,
+    create_refusal, created_row,
 };
-use bl_syntax::{Bytes, NoMemory, NodeId, Numbers, Perm, Principal};
+use bl_syntax::{Bytes, NoMemory, NodeId, Perm, Principal};
+use procap::Procap;
 use std::alloc::Global;
+
+// The list of this one procap.
+fn bringing(alloc: Global, procap: &Procap) -> Result<Procaps, NoMemory>
+    ensures { IfOk result (λ procaps. procaps ≡ procap.now ∷ []) }
+{
+    let mut procaps = Procaps::new(alloc);
+    procaps.push(procap.copy(alloc)?)?;
+    Ok(procaps)
+}
 
 // The step that makes a file.
 fn making(
@@ -21,10 +31,10 @@ fn making(
     caller: &Principal,
     row: Row,
     name: &Bytes,
-    procap: u32,
+    procap: &Procap,
     moment: i64,
 ) -> Result<Step, NoMemory>
-    ensures event { IfOk result (λ step. step.event ≡ Event.Acted pass caller.now (Op.Create (record { 0 = row.parent }) name.now) (procap ∷ []) moment) }
+    ensures event { IfOk result (λ step. step.event ≡ Event.Acted pass caller.now (Op.Create (record { 0 = row.parent }) name.now) (procap.now ∷ []) moment) }
     ensures change { IfOk result (λ step. step.change ≡ Change.Node (record { row = row; moment = moment })) }
 {
     Ok(Step {
@@ -32,7 +42,7 @@ fn making(
             pass,
             caller: *caller,
             op: Op::Create(NodeId(row.parent), name.copy(alloc)?),
-            procaps: citing(alloc, procap)?,
+            procaps: bringing(alloc, procap)?,
             moment,
         },
         change: Change::Node(AddedNode { row, moment }),
@@ -47,10 +57,10 @@ fn make(
     caller: &Principal,
     directory: NodeId,
     name: &Bytes,
-    procap: u32,
+    procap: &Procap,
     moment: i64,
 ) -> Result<Decided, NoMemory>
-    ensures { IfOk result (λ d. IsMade (state_of history.now) pass caller.now directory name.now (procap ∷ []) moment d.reply d.step) }
+    ensures { IfOk result (λ d. IsMade (state_of history.now) pass caller.now directory name.now (procap.now ∷ []) moment d.reply d.step) }
 {
     let next = history.next_number();
     if let Some(refusal) = create_refusal(history.rows(), next, directory, name.as_slice()) {
@@ -63,7 +73,7 @@ fn make(
     })
 }
 
-// Whether the making of a file is admitted under the procap of this issue, and what it does.
+// Whether the making of a file is admitted under this procap, and what it does.
 fn decide_create(
     alloc: Global,
     history: &History,
@@ -71,24 +81,20 @@ fn decide_create(
     caller: &Principal,
     directory: NodeId,
     name: &Bytes,
-    procap: u32,
+    procap: &Procap,
     clock: i64,
 ) -> Result<Decided, NoMemory>
-    ensures { IfOk result (λ d. IsDecided (state_of history.now) pass clock (StepRequest.Act caller.now (Op.Create directory name.now) (procap ∷ [])) d.reply d.step) }
+    ensures { IfOk result (λ d. IsDecided (authority_of history.now) (state_of history.now) pass clock (StepRequest.Act caller.now (Op.Create directory name.now) (procap.now ∷ [])) d.reply d.step) }
 {
-    let issues = history.issues();
-    if procap == 0 || issues.len() < procap as usize {
-        return Ok(told(Reply::Absent(procap as u64)));
-    }
     let moment = clock.max(history.moment());
-    let grant = &issues[procap as usize - 1].grant;
-    if let Some(cause) = cause_of(
+    if let Some(cause) = denial_cause(
+        history.key(),
+        procap,
         caller,
         directory,
         Perm::Write,
         moment,
         history.rows(),
-        grant,
     ) {
         return Ok(told(Reply::Denied(Denial {
             need: 1,
@@ -108,13 +114,13 @@ pub fn decide_act(
     pass: u64,
     caller: &Principal,
     op: &Op,
-    procaps: &Numbers,
+    procaps: &Procaps,
     clock: i64,
 ) -> Result<Decided, NoMemory>
     requires { length procaps.now ≡ slots op.now }
-    ensures { IfOk result (λ d. IsDecided (state_of history.now) pass clock (StepRequest.Act caller.now op.now procaps.now) d.reply d.step) }
+    ensures { IfOk result (λ d. IsDecided (authority_of history.now) (state_of history.now) pass clock (StepRequest.Act caller.now op.now procaps.now) d.reply d.step) }
 {
-    let procap = procaps.as_slice()[0];
+    let procap = &procaps.as_slice()[0];
     match op {
         Op::Create(directory, name) => {
             decide_create(

@@ -3,7 +3,8 @@
 ghost use Rattle.std.specs.Prelude.{◌≡◌, ◌↔◌, MatchOption, Contains, IsTrue, map, drop};
 ghost use Rattle.bl_syntax.specs.declared.terms.StatePred.TheVariants.{Owner, InDir};
 ghost use Rattle.bl_syntax.specs.declared.terms.Term.TheVariants as terms;
-ghost use Rattle.access_history.specs.Answer.{Fails, Gives};
+ghost use Rattle.access_history.specs.Answer.{Denies, Fails, Gives};
+ghost use Rattle.procap.specs.Genuine.{IsGenuine};
 ghost use Rattle.access_history.specs.Needs.{need_of};
 ghost use Rattle.op_gate.specs.Differs.{Differs};
 ghost use Rattle.access_history.specs.Facts.{facts_of, ownership, containment};
@@ -11,6 +12,7 @@ ghost use Rattle.access_history.specs.Facts.{facts_of, ownership, containment};
 use access_history::{Cause, Row};
 use bl_syntax::{Goal, Grant, NodeId, Perm, Principal, StatePred, Term};
 use condition_set::{Facts, first_failing_state, first_failing_time};
+use procap::{Procap, SealKey};
 
 // The nodes of a tree, as what is known of the server's state.
 #[derive(Drop)]
@@ -66,9 +68,28 @@ fn is_contained(rows: &[Row], file: &Term, directory: &Term) -> bool
     false
 }
 
-/// The first cause for which the grant does not give the caller the permission on the file at the moment over these
-/// nodes; none where it gives it.
-pub fn cause_of(
+/// The first cause for which the procap does not give the caller the permission on the file at the moment over these
+/// nodes: its seal is not right under the key, or its grant does not; none where it gives it.
+pub fn denial_cause(
+    key: &SealKey,
+    procap: &Procap,
+    caller: &Principal,
+    file: NodeId,
+    permission: Perm,
+    moment: i64,
+    rows: &[Row],
+) -> Option<Cause>
+    ensures { MatchOption result (IsGenuine key.now procap.now × Gives caller.now (need_of file permission) moment (facts_of rows.now) procap.now.grant) (Denies key.now caller.now (need_of file permission) moment (facts_of rows.now) procap.now) }
+{
+    if !key.is_genuine(procap) {
+        return Some(Cause::Seal);
+    }
+    cause_of(caller, file, permission, moment, rows, &procap.grant)
+}
+
+// The first cause for which the grant does not give the caller the permission on the file at the moment over these
+// nodes; none where it gives it.
+fn cause_of(
     caller: &Principal,
     file: NodeId,
     permission: Perm,

@@ -2,10 +2,12 @@
 
 ghost use Rattle.std.specs.Prelude.{◌≡◌, ◌↔◌, IsTrue, IfOk, MatchOption};
 ghost use Rattle.std.specs.List.{AllByRecursion};
+ghost use Rattle.access_history.specs.Authority.{sayings};
 ghost use Rattle.access_history.specs.Citing.{AreCitable, Stands, IsMoved, numbers_of};
 ghost use Rattle.op_gate.specs.Citations.{Cites as AreStatements};
 
-use bl_syntax::{NoMemory, Numbers, Statement};
+use bl_syntax::{NoMemory, Numbers};
+use policy_statement::Registered;
 use proof_verifier::{Cite, Cites};
 use std::alloc::Global;
 
@@ -19,9 +21,9 @@ pub enum Citation {
 }
 
 /// The statements of these numbers, which strictly rise and are 1 to 64.
-pub fn cite(alloc: Global, statements: &[Statement], numbers: &[u32]) -> Result<Citation, NoMemory>
+pub fn cite(alloc: Global, statements: &[Registered], numbers: &[u32]) -> Result<Citation, NoMemory>
     requires { AreCitable numbers.now }
-    ensures { IfOk result (λ citation. AreStatements statements.now numbers.now citation) }
+    ensures { IfOk result (λ citation. AreStatements (sayings statements.now) numbers.now citation) }
 {
     let mut cites = Vec::new(alloc);
     for number in numbers {
@@ -30,25 +32,27 @@ pub fn cite(alloc: Global, statements: &[Statement], numbers: &[u32]) -> Result<
         }
         cites.push(Cite {
             number: *number,
-            statement: statements[*number as usize - 1].copy(alloc)?,
+            statement: statements[*number as usize - 1].statement().copy(alloc)?,
         })?;
     }
     Ok(Citation::Cited(Cites::new(cites).unwrap()))
 }
 
 // Whether its statement stands under its number.
-fn stands(statements: &[Statement], cite: &Cite) -> bool
-    ensures { IsTrue result ↔ Stands statements.now cite.now }
+fn stands(statements: &[Registered], cite: &Cite) -> bool
+    ensures { IsTrue result ↔ Stands (sayings statements.now) cite.now }
 {
     if cite.number == 0 || statements.len() < cite.number as usize {
         return false;
     }
-    statements[cite.number as usize - 1].is_same(&cite.statement)
+    statements[cite.number as usize - 1]
+        .statement()
+        .is_same(&cite.statement)
 }
 
 /// The first number under which the cited statement does not stand.
-pub fn first_moved(statements: &[Statement], cites: &[Cite]) -> Option<u32>
-    ensures { MatchOption result (AllByRecursion (Stands statements.now) cites.now) (IsMoved statements.now cites.now) }
+pub fn first_moved(statements: &[Registered], cites: &[Cite]) -> Option<u32>
+    ensures { MatchOption result (AllByRecursion (Stands (sayings statements.now)) cites.now) (IsMoved (sayings statements.now) cites.now) }
 {
     for cite in cites {
         if !stands(statements, cite) {

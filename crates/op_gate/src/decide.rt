@@ -1,19 +1,20 @@
 //! The answers to requests, and the steps to keep.
 
-ghost use Rattle.std.specs.Prelude.{◌≡◌, ◌≤◌, ◌<◌, ◌+◌, ◌-◌, ◌^◌, ◌++◌, ◌∷◌, [], Some, None, IfOk, IfSome, IsNone, OnOk, OnErr, Contains, ℤ, length};
-ghost use Rattle.std.specs.List.{slice_get};
-ghost use Rattle.access_history.specs.History.{state_of};
+ghost use Rattle.std.specs.Prelude.{◌≡◌, ◌∷◌, ◌↔◌, [], Some, None, IfOk, OnErr, MatchOption, IsTrue, ℕ, ℤ};
+ghost use Rattle.access_history.specs.Answer.{MaySee};
+ghost use Rattle.access_history.specs.History.{authority_of, state_of};
+ghost use Rattle.op_gate.specs.Issued.{IsIssued, HasNone, IsProcapOf};
+ghost use Rattle.op_gate.specs.Rejection.{rejection_of};
 ghost use Rattle.op_gate.specs.Decision.{IsDecided};
 ghost use Rattle.access_history.specs.Citing.{numbers_of};
 
 use crate::cite::{cited_numbers, first_moved};
 use access_history::{Change, Event, History, Issue, RegisterFault, Reply, Step, StepRequest};
-use bl_syntax::{NoMemory, Numbers, Statement};
+use bl_syntax::{Bytes, Grant, NoMemory, Principal, Statement};
+use policy_statement::RegisterFault as RegistryFault;
+use procap::Procap;
 use proof_verifier::Checked;
 use std::alloc::Global;
-
-/// How many statements may be registered.
-pub const STATEMENT_LIMIT: usize = 4_096;
 
 /// A reply, and the step to keep where there is one.
 #[derive(Debug, Drop)]
@@ -29,56 +30,116 @@ pub fn told(reply: Reply) -> Decided
     Decided { reply, step: None }
 }
 
-// The place of an equal statement, from 0.
-fn find_statement(statements: &[Statement], statement: &Statement) -> Option<usize>
-    ensures none { IsNone result → Contains statements.now statement.now → ⊥ }
-    ensures some { IfSome result (λ place. slice_get statements.now place ≡ Some statement.now) }
-    ensures within { IfSome result (λ place. place < length statements.now) }
+// The rejection of a statement that may not be registered. An error exactly where there was no memory.
+fn rejection(fault: RegistryFault) -> Result<RegisterFault, NoMemory>
+    ensures ok { IfOk result (λ rejection. rejection_of fault ≡ Some rejection) }
+    ensures err { OnErr result (rejection_of fault ≡ None) }
 {
-    for (place, kept) in statements.iter().enumerate() {
-        if kept.is_same(statement) {
-            return Some(place);
-        }
+    match fault {
+        RegistryFault::BadSignature => Ok(RegisterFault::BadSignature),
+        RegistryFault::RegistryFull => Ok(RegisterFault::RegistryFull),
+        RegistryFault::Duplicate(number) => Ok(RegisterFault::Duplicate(number)),
+        RegistryFault::NoMemory => Err(NoMemory),
     }
-    None
 }
 
-/// Whether and as what a statement is registered.
+// The step that registers a statement.
+fn registering(
+    alloc: Global,
+    pass: u64,
+    statement: &Statement,
+    signature: &Bytes,
+) -> Result<Step, NoMemory>
+    ensures event { IfOk result (λ step. step.event ≡ Event.Registered pass statement.now signature.now) }
+    ensures change { IfOk result (λ step. step.change ≡ Change.Statement statement.now signature.now) }
+{
+    Ok(Step {
+        event: Event::Registered {
+            pass,
+            statement: statement.copy(alloc)?,
+            signature: signature.copy(alloc)?,
+        },
+        change: Change::Statement(statement.copy(alloc)?, signature.copy(alloc)?),
+    })
+}
+
+/// Whether and as what a statement is registered under a signature.
 pub fn decide_register(
     alloc: Global,
     history: &History,
     pass: u64,
     statement: &Statement,
+    signature: &Bytes,
 ) -> Result<Decided, NoMemory>
-    ensures { IfOk result (λ d. (clock : ℤ) → IsDecided (state_of history.now) pass clock (StepRequest.Register statement.now) d.reply d.step) }
+    ensures { IfOk result (λ d. (clock : ℤ) → IsDecided (authority_of history.now) (state_of history.now) pass clock (StepRequest.Register statement.now signature.now) d.reply d.step) }
 {
-    let statements = history.statements();
-    if let Some(place) = find_statement(statements, statement) {
-        return Ok(told(Reply::Rejected(RegisterFault::Duplicate(place as u32 + 1))));
+    let registry = history.registry();
+    match registry.test(alloc, history.ring(), statement, signature.as_slice()) {
+        Ok(()) => {
+            let number = history.statements().len() as u32 + 1;
+            Ok(Decided {
+                reply: Reply::Statement(number),
+                step: Some(registering(alloc, pass, statement, signature)?),
+            })
+        }
+        Err(fault) => Ok(told(Reply::Rejected(rejection(fault)?))),
     }
-    if statements.len() >= STATEMENT_LIMIT {
-        return Ok(told(Reply::Rejected(RegisterFault::RegistryFull)));
-    }
-    let number = statements.len() as u32 + 1;
-    Ok(Decided {
-        reply: Reply::Statement(number),
-        step: Some(Step {
-            event: Event::Registered {
-                pass,
-                statement: statement.copy(alloc)?,
-            },
-            change: Change::Statement(statement.copy(alloc)?),
-        }),
-    })
 }
 
-/// The list of this one number.
-pub fn citing(alloc: Global, number: u32) -> Result<Numbers, NoMemory>
-    ensures { IfOk result (λ cited. cited ≡ number ∷ []) }
+// The grant of the issue of that number.
+fn issued(history: &History, number: u64) -> Option<&Grant>
+    ensures { MatchOption result (HasNone (state_of history.now).issues number) (λ grant. IsIssued (state_of history.now).issues number grant.now) }
 {
-    let mut cited = Numbers::new(alloc);
-    cited.push(number)?;
-    Ok(cited)
+    let issues = history.issues();
+    if number == 0 || (issues.len() as u64) < number {
+        return None;
+    }
+    Some(&issues[number as usize - 1].grant)
+}
+
+/// The procap of the issue of that number; none exactly where there is no such issue.
+pub fn issued_procap(
+    alloc: Global,
+    history: &History,
+    number: u64,
+) -> Result<Option<Procap>, NoMemory>
+    ensures { IfOk result (λ found. MatchOption found (HasNone (state_of history.now).issues number) (IsProcapOf history.now.key (state_of history.now).issues number)) }
+{
+    match issued(history, number) {
+        Some(grant) => Ok(Some(history.key().seal(grant.copy(alloc)?))),
+        None => Ok(None),
+    }
+}
+
+// Whether the procap of the grant may be seen: by whom it names, or by the operator, where nobody is named.
+fn may_see(who: &Option<Principal>, grant: &Grant) -> bool
+    ensures { IsTrue result ↔ MaySee who.now grant.now }
+{
+    match who {
+        None => true,
+        Some(who) => grant.goal().who.is_same(who),
+    }
+}
+
+/// The procap of an issue, as far as it may be seen.
+pub fn decide_show(
+    alloc: Global,
+    history: &History,
+    number: u64,
+    who: &Option<Principal>,
+) -> Result<Decided, NoMemory>
+    ensures { IfOk result (λ d. (pass : ℕ) (clock : ℤ) → IsDecided (authority_of history.now) (state_of history.now) pass clock (StepRequest.ShowProcap number who.now) d.reply d.step) }
+{
+    match issued_procap(alloc, history, number)? {
+        Some(procap) => {
+            if may_see(who, &procap.grant) {
+                Ok(told(Reply::Procap(procap)))
+            } else {
+                Ok(told(Reply::Absent(number)))
+            }
+        }
+        None => Ok(told(Reply::Absent(number))),
+    }
 }
 
 // A grant that is issued by a checked proof.
@@ -120,7 +181,7 @@ pub fn decide_issue(
     pass: u64,
     checked: &Checked,
 ) -> Result<Decided, NoMemory>
-    ensures { IfOk result (λ d. (clock : ℤ) → IsDecided (state_of history.now) pass clock (StepRequest.Issue checked.now) d.reply d.step) }
+    ensures { IfOk result (λ d. (clock : ℤ) → IsDecided (authority_of history.now) (state_of history.now) pass clock (StepRequest.Issue checked.now) d.reply d.step) }
 {
     let cites = checked.cited().as_slice();
     if let Some(number) = first_moved(history.statements(), cites) {

@@ -1,15 +1,17 @@
 //! The gate: what may happen is decided, and what was decided is kept.
 
-ghost use Rattle.std.specs.Prelude.{◌≡◌, ◌≤◌, ◌<◌, ◌+◌, ◌-◌, ◌^◌, ◌++◌, ◌∷◌, [], Some, None, IfOk, IfSome, IsSome, OnOk, OnErr, length};
-ghost use Rattle.access_history.specs.History.{state_of};
+ghost use Rattle.std.specs.Prelude.{◌≡◌, ◌≤◌, ◌<◌, ◌+◌, ◌-◌, ◌^◌, ◌++◌, ◌∷◌, [], Some, None, IfOk, IfSome, IsSome, MatchOption, OnOk, OnErr, length};
+ghost use Rattle.access_history.specs.History.{authority_of, state_of};
 ghost use Rattle.op_gate.specs.Decision.{IsDecided};
 ghost use Rattle.access_history.specs.WellFormed.{IsWellFormed};
 
 use crate::act::decide_act;
 use crate::cite::{Citation, cite};
-use crate::decide::{Decided, decide_issue, decide_register};
+use crate::decide::{Decided, decide_issue, decide_register, decide_show, issued_procap};
 use access_history::{History, Reply, Step, StepRequest};
 use bl_syntax::NoMemory;
+use policy_statement::Keyring;
+use procap::{Procap, SealKey};
 use std::alloc::Global;
 use std::marker::Model;
 
@@ -25,7 +27,7 @@ pub enum Decision {
 }
 
 /// A history, and the step that was decided and is not kept yet.
-#[derive(Debug, Drop)]
+#[derive(Drop)]
 pub struct Gate {
     history: History,
     pending: Option<Step>,
@@ -41,7 +43,7 @@ impl Model for Gate {
 
     ghost coded = { gated_code };
 
-    ghost view = { λ g. record { base = g.history.base; events = g.history.events; pending = option_map (λ s. s.event) g.pending } };
+    ghost view = { λ g. record { key = g.history.key; ring = g.history.ring; base = g.history.base; events = g.history.events; pending = option_map (λ s. s.event) g.pending } };
 
     ghost invariant = { λ g. MatchOption g.pending ⊤ (CanKeep g.history) };
 }
@@ -62,14 +64,17 @@ fn decide_request(
     clock: i64,
 ) -> Result<Decided, NoMemory>
     requires { IsWellFormed request.now }
-    ensures { IfOk result (λ d. IsDecided (state_of history.now) pass clock request.now d.reply d.step) }
+    ensures { IfOk result (λ d. IsDecided (authority_of history.now) (state_of history.now) pass clock request.now d.reply d.step) }
 {
     match request {
-        StepRequest::Register(statement) => decide_register(alloc, history, pass, statement),
+        StepRequest::Register(statement, signature) => {
+            decide_register(alloc, history, pass, statement, signature)
+        }
         StepRequest::Issue(checked) => decide_issue(alloc, history, pass, checked),
         StepRequest::Act(caller, op, procaps) => {
             decide_act(alloc, history, pass, caller, op, procaps, clock)
         }
+        StepRequest::ShowProcap(number, who) => decide_show(alloc, history, *number, who),
     }
 }
 
@@ -77,23 +82,41 @@ impl Gate {
     ghost use Rattle.bl_syntax.specs.TimeOrder.{IsMoment};
     ghost use Rattle.access_history.specs.Replay.{replay, fresh};
     ghost use Rattle.op_gate.specs.Decides.{Decides};
+    ghost use Rattle.access_history.specs.Authority.{sayings};
     ghost use Rattle.access_history.specs.Citing.{AreCitable};
+    ghost use Rattle.access_history.specs.History.{authority_with};
+    ghost use Rattle.op_gate.specs.Issued.{HasNone, IsProcapOf};
     ghost use Rattle.op_gate.specs.Citations.{Cites as AreStatements};
 
-    /// A gate over a store before its first event.
-    pub fn fresh(alloc: Global) -> Result<Gate, NoMemory>
-        ensures { IfOk result (λ gate. gate ≡ record { base = fresh; events = []; pending = None }) }
+    /// A gate over a store before its first event, which seals procaps under this key and accepts the signatures that
+    /// this ring accepts.
+    pub fn fresh(alloc: Global, key: &[u8], ring: Keyring) -> Result<Gate, NoMemory>
+        ensures { IfOk result (λ gate. gate ≡ record { key = key.now; ring = ring; base = fresh; events = []; pending = None }) }
     {
         Ok(Gate {
-            history: History::fresh(alloc)?,
+            history: History::fresh(alloc, SealKey::new(key), ring)?,
             pending: None,
         })
+    }
+
+    /// The ring of those whose signatures are accepted.
+    pub fn ring(&self) -> &Keyring
+        ensures { result.now ≡ self.now.ring }
+    {
+        self.history.ring()
+    }
+
+    /// The procap of the issue of that number; none exactly where there is no such issue.
+    pub fn procap(&self, alloc: Global, number: u64) -> Result<Option<Procap>, NoMemory>
+        ensures { IfOk result (λ found. MatchOption found (HasNone (replay self.now.base self.now.events).issues number) (IsProcapOf self.now.key (replay self.now.base self.now.events).issues number)) }
+    {
+        issued_procap(alloc, &self.history, number)
     }
 
     /// The statements of these numbers, in memory of their own. The numbers strictly rise and are 1 to 64.
     pub fn cite(&self, alloc: Global, numbers: &[u32]) -> Result<Citation, NoMemory>
         requires { AreCitable numbers.now }
-        ensures { IfOk result (λ citation. AreStatements (replay self.now.base self.now.events).statements numbers.now citation) }
+        ensures { IfOk result (λ citation. AreStatements (sayings (replay self.now.base self.now.events).statements) numbers.now citation) }
     {
         cite(alloc, self.history.statements(), numbers)
     }
@@ -109,9 +132,11 @@ impl Gate {
     ) -> Decision
         requires in_range { IsMoment clock }
         requires well_formed { IsWellFormed request.now }
+        ensures key { self.new.key ≡ self.old.key }
+        ensures ring { self.new.ring ≡ self.old.ring }
         ensures base { self.new.base ≡ self.old.base }
         ensures events { self.new.events ≡ self.old.events }
-        ensures answer { Decides (replay self.old.base self.old.events) pass clock request.now result self.new.pending }
+        ensures answer { Decides (authority_with self.old.key self.old.ring) (replay self.old.base self.old.events) pass clock request.now result self.new.pending }
     {
         self.forget();
         if self.history.reserve().is_err() {
@@ -136,7 +161,7 @@ impl Gate {
     pub fn commit(&mut self)
         requires pending { IsSome self.old.pending }
         requires counted { (replay self.old.base self.old.events).count < 2 ^ 48 - 1 }
-        ensures kept { IfSome self.old.pending (λ event. self.new ≡ record { base = self.old.base; events = self.old.events ++ event ∷ []; pending = None }) }
+        ensures kept { IfSome self.old.pending (λ event. self.new ≡ record self.old { events = self.old.events ++ event ∷ []; pending = None }) }
     {
         if let Some(step) = self.pending.take() {
             self.history.keep(step);

@@ -1,17 +1,38 @@
 //! The file server as a program: `pcfs script` answers the lines of its standard input on its standard output.
 //!
-//! It ends with the status that `pcfs_top::run::run` answers. Where there is no memory for its words, that is 9.
-//! Words that are not UTF-8 count as none.
+//! It ends with the status that `pcfs_top::run::run` answers. Where there is no memory for its words or its secrets,
+//! that is 9. Words that are not UTF-8 count as none. The secrets stand in the file `pcfs.secrets` of the current folder;
+//! where there is no such file, the key of the seal is empty and nobody has a key to sign with.
 #![tactic(auto)]
 
-use pcfs_ports::{StdSink, StdSource};
+use bl_syntax::Bytes;
+use pcfs_ports::{StdSink, StdSource, TakeFault, read_to_end};
+use pcfs_secrets::{SecretFault, Secrets};
 use pcfs_top::run::run;
-use std::env;
 use std::io::{self, ErrorKind};
 use std::process::ExitCode;
+use std::rt::Files;
+use std::{env, fs};
 
-/// There was no memory for the words.
+/// There was no memory for the words or the secrets.
 const OUT_OF_MEMORY: u8 = 9;
+
+/// The secrets file is bad, or cannot be read.
+const BAD_SECRETS: u8 = 19;
+
+/// The file with the secrets.
+const SECRETS_FILE: &str = "pcfs.secrets";
+
+/// Why there are no secrets.
+#[derive(Debug, Drop)]
+enum Lacking {
+    /// The file cannot be read.
+    Unreadable,
+    /// The line of this number is bad.
+    BadLine(usize),
+    /// There was no memory for them.
+    NoMemory,
+}
 
 // The words behind the program's name.
 fn words_of<R: env::Env + AllocGlobal>(rt: &R) -> io::Result<Vec<String>> {
@@ -22,6 +43,48 @@ fn words_of<R: env::Env + AllocGlobal>(rt: &R) -> io::Result<Vec<String>> {
     Ok(words)
 }
 
+// The bytes of the secrets file; none where there is no such file.
+fn secrets_text<R: Files + AllocGlobal>(rt: &R) -> Result<Option<Bytes>, Lacking> {
+    let file = match fs::open(rt, SECRETS_FILE) {
+        Ok(file) => file,
+        Err(fault) if fault.kind() == ErrorKind::NotFound => return Ok(None),
+        Err(fault) if fault.kind() == ErrorKind::OutOfMemory => return Err(Lacking::NoMemory),
+        Err(_) => return Err(Lacking::Unreadable),
+    };
+    match read_to_end(rt.alloc(), &mut StdSource::new(file)) {
+        Ok(text) => Ok(Some(text)),
+        Err(TakeFault::NoMemory) => Err(Lacking::NoMemory),
+        Err(_) => Err(Lacking::Unreadable),
+    }
+}
+
+// The secrets of the file, or an empty key and ring where there is no such file.
+fn secrets_of<R: Files + AllocGlobal>(rt: &R) -> Result<Secrets, Lacking> {
+    match secrets_text(rt)? {
+        Some(text) => match Secrets::parse(rt.alloc(), text.as_slice()) {
+            Ok(secrets) => Ok(secrets),
+            Err(SecretFault::BadLine(number)) => Err(Lacking::BadLine(number)),
+            Err(SecretFault::NoMemory) => Err(Lacking::NoMemory),
+        },
+        None => Ok(Secrets::none(rt.alloc())),
+    }
+}
+
+// Says why there are no secrets, and answers the status to end with. A line that cannot be written is dropped.
+fn refuse<R: Print>(rt: &R, lacking: Lacking) -> u8 {
+    match lacking {
+        Lacking::Unreadable => {
+            let _ = println!(rt; "secrets");
+            BAD_SECRETS
+        }
+        Lacking::BadLine(number) => {
+            let _ = println!(rt; "secrets line {number}");
+            BAD_SECRETS
+        }
+        Lacking::NoMemory => OUT_OF_MEMORY,
+    }
+}
+
 fn main(rt: HostRuntime) -> ExitCode {
     let words = match words_of(&rt) {
         Ok(words) => words,
@@ -30,7 +93,11 @@ fn main(rt: HostRuntime) -> ExitCode {
         ),
         Err(_) => Vec::new(rt.alloc()),
     };
+    let secrets = match secrets_of(&rt) {
+        Ok(secrets) => secrets,
+        Err(lacking) => return ExitCode::from(refuse(&rt, lacking)),
+    };
     let mut input = StdSource::new(rt.reader());
     let mut output = StdSink::new(io::writer(&rt));
-    ExitCode::from(run(&rt, rt.alloc(), &words, &mut input, &mut output))
+    ExitCode::from(run(&rt, rt.alloc(), &words, &secrets, &mut input, &mut output))
 }

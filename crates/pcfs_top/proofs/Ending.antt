@@ -7,19 +7,20 @@ use Rattle.std.proofs.lemmas.Slice.Eq.{bytes_eq-Decides}
 use Rattle.std.specs.declared.alloc.Global.{Global}
 use Rattle.pcfs_ports.specs.Faults.{HasRisen}
 use Rattle.pcfs_ports.specs.Told.{with_back, ReadsWhole, HoldsSome}
+use Rattle.pcfs_secrets.specs.declared.secrets.Secrets.{Secrets}
 use Rattle.pcfs_top.specs.Run.{IsScript, IsToWrite, IsCutShort, RunsWhole, RunsPart, EndsWith}
 use Rattle.pcfs_top.specs.Run as run
 
 -- a last line was written, or the output failed
-pub EndsWith-told : (words : List (String Global)) (left left_after : Option (List ℕ)) (read_faults read_faults_after : ℕ) (held held_after : Option (List ℕ)) (write_faults write_faults_after : ℕ) (line : List ℕ) (status result : ℕ) →
+pub EndsWith-told : (secrets : Secrets) (words : List (String Global)) (left left_after : Option (List ℕ)) (read_faults read_faults_after : ℕ) (held held_after : Option (List ℕ)) (write_faults write_faults_after : ℕ) (line : List ℕ) (status result : ℕ) →
     ((result ≡ status) × (held_after ≡ with_back held line)) ⊎ ((result ≡ 7) × HasRisen write_faults write_faults_after × HoldsSome held held_after line) →
-    (held_after ≡ with_back held line → EndsWith words left left_after read_faults read_faults_after held held_after write_faults write_faults_after status) →
-    IsToWrite words left left_after read_faults read_faults_after line →
-    EndsWith words left left_after read_faults read_faults_after held held_after write_faults write_faults_after result
-EndsWith-told words left left_after read_faults read_faults_after held held_after write_faults write_faults_after line status result (inl told) ends to_write =
-    subst (λ (s : ℕ). EndsWith words left left_after read_faults read_faults_after held held_after write_faults write_faults_after s) (sym told.0) (ends told.1)
-EndsWith-told words left left_after read_faults read_faults_after held held_after write_faults write_faults_after line status result (inr failed) ends to_write =
-    subst (λ (s : ℕ). EndsWith words left left_after read_faults read_faults_after held held_after write_faults write_faults_after s) (sym failed.0)
+    (held_after ≡ with_back held line → EndsWith secrets words left left_after read_faults read_faults_after held held_after write_faults write_faults_after status) →
+    IsToWrite secrets words left left_after read_faults read_faults_after line →
+    EndsWith secrets words left left_after read_faults read_faults_after held held_after write_faults write_faults_after result
+EndsWith-told secrets words left left_after read_faults read_faults_after held held_after write_faults write_faults_after line status result (inl told) ends to_write =
+    subst (λ (s : ℕ). EndsWith secrets words left left_after read_faults read_faults_after held held_after write_faults write_faults_after s) (sym told.0) (ends told.1)
+EndsWith-told secrets words left left_after read_faults read_faults_after held held_after write_faults write_faults_after line status result (inr failed) ends to_write =
+    subst (λ (s : ℕ). EndsWith secrets words left left_after read_faults read_faults_after held held_after write_faults write_faults_after s) (sym failed.0)
     (run.write_fault failed.1 (record { whole = line; to_write = to_write; output = failed.2 }))
 
 -- what was read is what the slice shows
@@ -27,21 +28,21 @@ pub ReadsWhole-shown : (left left_after : Option (List ℕ)) (bytes shown : List
 ReadsWhole-shown left left_after bytes shown same read = subst (λ (b : List ℕ). ReadsWhole left left_after b) (sym same) read
 
 -- each line was answered
-pub EndsWith-done : (words : List (String Global)) (left left_after : Option (List ℕ)) (read_faults read_faults_after : ℕ) (held held_after : Option (List ℕ)) (write_faults write_faults_after : ℕ) (bytes : List ℕ) → IsScript words → ReadsWhole left left_after bytes →
-    ((written : List ℕ) × RunsWhole bytes written × (held_after ≡ with_back held written)) → EndsWith words left left_after read_faults read_faults_after held held_after write_faults write_faults_after 0
-EndsWith-done words left left_after read_faults read_faults_after held held_after write_faults write_faults_after bytes is read ran =
+pub EndsWith-done : (secrets : Secrets) (words : List (String Global)) (left left_after : Option (List ℕ)) (read_faults read_faults_after : ℕ) (held held_after : Option (List ℕ)) (write_faults write_faults_after : ℕ) (bytes : List ℕ) → IsScript words → ReadsWhole left left_after bytes →
+    ((written : List ℕ) × RunsWhole secrets bytes written × (held_after ≡ with_back held written)) → EndsWith secrets words left left_after read_faults read_faults_after held held_after write_faults write_faults_after 0
+EndsWith-done secrets words left left_after read_faults read_faults_after held held_after write_faults write_faults_after bytes is read ran =
     run.done is (record { bytes = bytes; written = ran.0; read = read; run = ran.1; output = ran.2 })
 
 -- the output failed in the midst of the replies
-pub EndsWith-cut_short : (words : List (String Global)) (left left_after : Option (List ℕ)) (read_faults read_faults_after : ℕ) (held held_after : Option (List ℕ)) (write_faults write_faults_after : ℕ) (bytes : List ℕ) → IsScript words → ReadsWhole left left_after bytes →
-    ((written : List ℕ) × RunsPart bytes written × HoldsSome held held_after written) → HasRisen write_faults write_faults_after → EndsWith words left left_after read_faults read_faults_after held held_after write_faults write_faults_after 7
-EndsWith-cut_short words left left_after read_faults read_faults_after held held_after write_faults write_faults_after bytes is read ran risen =
+pub EndsWith-cut_short : (secrets : Secrets) (words : List (String Global)) (left left_after : Option (List ℕ)) (read_faults read_faults_after : ℕ) (held held_after : Option (List ℕ)) (write_faults write_faults_after : ℕ) (bytes : List ℕ) → IsScript words → ReadsWhole left left_after bytes →
+    ((written : List ℕ) × RunsPart secrets bytes written × HoldsSome held held_after written) → HasRisen write_faults write_faults_after → EndsWith secrets words left left_after read_faults read_faults_after held held_after write_faults write_faults_after 7
+EndsWith-cut_short secrets words left left_after read_faults read_faults_after held held_after write_faults write_faults_after bytes is read ran risen =
     run.write_fault risen (record { whole = ran.0; to_write = run.replies bytes ran.0 is read ran.1; output = ran.2 })
 
 -- there was no memory in the midst of the replies
-pub EndsWith-no_memory : (words : List (String Global)) (left left_after : Option (List ℕ)) (read_faults read_faults_after : ℕ) (held held_after : Option (List ℕ)) (write_faults write_faults_after : ℕ) (bytes : List ℕ) → IsScript words → ReadsWhole left left_after bytes →
-    ((written : List ℕ) × RunsPart bytes written × HoldsSome held held_after written) → EndsWith words left left_after read_faults read_faults_after held held_after write_faults write_faults_after 9
-EndsWith-no_memory words left left_after read_faults read_faults_after held held_after write_faults write_faults_after bytes is read ran =
+pub EndsWith-no_memory : (secrets : Secrets) (words : List (String Global)) (left left_after : Option (List ℕ)) (read_faults read_faults_after : ℕ) (held held_after : Option (List ℕ)) (write_faults write_faults_after : ℕ) (bytes : List ℕ) → IsScript words → ReadsWhole left left_after bytes →
+    ((written : List ℕ) × RunsPart secrets bytes written × HoldsSome held held_after written) → EndsWith secrets words left left_after read_faults read_faults_after held held_after write_faults write_faults_after 9
+EndsWith-no_memory secrets words left left_after read_faults read_faults_after held held_after write_faults write_faults_after bytes is read ran =
     run.out_of_memory (run.while_answering bytes ran.0 is read ran.1 ran.2)
 
 first_of_one : (x y : List ℕ) → x ∷ [] ≡ y ∷ [] → x ≡ y

@@ -1,3 +1,4 @@
+pub mod BroughtLemmas
 pub mod Ending
 pub mod RunLemmas
 pub mod Running

@@ -7,35 +7,38 @@ use Rattle.access_history.specs.declared.request.StepRequest.{StepRequest}
 use Rattle.access_history.specs.declared.reply.Reply.{Reply}
 use Rattle.access_history.specs.declared.reply.Reply.TheVariants as replies
 use Rattle.line_wire.specs.declared.command.Command.{Command}
-use Rattle.line_wire.specs.declared.command.Command.TheVariants.{At, As, Register, Verify, Check, Do}
+use Rattle.line_wire.specs.declared.command.Command.TheVariants.{At, As, Register, Verify, Check, Procap, Do}
 use Rattle.bl_syntax.specs.TimeOrder.{IsMoment}
 use Rattle.access_history.specs.Needs.{slots}
 use Rattle.access_history.specs.Citing.{AreCitable}
 use Rattle.access_history.specs.Answer.{Answers}
+use Rattle.pcfs_secrets.specs.declared.secrets.Secrets.{Secrets}
 use Rattle.access_history.specs.Replay.{replay}
-use Rattle.pcfs_top.specs.Script.{Standing, AnswersLine, script_pass}
+use Rattle.pcfs_top.specs.Script.{Standing, authority_under, AnswersLine, script_pass}
 
--- the base that the events follow, and where the script stands
+-- the secrets of the server, the base that the events follow, and where the script stands
 pub record Seated : Type 0 where
+  pub secrets : Secrets
   pub base : Base
   pub standing : Standing
 
 -- the request is answered, and the script stands there then: its event, where there is one, is kept
-pub record IsAsked (base : Base) (before : Standing) (request : StepRequest) (reply : Reply) (after : Standing) : Type 0 where
+pub record IsAsked (secrets : Secrets) (base : Base) (before : Standing) (request : StepRequest) (reply : Reply) (after : Standing) : Type 0 where
   pub event : Option Event
-  pub answer : Answers (replay base before.events) script_pass before.clock request reply event
+  pub answer : Answers (authority_under secrets) (replay base before.events) script_pass before.clock request reply event
   pub after_is : after ≡ record before { events = before.events ++ option_to_list event }
 
 -- the line is answered, or there is want of memory in the place of its reply and nothing changes
-pub data IsReplied (base : Base) (before : Standing) (line : List ℕ) : Reply → Standing → Type 0 where
-  answered : (reply : Reply) (after : Standing) → AnswersLine base before line reply after → IsReplied base before line reply after
-  without_memory : IsReplied base before line replies.NoMemory before
+pub data IsReplied (secrets : Secrets) (base : Base) (before : Standing) (line : List ℕ) : Reply → Standing → Type 0 where
+  answered : (reply : Reply) (after : Standing) → AnswersLine secrets base before line reply after → IsReplied secrets base before line reply after
+  without_memory : IsReplied secrets base before line replies.NoMemory before
 
 -- what a line can ask for: a moment for the clock, numbers that can be cited, and a procap for each place of an operation's needs
 abbrev pub IsAllowed : Command → Type 0
 IsAllowed (At second) = IsMoment second
 IsAllowed (As who) = Unit {0}
-IsAllowed (Register statement) = Unit {0}
+IsAllowed (Register signature statement) = Unit {0}
 IsAllowed (Verify goal numbers proof) = AreCitable numbers
 IsAllowed (Check goal numbers proof) = AreCitable numbers
-IsAllowed (Do op procaps) = length procaps ≡ slots op
+IsAllowed (Procap number) = Unit {0}
+IsAllowed (Do op words) = length words ≡ slots op

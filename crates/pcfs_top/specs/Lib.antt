@@ -1,4 +1,5 @@
 pub mod Admin
+pub mod Brought
 pub mod Desk
 pub mod DeskCode
 pub mod Laws

@@ -9,7 +9,8 @@ use Rattle.access_history.specs.declared.reply.Reply.{Reply}
 use Rattle.access_history.specs.Replay.{fresh}
 use Rattle.line_text.specs.Lines.{lines_of}
 use Rattle.line_wire.specs.ReplyText.{output_of}
-use Rattle.pcfs_top.specs.Script.{Standing, IsRun}
+use Rattle.pcfs_top.specs.Script.{Standing, authority_under, IsRun}
+use Rattle.pcfs_secrets.specs.declared.secrets.Secrets.{Secrets}
 use Rattle.access_history.specs.World.{FileTree}
 use Rattle.access_history.specs.Headline.{Headline}
 
@@ -22,32 +23,32 @@ abbrev pub ended : List ℕ → List ℕ
 ended line = line ++ 10 ∷ []
 
 -- the script was run over these bytes: each line of them was answered, and the headline holds of the history and the tree at the end
-pub record RunsWhole (bytes written : List ℕ) : Type 0 where
+pub record RunsWhole (secrets : Secrets) (bytes written : List ℕ) : Type 0 where
   pub answers : List Reply
   pub after : Standing
-  pub run : IsRun fresh (lines_of bytes) answers after
+  pub run : IsRun secrets fresh (lines_of bytes) answers after
   pub tree : FileTree
-  pub headline : Headline fresh after.events tree
+  pub headline : Headline (authority_under secrets) fresh after.events tree
   pub written_is : written ≡ output_of answers
 
 -- the script was run over the first lines of these bytes, and the headline holds of the history and the tree then
-pub record RunsPart (bytes written : List ℕ) : Type 0 where
+pub record RunsPart (secrets : Secrets) (bytes written : List ℕ) : Type 0 where
   pub front : List (List ℕ)
   pub others : List (List ℕ)
   pub parts : lines_of bytes ≡ front ++ others
   pub answers : List Reply
   pub after : Standing
-  pub run : IsRun fresh front answers after
+  pub run : IsRun secrets fresh front answers after
   pub tree : FileTree
-  pub headline : Headline fresh after.events tree
+  pub headline : Headline (authority_under secrets) fresh after.events tree
   pub written_is : written ≡ output_of answers
 
 -- status 0: the input was read to its end, and the output has one line more for each reply of the run over it
-pub record IsDone (left left_after held held_after : Option (List ℕ)) : Type 0 where
+pub record IsDone (secrets : Secrets) (left left_after held held_after : Option (List ℕ)) : Type 0 where
   pub bytes : List ℕ
   pub written : List ℕ
   pub read : ReadsWhole left left_after bytes
-  pub run : RunsWhole bytes written
+  pub run : RunsWhole secrets bytes written
   pub output : held_after ≡ with_back held written
 
 -- one line was written in the place of replies
@@ -55,34 +56,34 @@ abbrev pub Tells : List ℕ → Option (List ℕ) → Option (List ℕ) → Type
 Tells line held held_after = held_after ≡ with_back held (ended line)
 
 -- what was to be written: a last line with its cause, or the replies to the first lines of the input
-pub data IsToWrite (words : List (String Global)) (left left_after : Option (List ℕ)) (read_faults read_faults_after : ℕ) : List ℕ → Type 0 where
-  usage : (IsScript words → ⊥) → left_after ≡ left → IsToWrite words left left_after read_faults read_faults_after (ended (codes "usage"))
-  read_fault : IsScript words → HasRisen read_faults read_faults_after → TakesSome left left_after → IsToWrite words left left_after read_faults read_faults_after (ended (codes "readfault"))
-  too_long : IsScript words → TakesFirst 1073741824 left left_after → IsToWrite words left left_after read_faults read_faults_after (ended (codes "toolong"))
-  replies : (bytes written : List ℕ) → IsScript words → ReadsWhole left left_after bytes → RunsPart bytes written → IsToWrite words left left_after read_faults read_faults_after written
+pub data IsToWrite (secrets : Secrets) (words : List (String Global)) (left left_after : Option (List ℕ)) (read_faults read_faults_after : ℕ) : List ℕ → Type 0 where
+  usage : (IsScript words → ⊥) → left_after ≡ left → IsToWrite secrets words left left_after read_faults read_faults_after (ended (codes "usage"))
+  read_fault : IsScript words → HasRisen read_faults read_faults_after → TakesSome left left_after → IsToWrite secrets words left left_after read_faults read_faults_after (ended (codes "readfault"))
+  too_long : IsScript words → TakesFirst 1073741824 left left_after → IsToWrite secrets words left left_after read_faults read_faults_after (ended (codes "toolong"))
+  replies : (bytes written : List ℕ) → IsScript words → ReadsWhole left left_after bytes → RunsPart secrets bytes written → IsToWrite secrets words left left_after read_faults read_faults_after written
 
 -- a first part of what was to be written was written
-pub record IsCutShort (words : List (String Global)) (left left_after : Option (List ℕ)) (read_faults read_faults_after : ℕ) (held held_after : Option (List ℕ)) : Type 0 where
+pub record IsCutShort (secrets : Secrets) (words : List (String Global)) (left left_after : Option (List ℕ)) (read_faults read_faults_after : ℕ) (held held_after : Option (List ℕ)) : Type 0 where
   pub whole : List ℕ
-  pub to_write : IsToWrite words left left_after read_faults read_faults_after whole
+  pub to_write : IsToWrite secrets words left left_after read_faults read_faults_after whole
   pub output : HoldsSome held held_after whole
 
 -- status 9: before the input was read to its end, and nothing was written; or a first part of the replies was written
-pub data IsOutOfMemory (words : List (String Global)) (left left_after : Option (List ℕ)) (held held_after : Option (List ℕ)) : Type 0 where
-  while_reading : IsScript words → TakesSome left left_after → held_after ≡ held → IsOutOfMemory words left left_after held held_after
-  while_answering : (bytes written : List ℕ) → IsScript words → ReadsWhole left left_after bytes → RunsPart bytes written → HoldsSome held held_after written → IsOutOfMemory words left left_after held held_after
+pub data IsOutOfMemory (secrets : Secrets) (words : List (String Global)) (left left_after : Option (List ℕ)) (held held_after : Option (List ℕ)) : Type 0 where
+  while_reading : IsScript words → TakesSome left left_after → held_after ≡ held → IsOutOfMemory secrets words left left_after held held_after
+  while_answering : (bytes written : List ℕ) → IsScript words → ReadsWhole left left_after bytes → RunsPart secrets bytes written → HoldsSome held held_after written → IsOutOfMemory secrets words left left_after held held_after
 
 -- the status that a run ends with, and its cause
-pub data EndsWith (words : List (String Global)) (left left_after : Option (List ℕ)) (read_faults read_faults_after : ℕ) (held held_after : Option (List ℕ)) (write_faults write_faults_after : ℕ) : ℕ → Type 0 where
-  done : IsScript words → IsDone left left_after held held_after →
-      EndsWith words left left_after read_faults read_faults_after held held_after write_faults write_faults_after 0
+pub data EndsWith (secrets : Secrets) (words : List (String Global)) (left left_after : Option (List ℕ)) (read_faults read_faults_after : ℕ) (held held_after : Option (List ℕ)) (write_faults write_faults_after : ℕ) : ℕ → Type 0 where
+  done : IsScript words → IsDone secrets left left_after held held_after →
+      EndsWith secrets words left left_after read_faults read_faults_after held held_after write_faults write_faults_after 0
   usage : (IsScript words → ⊥) → left_after ≡ left → Tells (codes "usage") held held_after →
-      EndsWith words left left_after read_faults read_faults_after held held_after write_faults write_faults_after 1
+      EndsWith secrets words left left_after read_faults read_faults_after held held_after write_faults write_faults_after 1
   read_fault : IsScript words → HasRisen read_faults read_faults_after → TakesSome left left_after → Tells (codes "readfault") held held_after →
-      EndsWith words left left_after read_faults read_faults_after held held_after write_faults write_faults_after 6
-  write_fault : HasRisen write_faults write_faults_after → IsCutShort words left left_after read_faults read_faults_after held held_after →
-      EndsWith words left left_after read_faults read_faults_after held held_after write_faults write_faults_after 7
-  out_of_memory : IsOutOfMemory words left left_after held held_after →
-      EndsWith words left left_after read_faults read_faults_after held held_after write_faults write_faults_after 9
+      EndsWith secrets words left left_after read_faults read_faults_after held held_after write_faults write_faults_after 6
+  write_fault : HasRisen write_faults write_faults_after → IsCutShort secrets words left left_after read_faults read_faults_after held held_after →
+      EndsWith secrets words left left_after read_faults read_faults_after held held_after write_faults write_faults_after 7
+  out_of_memory : IsOutOfMemory secrets words left left_after held held_after →
+      EndsWith secrets words left left_after read_faults read_faults_after held held_after write_faults write_faults_after 9
   too_long : IsScript words → TakesFirst 1073741824 left left_after → Tells (codes "toolong") held held_after →
-      EndsWith words left left_after read_faults read_faults_after held held_after write_faults write_faults_after 13
+      EndsWith secrets words left left_after read_faults read_faults_after held held_after write_faults write_faults_after 13

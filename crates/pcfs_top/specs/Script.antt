@@ -1,5 +1,5 @@
 -- The run of a script: its lines in order, each answered over the state that the lines before it left (this project's own).
-use Rattle.std.specs.Prelude.{ℕ, ℤ, pos, List, [], ◌∷◌, ◌++◌, Option, Some, Ok, Err, ◌≡◌}
+use Rattle.std.specs.Prelude.{ℕ, ℤ, pos, List, [], ◌∷◌, ◌++◌, Option, Some, None, Ok, Err, ◌≡◌, unwrap_or}
 use Rattle.std.specs.Option.{option_to_list}
 use Rattle.bl_syntax.specs.declared.grant.Goal.{Goal}
 use Rattle.bl_syntax.specs.Statement.{Saying}
@@ -12,6 +12,17 @@ use Rattle.line_wire.specs.declared.command.Command.TheVariants as commands
 use Rattle.access_history.specs.declared.reply.Reply.{Reply}
 use Rattle.access_history.specs.declared.reply.Reply.TheVariants as replies
 use Rattle.access_history.specs.Answer.{Answers}
+use Rattle.access_history.specs.Authority.{Authority, sayings, procap_of}
+use Rattle.access_history.specs.History.{authority_with}
+use Rattle.access_history.specs.Numbered.{IsNumbered}
+use Rattle.access_history.specs.declared.event.Issue.{Issue}
+use Rattle.bl_syntax.specs.FirstFailing.{IsFirstFailing}
+use Rattle.line_wire.specs.declared.command.ProcapWord.{ProcapWord}
+use Rattle.line_wire.specs.declared.command.ProcapWord.TheVariants as brought
+use Rattle.pcfs_secrets.specs.declared.secrets.Secrets.{Secrets}
+use Rattle.policy_statement.specs.Messages.{statement_message}
+use Rattle.policy_statement.specs.Ring.{Key, tag_of}
+use Rattle.procap.specs.declared.procap.Procap.{Procap}
 use Rattle.access_history.specs.Replay.{replay}
 use Rattle.line_wire.specs.Lines.{IsLine}
 use Rattle.line_wire.specs.Forms.{IsFaulty}
@@ -51,36 +62,74 @@ pub record IsProved (statements : List Saying) (goal : Goal) (numbers : List ℕ
   pub found : AreFound statements numbers cites
   pub verdict_is : verdict (statements_of cites) goal proof ≡ Ok g
 
--- how a line is answered, where the events follow this base: the reply, and where the script stands then
-pub data AnswersLine (base : Base) (before : Standing) (line : List ℕ) : Reply → Standing → Type 0 where
-  asks_for_nothing : (reply : Reply) → IsFaulty line reply → AnswersLine base before line reply before
-  sets_clock : (second : ℤ) → IsLine line (commands.At second) → AnswersLine base before line replies.Done (record before { clock = second })
-  sets_caller : (who : List ℕ) → IsLine line (commands.As who) → AnswersLine base before line replies.Done (record before { caller = who })
-  registers : (statement : Saying) (reply : Reply) (event : Option Event) → IsLine line (commands.Register statement) →
-      Answers (replay base before.events) script_pass before.clock (requests.Register statement) reply event →
-      AnswersLine base before line reply (record before { events = before.events ++ option_to_list event })
+-- the authority of these secrets: their key, and what their ring accepts
+abbrev pub authority_under : Secrets → Authority
+authority_under secrets = authority_with secrets.seal_key secrets.ring
+
+-- the signature under which a statement is registered: the one that the line gives, or the tag of its message under the key of who says it. Where that name has no key there is none,
+-- and no bytes stand in its place, which are not accepted
+abbrev pub signature_under : List Key → Saying → Option (List ℕ) → List ℕ
+signature_under ring statement (Some signature) = signature
+signature_under ring statement None = unwrap_or (tag_of ring statement.who (statement_message statement)) []
+
+-- the procap that a word brings: its own, or the one of the issue that it names
+pub data BringsProcap (key : List ℕ) (issues : List Issue) : ProcapWord → Procap → Type 0 where
+  held : (p : Procap) → BringsProcap key issues (brought.Held p) p
+  issued : (number : ℕ) (issue : Issue) → IsNumbered issues number issue → BringsProcap key issues (brought.Issue number) (procap_of key issue.grant)
+
+-- each word brings its procap
+abbrev pub AreBrought : List ℕ → List Issue → List ProcapWord → List Procap → Type 0
+AreBrought key issues [] [] = Unit {0}
+AreBrought key issues [] (p ∷ procaps) = ⊥
+AreBrought key issues (word ∷ words) [] = ⊥
+AreBrought key issues (word ∷ words) (p ∷ procaps) = BringsProcap key issues word p × AreBrought key issues words procaps
+
+-- where the word names an issue, it is there
+abbrev pub NamesIssue : List Issue → ProcapWord → Type 0
+NamesIssue issues (brought.Held p) = Unit {0}
+NamesIssue issues (brought.Issue number) = (issue : Issue) × IsNumbered issues number issue
+
+-- it is the number of the first word that names an issue which is not there
+pub record IsFirstUnissued (issues : List Issue) (words : List ProcapWord) (number : ℕ) : Type 0 where
+  pub place : ℕ
+  pub first : IsFirstFailing (NamesIssue issues) words place (brought.Issue number)
+
+-- how a line is answered, under these secrets, where the events follow this base: the reply, and where the script stands then
+pub data AnswersLine (secrets : Secrets) (base : Base) (before : Standing) (line : List ℕ) : Reply → Standing → Type 0 where
+  asks_for_nothing : (reply : Reply) → IsFaulty line reply → AnswersLine secrets base before line reply before
+  sets_clock : (second : ℤ) → IsLine line (commands.At second) → AnswersLine secrets base before line replies.Done (record before { clock = second })
+  sets_caller : (who : List ℕ) → IsLine line (commands.As who) → AnswersLine secrets base before line replies.Done (record before { caller = who })
+  registers : (signature : Option (List ℕ)) (statement : Saying) (reply : Reply) (event : Option Event) → IsLine line (commands.Register signature statement) →
+      Answers (authority_under secrets) (replay base before.events) script_pass before.clock (requests.Register statement (signature_under secrets.ring statement signature)) reply event →
+      AnswersLine secrets base before line reply (record before { events = before.events ++ option_to_list event })
   verifies_nothing : (goal : Goal) (numbers : List ℕ) (proof : Deduction) (reply : Reply) → IsLine line (commands.Verify goal numbers proof) →
-      IsUnproved (replay base before.events).statements goal numbers proof reply →
-      AnswersLine base before line reply before
+      IsUnproved (sayings (replay base before.events).statements) goal numbers proof reply →
+      AnswersLine secrets base before line reply before
   verifies : (goal : Goal) (numbers : List ℕ) (proof : Deduction) (cites : List Cite) (g : Granted) (reply : Reply) (event : Option Event) → IsLine line (commands.Verify goal numbers proof) →
-      IsProved (replay base before.events).statements goal numbers proof cites g →
-      Answers (replay base before.events) script_pass before.clock (requests.Issue (checking cites goal proof g)) reply event →
-      AnswersLine base before line reply (record before { events = before.events ++ option_to_list event })
+      IsProved (sayings (replay base before.events).statements) goal numbers proof cites g →
+      Answers (authority_under secrets) (replay base before.events) script_pass before.clock (requests.Issue (checking cites goal proof g)) reply event →
+      AnswersLine secrets base before line reply (record before { events = before.events ++ option_to_list event })
   checks_nothing : (goal : Goal) (numbers : List ℕ) (proof : Deduction) (reply : Reply) → IsLine line (commands.Check goal numbers proof) →
-      IsUnproved (replay base before.events).statements goal numbers proof reply →
-      AnswersLine base before line reply before
+      IsUnproved (sayings (replay base before.events).statements) goal numbers proof reply →
+      AnswersLine secrets base before line reply before
   checks : (goal : Goal) (numbers : List ℕ) (proof : Deduction) (cites : List Cite) (g : Granted) → IsLine line (commands.Check goal numbers proof) →
-      IsProved (replay base before.events).statements goal numbers proof cites g →
-      AnswersLine base before line (replies.Checked g) before
-  acts : (op : Op) (procaps : List ℕ) (reply : Reply) (event : Option Event) → IsLine line (commands.Do op procaps) →
-      Answers (replay base before.events) script_pass before.clock (requests.Act before.caller op procaps) reply event →
-      AnswersLine base before line reply (record before { events = before.events ++ option_to_list event })
+      IsProved (sayings (replay base before.events).statements) goal numbers proof cites g →
+      AnswersLine secrets base before line (replies.Checked g) before
+  shows : (number : ℕ) (reply : Reply) (event : Option Event) → IsLine line (commands.Procap number) →
+      Answers (authority_under secrets) (replay base before.events) script_pass before.clock (requests.ShowProcap number None) reply event →
+      AnswersLine secrets base before line reply (record before { events = before.events ++ option_to_list event })
+  acts_under_none : (op : Op) (words : List ProcapWord) (number : ℕ) → IsLine line (commands.Do op words) → IsFirstUnissued (replay base before.events).issues words number →
+      AnswersLine secrets base before line (replies.Absent number) before
+  acts : (op : Op) (words : List ProcapWord) (procaps : List Procap) (reply : Reply) (event : Option Event) → IsLine line (commands.Do op words) →
+      AreBrought secrets.seal_key (replay base before.events).issues words procaps →
+      Answers (authority_under secrets) (replay base before.events) script_pass before.clock (requests.Act before.caller op procaps) reply event →
+      AnswersLine secrets base before line reply (record before { events = before.events ++ option_to_list event })
 
 -- a run of these lines gives these replies, and the script stands there then. In the place of any reply there may be want of memory, and then nothing changes.
 -- (An input is too short for more events than can be numbered.)
-pub data IsRun (base : Base) : List (List ℕ) → List Reply → Standing → Type 0 where
-  begun : IsRun base [] [] beginning
+pub data IsRun (secrets : Secrets) (base : Base) : List (List ℕ) → List Reply → Standing → Type 0 where
+  begun : IsRun secrets base [] [] beginning
   answered : (lines : List (List ℕ)) (answers : List Reply) (line : List ℕ) (reply : Reply) (before after : Standing) →
-      IsRun base lines answers before → AnswersLine base before line reply after → IsRun base (lines ++ line ∷ []) (answers ++ reply ∷ []) after
+      IsRun secrets base lines answers before → AnswersLine secrets base before line reply after → IsRun secrets base (lines ++ line ∷ []) (answers ++ reply ∷ []) after
   without_memory : (lines : List (List ℕ)) (answers : List Reply) (line : List ℕ) (before : Standing) →
-      IsRun base lines answers before → IsRun base (lines ++ line ∷ []) (answers ++ replies.NoMemory ∷ []) before
+      IsRun secrets base lines answers before → IsRun secrets base (lines ++ line ∷ []) (answers ++ replies.NoMemory ∷ []) before

@@ -4,10 +4,12 @@
 //! headline holds.
 #![tactic(auto)]
 
+mod brought;
 mod desk;
 mod laws;
 pub mod run;
 mod script;
+mod signing;
 
 pub use laws::runs_are_lawful;
 pub use script::{ScriptFault, run_script};

@@ -7,6 +7,7 @@ ghost use Rattle.pcfs_top.specs.Run.{IsScript, EndsWith};
 
 use crate::script::{ScriptFault, run_script};
 use pcfs_ports::{Sink, Source, TakeFault, read_to_end, write_all};
+use pcfs_secrets::Secrets;
 use std::alloc::Global;
 use std::sync::Wait;
 use std::thread::Threads;
@@ -50,7 +51,8 @@ fn tell<O: Sink>(output: &mut O, line: &[u8], status: u8) -> u8
     }
 }
 
-/// Runs the program: where its words are the one word `script`, the lines of the input are answered.
+/// Runs the program: where its words are the one word `script`, the lines of the input are answered. Procaps are
+/// sealed under the key of the secrets, and statements are accepted whose signature their ring accepts.
 ///
 /// Answers the status to end with: 0, all is done; 1, the words are others, and the last line is `usage`; 6, the
 /// input failed, and the last line is `readfault`; 7, the output failed, and may lack any of its end; 9, there was no
@@ -59,10 +61,11 @@ pub fn run<R: Threads + Wait + Sync, I: Source, O: Sink>(
     _rt: &R,
     alloc: Global,
     words: &Vec<String>,
+    secrets: &Secrets,
     input: &mut I,
     output: &mut O,
 ) -> u8
-    ensures { EndsWith words.now.items (I.left input.old) (I.left input.new) (I.faults input.old) (I.faults input.new) (O.held output.old) (O.held output.new) (O.faults output.old) (O.faults output.new) result }
+    ensures { EndsWith secrets.now words.now.items (I.left input.old) (I.left input.new) (I.faults input.old) (I.faults input.new) (O.held output.old) (O.held output.new) (O.faults output.old) (O.faults output.new) result }
 {
     if !is_script(words) {
         return tell(output, b"usage\n", USAGE);
@@ -73,7 +76,7 @@ pub fn run<R: Threads + Wait + Sync, I: Source, O: Sink>(
         Err(TakeFault::TooLong) => return tell(output, b"toolong\n", TOO_LONG),
         Err(TakeFault::NoMemory) => return OUT_OF_MEMORY,
     };
-    match run_script(alloc, bytes.as_slice(), output) {
+    match run_script(alloc, secrets, bytes.as_slice(), output) {
         Ok(()) => DONE,
         Err(ScriptFault::Write) => WRITE_FAULT,
         Err(ScriptFault::NoMemory) => OUT_OF_MEMORY,

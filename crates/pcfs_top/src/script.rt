@@ -15,6 +15,7 @@ use bl_syntax::{Bytes, NoMemory};
 use line_text::first_line;
 use line_wire::write_reply;
 use pcfs_ports::{Failed, Sink, write_all};
+use pcfs_secrets::Secrets;
 use std::alloc::Global;
 
 /// Why a script was not run to its end.
@@ -43,14 +44,19 @@ impl From<Failed> for ScriptFault {
 }
 
 // Writes a reply as a line with its end, by way of the buffer.
-fn send<O: Sink>(buffer: &mut Bytes, reply: &Reply, output: &mut O) -> Result<(), ScriptFault>
+fn send<O: Sink>(
+    alloc: Global,
+    buffer: &mut Bytes,
+    reply: &Reply,
+    output: &mut O,
+) -> Result<(), ScriptFault>
     ensures ok { OnOk result (O.held output.new ≡ with_back (O.held output.old) (reply_text reply.now ++ 10 ∷ [])) }
     ensures err { OnErr result (HoldsSome (O.held output.old) (O.held output.new) (reply_text reply.now ++ 10 ∷ [])) }
     ensures risen { IsErrOf result ScriptFault.Write → HasRisen (O.faults output.old) (O.faults output.new) }
     ensures never_falls { O.faults output.old ≤ O.faults output.new }
 {
     buffer.clear();
-    write_reply(buffer, reply)?;
+    write_reply(alloc, buffer, reply)?;
     write_all(output, buffer.as_slice())?;
     Ok(())
 }
@@ -58,14 +64,15 @@ fn send<O: Sink>(buffer: &mut Bytes, reply: &Reply, output: &mut O) -> Result<()
 // Answers each line of the input, from where a script begins.
 fn answer_lines<O: Sink>(
     alloc: Global,
+    secrets: &Secrets,
     desk: &mut Desk,
     input: &[u8],
     output: &mut O,
 ) -> Result<(), ScriptFault>
     requires short { length input.now < 2 ^ 30 }
-    requires fresh { desk.old ≡ record { base = fresh; standing = beginning } }
-    ensures ok { OnOk result ((written : List ℕ) × RunsWhole input.now written × (O.held output.new ≡ with_back (O.held output.old) written)) }
-    ensures err { OnErr result ((written : List ℕ) × RunsPart input.now written × HoldsSome (O.held output.old) (O.held output.new) written) }
+    requires fresh { desk.old ≡ record { secrets = secrets.now; base = fresh; standing = beginning } }
+    ensures ok { OnOk result ((written : List ℕ) × RunsWhole secrets.now input.now written × (O.held output.new ≡ with_back (O.held output.old) written)) }
+    ensures err { OnErr result ((written : List ℕ) × RunsPart secrets.now input.now written × HoldsSome (O.held output.old) (O.held output.new) written) }
     ensures risen { IsErrOf result ScriptFault.Write → HasRisen (O.faults output.old) (O.faults output.new) }
     ensures never_falls { O.faults output.old ≤ O.faults output.new }
 {
@@ -73,24 +80,29 @@ fn answer_lines<O: Sink>(
     let mut rest = input;
     while let Some((line, others)) = first_line(rest) {
         let reply = desk.reply_to(alloc, line);
-        send(&mut buffer, &reply, output)?;
+        send(alloc, &mut buffer, &reply, output)?;
         rest = others;
     }
     Ok(())
 }
 
-/// Runs the script of these lines over a store before its first event, and writes a line for each of them to the
+/// Runs the script of these lines over a store before its first event, under these secrets, and writes a line for each of them to the
 /// output: its reply, or `nomemory` where there was no memory for it, and then nothing changed.
 ///
 /// `Write` comes only where the output's count of faults rose. `NoMemory` comes where there was no memory for the
 /// start, or for the text of a reply. After a fault some first part of the replies was written.
-pub fn run_script<O: Sink>(alloc: Global, input: &[u8], output: &mut O) -> Result<(), ScriptFault>
+pub fn run_script<O: Sink>(
+    alloc: Global,
+    secrets: &Secrets,
+    input: &[u8],
+    output: &mut O,
+) -> Result<(), ScriptFault>
     requires short { length input.now < 2 ^ 30 }
-    ensures ok { OnOk result ((written : List ℕ) × RunsWhole input.now written × (O.held output.new ≡ with_back (O.held output.old) written)) }
-    ensures err { OnErr result ((written : List ℕ) × RunsPart input.now written × HoldsSome (O.held output.old) (O.held output.new) written) }
+    ensures ok { OnOk result ((written : List ℕ) × RunsWhole secrets.now input.now written × (O.held output.new ≡ with_back (O.held output.old) written)) }
+    ensures err { OnErr result ((written : List ℕ) × RunsPart secrets.now input.now written × HoldsSome (O.held output.old) (O.held output.new) written) }
     ensures risen { IsErrOf result ScriptFault.Write → HasRisen (O.faults output.old) (O.faults output.new) }
     ensures never_falls { O.faults output.old ≤ O.faults output.new }
 {
-    let mut desk = Desk::fresh(alloc)?;
-    answer_lines(alloc, &mut desk, input, output)
+    let mut desk = Desk::fresh(alloc, secrets)?;
+    answer_lines(alloc, secrets, &mut desk, input, output)
 }

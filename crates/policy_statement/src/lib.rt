@@ -13,5 +13,5 @@ mod ring;
 mod tests;
 
 pub use messages::{login_message, statement_message};
-pub use registry::{RegisterFault, Registry};
+pub use registry::{RegisterFault, Registered, Registry};
 pub use ring::{KeyFault, Keyring};

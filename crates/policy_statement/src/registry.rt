@@ -39,15 +39,17 @@ impl From<NoMemory> for RegisterFault {
     }
 }
 
-// A statement with its signature, and its digest, by which it is told apart from most others at once.
-#[derive(Drop)]
-struct Entry {
+/// A statement, and the signature with which it was registered.
+///
+/// It keeps the statement's digest, by which it is told apart from most others at once.
+#[derive(Debug, Drop)]
+pub struct Registered {
     statement: Statement,
     signature: Bytes,
     digest: u64,
 }
 
-impl Model for Entry {
+impl Model for Registered {
     ghost use Rattle.std.specs.Prelude.{◌≡◌};
     ghost use Rattle.policy_statement.specs.Digest.{digest_of};
     ghost use Rattle.policy_statement.specs.Registered.{Registered};
@@ -62,19 +64,34 @@ impl Model for Entry {
     ghost invariant = { λ e. e.digest ≡ digest_of e.statement };
 }
 
-impl Entry {
+impl Registered {
     ghost use Rattle.std.specs.Prelude.{◌↔◌, IsTrue};
     ghost use Rattle.policy_statement.specs.Digest.{digest_of};
 
-    fn new(statement: Statement, signature: Bytes) -> Entry
+    /// The statement with this signature. It takes no memory.
+    pub fn new(statement: Statement, signature: Bytes) -> Registered
         ensures { result ≡ record { statement = statement; signature = signature } }
     {
         let digest = digest(&statement);
-        Entry {
+        Registered {
             statement,
             signature,
             digest,
         }
+    }
+
+    /// The statement.
+    pub fn statement(&self) -> &Statement
+        ensures { result.now ≡ self.now.statement }
+    {
+        &self.statement
+    }
+
+    /// The signature with which it was registered.
+    pub fn signature(&self) -> &[u8]
+        ensures { result.now ≡ self.now.signature }
+    {
+        self.signature.as_slice()
     }
 
     // Whether it is the statement with that digest.
@@ -91,7 +108,7 @@ impl Entry {
 /// Contracts see the list of them, and for how many more there is room.
 #[derive(Drop)]
 pub struct Registry {
-    entries: Vec<Entry>,
+    entries: Vec<Registered>,
     // The digests of the statements, in rising order.
     digests: Vec<u64>,
 }
@@ -120,6 +137,14 @@ impl Registry {
             entries: Vec::new(alloc),
             digests: Vec::new(alloc),
         }
+    }
+
+    /// What is registered, by its numbers from 1.
+    pub fn entries(&self) -> &[Registered]
+        ensures same { result.now ≡ self.now.entries }
+        ensures few { length result.now ≤ 4096 }
+    {
+        self.entries.as_slice()
     }
 
     /// Whether the statement may be registered: first its signature has to be accepted from who says it, then no equal
@@ -175,7 +200,7 @@ impl Registry {
         ensures spare { self.new.spare + 1 ≡ self.old.spare }
         ensures number { result ≡ length self.new.entries }
     {
-        let entry = Entry::new(s, signature);
+        let entry = Registered::new(s, signature);
         add_digest(&mut self.digests, entry.digest);
         self.entries.push_reserved(entry);
         self.entries.len() as u32
@@ -208,7 +233,7 @@ impl Registry {
 }
 
 // The place among these of a statement that is the same as one with that digest.
-fn find_among(entries: &[Entry], s: &Statement, known: u64) -> Option<usize>
+fn find_among(entries: &[Registered], s: &Statement, known: u64) -> Option<usize>
     requires { known ≡ digest_of s.now }
     ensures none { IsNone result → IsNew entries.now s.now }
     ensures some { IfSome result (λ place. numbered entries.now (place + 1) ≡ Some s.now) }

@@ -1,7 +1,7 @@
 //! The reader of proofs.
 
 ghost use Rattle.std.specs.Prelude.{◌≡◌, ◌≢◌, ◌<◌, ◌⊎◌, ℕ, true, false, OnOk, IfOk, IfErr};
-ghost use Rattle.proof_term.specs.Proof.{deduction};
+ghost use Rattle.proof_term.specs.Proof.{deduction, exists_r, forall_l, imp_l};
 ghost use Rattle.bl_syntax.specs.Reading.{place};
 ghost use Rattle.proof_term.specs.ProofReading.{Gives, Fails, is_right, is_left, right_rule_at, left_rule_at, interval_at, rule_at, rule_within, premises_at, proof_at, proof_reading};
 ghost use Rattle.proof_term.specs.RuleKinds.{names_terms, one_rule, two_rule, plain_rule, termed_rule};
@@ -16,6 +16,7 @@ use crate::measure::{MOST_LEVELS, MOST_NODES};
 use crate::proof::Proof;
 use crate::rule::Axiom;
 use crate::tree::ProofTree;
+use bl_syntax::Term;
 use bl_syntax::fields::{place, term_at, u16_at};
 use std::alloc::Global;
 
@@ -115,6 +116,7 @@ fn plain_rule_at(start: usize, tag: u8, rest: &[u8]) -> Result<(Plain, &[u8]), P
 }
 
 /// The two times between which an implication is used.
+#[inline(never)]
 fn interval_at(input: usize, h: u16, bytes: &[u8]) -> Result<(Termed, &[u8]), ProofFault>
     ensures { Gives (λ x. (termed_rule x.0, x.1.now)) result (interval_at input h bytes.now) }
 {
@@ -186,17 +188,8 @@ fn tag_within(levels: u8, nodes: u16, input: usize, bytes: &[u8]) -> Result<(u8,
     }
 }
 
-// A proof is large, and a function clears its locals when it begins: so of those that call themselves, only the ones for
-// rules with terms hold a large one.
-
-/// The proof in memory of its own.
-#[inline(never)]
-fn boxed(alloc: Global, p: Proof) -> Result<Box<Proof>, ProofFault>
-    ensures ok { IfOk result (λ b. deduction b.value ≡ deduction p) }
-    ensures err { IfErr result (λ fault. fault ≡ NoMemory) }
-{
-    Ok(Box::new(alloc, p)?)
-}
+// A proof and a term are large, and a function clears its locals when it begins: so those that call themselves hold no
+// proof, and only the ones for rules with terms hold terms.
 
 #[inline(never)]
 fn by_axiom(alloc: Global, r: Axiom) -> Result<Box<Proof>, ProofFault>
@@ -225,6 +218,37 @@ fn by_two(
     ensures err { IfErr result (λ fault. fault ≡ NoMemory) }
 {
     Ok(Box::new(alloc, r.proof(p, q))?)
+}
+
+#[inline(never)]
+fn by_witness(alloc: Global, t: &Term, p: Box<Proof>) -> Result<Box<Proof>, ProofFault>
+    ensures ok { IfOk result (λ b. deduction b.value ≡ exists_r t.now (deduction p.value)) }
+    ensures err { IfErr result (λ fault. fault ≡ NoMemory) }
+{
+    Ok(Box::new(alloc, Proof::ExistsR(*t, p))?)
+}
+
+#[inline(never)]
+fn by_instance(alloc: Global, h: u16, t: &Term, p: Box<Proof>) -> Result<Box<Proof>, ProofFault>
+    ensures ok { IfOk result (λ b. deduction b.value ≡ forall_l h t.now (deduction p.value)) }
+    ensures err { IfErr result (λ fault. fault ≡ NoMemory) }
+{
+    Ok(Box::new(alloc, Proof::ForallL(h, *t, p))?)
+}
+
+#[inline(never)]
+fn by_interval(
+    alloc: Global,
+    h: u16,
+    t1: &Term,
+    t2: &Term,
+    p: Box<Proof>,
+    q: Box<Proof>,
+) -> Result<Box<Proof>, ProofFault>
+    ensures ok { IfOk result (λ b. deduction b.value ≡ imp_l h t1.now t2.now (deduction p.value) (deduction q.value)) }
+    ensures err { IfErr result (λ fault. fault ≡ NoMemory) }
+{
+    Ok(Box::new(alloc, Proof::ImpL(h, *t1, *t2, p, q))?)
 }
 
 /// A proof of at most so many levels and nodes, how many nodes are left, and the bytes behind it.
@@ -337,11 +361,11 @@ fn termed_premises_at<'a>(
 {
     let (p, nodes, rest) = proof_at(alloc, levels, nodes, input, bytes)?;
     match rule {
-        Termed::ExistsR(t) => Ok((boxed(alloc, Proof::ExistsR(*t, p))?, nodes, rest)),
-        Termed::ForallL(h, t) => Ok((boxed(alloc, Proof::ForallL(*h, *t, p))?, nodes, rest)),
+        Termed::ExistsR(t) => Ok((by_witness(alloc, t, p)?, nodes, rest)),
+        Termed::ForallL(h, t) => Ok((by_instance(alloc, *h, t, p)?, nodes, rest)),
         Termed::ImpL(h, t1, t2) => {
             let (q, nodes, rest) = proof_at(alloc, levels, nodes, input, rest)?;
-            Ok((boxed(alloc, Proof::ImpL(*h, *t1, *t2, p, q))?, nodes, rest))
+            Ok((by_interval(alloc, *h, t1, t2, p, q)?, nodes, rest))
         }
     }
 }

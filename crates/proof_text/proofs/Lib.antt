@@ -4,7 +4,9 @@ pub mod LexLemmas
 pub mod PrintedTexts
 pub mod ReadLemmas
 pub mod Reader
+pub mod SentenceLemmas
 pub mod SettledLemmas
 pub mod TermLemmas
 pub mod TextLemmas
+pub mod ViableLemmas
 pub mod WrittenLemmas

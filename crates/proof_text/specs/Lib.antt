@@ -5,6 +5,7 @@ pub mod Printed
 pub mod Proofs
 pub mod Read
 pub mod Rules
+pub mod Sentences
 pub mod Settled
 pub mod Stops
 pub mod Texts

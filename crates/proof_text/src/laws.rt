@@ -1,11 +1,12 @@
 //! Laws of the texts of proofs. A law is the contract of an empty function, which nothing calls.
 
-ghost use Rattle.std.specs.Prelude.{◌≡◌, ℕ, List, Some};
+ghost use Rattle.std.specs.Prelude.{◌≡◌, ◌⊎◌, ℕ, List, Some};
 ghost use Rattle.bl_tokens.specs.declared.faults.TextFault.{TextFault};
 ghost use Rattle.bl_text.specs.Texts.{AreOneFault};
 ghost use Rattle.proof_term.specs.Proof.{Deduction};
 ghost use Rattle.proof_text.specs.Printable.{IsSayableProof};
 ghost use Rattle.proof_text.specs.Printed.{proof_text};
+ghost use Rattle.proof_text.specs.Sentences.{IsViable, IsSentenceText};
 ghost use Rattle.proof_text.specs.Settled.{fault_place, SameUpTo};
 ghost use Rattle.proof_text.specs.Texts.{IsProofText, ProofTextFault};
 
@@ -31,6 +32,23 @@ pub fn one_fault_of_a_proof()
 pub fn settled_fault_of_a_proof()
     ensures { (text other : List ℕ) (e : TextFault) (at : ℕ) → ProofTextFault text e → fault_place e ≡ Some at
         → SameUpTo text other at → ProofTextFault other e }
+{}
+
+/// The words before the place of a fault can be completed to a sentence of the grammar, limits aside.
+/// So no fault is told too late.
+pub fn viable_fault_of_a_proof()
+    ensures { (text : List ℕ) (e : TextFault) → ProofTextFault text e → (e ≡ TextFault.NoMemory) ⊎ IsViable text e }
+{}
+
+/// The words of a proof's text are a sentence of the grammar.
+pub fn sentence_of_a_proof()
+    ensures { (text : List ℕ) (p : Deduction) → IsProofText text p → IsSentenceText text }
+{}
+
+/// A text whose words are a sentence of the grammar is one of a proof, or it is too large.
+pub fn text_of_a_sentence()
+    ensures { (text : List ℕ) → IsSentenceText text
+        → ((p : Deduction) × IsProofText text p) ⊎ ((at : ℕ) × ProofTextFault text (TextFault.TooLarge at)) }
 {}
 
 /// The text that a proof is written as is a text of it.

@@ -3,10 +3,18 @@
 use super::run;
 use bl_syntax::{Bytes, Numbers};
 use pcfs_ports::{MemorySink, MemorySource};
+use pcfs_secrets::Secrets;
 use std::alloc::Global;
 use std::sync::Wait;
 use std::test::Fail;
 use std::thread::Threads;
+
+const SECRETS: &str = "\
+seal 5e
+key admin 01
+key hr 02
+key loc 03
+";
 
 const FIRST_FILE: &str = "\
 at 100
@@ -39,6 +47,14 @@ fn joined(alloc: Global, first: &str, second: &str) -> Result<Bytes, Fail> {
     Ok(text)
 }
 
+// The secrets that this text has.
+fn secrets_of(alloc: Global, text: &str) -> Result<Secrets, Fail> {
+    match Secrets::parse(alloc, text.as_bytes()) {
+        Ok(secrets) => Ok(secrets),
+        Err(_) => Err("a secrets file")?,
+    }
+}
+
 // Runs over an input and an output of which the calls of these numbers fail.
 fn run_over<R: Threads + Wait + Sync + AllocGlobal>(
     rt: &R,
@@ -56,7 +72,8 @@ fn run_over<R: Threads + Wait + Sync + AllocGlobal>(
     let mut input = MemorySource::new(alloc, text, failing_reads);
     let failing_writes = Numbers::from_vec(failing_writes.to_vec(alloc)?);
     let mut output = MemorySink::new(alloc, failing_writes);
-    let status = run(rt, alloc, &given, &mut input, &mut output);
+    let secrets = secrets_of(alloc, SECRETS)?;
+    let status = run(rt, alloc, &given, &secrets, &mut input, &mut output);
     Ok(Outcome { status, output })
 }
 
@@ -101,6 +118,7 @@ verify bob #1 write 1 saysR(claim(0,init(1)))
 verify alice #1 write 2 saysR(claim(0,init(1)))
 do create #1 notes
 do create #1 other @2
+do create #1 other @0
 ";
     let replies = "\
 refused 5 at 3
@@ -108,6 +126,7 @@ unproved 2 2
 absent 2
 bad 9
 absent 2
+absent 0
 ";
     assert!(rt; answers_after_the_first_file(&rt, lines, replies)?);
     Ok(())
@@ -203,6 +222,101 @@ denied 1 file at 3
     Ok(())
 }
 
+// The tags were made by another program: of the grant's bytes under the key of the seal.
+#[test]
+fn a_seal_is_tested_first(rt: HostRuntime) -> Result<(), Fail> {
+    let lines = "\
+procap 1
+do create #1 a 470105616c69636500000000000000010202040100000000000000000606040100000000000000c8006b2e641a499dbf1435042367eaa195839b96fea528f7ec148f09a66abc07cb15
+do create #1 x 470105616c69636500000000000000010202040100000000000000000606040100000000000000c8006b2e641a499dbf1435042367eaa195839b96fea528f7ec148f09a66abc07cb14
+do create #1 x 470105616c69636500000000000000030202040100000000000000000606040100000000000000c8006b2e641a499dbf1435042367eaa195839b96fea528f7ec148f09a66abc07cb15
+as bob
+at 300
+do create #1 x 470105616c69636500000000000000010202040100000000000000000606040100000000000000c8006b2e641a499dbf1435042367eaa195839b96fea528f7ec148f09a66abc07cb14
+do create #1 x 470105616c69636500000000000000010202040100000000000000000606040100000000000000c8006b2e641a499dbf1435042367eaa195839b96fea528f7ec148f09a66abc07cb15
+as alice
+do create #1 x 470105616c69636500000000000000010202040100000000000000000606040100000000000000c8006b2e641a499dbf1435042367eaa195839b96fea528f7ec148f09a66abc07cb15
+do create #1 x 470105616c69636500000000000000010202040100000000000000000606040100000000000000c800
+procap 2
+procap 0
+";
+    let replies = "\
+ok procap 470105616c69636500000000000000010202040100000000000000000606040100000000000000c8006b2e641a499dbf1435042367eaa195839b96fea528f7ec148f09a66abc07cb15
+ok node #3
+denied 1 seal at 4
+denied 1 seal at 4
+ok
+ok
+denied 1 seal at 4
+denied 1 principal at 4
+ok
+denied 1 time 2 ctime <= 200 at 4
+bad 9
+absent 2
+bad 9
+";
+    assert!(rt; answers_after_the_first_file(&rt, lines, replies)?);
+    Ok(())
+}
+
+// Whoever has the key can seal a grant that was never issued: it is admitted. Under another key it is denied.
+#[test]
+fn a_procap_that_was_not_issued_is_admitted_by_its_seal(rt: HostRuntime) -> Result<(), Fail> {
+    let lines = "\
+do create #1 x 470105616c6963650000000000000001020000fa43409f4fab5f975394a0f35ce9c959c669befb454221c266d51f3b0fef71d6
+do create #1 y 470105616c69636500000000000000010200005abfe77a0aa6a855f00f3960e8b768d6d5a24bc63cca5cc1735b2e9c7a2db8ac
+";
+    let replies = "\
+ok node #3
+denied 1 seal at 4
+";
+    assert!(rt; answers_after_the_first_file(&rt, lines, replies)?);
+    Ok(())
+}
+
+#[test]
+fn a_statement_is_rejected_with_its_cause(rt: HostRuntime) -> Result<(), Fail> {
+    let lines = "\
+register - admin says true from 0 to 10
+register - admin says true from 0 to 10
+register 00 admin says true from 0 to 11
+register - zoe says true from 0 to 1
+register 00 zoe says true from 0 to 1
+";
+    let replies = "\
+ok statement 1
+rejected 3 1
+rejected 1
+rejected 1
+rejected 1
+";
+    assert!(rt; answers(&rt, lines, replies)?);
+    Ok(())
+}
+
+// The signatures were made by another program: under the key of admin, and under that of hr.
+#[test]
+fn a_statement_may_bring_its_signature(rt: HostRuntime) -> Result<(), Fail> {
+    let lines = "\
+register 8dd0ba1a52149327708bb877657b83a984dacb65f7a97b22ce5b322804fa843a admin says may(alice,#1,write) from 0 to 200
+register 79c5746f6bfe6c682a7b81d6f6251d8e37c6f84c74eb5d3ed2ff07933e24195f admin says may(alice,#1,write) from 0 to 200
+register 79c5746f6bfe6c682a7b81d6f6251d8e37c6f84c74eb5d3ed2ff07933e24195f admin says may(alice,#1,write) from 0 to 200
+register 79c5746f6bfe6c682a7b81d6f6251d8e37c6f84c74eb5d3ed2ff07933e24195f admin says may(alice,#1,write) from 0 to 201
+register 79c5746f6bfe6c682a7b81d6f6251d8e37c6f84c74eb5d3ed2ff07933e2419 admin says may(alice,#1,write) from 0 to 200
+register - admin says may(alice,#1,write) from 0 to 200
+";
+    let replies = "\
+rejected 1
+ok statement 1
+rejected 3 1
+rejected 1
+rejected 1
+rejected 3 1
+";
+    assert!(rt; answers(&rt, lines, replies)?);
+    Ok(())
+}
+
 #[test]
 fn a_line_of_no_form_is_bad(rt: HostRuntime) -> Result<(), Fail> {
     let lines = "\
@@ -225,7 +339,11 @@ as Alice
 as inf
 as 
 register
-register 00 admin says may(alice,#1,write) from 0 to 200
+register 0 admin says may(alice,#1,write) from 0 to 200
+register  admin says may(alice,#1,write) from 0 to 200
+register -
+procap
+procap 01
 verify alice #1 write 01 saysR(claim(0,init(1)))
 verify alice #1 write 4294967296 saysR(claim(0,init(1)))
 verify alice #1 write 1
@@ -240,6 +358,10 @@ do fly #1
 stop
 ";
     let replies = "\
+bad 9
+bad 9
+bad 9
+bad 9
 bad 9
 bad 9
 bad 9

@@ -206,17 +206,17 @@ pub group-returns-then-depth-ge512-clause-fault : goal.group-returns-then-depth-
 group-returns-then-depth-ge512-clause-fault t c = s.too_deep _ _ _ c.requires.open (lt_false c.args.depth 512 (omega arith))
 
 pub group-returns-in_err-a-clause-fault : goal.group-returns-in_err-a-clause-fault
-group-returns-in_err-a-clause-fault t c = passed c.from_residual.result c.in_err-a.field-0.0 _ (search rules) (s.in_group _ _ _ _ c.requires.open (lt_true c.args.depth 512 (omega arith)) (stops_at c.step.ensures.same c.in_err-a.ensures.fault))
+group-returns-in_err-a-clause-fault t c = passed c.from_residual.result c.in_err-a.field-0.0 _ (search rules) (s.in_group _ _ _ _ c.requires.open (lt_true c.args.depth 512 (omega arith)) (stops_at c.step_into.ensures.same c.in_err-a.ensures.fault))
 
 pub group-returns-in_err-go_behind-clause-fault : goal.group-returns-in_err-go_behind-clause-fault
-group-returns-in_err-go_behind-clause-fault t c = passed c.from_residual-in_err-go_behind.result c.in_err-go_behind.field-0.0 _ (search rules) (s.not_closed _ _ _ _ (formula c.in_ok-a.a.value) _ c.requires.open (lt_true c.args.depth 512 (omega arith)) (is_at c.step.ensures.same c.in_ok-a.ensures.read.is_text) c.in_ok-a.ensures.read.ended c.in_err-go_behind.ensures.value)
+group-returns-in_err-go_behind-clause-fault t c = passed c.from_residual-in_err-go_behind.result c.in_err-go_behind.field-0.0 _ (search rules) (s.not_closed _ _ _ _ (formula c.in_ok-a.a.value) _ c.requires.open (lt_true c.args.depth 512 (omega arith)) (is_at c.step_into.ensures.same c.in_ok-a.ensures.read.is_text) c.in_ok-a.ensures.read.ended c.in_err-go_behind.ensures.value)
 
 pub group-returns-clause-read : goal.group-returns-clause-read
 group-returns-clause-read t c =
     let read = c.in_ok-a.ensures.read in
     record {
-      is_text = g.group _ _ _ _ _ (formula c.in_ok-a.a.value) c.requires.open (lt_true c.args.depth 512 (omega arith)) (is_at c.step.ensures.same read.is_text) c.in_ok-go_behind.ensures.value;
+      is_text = g.group _ _ _ _ _ (formula c.in_ok-a.a.value) c.requires.open (lt_true c.args.depth 512 (omega arith)) (is_at c.step_into.ensures.same read.is_text) c.in_ok-go_behind.ensures.value;
       ended = refl;
-      left = omega (arith, read.left, c.step.ensures.left, c.in_ok-go_behind.ensures.left);
+      left = omega (arith, read.left, c.step_into.ensures.left, c.in_ok-go_behind.ensures.left);
       within = c.in_ok-go_behind.ensures.within;
     }

@@ -1,7 +1,8 @@
 use Rattle.std.proofs.lemmas.Bool.{false≢true}
+use Rattle.access_history.specs.Authority.{sayings}
 use Rattle.op_gate.proofs.CitingLemmas.{IsMoved-at}
 use Rattle.op_gate.proofs.cite.first_moved.Goals as goal
 
 pub returns-then-not-stands : goal.returns-then-not-stands
 returns-then-not-stands c =
-    IsMoved-at c.args.statements.now c.args.cites.now c.loop-cite.cite-index _ c.cite-item.result c.loop-cite-test.true c.cite-item.is c.loop-cite.invariant (λ stands. absurd (false≢true (c.if-not-stands.ensures.1 stands)))
+    IsMoved-at (sayings c.args.statements.now) c.args.cites.now c.loop-cite.cite-index _ c.cite-item.result c.loop-cite-test.true c.cite-item.is c.loop-cite.invariant (λ stands. absurd (false≢true (c.if-not-stands.ensures.1 stands)))

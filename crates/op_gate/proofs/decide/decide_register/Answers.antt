@@ -1,32 +1,29 @@
-use Rattle.std.proofs.Common.{◌≡◌, ◌≤◌, ◌+◌, List, length, refl, subst, sym, Some}
-use Rattle.std.specs.Prelude.{Contains}
-use Rattle.std.specs.List.{slice_get}
-use Rattle.bl_syntax.specs.Statement.{Saying}
+-- What the registry tells is the answer.
+use Rattle.std.proofs.Common.{length, ap, subst, sym}
+use Rattle.std.specs.Prelude.{Ok, Err}
+use Rattle.policy_statement.specs.Messages.{statement_message}
+use Rattle.policy_statement.specs.Registry.{MayRegister}
+use Rattle.policy_statement.specs.Ring.{is_accepted}
 use Rattle.op_gate.specs.declared.decide.Decided.{Decided}
 use Rattle.access_history.specs.declared.request.StepRequest.TheVariants.{Register}
-use Rattle.access_history.specs.History.{state_of}
+use Rattle.access_history.specs.History.{authority_of, state_of}
 use Rattle.op_gate.specs.Decision.{IsDecided}
-use Rattle.access_history.specs.Answer.{duplicate, registry_full}
 use Rattle.op_gate.proofs.Deciding.{registered_decided}
+use Rattle.op_gate.proofs.RegistryLemmas.{MayRegister-shown, new_to_registry, rejected_decided}
 use Rattle.op_gate.proofs.decide.decide_register.Goals as goal
 
-pub returns-in-Some : goal.returns-in-Some
-returns-in-Some c = λ clock.
-    subst (λ (d : Decided). IsDecided (state_of c.args.history.now) c.args.pass clock (Register c.args.statement.now) d.reply d.step) (sym c.told.ensures)
-    (duplicate c.args.statement.now (c.in-Some.place + 1) (record {
-      place = c.in-Some.place;
-      from_one = refl;
-      found = subst (λ (xs : List Saying). slice_get xs c.in-Some.place ≡ Some c.args.statement.now) c.statements-statements.ensures.same c.in-Some.ensures.some;
-    }))
+pub returns-in_ok-registering-in-Ok : goal.returns-in_ok-registering-in-Ok
+returns-in_ok-registering-in-Ok c = λ clock.
+    let state = state_of c.args.history.now in
+    let may : MayRegister (is_accepted c.args.history.now.ring c.args.statement.now.who (statement_message c.args.statement.now) c.args.signature.now) state.statements c.args.statement.now (Ok c.in-Ok.field-0) = MayRegister-shown c.args.history.now.ring c.ring.result.now state.statements c.registry-registry.result.now.entries c.args.statement.now c.args.signature.now c.as_slice.result.now (Ok c.in-Ok.field-0)
+    c.ring.ensures c.as_slice.ensures c.registry-registry.ensures c.in-Ok.ensures in
+    registered_decided (authority_of c.args.history.now) state c.args.pass clock c.args.statement.now c.args.signature.now c.in_ok-registering-in-Ok.field-0 (length c.statements.result.now)
+    may.0 (new_to_registry state.statements c.args.statement.now may.1.0) may.1.1 (ap length c.statements.ensures.same) c.in_ok-registering-in-Ok.ensures.event c.in_ok-registering-in-Ok.ensures.change
 
-pub returns-then-statements-ge-STATEMENT_LIMIT : goal.returns-then-statements-ge-STATEMENT_LIMIT
-returns-then-statements-ge-STATEMENT_LIMIT c = λ clock.
-    subst (λ (d : Decided). IsDecided (state_of c.args.history.now) c.args.pass clock (Register c.args.statement.now) d.reply d.step) (sym c.told-then-statements-ge-STATEMENT_LIMIT.ensures)
-    (registry_full c.args.statement.now
-    (subst (λ (ss : List Saying). Contains ss c.args.statement.now → ⊥) c.statements-statements.ensures.same (c.in_default.ensures.none refl))
-    (subst (λ (ss : List Saying). 4096 ≤ length ss) c.statements-statements.ensures.same c.if-statements-ge-STATEMENT_LIMIT.true))
-
-pub returns : goal.returns
-returns c = λ clock.
-    registered_decided (state_of c.args.history.now) c.args.pass clock c.args.statement.now c.in_ok-copy.field-0 c.in_ok-copy-2.field-0 c.statements-statements.result.now c.in_ok-copy.ensures c.in_ok-copy-2.ensures
-    c.statements-statements.ensures.same (c.in_default.ensures.none refl) c.if-statements-ge-STATEMENT_LIMIT.false
+pub returns-in_ok-rejection-in-Err : goal.returns-in_ok-rejection-in-Err
+returns-in_ok-rejection-in-Err c = λ clock.
+    let state = state_of c.args.history.now in
+    let may : MayRegister (is_accepted c.args.history.now.ring c.args.statement.now.who (statement_message c.args.statement.now) c.args.signature.now) state.statements c.args.statement.now (Err c.in-Err.fault) = MayRegister-shown c.args.history.now.ring c.ring.result.now state.statements c.registry-registry.result.now.entries c.args.statement.now c.args.signature.now c.as_slice.result.now (Err c.in-Err.fault)
+    c.ring.ensures c.as_slice.ensures c.registry-registry.ensures c.in-Err.ensures in
+    subst (λ (d : Decided). IsDecided (authority_of c.args.history.now) state c.args.pass clock (Register c.args.statement.now c.args.signature.now) d.reply d.step) (sym c.told.ensures)
+    (rejected_decided c.args.history.now.key c.args.history.now.ring state c.args.pass clock c.args.statement.now c.args.signature.now c.in-Err.fault c.in_ok-rejection-in-Err.field-0 may c.in_ok-rejection-in-Err.ensures.ok)

@@ -5,8 +5,9 @@ use Rattle.pcfs_top.proofs.script.answer_lines.Given as goal
 
 abbrev pub invariant-loop-line : goal.invariant-loop-line
 invariant-loop-line g l = record {
+  secrets : l.desk.secrets ≡ l.fn.secrets;
   base : l.desk.base ≡ fresh;
-  run : HasRun l.fn.input l.rest l.desk.standing (g.O.Sink.held l.fn.output) (g.O.Sink.held l.output);
+  run : HasRun l.fn.secrets l.fn.input l.rest l.desk.standing (g.O.Sink.held l.fn.output) (g.O.Sink.held l.output);
   never_falls : g.O.Sink.faults l.fn.output ≤ g.O.Sink.faults l.output;
 }
 

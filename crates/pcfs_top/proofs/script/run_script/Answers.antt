@@ -3,4 +3,4 @@ use Rattle.pcfs_top.proofs.Running.{nothing_run}
 use Rattle.pcfs_top.proofs.script.run_script.Goals as goal
 
 pub returns-in_err-desk-clause-err : goal.returns-in_err-desk-clause-err
-returns-in_err-desk-clause-err g c = on_err c.from_residual.result (nothing_run _ _)
+returns-in_err-desk-clause-err g c = on_err c.from_residual.result (nothing_run _ _ _)

@@ -4,5 +4,5 @@ use Rattle.access_history.proofs.history.History.fresh.Goals as goal
 
 pub invariant_of-result : goal.invariant_of-result
 invariant_of-result c = IsKeeping-fresh _ c.in_ok-base.ensures c.new.ensures.items
-    (shown_fresh c.in_ok-base.base c.in_ok-rows.rows.items c.next_number-next.result c.new-2.result.items c.new-3.result.items _ c.in_ok-base.ensures
-    (c.in_ok-rows.ensures.items ∙ c.rows.ensures.same) c.next_number-next.ensures c.new-2.ensures.items c.new-3.ensures.items (first_moment_kept c.in_ok-base.base c.in_ok-base.ensures))
+    (shown_fresh c.in_ok-base.base c.in_ok-rows.rows.items c.next_number-next.result c.new-2.result.entries c.new-3.result.items _ c.in_ok-base.ensures
+    (c.in_ok-rows.ensures.items ∙ c.rows.ensures.same) c.next_number-next.ensures c.new-2.ensures c.new-3.ensures.items (first_moment_kept c.in_ok-base.base c.in_ok-base.ensures))

@@ -7,4 +7,4 @@ pub follow-requires-clause-allowed : goal.follow-requires-clause-allowed
 follow-requires-clause-allowed c = IsAllowed-line c.args.line.now _ (IsLine-read c.args.line.now _ _ c.in-Asks.is c.in_ok-command.ensures)
 
 pub returns-in-Faulty-clause-ok : goal.returns-in-Faulty-clause-ok
-returns-in-Faulty-clause-ok c = AnswersLine-faulty _ _ c.args.line.now _ c.in-Faulty.reply c.in-Faulty.is c.in_ok-command.ensures
+returns-in-Faulty-clause-ok c = AnswersLine-faulty _ _ _ c.args.line.now _ c.in-Faulty.reply c.in-Faulty.is c.in_ok-command.ensures

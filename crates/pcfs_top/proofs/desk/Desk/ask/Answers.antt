@@ -8,4 +8,4 @@ use Rattle.pcfs_top.proofs.desk.Desk.ask.Goals as goal
 
 pub returns-in-Keep-clause-ok : goal.returns-in-Keep-clause-ok
 returns-in-Keep-clause-ok c =
-    IsAsked-keep c.args.self.now _ _ _ _ _ c.decide.new.self c.commit.new.self c.args.request.now c.in-Keep.reply (sym c.self.view_is) c.decide.ensures.events (to_z-of_z w64 c.self.inside.clock (SFits-moment c.self.inside.clock c.self.invariant.0)) c.in-Keep.ensures.answer c.commit.ensures.kept
+    IsAsked-keep c.args.self.now _ _ _ _ _ _ c.decide.new.self c.commit.new.self c.args.request.now c.in-Keep.reply (sym c.self.view_is) c.decide.ensures.events (to_z-of_z w64 c.self.inside.clock (SFits-moment c.self.inside.clock c.self.invariant.0)) c.in-Keep.ensures.answer c.commit.ensures.kept

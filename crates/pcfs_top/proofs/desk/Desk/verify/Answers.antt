@@ -13,7 +13,7 @@ returns-in-Absent-clause-ok c line is =
 pub returns-in-Ok-clause-ok : goal.returns-in-Ok-clause-ok
 returns-in-Ok-clause-ok c =
     IfOk-weaker c.ask.result _ _ (λ reply asked line is.
-    AnswersLine-verify c.args.self.now.base c.args.self.now.standing c.ask.new.self.standing line c.args.goal c.args.numbers.now c.args.proof c.in_ok-number.field-0 c.in-Cited.cites c.in-Ok.checked reply c.in-Cited.is
+    AnswersLine-verify c.args.self.now.secrets c.args.self.now.base c.args.self.now.standing c.ask.new.self.standing line c.args.goal c.args.numbers.now c.args.proof c.in_ok-number.field-0 c.in-Cited.cites c.in-Ok.checked reply c.in-Cited.is
     (Cites-seated _ c.args.self.now c.as_slice.result.now c.args.numbers.now c.in_ok-number.field-0 c.self.view_is c.as_slice.ensures c.in_ok-number.ensures)
     c.in-Ok.ensures.ok c.in-Ok.ensures.granted is asked) c.ask.ensures.ok
 

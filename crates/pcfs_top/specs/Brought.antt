@@ -1,0 +1,20 @@
+-- What the procap words of a line bring, one after the other (this project's own).
+use Rattle.std.specs.Prelude.{◌≡◌, ◌++◌, ℕ, List, Option, Some, None}
+use Rattle.access_history.specs.declared.event.Issue.{Issue}
+use Rattle.access_history.specs.Numbered.{IsNumbered}
+use Rattle.line_wire.specs.declared.command.ProcapWord.{ProcapWord}
+use Rattle.line_wire.specs.declared.command.ProcapWord.TheVariants as words
+use Rattle.pcfs_top.specs.declared.brought.Brought.{Brought}
+use Rattle.pcfs_top.specs.declared.brought.Brought.TheVariants.{Procap, Unissued}
+use Rattle.pcfs_top.specs.Script.{BringsProcap, AreBrought, IsFirstUnissued}
+use Rattle.procap.specs.declared.procap.Procap.{Procap as Sealed}
+
+-- a word brings this procap, or names an issue which is not there
+abbrev pub IsBroughtBy : List ℕ → List Issue → ProcapWord → Brought → Type 0
+IsBroughtBy key issues word (Procap p) = BringsProcap key issues word p
+IsBroughtBy key issues word (Unissued number) = (word ≡ words.Issue number) × ((issue : Issue) → IsNumbered issues number issue → ⊥)
+
+-- the procaps that the words bring were added to those before, or this is the first issue that is not there
+abbrev pub AreAdded : List ℕ → List Issue → List ProcapWord → List Sealed → List Sealed → Option ℕ → Type 0
+AreAdded key issues words before after None = (added : List Sealed) × AreBrought key issues words added × (after ≡ before ++ added)
+AreAdded key issues words before after (Some number) = IsFirstUnissued issues words number
