@@ -3,7 +3,8 @@ use Rattle.std.proofs.Common.{◌≡◌, ◌≢◌, ◌≤◌, ℕ, List, [], �
 use Rattle.std.specs.Prelude.{codes, ◌==◌}
 use Rattle.std.proofs.lemmas.Bool.{false≢true}
 use Rattle.std.proofs.lemmas.Option.{none-some, same_Some}
-use Rattle.line_text.specs.HexWord.{IsHex}
+use Rattle.bl_syntax.specs.Codec.{AreBytes}
+use Rattle.line_text.specs.HexWord.{hex_word, IsHex}
 use Rattle.line_text.proofs.HexLemmas.{IsHex-same, IsHex-all, only_nothing}
 use Rattle.procap.specs.declared.procap.Procap.{Procap}
 use Rattle.procap.specs.Procap.{procap_spelling, IsSpellableProcap}
@@ -48,6 +49,10 @@ IsProcapWord-same (by_number digits m h) other second same k =
     ap Issue (IsNumber-unique h of.1) ∙ sym of.2
 IsProcapWord-same (held word p h) other second same (by_number digits n k) = absurd (no_sign digits (procap_spelling p) (subst (λ w. IsHex w (procap_spelling p)) same h.hex))
 IsProcapWord-same (held word p h) other second same (held w q k) = ap Held (IsHeld-same w p q (subst (λ v. IsHeld v p) same h) k)
+
+-- what is written of a procap gives it
+pub IsProcapWord-shown : (p : Procap) → IsSpellableProcap p → AreBytes (procap_spelling p) → IsProcapWord (hex_word (procap_spelling p)) (Held p)
+IsProcapWord-shown p spelled fits = held (hex_word (procap_spelling p)) p (record { spelled = spelled; hex = record { in_range = fits; word_is = refl } })
 
 pub not_given : {word : List ℕ} {given : ProcapWord} → IsProcapWord word given → ((rest : List ℕ) → word ≢ codes "@" ++ rest) → ((p : Procap) → IsHeld word p → ⊥) → ⊥
 not_given (by_number digits number h) no_sign no_procap = no_sign digits refl
