@@ -26,7 +26,7 @@ brings_issued key issues word number p is of =
     subst (λ (q : Sealed). BringsProcap key issues word q) (sym of.procap_is) (subst (λ (w : ProcapWord). BringsProcap key issues w (procap_of key of.issue.grant)) (sym is) (issued number of.issue of.numbered))
 
 -- a word that brings a procap names no issue that is not there
-NamesIssue-brought : (key : List ℕ) (issues : List Issue) (word : ProcapWord) (p : Sealed) → BringsProcap key issues word p → NamesIssue issues word
+pub NamesIssue-brought : (key : List ℕ) (issues : List Issue) (word : ProcapWord) (p : Sealed) → BringsProcap key issues word p → NamesIssue issues word
 NamesIssue-brought key issues _ _ (held p) = tt
 NamesIssue-brought key issues _ _ (issued number issue numbered) = (issue, numbered)
 

@@ -1,4 +1,5 @@
 pub mod BroughtLemmas
 pub mod Ending
+pub mod OneAnswer
 pub mod RunLemmas
 pub mod Running

@@ -11,5 +11,5 @@ pub mod run;
 mod script;
 mod signing;
 
-pub use laws::runs_are_lawful;
+pub use laws::{lines_have_one_answer, runs_are_lawful};
 pub use script::{ScriptFault, run_script};
