@@ -2,7 +2,7 @@
 -- project's own).
 use Rattle.std.specs.Prelude.{◌≡◌, ℕ, ℤ, List, ◌∷◌, ◌++◌, Contains}
 use Rattle.std.specs.List.{AllByRecursion}
-use Rattle.bl_syntax.specs.Grant.{Granted, HoldsAt}
+use Rattle.bl_syntax.specs.Grant.{HoldsAt}
 use Rattle.bl_rules.specs.Allowed.{Allows}
 use Rattle.access_history.specs.declared.event.Op.{Op}
 use Rattle.access_history.specs.declared.event.Event.{Event}

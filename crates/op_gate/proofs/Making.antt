@@ -1,11 +1,10 @@
 -- The making of a file, over plain values.
-use Rattle.std.proofs.Common.{◌≡◌, ◌≤◌, ◌+◌, ℕ, List, [], ◌∷◌, length, refl, ap, subst, sym, ◌∙◌, None, Some, Option}
+use Rattle.std.proofs.Common.{◌≡◌, ◌+◌, ℕ, List, [], ◌∷◌, refl, ap, subst, sym, ◌∙◌, None, Some, Option}
 use Rattle.std.specs.Prelude.{ℤ}
 use Rattle.bl_syntax.specs.declared.terms.NodeId.{NodeId}
 use Rattle.bl_syntax.specs.declared.terms.Perm.TheVariants.{Write}
 use Rattle.access_history.specs.declared.world.Row.{Row}
 use Rattle.access_history.specs.declared.event.Base.{Base}
-use Rattle.access_history.specs.declared.event.Issue.{Issue}
 use Rattle.access_history.specs.declared.event.Event.{Event}
 use Rattle.access_history.specs.declared.event.Event.TheVariants.{Acted}
 use Rattle.access_history.specs.declared.event.Op.TheVariants.{Create}

@@ -1,13 +1,13 @@
 -- The procap of an issue, over plain values.
-use Rattle.std.proofs.Common.{◌≡◌, ℕ, List, Option, Some, None, refl, sym, ap, subst, ◌∙◌}
+use Rattle.std.proofs.Common.{◌≡◌, ℕ, List, Option, Some, None, sym, ap, subst, ◌∙◌}
 use Rattle.std.specs.Prelude.{ℤ, MatchOption}
 use Rattle.procap.specs.declared.procap.Procap.{Procap}
 use Rattle.access_history.specs.declared.event.Base.{Base}
 use Rattle.access_history.specs.declared.event.Issue.{Issue}
 use Rattle.access_history.specs.declared.reply.Reply.TheVariants as replies
 use Rattle.access_history.specs.declared.request.StepRequest.TheVariants as requests
-use Rattle.access_history.specs.Answer.{Answers, MaySee, IsShown, not_shown, shown}
-use Rattle.access_history.specs.Authority.{Authority, procap_of}
+use Rattle.access_history.specs.Answer.{Answers, MaySee, not_shown, shown}
+use Rattle.access_history.specs.Authority.{Authority}
 use Rattle.access_history.proofs.NumberedLemmas.{numbered_item}
 use Rattle.op_gate.specs.Issued.{HasNone, IsProcapOf}
 

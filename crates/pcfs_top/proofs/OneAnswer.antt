@@ -10,7 +10,6 @@ use Rattle.bl_tokens.specs.declared.faults.TextFault.TheVariants.{NoMemory}
 use Rattle.procap.specs.declared.procap.Procap.{Procap}
 use Rattle.proof_term.specs.Proof.{Deduction}
 use Rattle.proof_verifier.specs.declared.cites.Cite.{Cite}
-use Rattle.proof_verifier.specs.declared.fault.CheckFault.{CheckFault}
 use Rattle.proof_verifier.specs.Cited.{statements_of}
 use Rattle.proof_verifier.specs.Checking.{checking}
 use Rattle.proof_verifier.specs.Verdict.{verdict}
@@ -35,7 +34,7 @@ use Rattle.line_wire.specs.declared.command.ProcapWord.{ProcapWord}
 use Rattle.line_wire.specs.declared.command.ProcapWord.TheVariants as words
 use Rattle.line_wire.specs.Faults.{unproved, bad_text}
 use Rattle.line_wire.specs.Forms.{IsFaulty, outside, faulty_text}
-use Rattle.line_wire.specs.Lines.{IsLine, HasBadText}
+use Rattle.line_wire.specs.Lines.{IsLine}
 use Rattle.line_wire.proofs.OneCommand.{IsLine-unique, command_or_fault, one_bad_text}
 use Rattle.pcfs_secrets.specs.declared.secrets.Secrets.{Secrets}
 use Rattle.pcfs_top.specs.Script.{Standing, authority_under, signature_under, script_pass, BringsProcap, held, issued, NamesIssue, AreBrought, IsFirstUnissued, IsUnproved, cites_none, proves_none, IsProved, AnswersLine}

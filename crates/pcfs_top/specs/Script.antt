@@ -7,7 +7,6 @@ use Rattle.access_history.specs.declared.event.Op.{Op}
 use Rattle.access_history.specs.declared.event.Event.{Event}
 use Rattle.access_history.specs.declared.event.Base.{Base}
 use Rattle.access_history.specs.declared.request.StepRequest.TheVariants as requests
-use Rattle.line_wire.specs.declared.command.Command.{Command}
 use Rattle.line_wire.specs.declared.command.Command.TheVariants as commands
 use Rattle.access_history.specs.declared.reply.Reply.{Reply}
 use Rattle.access_history.specs.declared.reply.Reply.TheVariants as replies

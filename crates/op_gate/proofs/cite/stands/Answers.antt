@@ -1,5 +1,5 @@
 -- The statement that was read is the one that is cited, or not.
-use Rattle.std.proofs.Common.{◌≡◌, subst, sym}
+use Rattle.std.proofs.Common.{◌≡◌, subst}
 use Rattle.std.specs.Prelude.{IsTrue}
 use Rattle.bl_syntax.specs.Statement.{Saying}
 use Rattle.op_gate.proofs.RegistryLemmas.{stands_as_entry}
