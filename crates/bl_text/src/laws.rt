@@ -1,15 +1,17 @@
 //! Laws of the texts. A law is the contract of an empty function, which nothing calls.
 
 ghost use Rattle.std.specs.Prelude.{◌≡◌, ◌⊎◌, ℕ, List};
-ghost use Rattle.bl_syntax.specs.Formula.{Form};
+ghost use Rattle.bl_syntax.specs.Formula.{Form, compare, state};
 ghost use Rattle.bl_syntax.specs.Statement.{Saying, IsStatement};
 ghost use Rattle.bl_tokens.specs.declared.faults.TextFault.{TextFault};
 ghost use Rattle.bl_text.specs.Texts.{IsFormulaText, FormulaFault, IsSayingText, IsStatementText, StatementFault, AreOneFault};
 ghost use Rattle.bl_text.specs.Met.{IsSettled};
-ghost use Rattle.bl_text.specs.Printed.{formula_text, statement_text};
+ghost use Rattle.bl_text.specs.Printed.{constraint_text, state_text, formula_text, statement_text};
 ghost use Rattle.bl_text.specs.Readable.{IsReadable};
 ghost use Rattle.bl_syntax.specs.FormulaSpelling.{IsSpellableStatement};
 ghost use Rattle.bl_syntax.specs.declared.terms.Sort.{Sort};
+ghost use Rattle.bl_syntax.specs.declared.terms.Constraint.{Constraint};
+ghost use Rattle.bl_syntax.specs.declared.terms.StatePred.{StatePred};
 ghost use Rattle.bl_text.specs.Sentences.{IsSentence, IsSentenceText, IsStatementSentence, IsViable};
 
 /// A text is one formula.
@@ -86,6 +88,16 @@ pub fn sayable_text()
 /// What a formula is written as is a text of it.
 pub fn written_formula()
     ensures { (parameters : List Sort) (f : Form) → IsReadable parameters f → IsFormulaText (formula_text 0 f) f }
+{}
+
+/// What a condition on time is written as is a text of it.
+pub fn written_constraint()
+    ensures { (parameters : List Sort) (c : Constraint) → IsReadable parameters (compare c) → IsFormulaText (constraint_text 0 c) (compare c) }
+{}
+
+/// What a condition on the server's state is written as is a text of it.
+pub fn written_state()
+    ensures { (parameters : List Sort) (s : StatePred) → IsReadable parameters (state s) → IsFormulaText (state_text 0 s) (state s) }
 {}
 
 /// What a statement is written as is a text of it.

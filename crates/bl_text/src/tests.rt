@@ -5,9 +5,10 @@ use crate::{
     print_statement,
 };
 use bl_syntax::{
-    Constraint, Formula, NodeId, Perm, Principal, Sequence, Sort, StatePred, Statement, Term, Text,
-    TimePoint, Word,
+    Bytes, Constraint, Formula, NodeId, Perm, Principal, Sequence, Sort, StatePred, Statement,
+    Term, Text, TimePoint, Word,
 };
+use std::alloc::Global;
 use std::test::Fail;
 
 #[test]
@@ -217,6 +218,404 @@ fn faults_of_statements_have_their_places(rt: HostRuntime) {
     ] {
         assert_eq!(rt; fault_of(&rt, text.as_bytes()), Some(want), "{text}");
     }
+}
+
+// Statements with a term, or a predicate, of a wrong sort, at each place that asks for one.
+const WRONG_SORTS: &str = "\
+admin says may(#1,#1,write) from 0 to 1
+admin says may(alice,alice,write) from 0 to 1
+admin says may(alice,#1,#1) from 0 to 1
+admin says may(alice,#1,write,write) from 0 to 1
+admin says owner(alice,alice) from 0 to 1
+admin says owner(#1,#1) from 0 to 1
+admin says owner(#1) from 0 to 1
+admin says has_xattr(alice,\"a\",\"b\") from 0 to 1
+admin says has_xattr(#1,#1,\"b\") from 0 to 1
+admin says has_xattr(#1,\"a\",3) from 0 to 1
+admin says has_xattr(#1,\"a\") from 0 to 1
+admin says in_dir(#1,\"a\") from 0 to 1
+admin says in_dir(alice,#1) from 0 to 1
+admin says in_dir from 0 to 1
+admin says p @ [#1,0] from 0 to 1
+admin says p @ [0,\"a\"] from 0 to 1
+admin says p @ [alice,0] from 0 to 1
+admin says p @ [ctime,0] from 0 to 1
+admin says p @ [0,ctime] from 0 to 1
+admin says \"a\" <= 3 from 0 to 1
+admin says 3 <= read from 0 to 1
+admin says ctime <= 3 from 0 to 1
+admin says 3 <= ctime from 0 to 1
+admin says ?0 <= 3 from 0 to 1
+admin says alice <= 3 from 0 to 1
+admin says forall X:file. X <= 3 from 0 to 1
+admin says forall X:file. 3 <= X from 0 to 1
+admin says forall X:text. p @ [X,0] from 0 to 1
+admin says forall X:time. may(X,#1,read) from 0 to 1
+admin says forall X:time. X says p from 0 to 1
+admin says forall X:principal. p & (exists X:file. X says p) from 0 to 1
+admin says q & (p | may(alice)) from 0 to 1";
+
+// Their faults, by number and place.
+const WRONG_SORTS_FAULTS: &str = "\
+4 11
+4 11
+4 11
+4 11
+4 11
+4 11
+4 11
+4 11
+4 11
+4 11
+4 11
+4 11
+4 11
+4 11
+4 16
+4 18
+4 16
+4 16
+4 18
+4 11
+4 16
+4 11
+4 16
+4 11
+4 11
+4 26
+4 31
+4 31
+4 26
+4 26
+4 51
+4 20
+";
+
+// Statements that end with the token of their fault.
+const AT_THE_END: &str = "\
+admin says p from 0 to
+admin says p from 0 to 1 x
+admin says (p
+admin says p &
+admin
+admin says
+admin says p from 0 to  
+admin says p(K
+admin says forall X:user
+admin says K <=
+admin says p from 0 to 2026-02-30
+admin says p(0000-01-01
+admin says p from 253402300800
+admin says may
+admin says owner(#1)
+admin says p(ctime
+admin says 3 <= a
+admin says p(1,2,3,4,5,6,7,8,9";
+
+// Their faults, by number and place.
+const AT_THE_END_FAULTS: &str = "\
+1 22
+1 25
+1 13
+1 14
+1 5
+1 10
+1 24
+2 13
+2 20
+2 11
+3 23
+3 13
+3 18
+4 11
+4 11
+4 13
+4 16
+5 29
+";
+
+// Statements whose fault stands behind spaces.
+const BEHIND_SPACES: &str = "\
+admin   p
+   K says p from 0 to 1
+admin says p   x from 0 to 1
+admin says p from 0 to 1   x
+admin says p(   K)
+admin says forall X:   user. p
+admin says p from   2026-02-30 to 1
+admin says p from 0 to   0000-01-01
+admin says   may   (alice,#1) from 0 to 1
+admin says   may
+admin says p(   ctime )
+admin says 3   <=   #1
+admin says   #1   <= 3
+admin says p(1,2,3,4,5,6,7,8,   9)
+admin says p  (1,2,3,4,5,6,7,8 ,  9 )";
+
+// Their faults, by number and place.
+const BEHIND_SPACES_FAULTS: &str = "\
+1 8
+1 3
+1 15
+1 27
+2 16
+2 23
+3 20
+3 25
+4 13
+4 13
+4 16
+4 20
+4 13
+5 32
+5 34
+";
+
+// Statements with a date, a time of day or a second that does not exist; and, without a fault, with the last and the first ones that do.
+const DATES: &str = "\
+admin says p from 0000-01-01 to +inf
+admin says p from 2026-00-01 to +inf
+admin says p from 2026-13-01 to +inf
+admin says p from 2026-01-00 to +inf
+admin says p from 2026-01-32 to +inf
+admin says p from 2026-04-31 to +inf
+admin says p from 2026-02-29 to +inf
+admin says p from 1900-02-29 to +inf
+admin says p from 2100-02-29 to +inf
+admin says p from 2026-01-01T24:00:00Z to +inf
+admin says p from 2026-01-01T00:60:00Z to +inf
+admin says p from 2026-01-01T00:00:60Z to +inf
+admin says p from 2026-02-30T00:00:00Z to +inf
+admin says p from 2026-01-01T99:99:99Z to +inf
+admin says p from 253402300800 to +inf
+admin says p from -62135596801 to +inf
+admin says p from 999999999999999999 to +inf
+admin says p from 0 to 2026-04-31
+admin says p(2026-04-31) from 0 to 1
+admin says 0 <= 2026-04-31 from 0 to 1
+admin says p @ [2026-04-31,0] from 0 to 1
+admin says p @ [0,2026-04-31] from 0 to 1
+admin says 2026-04-31 <= 0 from 0 to 1
+admin says p from 2024-02-29 to +inf
+admin says p from 2000-02-29 to +inf
+admin says p from 9999-12-31T23:59:59Z to +inf
+admin says p from 0001-01-01 to +inf
+admin says p from 253402300799 to +inf
+admin says p from -62135596800 to +inf";
+
+// Their faults, by number and place.
+const DATES_FAULTS: &str = "\
+3 18
+3 18
+3 18
+3 18
+3 18
+3 18
+3 18
+3 18
+3 18
+3 18
+3 18
+3 18
+3 18
+3 18
+3 18
+3 18
+3 18
+3 23
+3 13
+3 16
+3 16
+3 18
+3 11
+0 0
+0 0
+0 0
+0 0
+0 0
+0 0
+";
+
+// The number and the place of a fault; twice 0 where there is none.
+fn numbered(fault: Option<TextFault>) -> (u8, usize) {
+    match fault {
+        Some(TextFault::Unexpected(place)) => (1, place),
+        Some(TextFault::UnknownName(place)) => (2, place),
+        Some(TextFault::BadDate(place)) => (3, place),
+        Some(TextFault::Sort(place)) => (4, place),
+        Some(TextFault::TooLarge(place)) => (5, place),
+        _ => (0, 0),
+    }
+}
+
+// The faults of the statements in these lines, a line each.
+fn faults_of(rt: &HostRuntime, texts: &str) -> Result<Bytes, Fail> {
+    let mut out = Bytes::new(rt.alloc());
+    for text in texts.as_bytes().split(|byte| *byte == b'\n') {
+        let (number, place) = numbered(fault_of(rt, text));
+        let line = format!(in rt.alloc(); "{number} {place}\n")?;
+        out.extend(line.as_bytes())?;
+    }
+    Ok(out)
+}
+
+#[test]
+fn each_wrong_sort_is_told(rt: HostRuntime) -> Result<(), Fail> {
+    let faults = faults_of(&rt, WRONG_SORTS)?;
+    assert_eq!(rt; faults.as_slice(), WRONG_SORTS_FAULTS.as_bytes());
+    Ok(())
+}
+
+#[test]
+fn faults_stand_at_the_end(rt: HostRuntime) -> Result<(), Fail> {
+    let faults = faults_of(&rt, AT_THE_END)?;
+    assert_eq!(rt; faults.as_slice(), AT_THE_END_FAULTS.as_bytes());
+    Ok(())
+}
+
+#[test]
+fn faults_stand_behind_spaces(rt: HostRuntime) -> Result<(), Fail> {
+    let faults = faults_of(&rt, BEHIND_SPACES)?;
+    assert_eq!(rt; faults.as_slice(), BEHIND_SPACES_FAULTS.as_bytes());
+    Ok(())
+}
+
+#[test]
+fn dates_exist_in_each_part(rt: HostRuntime) -> Result<(), Fail> {
+    let faults = faults_of(&rt, DATES)?;
+    assert_eq!(rt; faults.as_slice(), DATES_FAULTS.as_bytes());
+    Ok(())
+}
+
+// What stands behind 512 nodes: its first token that is a node is the 513th of the formula, where no lower fault is met at it.
+const FIRST_TOO_MANY: &str = "\
+p
+true
+false
+(forall X:file. p)
+(exists X:file. p)
+alice says p
+p(1)
+3 <= 4
+owner(#1,alice)
+may(alice)
+alice <= 3
+#1 <= 3
+may
+owner
+K <= 3
+K says p
+2026-02-30 <= 3
+]
+forall X:file. p";
+
+// Their faults, by number and place.
+const FIRST_TOO_MANY_FAULTS: &str = "\
+5 523
+5 523
+5 523
+5 524
+5 524
+5 523
+5 523
+5 523
+5 523
+5 523
+5 523
+5 523
+4 523
+4 523
+2 523
+2 523
+3 523
+1 523
+1 523
+";
+
+// What stands behind 510 nodes: its third token that is a node is the 513th of the formula, where no lower fault is met at it.
+const THIRD_TOO_MANY: &str = "\
+p&p
+p|p
+p => p
+p@[0,1]
+p(1,2)
+alice says p
+3 <= 4
+alice says bob says p
+p(1)&p
+p(1)|p
+p(1)=>p
+p(1)@[0,1]
+(exists X:file. bob says p)
+(exists X:time. X <= 3)
+(exists X:file. exists Y:file. exists Z:file. p)
+p(1,ctime)
+p@[#1,0]
+3 <= a
+(exists X:time. #1 <= 3)
+p(1,K)
+p(1,2026-02-30)
+p(1,true)
+p(1) <= 3";
+
+// Their faults, by number and place.
+const THIRD_TOO_MANY_FAULTS: &str = "\
+5 523
+5 523
+5 526
+5 524
+5 525
+5 532
+5 526
+5 532
+5 525
+5 525
+5 525
+5 525
+5 541
+5 539
+5 552
+4 525
+4 524
+4 526
+4 537
+2 525
+3 525
+1 525
+1 526
+";
+
+// A statement in which so many predicates with `&` behind them stand before this.
+fn behind_predicates(alloc: Global, count: u16, text: &[u8]) -> Result<Bytes, Fail> {
+    let mut whole = Bytes::new(alloc);
+    whole.extend(b"admin says ")?;
+    for _ in 0..count {
+        whole.extend(b"p&")?;
+    }
+    whole.extend(text)?;
+    whole.extend(b" from 0 to 1")?;
+    Ok(whole)
+}
+
+// The faults of statements in which so many predicates stand before each of these texts, a line each.
+fn faults_behind(rt: &HostRuntime, count: u16, texts: &str) -> Result<Bytes, Fail> {
+    let mut out = Bytes::new(rt.alloc());
+    for text in texts.as_bytes().split(|byte| *byte == b'\n') {
+        let whole = behind_predicates(rt.alloc(), count, text)?;
+        let (number, place) = numbered(fault_of(rt, whole.as_slice()));
+        let line = format!(in rt.alloc(); "{number} {place}\n")?;
+        out.extend(line.as_bytes())?;
+    }
+    Ok(out)
+}
+
+#[test]
+fn the_513th_node_is_told(rt: HostRuntime) -> Result<(), Fail> {
+    let faults = faults_behind(&rt, 256, FIRST_TOO_MANY)?;
+    assert_eq!(rt; faults.as_slice(), FIRST_TOO_MANY_FAULTS.as_bytes());
+    let faults = faults_behind(&rt, 255, THIRD_TOO_MANY)?;
+    assert_eq!(rt; faults.as_slice(), THIRD_TOO_MANY_FAULTS.as_bytes());
+    Ok(())
 }
 
 #[test]
