@@ -419,17 +419,29 @@ fn each_left_rule_has_its_faults(rt: HostRuntime) -> Result<(), Fail> {
     Ok(())
 }
 
-/// So many predicates `has_xattr(#1,"pcfs.tNN","1")` joined by `&`.
+/// The predicate `has_xattr(#1,"pcfs.tN","1")` for this number of one or two digits.
+fn add_mark(number: u8, bytes: &mut Vec<u8>) -> Result<(), Fail> {
+    if number < 10 {
+        let mut predicate = *b"\x13\x02\0\0\0\0\0\0\0\x01\x05\x07pcfs.t0\x05\x011";
+        predicate[18] = b'0' + number;
+        bytes.extend_from_slice(&predicate)?;
+    } else {
+        let mut predicate = *b"\x13\x02\0\0\0\0\0\0\0\x01\x05\x08pcfs.t00\x05\x011";
+        predicate[18] = b'0' + number / 10;
+        predicate[19] = b'0' + number % 10;
+        bytes.extend_from_slice(&predicate)?;
+    }
+    Ok(())
+}
+
+/// So many predicates `has_xattr(#1,"pcfs.tN","1")`, for N from 1 on, joined by `&`.
 fn marks(alloc: Global, count: u8) -> Result<Vec<u8>, Fail> {
     let mut bytes = Vec::new(alloc);
     for _ in 1..count {
         bytes.push(0x15)?;
     }
-    for mark in 0..count {
-        let mut predicate = *b"\x13\x02\0\0\0\0\0\0\0\x01\x05\x08pcfs.t00\x05\x011";
-        predicate[18] = b'0' + mark / 10;
-        predicate[19] = b'0' + mark % 10;
-        bytes.extend_from_slice(&predicate)?;
+    for number in 1..=count {
+        add_mark(number, &mut bytes)?;
     }
     Ok(bytes)
 }

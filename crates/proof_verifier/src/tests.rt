@@ -262,3 +262,22 @@ fn two_statements_together(rt: HostRuntime) -> Result<(), Fail> {
     }
     Ok(())
 }
+
+#[test]
+fn copies_say_the_same(rt: HostRuntime) -> Result<(), Fail> {
+    let alloc = rt.alloc();
+    let cites = cites_of(alloc, &[MAY_WRITE])?;
+    // saysR(claim(0,init(1)))
+    let (proof, _) = read_proof(alloc, b"\x0b\x1a\x00\x00\x01\x00\x01")?;
+    let checked = match check(alloc, cites.copy(alloc)?, writing()?, proof) {
+        Ok(checked) => checked.copy(alloc)?,
+        Err(_) => Err("a proof")?,
+    };
+    assert!(rt; is_granted(alloc, checked.grant(), Ok(&[AFTER, UNTIL]))?);
+    let again = verify(alloc, checked.cited(), &checked.goal(), checked.proof());
+    match again {
+        Ok(grant) => assert!(rt; is_granted(alloc, &grant, Ok(&[AFTER, UNTIL]))?),
+        Err(_) => Err("the same proof")?,
+    }
+    Ok(())
+}
