@@ -12,6 +12,7 @@ pub mod Reader
 pub mod SaidLemmas
 pub mod SettledLemmas
 pub mod SettledStatement
+pub mod StatementSentences
 pub mod TextLemmas
 pub mod ViableLemmas
 pub mod ViableTexts

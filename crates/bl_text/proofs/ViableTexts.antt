@@ -47,7 +47,7 @@ viable_text {IsOne} {text} {e} v = record {
   sentence = subst (λ ts. IsOne (ts ++ v.others)) (sym (first_between text (length v.ts) 0 512 ∙ v.begins.spelled)) v.sentence;
 }
 
-spelled_text : {IsOne : List Token → Type 0} {text : List ℕ} {place : Here} → Spelled text IsOne (beginning text) place → is_end place.token ≡ true → IsSentenceText IsOne text
+pub spelled_text : {IsOne : List Token → Type 0} {text : List ℕ} {place : Here} → Spelled text IsOne (beginning text) place → is_end place.token ≡ true → IsSentenceText IsOne text
 spelled_text {IsOne} {text} {place} s end = record {
   number = length s.ts;
   sentence = subst IsOne (sym (first_between text (length s.ts) 0 512 ∙ s.reads.spelled)) s.sentence;
@@ -64,7 +64,7 @@ formula_spelled {text} (whole place d end) = spelled_text {IsOne = IsSentence} (
 
 -- ---- statements
 
-word_is : (text : List ℕ) (word : Word) (here place : Here) → word_expected text word here ≡ Ok place → is_word word here.token ≡ true
+pub word_is : (text : List ℕ) (word : Word) (here place : Here) → word_expected text word here ≡ Ok place → is_word word here.token ≡ true
 unfolding word_expected
 word_is text word here place h = (if_ok (is_word word here.token) (Ok (behind text here)) (Unexpected here.at) place h).0
 
@@ -72,10 +72,10 @@ word_errs : (text : List ℕ) (word : Word) (here : Here) → ErrsAt here.at (wo
 unfolding word_expected
 word_errs text word here = if_errs here.at (is_word word here.token) (Ok (behind text here)) (Err (Unexpected here.at)) tt unexpected
 
-reads_word : {text : List ℕ} (word : Word) {here place : Here} → word_expected text word here ≡ Ok place → Reads text here place (here.token ∷ [])
+pub reads_word : {text : List ℕ} (word : Word) {here place : Here} → word_expected text word here ≡ Ok place → Reads text here place (here.token ∷ [])
 reads_word {text} word {here} {place} h = reads_place (word_place text word here place h) (reads_behind text here)
 
-time_is_by : (here : Here) (point : TimePoint) → time_constant here ≡ Ok point → (token : Token) → here.token ≡ token → token ≡ Constant (Time point)
+pub time_is_by : (here : Here) (point : TimePoint) → time_constant here ≡ Ok point → (token : Token) → here.token ≡ token → token ≡ Constant (Time point)
 unfolding time_constant
 time_is_by here point h (Constant (Time found)) is = ap (λ p. Constant (Time p)) (ok_same (sym (timed here found is) ∙ h))
 time_is_by here point h (Constant (Prin name)) is = absurd (untimed here point h (rw is refl))
@@ -121,7 +121,7 @@ pub record OpeningTokens (text : List ℕ) (here place : Here) (who : List ℕ) 
   pub is_says : is_word keywords.Says word ≡ true
   pub reads : Reads text here place (tokens.Name who ∷ word ∷ [])
 
-opening_tokens : (text : List ℕ) (here place : Here) (who : List ℕ) → opening text here ≡ Ok (who, place) → OpeningTokens text here place who
+pub opening_tokens : (text : List ℕ) (here place : Here) (who : List ℕ) → opening text here ≡ Ok (who, place) → OpeningTokens text here place who
 unfolding opening
 opening_tokens text here place who h =
     let name = bind_ok (principal_name here) _ (who, place) h in

@@ -92,3 +92,8 @@ pub fn written_formula()
 pub fn written_statement()
     ensures { (s : Saying) → IsSpellableStatement s → IsStatementText (statement_text s) s }
 {}
+
+/// The tokens of a statement's text are a sentence of the grammar of statements.
+pub fn sentence_of_a_statement()
+    ensures { (text : List ℕ) (s : Saying) → IsStatementText text s → IsSentenceText IsStatementSentence text }
+{}
