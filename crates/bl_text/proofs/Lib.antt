@@ -1,5 +1,7 @@
 pub mod Determined
 pub mod LexedLemmas
+pub mod Outcomes
+pub mod PieceAnswers
 pub mod PieceLemmas
 pub mod PlaceLemmas
 pub mod PrintAtoms

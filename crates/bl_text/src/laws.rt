@@ -1,6 +1,6 @@
 //! Laws of the texts. A law is the contract of an empty function, which nothing calls.
 
-ghost use Rattle.std.specs.Prelude.{◌≡◌, ◌⊎◌, ℕ, List};
+ghost use Rattle.std.specs.Prelude.{◌≡◌, ◌≢◌, ◌⊎◌, ℕ, List};
 ghost use Rattle.bl_syntax.specs.Formula.{Form};
 ghost use Rattle.bl_syntax.specs.Statement.{Saying, IsStatement};
 ghost use Rattle.bl_tokens.specs.declared.faults.TextFault.{TextFault};
@@ -96,4 +96,16 @@ pub fn written_statement()
 /// The tokens of a statement's text are a sentence of the grammar of statements.
 pub fn sentence_of_a_statement()
     ensures { (text : List ℕ) (s : Saying) → IsStatementText text s → IsSentenceText IsStatementSentence text }
+{}
+
+/// Each text is one of a formula or has a fault other than want of memory.
+pub fn formula_or_fault()
+    ensures { (text : List ℕ) → ((f : Form) × IsFormulaText text f)
+        ⊎ ((e : TextFault) × FormulaFault text e × (e ≢ TextFault.NoMemory)) }
+{}
+
+/// Each text is one of a statement or has a fault other than want of memory.
+pub fn statement_or_fault()
+    ensures { (text : List ℕ) → ((s : Saying) × IsStatementText text s)
+        ⊎ ((e : TextFault) × StatementFault text e × (e ≢ TextFault.NoMemory)) }
 {}
