@@ -12,6 +12,8 @@ pub mod PrintedTerms
 pub mod ReadLemmas
 pub mod Reader
 pub mod SaidLemmas
+pub mod SentencePieces
+pub mod SentenceTexts
 pub mod SettledLemmas
 pub mod SettledStatement
 pub mod StatementSentences

@@ -27,7 +27,7 @@ use Rattle.bl_text.proofs.PieceAnswers.{IsOfText, of_text, Any, answered, left_b
 
 -- ---- tests
 
-by_test : {V : Type 0} (b : Bool) → (b ≡ true → V) → (b ≡ false → V) → V
+pub by_test : {V : Type 0} (b : Bool) → (b ≡ true → V) → (b ≡ false → V) → V
 by_test true holds fails = holds refl
 by_test false holds fails = fails refl
 
@@ -188,9 +188,9 @@ disjunction_out text st scope depth here below =
     (λ e h n. stops e (in_first_disjunct scope depth here e h) n)
 
 -- what stands behind a binder is a text of the quantified formula
-quantified : {text : List ℕ} {st : Bool} {scope : List Variable} {depth : ℕ} {here mid place : Here} {name : List ℕ} {s : TermSort} {a : Form} → is_quantifier here.token ≡ true → binder text here ≡ Ok (name, s, mid)
+pub quantified_reads : {text : List ℕ} {st : Bool} {scope : List Variable} {depth : ℕ} {here mid place : Here} {name : List ℕ} {s : TermSort} {a : Form} → is_quantifier here.token ≡ true → binder text here ≡ Ok (name, s, mid)
     → Is text st formula ((name, s) ∷ scope) depth mid place a → (f : Form) × Is text st formula scope depth here place f
-quantified {text} {st} {scope} {depth} {here} {mid} {place} {name} {s} {a} word is d =
+quantified_reads {text} {st} {scope} {depth} {here} {mid} {place} {name} {s} {a} word is d =
     or_parts (is_word keywords.Forall here.token) (is_word keywords.Exists here.token) word
     (λ every. (forall_ s a, for_every scope depth here mid place name s a every is d)) (λ some. (exists_ s a, for_some scope depth here mid place name s a some is d))
 
@@ -199,7 +199,7 @@ formula_out text st scope depth here below =
     by_test (is_quantifier here.token)
     (λ word. answered _ (binder text here) (binder_answers text here)
     (λ v is less. come_out (below formula ((v.0, v.1) ∷ scope) depth v.2 (omega arith))
-    (λ place a d ended left. let all = quantified {name = v.0} {s = v.1} word is d in reads place all.0 all.1 ended (omega arith))
+    (λ place a d ended left. let all = quantified_reads {name = v.0} {s = v.1} word is d in reads place all.0 all.1 ended (omega arith))
     (λ e h n. stops e (in_body scope depth here v.2 v.0 v.1 e word is h) n))
     (λ e is n. stops e (in_binder scope depth here e word is) n))
     (λ none. come_out (below disjunction scope depth here (omega arith))
@@ -235,7 +235,7 @@ formula_or_its_fault text =
     (λ place f d ended left. by_test (is_end place.token) (λ end. inl (f, whole place d end)) (λ more. inr (Unexpected place.at, behind_formula place f d ended more, of_text unexpected)))
     (λ e h n. inr (e, in_formula e h, n))
 
-stated : {text : List ℕ} {s : Saying} → IsSayingText text s → IsStatementText text s
+pub stated : {text : List ℕ} {s : Saying} → IsSayingText text s → IsStatementText text s
 stated h = record { is_text = h; is_statement = statement_said h }
 
 pub statement_or_its_fault : (text : List ℕ) → ((s : Saying) × IsStatementText text s) ⊎ ((e : TextFault) × StatementFault text e × IsOfText e)

@@ -38,13 +38,23 @@ of_text {at} too_large = λ same. (let never : TooLarge at ≡ NoMemory = same i
 abbrev pub Answers : {A : Type 0} → Result A TextFault → (A → Type 0) → Type 0
 Answers r P = MatchResult r P IsOfText
 
-pub answers_then : {A B : Type 0} (P : A → Type 0) (Q : B → Type 0) (r : Result A TextFault) (k : A → Result B TextFault) → Answers r P → ((a : A) → P a → Answers (k a) Q) → Answers (r >>= k) Q
-answers_then P Q (Ok a) k h more = more a h
-answers_then P Q (Err e) k h more = h
+pub chained : {A B : Type 0} (F : TextFault → Type 0) (P : A → Type 0) (Q : B → Type 0) (r : Result A TextFault) (k : A → Result B TextFault) → MatchResult r P F → ((a : A) → P a → MatchResult (k a) Q F) → MatchResult (r >>= k) Q F
+chained F P Q (Ok a) k h more = more a h
+chained F P Q (Err e) k h more = h
+
+pub resolved : {A V : Type 0} (F : TextFault → Type 0) (P : A → Type 0) (r : Result A TextFault) → MatchResult r P F → ((a : A) → r ≡ Ok a → P a → V) → ((e : TextFault) → r ≡ Err e → F e → V) → V
+resolved F P (Ok a) h read stopped = read a refl h
+resolved F P (Err e) h read stopped = stopped e refl h
+
+pub decided : {A : Type 0} (F : TextFault → Type 0) (P : A → Type 0) (b : Bool) (x y : Result A TextFault) → (b ≡ true → MatchResult x P F) → (b ≡ false → MatchResult y P F) → MatchResult (if b then x else y) P F
+decided F P true x y hx hy = hx refl
+decided F P false x y hx hy = hy refl
+
+answers_then : {A B : Type 0} (P : A → Type 0) (Q : B → Type 0) (r : Result A TextFault) (k : A → Result B TextFault) → Answers r P → ((a : A) → P a → Answers (k a) Q) → Answers (r >>= k) Q
+answers_then P Q r k h more = chained IsOfText P Q r k h more
 
 pub answered : {A V : Type 0} (P : A → Type 0) (r : Result A TextFault) → Answers r P → ((a : A) → r ≡ Ok a → P a → V) → ((e : TextFault) → r ≡ Err e → IsOfText e → V) → V
-answered P (Ok a) h read stopped = read a refl h
-answered P (Err e) h read stopped = stopped e refl h
+answered P r h read stopped = resolved IsOfText P r h read stopped
 
 -- of anything
 abbrev pub Any : {A : Type 0} → A → Type 0
@@ -55,8 +65,7 @@ errs_answers at (Ok a) h = tt
 errs_answers at (Err e) h = of_text h
 
 if_answers : {A : Type 0} (P : A → Type 0) (b : Bool) (x y : Result A TextFault) → (b ≡ true → Answers x P) → (b ≡ false → Answers y P) → Answers (if b then x else y) P
-if_answers P true x y hx hy = hx refl
-if_answers P false x y hx hy = hy refl
+if_answers P b x y hx hy = decided IsOfText P b x y hx hy
 
 -- ---- the nodes that are left
 

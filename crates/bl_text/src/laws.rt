@@ -109,3 +109,17 @@ pub fn statement_or_fault()
     ensures { (text : List ℕ) → ((s : Saying) × IsStatementText text s)
         ⊎ ((e : TextFault) × StatementFault text e × (e ≢ TextFault.NoMemory)) }
 {}
+
+/// A text whose tokens are a sentence of the grammar is one of a formula, or it has a fault of sorts
+/// or one of size.
+pub fn formula_of_a_sentence()
+    ensures { (text : List ℕ) → IsSentenceText IsSentence text → ((f : Form) × IsFormulaText text f)
+        ⊎ ((at : ℕ) × (FormulaFault text (TextFault.Sort at) ⊎ FormulaFault text (TextFault.TooLarge at))) }
+{}
+
+/// A text whose tokens are a sentence of the grammar of statements is one of a statement, or it has a
+/// fault of sorts or one of size.
+pub fn statement_of_a_sentence()
+    ensures { (text : List ℕ) → IsSentenceText IsStatementSentence text → ((s : Saying) × IsStatementText text s)
+        ⊎ ((at : ℕ) × (StatementFault text (TextFault.Sort at) ⊎ StatementFault text (TextFault.TooLarge at))) }
+{}
