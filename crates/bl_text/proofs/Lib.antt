@@ -1,4 +1,5 @@
 pub mod Determined
+pub mod ExactLemmas
 pub mod LexedLemmas
 pub mod Outcomes
 pub mod PieceAnswers

@@ -5,12 +5,12 @@ ghost use Rattle.bl_syntax.specs.Formula.{Form};
 ghost use Rattle.bl_syntax.specs.Statement.{Saying, IsStatement};
 ghost use Rattle.bl_tokens.specs.declared.faults.TextFault.{TextFault};
 ghost use Rattle.bl_text.specs.Texts.{IsFormulaText, FormulaFault, IsSayingText, IsStatementText, StatementFault, AreOneFault};
-ghost use Rattle.bl_text.specs.Met.{IsSettled};
+ghost use Rattle.bl_text.specs.Exact.{IsExact};
 ghost use Rattle.bl_text.specs.Printed.{formula_text, statement_text};
 ghost use Rattle.bl_text.specs.Readable.{IsReadable};
 ghost use Rattle.bl_syntax.specs.FormulaSpelling.{IsSpellableStatement};
 ghost use Rattle.bl_syntax.specs.declared.terms.Sort.{Sort};
-ghost use Rattle.bl_text.specs.Sentences.{IsSentence, IsSentenceText, IsStatementSentence, IsViable};
+ghost use Rattle.bl_text.specs.Sentences.{IsSentence, IsSentenceText, IsStatementSentence};
 
 /// A text is one formula.
 pub fn one_formula()
@@ -46,18 +46,14 @@ pub fn one_fault_of_a_statement()
         → AreOneFault e f }
 {}
 
-/// The first fault of a text of no formula is met at the token at its place, or where arguments
-/// are wrong, at the predicate's `)`. What stands behind the next token does not matter.
-pub fn settled_fault_of_a_formula()
+/// The place of the first fault of a text of no formula is exact. It is met at one token: the one at
+/// its place, or where a predicate's arguments are wrong, the predicate's `)`. The tokens before that
+/// one can be completed to a sentence of the grammar, which asks for no sorts and no number of
+/// arguments and has no limits: so no fault is told too late. Each text with the same tokens up to
+/// that one, and the same next token, has the fault too: so none is told too early.
+pub fn exact_fault_of_a_formula()
     ensures { (text : List ℕ) (e : TextFault) → FormulaFault text e
-        → (e ≡ TextFault.NoMemory) ⊎ IsSettled FormulaFault text e }
-{}
-
-/// The tokens before the one at which a formula's fault is met can be completed to a sentence of
-/// the grammar, sorts and limits aside. So no fault is told too late.
-pub fn viable_fault_of_a_formula()
-    ensures { (text : List ℕ) (e : TextFault) → FormulaFault text e
-        → (e ≡ TextFault.NoMemory) ⊎ IsViable IsSentence text e }
+        → (e ≡ TextFault.NoMemory) ⊎ IsExact FormulaFault IsSentence text e }
 {}
 
 /// The tokens of a formula's text are a sentence of the grammar.
@@ -65,16 +61,10 @@ pub fn sentence_of_a_formula()
     ensures { (text : List ℕ) (f : Form) → IsFormulaText text f → IsSentenceText IsSentence text }
 {}
 
-/// The first fault of a text of no statement is met likewise.
-pub fn settled_fault_of_a_statement()
+/// The place of the first fault of a text of no statement is exact likewise.
+pub fn exact_fault_of_a_statement()
     ensures { (text : List ℕ) (e : TextFault) → StatementFault text e
-        → (e ≡ TextFault.NoMemory) ⊎ IsSettled StatementFault text e }
-{}
-
-/// The tokens before the one at which a statement's fault is met can be completed likewise.
-pub fn viable_fault_of_a_statement()
-    ensures { (text : List ℕ) (e : TextFault) → StatementFault text e
-        → (e ≡ TextFault.NoMemory) ⊎ IsViable IsStatementSentence text e }
+        → (e ≡ TextFault.NoMemory) ⊎ IsExact StatementFault IsStatementSentence text e }
 {}
 
 /// What a text of the grammar of statements says may be said: it is closed and well sorted, within
