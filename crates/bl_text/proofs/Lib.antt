@@ -1,5 +1,8 @@
 pub mod Determined
+pub mod ExactLemmas
 pub mod LexedLemmas
+pub mod Outcomes
+pub mod PieceAnswers
 pub mod PieceLemmas
 pub mod PlaceLemmas
 pub mod PrintAtoms
@@ -10,8 +13,11 @@ pub mod PrintedTerms
 pub mod ReadLemmas
 pub mod Reader
 pub mod SaidLemmas
+pub mod SentencePieces
+pub mod SentenceTexts
 pub mod SettledLemmas
 pub mod SettledStatement
+pub mod StatementSentences
 pub mod TextLemmas
 pub mod ViableLemmas
 pub mod ViableTexts

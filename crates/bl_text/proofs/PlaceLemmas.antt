@@ -21,7 +21,7 @@ drop_none : (n : ℕ) → ◌≡◌ {A = List ℕ} (drop n []) []
 drop_none zero = refl
 drop_none (suc n) = refl
 
-drop_plus : (k n : ℕ) (xs : List ℕ) → drop (k + n) xs ≡ drop n (drop k xs)
+pub drop_plus : (k n : ℕ) (xs : List ℕ) → drop (k + n) xs ≡ drop n (drop k xs)
 drop_plus zero n xs = let same : 0 + n ≡ n = omega arith in ap (λ m. drop m xs) same
 drop_plus (suc k) n [] = drop_none (suc k + n) ∙ sym (ap (λ (xs : List ℕ). drop n xs) (drop_none (suc k)) ∙ drop_none n)
 drop_plus (suc k) n (x ∷ xs) = let same : suc k + n ≡ suc (k + n) = omega arith in ap (λ m. drop m (x ∷ xs)) same ∙ drop_plus k n xs

@@ -1,11 +1,10 @@
--- A text of a formula, and a fault, depend on the tokens that are read, and a fault on the next one as well.
+-- A text of a formula depends on the tokens that are read.
 use Rattle.std.proofs.Common.{◌≡◌, ℕ, zero, suc, ◌+◌, ◌-◌, Bool, true, false, List, [], ◌∷◌, ◌++◌, length, refl, sym, ap, ◌∙◌, subst, arith, Result, Ok, Err, ◌⊎◌, inl, inr}
 use Rattle.std.specs.Prelude.{◌<◌, ◌&&◌, if◌then◌else◌}
 use Rattle.std.proofs.lemmas.Bool.{false≢true, cases_lt}
 use Rattle.bl_syntax.specs.declared.terms.Sort.{Sort as TermSort}
 use Rattle.bl_syntax.specs.declared.terms.Term.{Term}
 use Rattle.bl_syntax.specs.Formula.{Form}
-use Rattle.bl_syntax.specs.Names.{is_predicate_name}
 use Rattle.bl_tokens.specs.declared.faults.TextFault.{TextFault}
 use Rattle.bl_tokens.specs.declared.faults.TextFault.TheVariants.{Unexpected, Sort, NoMemory}
 use Rattle.bl_tokens.specs.declared.tokens.Sign.{Sign as Sign'}
@@ -16,16 +15,14 @@ use Rattle.bl_tokens.specs.declared.tokens.Token.TheVariants as tokens
 use Rattle.bl_tokens.specs.declared.tokens.Here.{Here}
 use Rattle.bl_tokens.specs.Tokens.{token_from, behind, behind_node, is_sign}
 use Rattle.bl_text.specs.Scope.{Variable}
-use Rattle.bl_text.specs.Pieces.{◌>>=◌, count, expected, term_of, argument, next_argument, interval, binder, speaker, applied, simple}
+use Rattle.bl_text.specs.Pieces.{◌>>=◌, count, expected, term_of, argument, next_argument, interval, binder, speaker, simple}
 use Rattle.bl_text.specs.Grammar.{Level, is_saying, is_call, is_call_token, AreArguments, one, further, IsCall, call, Is, for_every, for_some, implication, one_disjunction, or_further, one_conjunction, and_further, one_unary, saying, one_postfix, on_interval, one_primary, group, called, one_simple}
-use Rattle.bl_text.specs.Stops.{ArgumentsStop, no_memory_for_arguments, in_first_argument, in_argument, CallStops, at_name, in_arguments, before_close, by_sorts, Stops, no_memory, in_binder, in_body, in_premise, at_implies, in_conclusion, in_first_disjunct, at_or, in_disjunct, in_first_conjunct, at_and, in_conjunct, in_speaker, in_said, in_postfix, in_primary, in_interval, too_deep, in_group, not_closed, in_call, in_simple}
-use Rattle.bl_text.specs.Texts.{beginning, FormulaFault, in_formula, behind_formula}
-use Rattle.bl_text.specs.FirstTokens.{token_number, SameTokens}
-use Rattle.bl_text.specs.Met.{IsAt, unexpected, too_large, IsCallOf, IsMetAt, at_close, IsSettled}
+use Rattle.bl_text.specs.Stops.{ArgumentsStop}
+use Rattle.bl_text.specs.Met.{IsAt, IsCallOf}
 use Rattle.bl_text.proofs.Determined.{other_sign}
-use Rattle.bl_text.proofs.ReadLemmas.{expected-Ok, is_at, stops_at}
-use Rattle.bl_text.proofs.Walk.{bare, bare_token, one_token, walk, walk_number, walk_from, tokens_from, Local, local_with, local_goes, local_then, local_peeks, Met, met_with, met_after, met_here, met_peeks, met_shifted, ErrsAt, read_piece, stopped_piece, local_piece}
-use Rattle.bl_text.proofs.PieceLemmas.{count_errs, argument_errs, next_argument_errs, Unsorted, applied_unsorted, interval_place, piece_interval, binder_place, piece_binder, speaker_place, piece_speaker, form_place, piece_simple, piece_expected}
+use Rattle.bl_text.proofs.ReadLemmas.{expected-Ok, is_at}
+use Rattle.bl_text.proofs.Walk.{bare, bare_token, walk, walk_from, tokens_from, Local, local_with, local_goes, local_then, local_peeks, Met, met_with, met_after, met_here, ErrsAt, read_piece, stopped_piece, local_piece}
+use Rattle.bl_text.proofs.PieceLemmas.{count_errs, Unsorted, interval_place, piece_interval, binder_place, piece_binder, speaker_place, piece_speaker, form_place, piece_simple, piece_expected}
 
 pub bind_ok : {A B : Type 0} (r : Result A TextFault) (k : A → Result B TextFault) (b : B) → (r >>= k) ≡ Ok b → (a : A) × ((r ≡ Ok a) × (k a ≡ Ok b))
 bind_ok (Ok a) k b h = (a, (refl, h))
@@ -53,7 +50,7 @@ local_expected {text} sign {here} {there} h =
     local_with (λ o p. sym (bind_pure (expected o sign here)) ∙ p)
     (local_piece (read_piece text here 0 (λ place. place) (λ o. expected o sign here >>= (λ place. Ok place)) (piece_expected text sign here) (bind_pure (expected text sign here) ∙ h)))
 
-met_expected : {text : List ℕ} (sign : Sign') {here : Here} {e : TextFault} → expected text sign here ≡ Err e → Met text here e (λ o. expected o sign here ≡ Err e)
+pub met_expected : {text : List ℕ} (sign : Sign') {here : Here} {e : TextFault} → expected text sign here ≡ Err e → Met text here e (λ o. expected o sign here ≡ Err e)
 met_expected {text} sign {here} {e} h =
     met_with (λ o p. sym (bind_pure (expected o sign here)) ∙ p)
     (stopped_piece text here 0 (λ place. place) (λ o. expected o sign here >>= (λ place. Ok place)) (piece_expected text sign here) (bind_pure (expected text sign here) ∙ h))
@@ -129,7 +126,7 @@ further_local text st scope is_atom here mid terms t args comma h = record {
       (two_inside text mid mid.left (other_sign signs.Comma signs.Close mid.token comma refl) (next_argument_no_sign st scope is_atom (length terms) (behind text mid) signs.Close t h));
 }
 
-arguments_local : {text : List ℕ} {st : Bool} {scope : List Variable} {is_atom : Bool} {here there : Here} {terms : List Term} → AreArguments text st scope is_atom here there terms → LocalArguments text st scope is_atom here there terms
+pub arguments_local : {text : List ℕ} {st : Bool} {scope : List Variable} {is_atom : Bool} {here there : Here} {terms : List Term} → AreArguments text st scope is_atom here there terms → LocalArguments text st scope is_atom here there terms
 arguments_local {text} {st} {scope} {is_atom} {here} (one t h) = one_local text st scope is_atom here t h
 arguments_local {text} {st} {scope} {is_atom} {here} (further mid place terms t args comma h) =
     let found = expected_ok text signs.Comma mid place comma in
@@ -144,27 +141,20 @@ pub or_met : {e : TextFault} {A B : Type 0} → OrMemory e A → (A → B) → O
 or_met (inl none) f = inl none
 or_met (inr a) f = inr (f a)
 
-met_arguments : {text : List ℕ} {st : Bool} {scope : List Variable} {is_atom : Bool} {here : Here} {e : TextFault} → ArgumentsStop text st scope is_atom here e → OrMemory e (Met text here e (λ o. ArgumentsStop o st scope is_atom here e))
-met_arguments no_memory_for_arguments = inl refl
-met_arguments {text} {st} {scope} {is_atom} {here} (in_first_argument e h) = inr (met_here (errs_is (argument_errs st scope here) h) (λ o. in_first_argument e h))
-met_arguments {text} {st} {scope} {is_atom} {here} (in_argument mid place terms e args comma h) =
-    inr (met_with (λ o p. in_argument mid place terms e p.0.0 p.0.1 h)
-    (met_after (local_then (arguments_local args).local (local_expected signs.Comma comma)) (met_here {P = λ o. Unit {0}} (errs_is (next_argument_errs st scope is_atom (length terms) place) h) (λ o. tt))))
-
 -- ---- calls
 
-call_start : (text : List ℕ) (here : Here) → Local text here (behind text (behind_node text here)) (λ o. behind o (behind_node o here) ≡ behind text (behind_node text here))
+pub call_start : (text : List ℕ) (here : Here) → Local text here (behind text (behind_node text here)) (λ o. behind o (behind_node o here) ≡ behind text (behind_node text here))
 unfolding behind behind_node
 call_start text here =
     local_with (λ o p. ap (λ (h : Here). token_from o h.end h.left) p.0 ∙ p.1) (local_then (local_goes text here (here.left - 1)) (local_goes text (behind_node text here) (behind_node text here).left))
 
-arguments_at : {text : List ℕ} {st : Bool} {scope : List Variable} {is_atom : Bool} {here here' there : Here} {terms : List Term} → here ≡ here' → AreArguments text st scope is_atom here there terms → AreArguments text st scope is_atom here' there terms
+pub arguments_at : {text : List ℕ} {st : Bool} {scope : List Variable} {is_atom : Bool} {here here' there : Here} {terms : List Term} → here ≡ here' → AreArguments text st scope is_atom here there terms → AreArguments text st scope is_atom here' there terms
 arguments_at {text} {st} {scope} {is_atom} {here} {here'} {there} {terms} same h = subst (λ (p : Here). AreArguments text st scope is_atom p there terms) same h
 
-arguments_stop_at : {text : List ℕ} {st : Bool} {scope : List Variable} {is_atom : Bool} {here here' : Here} {e : TextFault} → here ≡ here' → ArgumentsStop text st scope is_atom here e → ArgumentsStop text st scope is_atom here' e
+pub arguments_stop_at : {text : List ℕ} {st : Bool} {scope : List Variable} {is_atom : Bool} {here here' : Here} {e : TextFault} → here ≡ here' → ArgumentsStop text st scope is_atom here e → ArgumentsStop text st scope is_atom here' e
 arguments_stop_at {text} {st} {scope} {is_atom} {here} {here'} {e} same h = subst (λ (p : Here). ArgumentsStop text st scope is_atom p e) same h
 
-local_call : {text : List ℕ} {st : Bool} {scope : List Variable} {here there : Here} {f : Form} → IsCall text st scope here there f → Local text here there (λ o. IsCall o st scope here there f)
+pub local_call : {text : List ℕ} {st : Bool} {scope : List Variable} {here there : Here} {f : Form} → IsCall text st scope here there f → Local text here there (λ o. IsCall o st scope here there f)
 local_call {text} {st} {scope} {here} {there} {f} (call name mid _ terms _ is room args close fits) =
     local_with (λ o p. call name mid there terms f is room (arguments_at (sym p.0) p.1.0) p.1.1 fits) (local_then (call_start text here) (local_then (arguments_local args).local (local_expected signs.Close close)))
 
@@ -217,46 +207,23 @@ call_met text {here} mid name n is opened reach inside closed = record {
 pub unsorted_is : {A : Type 0} {at : ℕ} {r : Result A TextFault} {e : TextFault} → Unsorted at r → r ≡ Err e → e ≡ Sort at
 unsorted_is {at = at} h is = subst (λ r'. Unsorted at r') is h
 
-met_by_sorts : {text : List ℕ} {st : Bool} {scope : List Variable} {here mid place : Here} {terms : List Term} {e : TextFault} (name : List ℕ) → here.token ≡ tokens.Name name → count here ≡ Ok tt → is_sign signs.Open (behind_node text here).token ≡ true
-    → LocalArguments text st scope (is_predicate_name name) (behind text (behind_node text here)) mid terms → expected text signs.Close mid ≡ Ok place → applied scope here.at name terms ≡ Err e → Met text here e (λ o. CallStops o st scope here e)
-unfolding call_start local_with local_goes local_then behind
-met_by_sorts {text} {st} {scope} {here} {mid} {place} {terms} {e} name is room opened args close wrong = record {
-  steps = 2 + args.local.steps;
-  met = subst (λ e'. IsMetAt (tokens_from text here) (2 + args.local.steps) e') (sym (unsorted_is (applied_unsorted scope here.at name terms) wrong)) (at_close 0 (call_met text mid name args.local.steps is opened args.local.reach args.inside (expected_ok text signs.Close mid place close).0));
-  holds = λ o same. (let n : 2 + args.local.steps + 1 ≡ 1 + 1 + (args.local.steps + 1) = omega arith in
-      let all = local_then (call_start text here) (local_then args.local (local_goes text mid mid.left)) in
-      let p = all.holds o (subst (λ m. SameTokens text o m here.end) n same) in
-      let found = expected_ok text signs.Close mid place close in
-      by_sorts name mid place terms e is room (arguments_at (sym p.0) p.1.0) (expected-Ok o signs.Close mid found.0 ∙ ap Ok (p.1.1 ∙ sym found.1)) wrong);
-}
-
-met_call : {text : List ℕ} {st : Bool} {scope : List Variable} {here : Here} {e : TextFault} → is_call text here ≡ true → CallStops text st scope here e → OrMemory e (Met text here e (λ o. CallStops o st scope here e))
-met_call {text} {st} {scope} {here} calls (at_name e full) = inr (met_here (errs_is (count_errs here) full) (λ o. at_name e full))
-met_call {text} {st} {scope} {here} calls (in_arguments name e is room stop) =
-    or_met (met_arguments stop) (λ m. met_with (λ o p. in_arguments name e is room (arguments_stop_at (sym p.0) p.1)) (met_after (call_start text here) m))
-met_call {text} {st} {scope} {here} calls (before_close name mid terms e is room args no_comma close) =
-    inr (met_with (λ o p. before_close name mid terms e is room (arguments_at (sym p.0) p.1.0) no_comma p.1.1)
-    (met_after (call_start text here) (met_after (arguments_local args).local (met_expected signs.Close close))))
-met_call {text} {st} {scope} {here} calls (by_sorts name mid place terms e is room args close wrong) =
-    inr (met_by_sorts name is room (call_opened text here calls) (arguments_local args) close wrong)
-
 -- ---- formulas
 
-saying_same : (text other : List ℕ) (here : Here) {b : Bool} → token_from other here.end (here.left - 1) ≡ token_from text here.end (here.left - 1) → is_saying text here ≡ b → is_saying other here ≡ b
+pub saying_same : (text other : List ℕ) (here : Here) {b : Bool} → token_from other here.end (here.left - 1) ≡ token_from text here.end (here.left - 1) → is_saying text here ≡ b → is_saying other here ≡ b
 unfolding is_saying behind_node
 saying_same text other here same h = rw same h
 
-call_same : (text other : List ℕ) (here : Here) {b : Bool} → token_from other here.end (here.left - 1) ≡ token_from text here.end (here.left - 1) → is_call text here ≡ b → is_call other here ≡ b
+pub call_same : (text other : List ℕ) (here : Here) {b : Bool} → token_from other here.end (here.left - 1) ≡ token_from text here.end (here.left - 1) → is_call text here ≡ b → is_call other here ≡ b
 unfolding is_call behind_node
 call_same text other here same h = rw same h
 
-local_binder : {text : List ℕ} {here mid : Here} {name : List ℕ} {s : TermSort} → binder text here ≡ Ok (name, s, mid) → Local text here mid (λ o. binder o here ≡ Ok (name, s, mid))
+pub local_binder : {text : List ℕ} {here mid : Here} {name : List ℕ} {s : TermSort} → binder text here ≡ Ok (name, s, mid) → Local text here mid (λ o. binder o here ≡ Ok (name, s, mid))
 local_binder {text} {here} b = local_piece (read_piece text here 0 binder_place (λ o. binder o here) (piece_binder text here) b)
 
-local_speaker : {text : List ℕ} (scope : List Variable) {here mid : Here} {who : Term} → speaker text scope here ≡ Ok (who, mid) → Local text here mid (λ o. speaker o scope here ≡ Ok (who, mid))
+pub local_speaker : {text : List ℕ} (scope : List Variable) {here mid : Here} {who : Term} → speaker text scope here ≡ Ok (who, mid) → Local text here mid (λ o. speaker o scope here ≡ Ok (who, mid))
 local_speaker {text} scope {here} k = local_piece (read_piece text here 0 speaker_place (λ o. speaker o scope here) (piece_speaker text scope here) k)
 
-local_interval : {text : List ℕ} (st : Bool) (scope : List Variable) {here mid : Here} {from to : Term} → interval text st scope here ≡ Ok (from, to, mid) → Local text here mid (λ o. interval o st scope here ≡ Ok (from, to, mid))
+pub local_interval : {text : List ℕ} (st : Bool) (scope : List Variable) {here mid : Here} {from to : Term} → interval text st scope here ≡ Ok (from, to, mid) → Local text here mid (λ o. interval o st scope here ≡ Ok (from, to, mid))
 local_interval {text} st scope {here} iv = local_piece (read_piece text here 0 interval_place (λ o. interval o st scope here) (piece_interval text st scope here) iv)
 
 local_simple : {text : List ℕ} (st : Bool) (scope : List Variable) {here mid : Here} {f : Form} → simple text st scope here ≡ Ok (f, mid) → Local text here mid (λ o. simple o st scope here ≡ Ok (f, mid))
@@ -292,70 +259,5 @@ local_is {text} {st} (one_simple scope depth here place a closed no_call h) =
     local_with (λ o p. one_simple scope depth here place a closed p.0 p.1) (local_peeks (here.left - 1) (λ o same. call_same text o here same no_call) (local_simple st scope h))
 
 -- at the sign behind what was read no node is left
-met_full : {text : List ℕ} {here mid : Here} {e : TextFault} {P : List ℕ → Type 0} → Local text here mid P → count mid ≡ Err e → Met text here e P
+pub met_full : {text : List ℕ} {here mid : Here} {e : TextFault} {P : List ℕ → Type 0} → Local text here mid P → count mid ≡ Err e → Met text here e P
 met_full {mid = mid} d full = met_with (λ o p. p.0) (met_after d (met_here {P = λ o. Unit {0}} (errs_is (count_errs mid) full) (λ o. tt)))
-
-pub met_stops : {text : List ℕ} {st : Bool} {level : Level} {scope : List Variable} {depth : ℕ} {here : Here} {e : TextFault} → Stops text st level scope depth here e → OrMemory e (Met text here e (λ o. Stops o st level scope depth here e))
-unfolding behind behind_node
-met_stops {text} {st} (no_memory level scope depth here) = inl refl
-met_stops {text} {st} (in_binder scope depth here e q b) = inr (met_with (λ o p. in_binder scope depth here e q p) (stopped_piece text here 0 binder_place (λ o. binder o here) (piece_binder text here) b))
-met_stops {text} {st} (in_body scope depth here mid name s e q b h) =
-    or_met (met_stops h) (λ m. met_with (λ o p. in_body scope depth here mid name s e q p.0 p.1) (met_after (local_binder b) m))
-met_stops {text} {st} (in_premise scope depth here e nq h) = or_met (met_stops h) (λ m. met_with (λ o p. in_premise scope depth here e nq p) m)
-met_stops {text} {st} (at_implies scope depth here mid a e nq d sign full) = inr (met_with (λ o p. at_implies scope depth here mid a e nq p sign full) (met_full (local_is d) full))
-met_stops {text} {st} (in_conclusion scope depth here mid a e nq d sign room h) =
-    or_met (met_stops h) (λ m. met_with (λ o p. in_conclusion scope depth here mid a e nq p.0 sign room (stops_at (sym p.1.0) p.1.1)) (met_after (local_is d) (met_after (local_goes text mid (mid.left - 1)) m)))
-met_stops {text} {st} (in_first_disjunct scope depth here e h) = or_met (met_stops h) (λ m. met_with (λ o p. in_first_disjunct scope depth here e p) m)
-met_stops {text} {st} (at_or scope depth here mid a e d sign full) = inr (met_with (λ o p. at_or scope depth here mid a e p sign full) (met_full (local_is d) full))
-met_stops {text} {st} (in_disjunct scope depth here mid a e d sign room h) =
-    or_met (met_stops h) (λ m. met_with (λ o p. in_disjunct scope depth here mid a e p.0 sign room (stops_at (sym p.1.0) p.1.1)) (met_after (local_is d) (met_after (local_goes text mid (mid.left - 1)) m)))
-met_stops {text} {st} (in_first_conjunct scope depth here e h) = or_met (met_stops h) (λ m. met_with (λ o p. in_first_conjunct scope depth here e p) m)
-met_stops {text} {st} (at_and scope depth here mid a e d sign full) = inr (met_with (λ o p. at_and scope depth here mid a e p sign full) (met_full (local_is d) full))
-met_stops {text} {st} (in_conjunct scope depth here mid a e d sign room h) =
-    or_met (met_stops h) (λ m. met_with (λ o p. in_conjunct scope depth here mid a e p.0 sign room (stops_at (sym p.1.0) p.1.1)) (met_after (local_is d) (met_after (local_goes text mid (mid.left - 1)) m)))
-met_stops {text} {st} (in_speaker scope depth here e said k) =
-    inr (met_with (λ o p. in_speaker scope depth here e p.0 p.1)
-    (met_peeks (here.left - 1) (λ o same. saying_same text o here same said) (stopped_piece text here 0 speaker_place (λ o. speaker o scope here) (piece_speaker text scope here) k)))
-met_stops {text} {st} (in_said scope depth here mid who e said sp h) =
-    or_met (met_stops h) (λ m. met_with (λ o p. in_said scope depth here mid who e p.0 p.1.0 p.1.1)
-    (met_peeks (here.left - 1) (λ o same. saying_same text o here same said) (met_after (local_speaker scope sp) m)))
-met_stops {text} {st} (in_postfix scope depth here e none h) =
-    or_met (met_stops h) (λ m. met_with (λ o p. in_postfix scope depth here e p.0 p.1) (met_peeks (here.left - 1) (λ o same. saying_same text o here same none) m))
-met_stops {text} {st} (in_primary scope depth here e h) = or_met (met_stops h) (λ m. met_with (λ o p. in_primary scope depth here e p) m)
-met_stops {text} {st} (in_interval scope depth here mid a e d sign iv) =
-    inr (met_with (λ o p. in_interval scope depth here mid a e p.0 sign p.1)
-    (met_after (local_is d) (stopped_piece text mid 0 interval_place (λ o. interval o st scope mid) (piece_interval text st scope mid) iv)))
-met_stops {text} {st} (too_deep scope depth here opens full) = inr (met_here too_large (λ o. too_deep scope depth here opens full))
-met_stops {text} {st} (in_group scope depth here e opens room h) =
-    or_met (met_stops h) (λ m. met_with (λ o p. in_group scope depth here e opens room (stops_at (sym p.0) p.1)) (met_after (local_goes text here here.left) m))
-met_stops {text} {st} (not_closed scope depth here mid a e opens room d ended close) =
-    inr (met_with (λ o p. not_closed scope depth here mid a e opens room (is_at (sym p.0) p.1.0) ended p.1.1)
-    (met_after (local_goes text here here.left) (met_after (local_is d) (met_expected signs.Close close))))
-met_stops {text} {st} (in_call scope depth here e closed calls h) =
-    or_met (met_call calls h) (λ m. met_with (λ o p. in_call scope depth here e closed p.0 p.1) (met_peeks (here.left - 1) (λ o same. call_same text o here same calls) m))
-met_stops {text} {st} (in_simple scope depth here e closed no_call h) =
-    inr (met_with (λ o p. in_simple scope depth here e closed p.0 p.1)
-    (met_peeks (here.left - 1) (λ o same. call_same text o here same no_call) (stopped_piece text here 0 form_place (λ o. simple o st scope here) (piece_simple text st scope here) h)))
-
--- ---- whole texts
-
--- what depends on the tokens behind the first one depends on the tokens of the text
-pub settled : {HasFault : List ℕ → TextFault → Type 0} {text : List ℕ} {e : TextFault} → Met text (beginning text) e (λ o. beginning o ≡ beginning text → HasFault o e) → IsSettled HasFault text e
-settled {HasFault} {text} {e} m = record {
-  number = m.steps;
-  met = number_met m.met;
-  same = λ o same. (let n : m.steps + 2 ≡ suc (m.steps + 1) = omega arith in
-      let all : SameTokens text o (suc (m.steps + 1)) 0 = subst (λ k. SameTokens text o k 0) n same in
-      m.holds o (subst (λ (h : Here). SameTokens text o (m.steps + 1) h.end) (sym (bare_token text 0 512)) all.1) (one_token text o 0 512 all.0));
-}
-  where
-    number_met : {n : ℕ} → IsMetAt (tokens_from text (beginning text)) n e → IsMetAt (token_number text) n e
-    number_met {n} h =
-        let sum : 0 + n ≡ n = omega arith in
-        subst (λ k. IsMetAt (token_number text) k e) sum
-        (met_shifted (token_number text) (tokens_from text (beginning text)) 0 (λ k. (let same : 0 + k ≡ k = omega arith in ap (token_number text) same ∙ sym (walk_number text k 0 512))) h)
-
-pub settled_formula : {text : List ℕ} {e : TextFault} → FormulaFault text e → OrMemory e (IsSettled FormulaFault text e)
-settled_formula {text} (in_formula e h) = or_met (met_stops h) (λ m. settled {HasFault = FormulaFault} (met_with (λ o p same. in_formula e (stops_at (sym same) p)) m))
-settled_formula {text} (behind_formula mid f d ended more) =
-    inr (settled {HasFault = FormulaFault} (met_with (λ o p same. behind_formula mid f (is_at (sym same) p.0) ended more) (met_after (local_is d) (met_here {P = λ o. Unit {0}} unexpected (λ o. tt)))))

@@ -1,5 +1,5 @@
--- A fault of a statement's text depends on the tokens up to it and the next.
-use Rattle.std.proofs.Common.{◌≡◌, ℕ, ◌+◌, ◌≤◌, Bool, true, false, List, refl, sym, ap, ◌∙◌, arith, Result, Ok, Err, inr}
+-- The opening and the span of a statement's text depend on the tokens that they read.
+use Rattle.std.proofs.Common.{◌≡◌, ℕ, ◌+◌, ◌≤◌, Bool, true, false, List, refl, sym, ap, ◌∙◌, arith, Result, Ok, Err}
 use Rattle.std.specs.Prelude.{if◌then◌else◌}
 use Rattle.bl_syntax.specs.declared.terms.Term.TheVariants.{Prin, File, Perm, Time, Text, Ctime, Param, Bound}
 use Rattle.bl_syntax.specs.declared.terms.TimePoint.{TimePoint}
@@ -13,11 +13,10 @@ use Rattle.bl_tokens.specs.declared.tokens.Token.TheVariants as tokens
 use Rattle.bl_tokens.specs.declared.tokens.Here.{Here}
 use Rattle.bl_tokens.specs.Tokens.{token_from, behind, is_word}
 use Rattle.bl_text.specs.Pieces.{◌>>=◌}
-use Rattle.bl_text.specs.Texts.{beginning, is_end, word_expected, time_constant, principal_name, opening, ended, span, StatementFault, in_opening, in_body, in_span}
-use Rattle.bl_text.specs.Met.{unexpected, bad_date, IsSettled}
-use Rattle.bl_text.proofs.Walk.{bare, walk, walk_next, Local, Met, met_with, met_after, Piece, ErrsAt, check, stop, step, finish, read_piece, stopped_piece, local_piece}
+use Rattle.bl_text.specs.Texts.{is_end, word_expected, time_constant, principal_name, opening, ended, span}
+use Rattle.bl_text.specs.Met.{unexpected, bad_date}
+use Rattle.bl_text.proofs.Walk.{bare, walk, walk_next, Local, Met, met_with, Piece, ErrsAt, check, stop, step, finish, read_piece, stopped_piece, local_piece}
 use Rattle.bl_text.proofs.PieceLemmas.{if_errs}
-use Rattle.bl_text.proofs.SettledLemmas.{OrMemory, or_met, local_is, met_stops, settled}
 
 -- ---- a word, a name and a time
 
@@ -72,13 +71,13 @@ ended_errs here = if_errs here.at (is_end here.token) (Ok tt) (Err (Unexpected h
 
 -- ---- the opening
 
-abbrev opening_place : List ℕ × Here → Here
+abbrev pub opening_place : List ℕ × Here → Here
 opening_place v = v.1
 
 abbrev opened_by : List ℕ → List ℕ → Here → Result (List ℕ × Here) TextFault
 opened_by who text here = word_expected text keywords.Says here >>= (λ place. Ok (who, place))
 
-piece_opening : (text : List ℕ) (here : Here) → Piece text here 0 opening_place (λ o. opening o here) (opening text here)
+pub piece_opening : (text : List ℕ) (here : Here) → Piece text here 0 opening_place (λ o. opening o here) (opening text here)
 unfolding opening behind
 piece_opening text here =
     check text here here 0 0 opening_place (principal_name here) (λ o who. opened_by who o (behind o here)) refl (omega arith) (name_errs_by here here.token refl)
@@ -146,19 +145,11 @@ unfolding times_of
 only_err (Ok v) e h = absurd (let never : ◌≡◌ {A = Result (TimePoint × TimePoint) TextFault} (Ok (v.0, v.1)) (Err e) = h in cc)
 only_err (Err d) e h = ap Err (let same : ◌≡◌ {A = Result (TimePoint × TimePoint) TextFault} (Err d) (Err e) = h in cc)
 
-met_span : {text : List ℕ} {here : Here} {e : TextFault} → span text here ≡ Err e → Met text here e (λ o. span o here ≡ Err e)
+pub met_span : {text : List ℕ} {here : Here} {e : TextFault} → span text here ≡ Err e → Met text here e (λ o. span o here ≡ Err e)
 met_span {text} {here} {e} h =
     met_with (λ o p. span_is o here ∙ ap (λ r. r >>= times_of) p) (stopped_piece text here 0 span_place (λ o. from_here o here) (piece_from text here) (only_err (from_here text here) e (sym (span_is text here) ∙ h)))
 
 -- ---- whole texts
 
-local_opening : {text : List ℕ} {here place : Here} {who : List ℕ} → opening text here ≡ Ok (who, place) → Local text here place (λ o. opening o here ≡ Ok (who, place))
+pub local_opening : {text : List ℕ} {here place : Here} {who : List ℕ} → opening text here ≡ Ok (who, place) → Local text here place (λ o. opening o here ≡ Ok (who, place))
 local_opening {text} {here} h = local_piece (read_piece text here 0 opening_place (λ o. opening o here) (piece_opening text here) h)
-
-pub settled_statement : {text : List ℕ} {e : TextFault} → StatementFault text e → OrMemory e (IsSettled StatementFault text e)
-settled_statement {text} (in_opening e h) =
-    inr (settled {HasFault = StatementFault} (met_with (λ o p same. in_opening e (ap (opening o) same ∙ p)) (stopped_piece text (beginning text) 0 opening_place (λ o. opening o (beginning text)) (piece_opening text (beginning text)) h)))
-settled_statement {text} (in_body who here e opens h) =
-    or_met (met_stops h) (λ m. settled {HasFault = StatementFault} (met_with (λ o p same. in_body who here e (ap (opening o) same ∙ p.0) p.1) (met_after (local_opening opens) m)))
-settled_statement {text} (in_span who here place f e opens d ended_ h) =
-    inr (settled {HasFault = StatementFault} (met_with (λ o p same. in_span who here place f e (ap (opening o) same ∙ p.0) p.1.0 ended_ p.1.1) (met_after (local_opening opens) (met_after (local_is d) (met_span h)))))

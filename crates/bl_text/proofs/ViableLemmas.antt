@@ -1,5 +1,5 @@
--- What was read is a sentence of the grammar over tokens, and what was read up to a fault can be completed to one.
-use Rattle.std.proofs.Common.{◌≡◌, ℕ, zero, suc, ◌+◌, ◌-◌, Bool, true, false, List, [], ◌∷◌, ◌++◌, length, append_assoc, append-nil, refl, sym, ap, ◌∙◌, subst, arith, Result, Ok, Err, inl, inr}
+-- What was read is a sentence of the grammar over tokens, and what a piece read up to a fault can be completed to one.
+use Rattle.std.proofs.Common.{◌≡◌, ℕ, zero, suc, ◌+◌, ◌-◌, Bool, true, false, List, [], ◌∷◌, ◌++◌, length, append_assoc, append-nil, refl, sym, ap, ◌∙◌, subst, arith, Result, Ok, Err}
 use Rattle.std.specs.Prelude.{◌<◌, Option, Some, None, IsSome, if◌then◌else◌}
 use Rattle.std.proofs.lemmas.Bool.{false≢true}
 use Rattle.std.proofs.lemmas.List.{length-append}
@@ -9,7 +9,6 @@ use Rattle.bl_syntax.specs.declared.terms.Term.{Term}
 use Rattle.bl_syntax.specs.declared.terms.Term.TheVariants.{Prin, File, Perm, Time, Text, Ctime, Param, Bound}
 use Rattle.bl_syntax.specs.Formula.{Form}
 use Rattle.bl_syntax.specs.Formula as forms
-use Rattle.bl_syntax.specs.Names.{is_predicate_name}
 use Rattle.bl_tokens.specs.declared.faults.TextFault.{TextFault}
 use Rattle.bl_tokens.specs.declared.faults.TextFault.TheVariants.{Unexpected, UnknownName, TooLarge, Sort, NoMemory}
 use Rattle.bl_tokens.specs.declared.faults.TextFault.TheVariants as faults
@@ -25,14 +24,13 @@ use Rattle.bl_text.specs.Scope.{Variable, place_of}
 use Rattle.bl_text.specs.Pieces.{◌>>=◌, count, expected, term_of, sayable, sorted, argument, next_argument, time_argument, interval, variable_name, sort_at, binder, speaker, less_sign, comparison, applied, bare, named_time, name_alone, constant_formula, simple_by, simple}
 use Rattle.bl_text.specs.Grammar.{Level, formula, disjunction, conjunction, unary, postfix, primary, is_quantifier, is_saying, is_call, AreArguments, IsCall}
 use Rattle.bl_text.specs.Grammar as grammar
-use Rattle.bl_text.specs.Stops.{ArgumentsStop, no_memory_for_arguments, in_first_argument, in_argument, CallStops, at_name, in_arguments, before_close, by_sorts, Stops, no_memory, in_binder, in_body, in_premise, at_implies, in_conclusion, in_first_disjunct, at_or, in_disjunct, in_first_conjunct, at_and, in_conjunct, in_speaker, in_said, in_postfix, in_primary, in_interval, too_deep, in_group, not_closed, in_call, in_simple}
-use Rattle.bl_text.specs.Met.{IsAt, wrong_sort, too_large, IsMetAt, there, at_close}
+use Rattle.bl_text.specs.Met.{IsAt, wrong_sort}
 use Rattle.bl_text.specs.Sentences.{IsSign, IsTerm, principal, constant, variable, IsSpeaker, named, bound, AreTerms, one_term, further_term, Sentence, quantified, implication, one_disjunction, or_further, one_conjunction, and_further, one_unary, saying, one_postfix, on_interval, one_primary, group, called, alone, compared, truth, falsity}
 use Rattle.bl_text.proofs.ReadLemmas.{every_quantifies, some_quantifies}
 use Rattle.bl_text.proofs.Determined.{other_sign}
-use Rattle.bl_text.proofs.Walk.{bare as bared, walk, walk_next, walk_from, tokens_from, met_shifted, ErrsAt}
-use Rattle.bl_text.proofs.PieceLemmas.{if_errs, then_errs, count_errs, term_errs, sayable_errs, sorted_errs, argument_errs, next_argument_errs, time_argument_errs, variable_errs_by, sort_errs_by, less_errs, expected_errs, applied_errs, applied_unsorted}
-use Rattle.bl_text.proofs.SettledLemmas.{bind_ok, errs_is, expected_ok, argument_no_sign, next_argument_no_sign, first_inside, two_behind, later_inside, and_right, call_opened, call_met, unsorted_is, OrMemory, or_met}
+use Rattle.bl_text.proofs.Walk.{bare as bared, walk, walk_next, walk_from, tokens_from, ErrsAt}
+use Rattle.bl_text.proofs.PieceLemmas.{if_errs, then_errs, count_errs, term_errs, sayable_errs, sorted_errs, time_argument_errs, variable_errs_by, sort_errs_by, less_errs, expected_errs, applied_errs}
+use Rattle.bl_text.proofs.SettledLemmas.{bind_ok, errs_is, expected_ok, argument_no_sign, next_argument_no_sign, first_inside, two_behind, later_inside, and_right, call_opened}
 use Rattle.bl_text.proofs.SaidLemmas.{ok_same, refused, unread_speaker, at_place, variable_term, not_saying}
 
 -- ---- the tokens from a place on
@@ -55,12 +53,12 @@ pub record Reads (text : List ℕ) (here there : Here) (ts : List Token) : Type 
   pub reach : bared (walk text (length ts) here) ≡ bared there
   pub spelled : between text (length ts) here ≡ ts
 
--- the fault is met behind these tokens
+-- the fault is at the token behind these
 pub record Begins (text : List ℕ) (here : Here) (e : TextFault) (ts : List Token) : Type 0 where
-  pub met : IsMetAt (tokens_from text here) (length ts) e
+  pub at : IsAt (tokens_from text here (length ts)).at e
   pub spelled : between text (length ts) here ≡ ts
 
-joined : (text : List ℕ) (here mid : Here) (ts us : List Token) → Reads text here mid ts → between text (length us) mid ≡ us → between text (length (ts ++ us)) here ≡ ts ++ us
+pub joined : (text : List ℕ) (here mid : Here) (ts us : List Token) → Reads text here mid ts → between text (length us) mid ≡ us → between text (length (ts ++ us)) here ≡ ts ++ us
 joined text here mid ts us r spelled =
     ap (λ n. between text n here) (length-append ts us) ∙ between_plus text (length ts) (length us) here
     ∙ ap (λ vs. vs ++ between text (length us) (walk text (length ts) here)) r.spelled ∙ ap (λ vs. ts ++ vs) (between_bare text (length us) (walk text (length ts) here) mid r.reach ∙ spelled)
@@ -73,13 +71,12 @@ reads_then {text} {here} {mid} {place} {ts} {us} r s = record {
 
 pub begins_after : {text : List ℕ} {here mid : Here} {e : TextFault} {ts us : List Token} → Reads text here mid ts → Begins text mid e us → Begins text here e (ts ++ us)
 begins_after {text} {here} {mid} {e} {ts} {us} r b = record {
-  met = subst (λ n. IsMetAt (tokens_from text here) n e) (sym (length-append ts us))
-      (met_shifted (tokens_from text here) (tokens_from text mid) (length ts) (λ k. walk_from text (length ts) k here mid r.reach) b.met);
+  at = subst (λ n. IsAt (tokens_from text here n).at e) (sym (length-append ts us)) (subst (λ (h : Here). IsAt h.at e) (sym (walk_from text (length ts) (length us) here mid r.reach)) b.at);
   spelled = joined text here mid ts us r b.spelled;
 }
 
 pub begins_here : {text : List ℕ} {here : Here} {e : TextFault} → IsAt here.at e → Begins text here e []
-begins_here {e = e} at = record { met = there e at; spelled = refl }
+begins_here at = record { at = at; spelled = refl }
 
 pub reads_one : (text : List ℕ) (here : Here) (left : ℕ) → Reads text here (token_from text here.end left) (here.token ∷ [])
 reads_one text here left = record { reach = walk_next text 0 here here left refl; spelled = refl }
@@ -88,14 +85,14 @@ pub reads_behind : (text : List ℕ) (here : Here) → Reads text here (behind t
 unfolding behind
 reads_behind text here = reads_one text here here.left
 
-reads_node : (text : List ℕ) (here : Here) → Reads text here (behind_node text here) (here.token ∷ [])
+pub reads_node : (text : List ℕ) (here : Here) → Reads text here (behind_node text here) (here.token ∷ [])
 unfolding behind_node
 reads_node text here = reads_one text here (here.left - 1)
 
 pub reads_place : {text : List ℕ} {here place place' : Here} {ts : List Token} → place' ≡ place → Reads text here place ts → Reads text here place' ts
 reads_place {text} {here} {place} {place'} {ts} same r = subst (λ (p : Here). Reads text here p ts) (sym same) r
 
-reads_sign : {text : List ℕ} (sign : Sign') {here place : Here} → expected text sign here ≡ Ok place → Reads text here place (here.token ∷ [])
+pub reads_sign : {text : List ℕ} (sign : Sign') {here place : Here} → expected text sign here ≡ Ok place → Reads text here place (here.token ∷ [])
 reads_sign {text} sign {here} {place} h = reads_place (expected_ok text sign here place h).1 (reads_behind text here)
 
 -- ---- the ends of what may go on
@@ -109,7 +106,7 @@ default conjunction scope = one_unary scope _ (one_postfix scope _ (one_primary 
 default disjunction scope = one_conjunction scope _ (one_unary scope _ (one_postfix scope _ (one_primary scope _ (truth scope))))
 default formula scope = one_disjunction scope _ (one_conjunction scope _ (one_unary scope _ (one_postfix scope _ (one_primary scope _ (truth scope)))))
 
--- the fault is met behind tokens that can be completed
+-- the fault is at the token behind some that can be completed
 pub record Viable (text : List ℕ) (IsOne : List Token → Type 0) (here : Here) (e : TextFault) : Type 0 where
   pub ts : List Token
   pub begins : Begins text here e ts
@@ -118,18 +115,6 @@ pub record Viable (text : List ℕ) (IsOne : List Token → Type 0) (here : Here
 
 pub viable_here : {text : List ℕ} {here : Here} {e : TextFault} (level : Level) (scope : List Variable) → IsAt here.at e → Viable text (Sentence level scope) here e
 viable_here level scope at = record { ts = []; begins = begins_here at; others = Keyword keywords.True ∷ []; sentence = default level scope }
-
--- what goes on behind tokens that were read
-pub viable_after : {text : List ℕ} {A B : List Token → Type 0} {here mid : Here} {e : TextFault} {front : List Token} (back : List Token) → Reads text here mid front → ((ts : List Token) → A ts → B (front ++ (ts ++ back))) → Viable text A mid e → Viable text B here e
-viable_after {text} {A} {B} {front = front} back r f v = record {
-  ts = front ++ v.ts;
-  begins = begins_after r v.begins;
-  others = v.others ++ back;
-  sentence = subst B (ap (λ us. front ++ us) (append_assoc v.ts v.others back) ∙ sym (append_assoc front v.ts (v.others ++ back))) (f (v.ts ++ v.others) v.sentence);
-}
-
-viable_with : {text : List ℕ} {A B : List Token → Type 0} {here : Here} {e : TextFault} → ((ts : List Token) → A ts → B ts) → Viable text A here e → Viable text B here e
-viable_with f v = record { ts = v.ts; begins = v.begins; others = v.others; sentence = f (v.ts ++ v.others) v.sentence }
 
 -- a fault at the place behind tokens that were read
 pub viable_at : {text : List ℕ} {B : List Token → Type 0} {here mid : Here} {e : TextFault} {front : List Token} (others : List Token) → Reads text here mid front → IsAt mid.at e → B (front ++ others) → Viable text B here e
@@ -259,7 +244,7 @@ up_to_sign : is_sign signs.UpTo (tokens.Sign signs.UpTo) ≡ true
 unfolding is_sign
 up_to_sign = refl
 
-close_sign : is_sign signs.Close (tokens.Sign signs.Close) ≡ true
+pub close_sign : is_sign signs.Close (tokens.Sign signs.Close) ≡ true
 unfolding is_sign
 close_sign = refl
 
@@ -292,7 +277,7 @@ pub record BinderTokens (text : List ℕ) (here place : Here) (name : List ℕ) 
   pub is_dot : IsSign signs.Dot dot
   pub reads : Reads text here place (here.token ∷ tokens.Variable name ∷ colon ∷ SortName s ∷ dot ∷ [])
 
-binder_tokens : (text : List ℕ) (here place : Here) (name : List ℕ) (s : TermSort) → binder text here ≡ Ok (name, s, place) → BinderTokens text here place name s
+pub binder_tokens : (text : List ℕ) (here place : Here) (name : List ℕ) (s : TermSort) → binder text here ≡ Ok (name, s, place) → BinderTokens text here place name s
 unfolding binder
 binder_tokens text here place name s h =
     let room = bind_ok (count here) _ (name, s, place) h in
@@ -309,7 +294,7 @@ binder_tokens text here place name s h =
           (reads_then (reads_sign _ colon_.1.0) (reads_then (token_read (sort_is_by colon_.0 sort.0 sort.1.0 colon_.0.token refl) (reads_behind text colon_.0)) (reads_sign _ dot_.1.0))));
     })
 
-viable_binder : (text : List ℕ) (scope : List Variable) (here : Here) (e : TextFault) → is_quantifier here.token ≡ true → binder text here ≡ Err e → Viable text (Sentence formula scope) here e
+pub viable_binder : (text : List ℕ) (scope : List Variable) (here : Here) (e : TextFault) → is_quantifier here.token ≡ true → binder text here ≡ Err e → Viable text (Sentence formula scope) here e
 unfolding binder
 viable_binder text scope here e word h =
     err_cases (count here) _ h (λ full. viable_here formula scope (errs_is (count_errs here) full))
@@ -343,7 +328,7 @@ pub record SpeakerTokens (text : List ℕ) (scope : List Variable) (here place :
   pub speaks : IsSpeaker scope here.token
   pub reads : Reads text here place (here.token ∷ word ∷ [])
 
-speaker_tokens : (text : List ℕ) (scope : List Variable) (here place : Here) (who : Term) → is_saying text here ≡ true → speaker text scope here ≡ Ok (who, place) → SpeakerTokens text scope here place
+pub speaker_tokens : (text : List ℕ) (scope : List Variable) (here place : Here) (who : Term) → is_saying text here ≡ true → speaker text scope here ≡ Ok (who, place) → SpeakerTokens text scope here place
 unfolding speaker
 speaker_tokens text scope here place who says h =
     let term = bind_ok (term_of scope here) _ (who, place) h in
@@ -357,7 +342,7 @@ speaker_tokens text scope here place who says h =
       reads = reads_then (reads_node text here) (reads_node text (behind_node text here));
     })
 
-viable_speaker : (text : List ℕ) (scope : List Variable) (here : Here) (e : TextFault) → is_saying text here ≡ true → speaker text scope here ≡ Err e → Viable text (Sentence unary scope) here e
+pub viable_speaker : (text : List ℕ) (scope : List Variable) (here : Here) (e : TextFault) → is_saying text here ≡ true → speaker text scope here ≡ Err e → Viable text (Sentence unary scope) here e
 unfolding speaker
 viable_speaker text scope here e says h =
     err_cases (term_of scope here) _ h (λ bad. viable_here unary scope (errs_is (term_errs scope here) bad))
@@ -383,7 +368,7 @@ pub record IntervalTokens (text : List ℕ) (scope : List Variable) (here place 
   pub is_close : IsSign signs.CloseInterval close
   pub reads : Reads text here place (here.token ∷ open_ ∷ from ∷ comma ∷ to ∷ close ∷ [])
 
-interval_tokens : (text : List ℕ) (st : Bool) (scope : List Variable) (here place : Here) (from to : Term) → interval text st scope here ≡ Ok (from, to, place) → IntervalTokens text scope here place
+pub interval_tokens : (text : List ℕ) (st : Bool) (scope : List Variable) (here place : Here) (from to : Term) → interval text st scope here ≡ Ok (from, to, place) → IntervalTokens text scope here place
 unfolding interval
 interval_tokens text st scope here place from to h =
     let room = bind_ok (count here) _ (from, to, place) h in
@@ -406,7 +391,7 @@ interval_tokens text st scope here place from to h =
       reads = reads_then (reads_node text here) (reads_then (reads_sign _ first.1.0) (reads_then (reads_node text first.0) (reads_then (reads_sign _ second.1.0) (reads_then (reads_node text second.0) (reads_sign _ last.1.0)))));
     })
 
-viable_interval : (text : List ℕ) (st : Bool) (scope : List Variable) (here mid : Here) (ts : List Token) (e : TextFault) → Reads text here mid ts → Sentence postfix scope ts → IsSign signs.At mid.token → interval text st scope mid ≡ Err e
+pub viable_interval : (text : List ℕ) (st : Bool) (scope : List Variable) (here mid : Here) (ts : List Token) (e : TextFault) → Reads text here mid ts → Sentence postfix scope ts → IsSign signs.At mid.token → interval text st scope mid ≡ Err e
     → Viable text (Sentence postfix scope) here e
 unfolding interval
 viable_interval text st scope here mid ts e r a at h =
@@ -546,7 +531,7 @@ spelled_simple_by text st scope here place f (tokens.Sign sign) is h = spelled_c
 spelled_simple_by text st scope here place f End is h = spelled_comparison text st scope here place f h
 spelled_simple_by text st scope here place f Bad is h = spelled_comparison text st scope here place f h
 
-spelled_simple : (text : List ℕ) (st : Bool) (scope : List Variable) (here place : Here) (f : Form) → simple text st scope here ≡ Ok (f, place) → Spelled text (Sentence primary scope) here place
+pub spelled_simple : (text : List ℕ) (st : Bool) (scope : List Variable) (here place : Here) (f : Form) → simple text st scope here ≡ Ok (f, place) → Spelled text (Sentence primary scope) here place
 unfolding simple
 spelled_simple text st scope here place f h = spelled_simple_by text st scope here place f here.token refl h
 
@@ -569,7 +554,7 @@ viable_simple_by text st scope here e (tokens.Sign sign) h = viable_comparison t
 viable_simple_by text st scope here e End h = viable_comparison text st scope here e h
 viable_simple_by text st scope here e Bad h = viable_comparison text st scope here e h
 
-viable_simple : (text : List ℕ) (st : Bool) (scope : List Variable) (here : Here) (e : TextFault) → simple text st scope here ≡ Err e → Viable text (Sentence primary scope) here e
+pub viable_simple : (text : List ℕ) (st : Bool) (scope : List Variable) (here : Here) (e : TextFault) → simple text st scope here ≡ Err e → Viable text (Sentence primary scope) here e
 unfolding simple
 viable_simple text st scope here e h = viable_simple_by text st scope here e here.token h
 
@@ -581,7 +566,7 @@ pub record ArgumentTokens (text : List ℕ) (scope : List Variable) (here place 
   pub terms : AreTerms scope ts
   pub inside : (k : ℕ) → k < length ts → is_sign signs.Close (tokens_from text here k).token ≡ false
 
-arguments_tokens : {text : List ℕ} {st : Bool} {scope : List Variable} {is_atom : Bool} {here place : Here} {terms : List Term} → AreArguments text st scope is_atom here place terms → ArgumentTokens text scope here place
+pub arguments_tokens : {text : List ℕ} {st : Bool} {scope : List Variable} {is_atom : Bool} {here place : Here} {terms : List Term} → AreArguments text st scope is_atom here place terms → ArgumentTokens text scope here place
 arguments_tokens {text} {st} {scope} {is_atom} {here} (grammar.one t h) = record {
   ts = here.token ∷ [];
   reads = reads_node text here;
@@ -601,22 +586,13 @@ arguments_tokens {text} {st} {scope} {is_atom} {here} (grammar.further mid place
           (two_behind text mid (other_sign signs.Comma signs.Close mid.token found.0 refl) next) k (subst (λ n. k < n) len less);
     }
 
-viable_arguments : {text : List ℕ} {st : Bool} {scope : List Variable} {is_atom : Bool} {here : Here} {e : TextFault} → ArgumentsStop text st scope is_atom here e → OrMemory e (Viable text (AreTerms scope) here e)
-viable_arguments no_memory_for_arguments = inl refl
-viable_arguments {text} {st} {scope} {is_atom} {here} (in_first_argument e h) =
-    inr (record { ts = []; begins = begins_here (errs_is (argument_errs st scope here) h); others = Constant Ctime ∷ []; sentence = one_term (Constant Ctime) (constant Ctime) })
-viable_arguments {text} {st} {scope} {is_atom} {here} (in_argument mid place terms e args comma h) =
-    let front = arguments_tokens args in
-    inr (viable_behind (Constant Ctime ∷ []) front.reads (reads_sign _ comma) (errs_is (next_argument_errs st scope is_atom (length terms) place) h)
-    (further_term front.ts mid.token (Constant Ctime) front.terms (expected_ok text signs.Comma mid place comma).0 (constant Ctime)))
-
 -- ---- calls
 
 -- a name and `(`
-call_reads : {text : List ℕ} {here : Here} {name : List ℕ} → here.token ≡ tokens.Name name → Reads text here (behind text (behind_node text here)) (tokens.Name name ∷ (behind_node text here).token ∷ [])
+pub call_reads : {text : List ℕ} {here : Here} {name : List ℕ} → here.token ≡ tokens.Name name → Reads text here (behind text (behind_node text here)) (tokens.Name name ∷ (behind_node text here).token ∷ [])
 call_reads {text} {here} is = reads_then (token_read is (reads_node text here)) (reads_behind text (behind_node text here))
 
-spelled_call : {text : List ℕ} {st : Bool} {scope : List Variable} {here place : Here} {f : Form} → is_call text here ≡ true → IsCall text st scope here place f → Spelled text (Sentence primary scope) here place
+pub spelled_call : {text : List ℕ} {st : Bool} {scope : List Variable} {here place : Here} {f : Form} → is_call text here ≡ true → IsCall text st scope here place f → Spelled text (Sentence primary scope) here place
 spelled_call {text} {st} {scope} {here} calls (grammar.call name mid place terms f is room args close fits) =
     let inside = arguments_tokens args in
     record {
@@ -624,32 +600,6 @@ spelled_call {text} {st} {scope} {here} calls (grammar.call name mid place terms
       reads = reads_then (call_reads is) (reads_then inside.reads (reads_sign _ close));
       sentence = called scope name (behind_node text here).token mid.token inside.ts (call_opened text here calls) inside.terms (expected_ok text signs.Close mid place close).0;
     }
-
-viable_by_sorts : {text : List ℕ} {st : Bool} {scope : List Variable} {here mid place : Here} {terms : List Term} {e : TextFault} (name : List ℕ) → here.token ≡ tokens.Name name → is_sign signs.Open (behind_node text here).token ≡ true
-    → AreArguments text st scope (is_predicate_name name) (behind text (behind_node text here)) mid terms → expected text signs.Close mid ≡ Ok place → applied scope here.at name terms ≡ Err e → Viable text (Sentence primary scope) here e
-viable_by_sorts {text} {st} {scope} {here} {mid} {place} {terms} {e} name is opened args close wrong =
-    let inside = arguments_tokens args in
-    let ts : List Token = tokens.Name name ∷ (behind_node text here).token ∷ inside.ts in
-    let len : 2 + length inside.ts ≡ length ts = omega arith in
-    let closed = (expected_ok text signs.Close mid place close).0 in
-    let met : IsMetAt (tokens_from text here) (2 + length inside.ts) e = subst (λ e'. IsMetAt (tokens_from text here) (2 + length inside.ts) e') (sym (unsorted_is (applied_unsorted scope here.at name terms) wrong))
-    (at_close 0 (call_met text mid name (length inside.ts) is opened inside.reads.reach inside.inside closed)) in
-    record {
-      ts = ts;
-      begins = record { met = subst (λ n. IsMetAt (tokens_from text here) n e) len met; spelled = (reads_then (call_reads is) inside.reads).spelled };
-      others = tokens.Sign signs.Close ∷ [];
-      sentence = called scope name (behind_node text here).token (tokens.Sign signs.Close) inside.ts opened inside.terms close_sign;
-    }
-
-viable_call : {text : List ℕ} {st : Bool} {scope : List Variable} {here : Here} {e : TextFault} → is_call text here ≡ true → CallStops text st scope here e → OrMemory e (Viable text (Sentence primary scope) here e)
-viable_call {text} {st} {scope} {here} calls (at_name e full) = inr (viable_here primary scope (errs_is (count_errs here) full))
-viable_call {text} {st} {scope} {here} calls (in_arguments name e is room stop) =
-    or_met (viable_arguments stop) (viable_after (tokens.Sign signs.Close ∷ []) (call_reads is) (λ ts terms. called scope name (behind_node text here).token (tokens.Sign signs.Close) ts (call_opened text here calls) terms close_sign))
-viable_call {text} {st} {scope} {here} calls (before_close name mid terms e is room args no_comma close) =
-    let inside = arguments_tokens args in
-    inr (viable_at (tokens.Sign signs.Close ∷ []) (reads_then (call_reads is) inside.reads) (errs_is (expected_errs text signs.Close mid) close)
-    (called scope name (behind_node text here).token (tokens.Sign signs.Close) inside.ts (call_opened text here calls) inside.terms close_sign))
-viable_call {text} {st} {scope} {here} calls (by_sorts name mid place terms e is room args close wrong) = inr (viable_by_sorts name is (call_opened text here calls) args close wrong)
 
 -- ---- formulas
 
@@ -709,54 +659,6 @@ spelled {text} {st} (grammar.group scope depth here mid place a opens room d clo
 spelled {text} {st} (grammar.called scope depth here place a closed calls c) = spelled_call calls c
 spelled {text} {st} (grammar.one_simple scope depth here place a closed no_call h) = spelled_simple text st scope here place a h
 
--- what is read next
-viable_next : {text : List ℕ} {A B : List Token → Type 0} {here mid : Here} {e : TextFault} {front : List Token} → Reads text here mid front → ((ts : List Token) → A ts → B (front ++ ts)) → Viable text A mid e → Viable text B here e
-viable_next {text} {A} {B} {front = front} r f v =
-    record { ts = front ++ v.ts; begins = begins_after r v.begins; others = v.others; sentence = subst B (sym (append_assoc front v.ts v.others)) (f (v.ts ++ v.others) v.sentence) }
-
--- what is read behind the sign that follows what was read
-viable_operand : {text : List ℕ} {A B C : List Token → Type 0} {here mid : Here} {e : TextFault} (d : Spelled text A here mid) → ((us : List Token) → C us → B (d.ts ++ mid.token ∷ us)) → Viable text C (behind_node text mid) e → Viable text B here e
-viable_operand {text} {A} {B} {C} {here} {mid} d f v =
-    viable_next (reads_then d.reads (reads_node text mid)) (λ us c. subst B (sym (append_assoc d.ts (mid.token ∷ []) us)) (f us c)) v
-
 -- at the sign behind what was read no node is left
-viable_full : {text : List ℕ} {A B : List Token → Type 0} {here mid : Here} {e : TextFault} (d : Spelled text A here mid) → B (d.ts ++ mid.token ∷ Keyword keywords.True ∷ []) → count mid ≡ Err e → Viable text B here e
+pub viable_full : {text : List ℕ} {A B : List Token → Type 0} {here mid : Here} {e : TextFault} (d : Spelled text A here mid) → B (d.ts ++ mid.token ∷ Keyword keywords.True ∷ []) → count mid ≡ Err e → Viable text B here e
 viable_full {mid = mid} d b full = viable_at (mid.token ∷ Keyword keywords.True ∷ []) d.reads (errs_is (count_errs mid) full) b
-
-pub viable_stops : {text : List ℕ} {st : Bool} {level : Level} {scope : List Variable} {depth : ℕ} {here : Here} {e : TextFault} → Stops text st level scope depth here e → OrMemory e (Viable text (Sentence level scope) here e)
-viable_stops {text} {st} (no_memory level scope depth here) = inl refl
-viable_stops {text} {st} (in_binder scope depth here e q b) = inr (viable_binder text scope here e q b)
-viable_stops {text} {st} (in_body scope depth here mid name s e q b h) =
-    let start = binder_tokens text here mid name s b in
-    or_met (viable_stops h) (viable_next start.reads (λ ts body. quantified scope here.token start.colon start.dot name s ts q start.is_colon start.is_dot body))
-viable_stops {text} {st} (in_premise scope depth here e nq h) = or_met (viable_stops h) (viable_with (one_disjunction scope))
-viable_stops {text} {st} (at_implies scope depth here mid a e nq d sign full) =
-    let left = spelled d in inr (viable_full left (implication scope left.ts (Keyword keywords.True ∷ []) mid.token left.sentence sign (default formula scope)) full)
-viable_stops {text} {st} (in_conclusion scope depth here mid a e nq d sign room h) =
-    let left = spelled d in or_met (viable_stops h) (viable_operand left (λ us right. implication scope left.ts us mid.token left.sentence sign right))
-viable_stops {text} {st} (in_first_disjunct scope depth here e h) = or_met (viable_stops h) (viable_with (one_conjunction scope))
-viable_stops {text} {st} (at_or scope depth here mid a e d sign full) =
-    let left = spelled d in inr (viable_full left (or_further scope left.ts (Keyword keywords.True ∷ []) mid.token left.sentence sign (default conjunction scope)) full)
-viable_stops {text} {st} (in_disjunct scope depth here mid a e d sign room h) =
-    let left = spelled d in or_met (viable_stops h) (viable_operand left (λ us right. or_further scope left.ts us mid.token left.sentence sign right))
-viable_stops {text} {st} (in_first_conjunct scope depth here e h) = or_met (viable_stops h) (viable_with (one_unary scope))
-viable_stops {text} {st} (at_and scope depth here mid a e d sign full) =
-    let left = spelled d in inr (viable_full left (and_further scope left.ts (Keyword keywords.True ∷ []) mid.token left.sentence sign (default unary scope)) full)
-viable_stops {text} {st} (in_conjunct scope depth here mid a e d sign room h) =
-    let left = spelled d in or_met (viable_stops h) (viable_operand left (λ us right. and_further scope left.ts us mid.token left.sentence sign right))
-viable_stops {text} {st} (in_speaker scope depth here e said k) = inr (viable_speaker text scope here e said k)
-viable_stops {text} {st} (in_said scope depth here mid who e said sp h) =
-    let start = speaker_tokens text scope here mid who said sp in
-    or_met (viable_stops h) (viable_next start.reads (λ ts body. saying scope here.token start.word ts start.speaks start.is_says body))
-viable_stops {text} {st} (in_postfix scope depth here e none h) = or_met (viable_stops h) (viable_with (one_postfix scope))
-viable_stops {text} {st} (in_primary scope depth here e h) = or_met (viable_stops h) (viable_with (one_primary scope))
-viable_stops {text} {st} (in_interval scope depth here mid a e d sign iv) = let body = spelled d in inr (viable_interval text st scope here mid body.ts e body.reads body.sentence sign iv)
-viable_stops {text} {st} (too_deep scope depth here opens full) = inr (viable_here primary scope too_large)
-viable_stops {text} {st} (in_group scope depth here e opens room h) =
-    or_met (viable_stops h) (viable_after (tokens.Sign signs.Close ∷ []) (reads_behind text here) (λ ts inside. group scope here.token (tokens.Sign signs.Close) ts opens inside close_sign))
-viable_stops {text} {st} (not_closed scope depth here mid a e opens room d ended close) =
-    let inside = spelled d in
-    inr (viable_at (tokens.Sign signs.Close ∷ []) (reads_then (reads_behind text here) inside.reads) (errs_is (expected_errs text signs.Close mid) close)
-    (group scope here.token (tokens.Sign signs.Close) inside.ts opens inside.sentence close_sign))
-viable_stops {text} {st} (in_call scope depth here e closed calls h) = viable_call calls h
-viable_stops {text} {st} (in_simple scope depth here e closed no_call h) = inr (viable_simple text st scope here e h)

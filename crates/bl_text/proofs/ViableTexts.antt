@@ -1,4 +1,4 @@
--- Of a whole text the tokens before a fault can be completed to a sentence, and the tokens of a text that writes something are one.
+-- The fault of a whole text is exact, and the tokens of a text that writes something are a sentence.
 use Rattle.std.proofs.Common.{◌≡◌, ℕ, zero, suc, ◌+◌, true, List, [], ◌∷◌, ◌++◌, length, append-nil, refl, sym, ap, ◌∙◌, subst, arith, Ok, Err, inr}
 use Rattle.bl_syntax.specs.declared.terms.Term.TheVariants.{Prin, File, Perm, Time, Text, Ctime, Param, Bound}
 use Rattle.bl_syntax.specs.declared.terms.TimePoint.{TimePoint}
@@ -15,15 +15,18 @@ use Rattle.bl_tokens.specs.declared.tokens.Here.{Here}
 use Rattle.bl_tokens.specs.Tokens.{token_from, behind, is_word}
 use Rattle.bl_text.specs.Grammar.{formula}
 use Rattle.bl_text.specs.Texts.{beginning, is_end, IsFormulaText, whole, FormulaFault, in_formula, behind_formula, word_expected, time_constant, principal_name, opening, ended, span, StatementFault, in_opening, in_body, in_span}
-use Rattle.bl_text.specs.FirstTokens.{token_number}
+use Rattle.bl_text.specs.Exact.{IsExact}
+use Rattle.bl_text.specs.FirstTokens.{token_number, SameTokens}
 use Rattle.bl_text.specs.Met.{unexpected, IsMetAt}
-use Rattle.bl_text.specs.Sentences.{IsSentence, Sentence, IsStatementSentence, statement, first_tokens, IsViable, IsSentenceText}
-use Rattle.bl_text.proofs.Walk.{bare_token, walk_number, tokens_from, met_shifted, ErrsAt}
+use Rattle.bl_text.specs.Sentences.{IsSentence, Sentence, IsStatementSentence, statement, first_tokens, IsSentenceText}
+use Rattle.bl_text.proofs.ReadLemmas.{is_at, stops_at}
+use Rattle.bl_text.proofs.Walk.{bare_token, one_token, walk_number, tokens_from, IsToken, token_behind, met_with, met_after, met_here, met_shifted, ErrsAt, stopped_piece}
 use Rattle.bl_text.proofs.PieceLemmas.{if_errs}
-use Rattle.bl_text.proofs.SettledLemmas.{bind_ok, errs_is, OrMemory, or_met}
-use Rattle.bl_text.proofs.SettledStatement.{name_errs_by, time_errs_by, ended_errs}
+use Rattle.bl_text.proofs.SettledLemmas.{bind_ok, errs_is, OrMemory, or_met, local_is}
+use Rattle.bl_text.proofs.SettledStatement.{name_errs_by, time_errs_by, ended_errs, opening_place, piece_opening, local_opening, met_span}
 use Rattle.bl_text.proofs.SaidLemmas.{ok_same, refused, if_ok, word_place, timed, untimed, badly_timed}
-use Rattle.bl_text.proofs.ViableLemmas.{between, Reads, reads_then, reads_behind, reads_place, token_read, begins_here, Viable, viable_at, viable_after, viable_behind, default, err_cases, never_err, Spelled, spelled, viable_stops, says_keyword, from_keyword, to_keyword}
+use Rattle.bl_text.proofs.ViableLemmas.{between, Reads, reads_then, reads_behind, reads_place, token_read, begins_here, Viable, viable_at, viable_behind, default, err_cases, never_err, Spelled, spelled, says_keyword, from_keyword, to_keyword}
+use Rattle.bl_text.proofs.ExactLemmas.{Exact, exact, exact_with, exact_after, exact_stops}
 
 -- ---- whole texts
 
@@ -39,32 +42,42 @@ number_met text {n} {e} h =
     subst (λ k. IsMetAt (token_number text) k e) sum
     (met_shifted (token_number text) (tokens_from text (beginning text)) 0 (λ k. (let same : 0 + k ≡ k = omega arith in ap (token_number text) same ∙ sym (walk_number text k 0 512))) h)
 
-viable_text : {IsOne : List Token → Type 0} {text : List ℕ} {e : TextFault} → Viable text IsOne (beginning text) e → IsViable IsOne text e
-viable_text {IsOne} {text} {e} v = record {
-  number = length v.ts;
-  met = number_met text v.begins.met;
-  others = v.others;
-  sentence = subst (λ ts. IsOne (ts ++ v.others)) (sym (first_between text (length v.ts) 0 512 ∙ v.begins.spelled)) v.sentence;
+-- what depends on the tokens behind the first one depends on the tokens of the text
+exact_text : {HasFault : List ℕ → TextFault → Type 0} {IsOne : List Token → Type 0} {text : List ℕ} {e : TextFault} → Exact text IsOne (beginning text) e (λ o. beginning o ≡ beginning text → HasFault o e) → IsExact HasFault IsOne text e
+exact_text {HasFault} {IsOne} {text} {e} x = record {
+  number = length x.ts;
+  met = number_met text x.met;
+  others = x.others;
+  sentence = subst (λ ts. IsOne (ts ++ x.others)) (sym (first_between text (length x.ts) 0 512 ∙ x.spelled)) x.sentence;
+  same = λ o same. (let n : length x.ts + 2 ≡ suc (length x.ts + 1) = omega arith in
+      let all : SameTokens text o (suc (length x.ts + 1)) 0 = subst (λ k. SameTokens text o k 0) n same in
+      x.holds o (subst (λ (h : Here). SameTokens text o (length x.ts + 1) h.end) (sym (bare_token text 0 512)) all.1) (one_token text o 0 512 all.0));
 }
 
-spelled_text : {IsOne : List Token → Type 0} {text : List ℕ} {place : Here} → Spelled text IsOne (beginning text) place → is_end place.token ≡ true → IsSentenceText IsOne text
+first_token : (text : List ℕ) → IsToken text (beginning text)
+first_token text = record { from = 0; is = bare_token text 0 512 }
+
+pub spelled_text : {IsOne : List Token → Type 0} {text : List ℕ} {place : Here} → Spelled text IsOne (beginning text) place → is_end place.token ≡ true → IsSentenceText IsOne text
 spelled_text {IsOne} {text} {place} s end = record {
   number = length s.ts;
   sentence = subst IsOne (sym (first_between text (length s.ts) 0 512 ∙ s.reads.spelled)) s.sentence;
   end = ap (λ (h : Here). is_end h.token) (sym (walk_number text (length s.ts) 0 512) ∙ s.reads.reach) ∙ end;
 }
 
-pub viable_formula : {text : List ℕ} {e : TextFault} → FormulaFault text e → OrMemory e (IsViable IsSentence text e)
-viable_formula {text} (in_formula e h) = or_met (viable_stops h) (λ v. viable_text {IsOne = IsSentence} v)
-viable_formula {text} (behind_formula mid f d ended_ more) =
-    let read = spelled d in inr (viable_text {IsOne = IsSentence} (viable_at [] read.reads unexpected (subst IsSentence (sym (append-nil read.ts)) read.sentence)))
+pub exact_formula : {text : List ℕ} {e : TextFault} → FormulaFault text e → OrMemory e (IsExact FormulaFault IsSentence text e)
+exact_formula {text} (in_formula e h) = or_met (exact_stops (first_token text) h) (λ x. exact_text {HasFault = FormulaFault} {IsOne = IsSentence} (exact_with (λ ts p. p) (λ o p same. in_formula e (stops_at (sym same) p)) x))
+exact_formula {text} (behind_formula mid f d ended_ more) =
+    let read = spelled d in
+    inr (exact_text {HasFault = FormulaFault} {IsOne = IsSentence} (exact (first_token text)
+    (met_with (λ o p same. behind_formula mid f (is_at (sym same) p.0) ended_ more) (met_after (local_is d) (met_here {P = λ o. Unit {0}} unexpected (λ o. tt))))
+    (viable_at [] read.reads unexpected (subst IsSentence (sym (append-nil read.ts)) read.sentence))))
 
 pub formula_spelled : {text : List ℕ} {f : Form} → IsFormulaText text f → IsSentenceText IsSentence text
 formula_spelled {text} (whole place d end) = spelled_text {IsOne = IsSentence} (spelled d) end
 
 -- ---- statements
 
-word_is : (text : List ℕ) (word : Word) (here place : Here) → word_expected text word here ≡ Ok place → is_word word here.token ≡ true
+pub word_is : (text : List ℕ) (word : Word) (here place : Here) → word_expected text word here ≡ Ok place → is_word word here.token ≡ true
 unfolding word_expected
 word_is text word here place h = (if_ok (is_word word here.token) (Ok (behind text here)) (Unexpected here.at) place h).0
 
@@ -72,10 +85,10 @@ word_errs : (text : List ℕ) (word : Word) (here : Here) → ErrsAt here.at (wo
 unfolding word_expected
 word_errs text word here = if_errs here.at (is_word word here.token) (Ok (behind text here)) (Err (Unexpected here.at)) tt unexpected
 
-reads_word : {text : List ℕ} (word : Word) {here place : Here} → word_expected text word here ≡ Ok place → Reads text here place (here.token ∷ [])
+pub reads_word : {text : List ℕ} (word : Word) {here place : Here} → word_expected text word here ≡ Ok place → Reads text here place (here.token ∷ [])
 reads_word {text} word {here} {place} h = reads_place (word_place text word here place h) (reads_behind text here)
 
-time_is_by : (here : Here) (point : TimePoint) → time_constant here ≡ Ok point → (token : Token) → here.token ≡ token → token ≡ Constant (Time point)
+pub time_is_by : (here : Here) (point : TimePoint) → time_constant here ≡ Ok point → (token : Token) → here.token ≡ token → token ≡ Constant (Time point)
 unfolding time_constant
 time_is_by here point h (Constant (Time found)) is = ap (λ p. Constant (Time p)) (ok_same (sym (timed here found is) ∙ h))
 time_is_by here point h (Constant (Prin name)) is = absurd (untimed here point h (rw is refl))
@@ -121,7 +134,7 @@ pub record OpeningTokens (text : List ℕ) (here place : Here) (who : List ℕ) 
   pub is_says : is_word keywords.Says word ≡ true
   pub reads : Reads text here place (tokens.Name who ∷ word ∷ [])
 
-opening_tokens : (text : List ℕ) (here place : Here) (who : List ℕ) → opening text here ≡ Ok (who, place) → OpeningTokens text here place who
+pub opening_tokens : (text : List ℕ) (here place : Here) (who : List ℕ) → opening text here ≡ Ok (who, place) → OpeningTokens text here place who
 unfolding opening
 opening_tokens text here place who h =
     let name = bind_ok (principal_name here) _ (who, place) h in
@@ -178,13 +191,18 @@ viable_span {text} {start} {here} {who} {word} {ts} {e} says body r h =
     (statement who word here.token (behind text first).token ts from to says body from_is to_is))
     (λ _ end h5. never_err h5)))))
 
-pub viable_statement : {text : List ℕ} {e : TextFault} → StatementFault text e → OrMemory e (IsViable IsStatementSentence text e)
-viable_statement {text} (in_opening e h) = inr (viable_text {IsOne = IsStatementSentence} (viable_opening text (beginning text) e h))
-viable_statement {text} (in_body who here e opens h) =
+pub exact_statement : {text : List ℕ} {e : TextFault} → StatementFault text e → OrMemory e (IsExact StatementFault IsStatementSentence text e)
+exact_statement {text} (in_opening e h) =
+    inr (exact_text {HasFault = StatementFault} {IsOne = IsStatementSentence} (exact (first_token text)
+    (met_with (λ o p same. in_opening e (ap (opening o) same ∙ p)) (stopped_piece text (beginning text) 0 opening_place (λ o. opening o (beginning text)) (piece_opening text (beginning text)) h))
+    (viable_opening text (beginning text) e h)))
+exact_statement {text} (in_body who here e opens h) =
     let start = opening_tokens text (beginning text) here who opens in
-    or_met (viable_stops h) (λ v. viable_text {IsOne = IsStatementSentence} (viable_after always start.reads
-    (λ ts body. statement who start.word (Keyword keywords.From) (Keyword keywords.To) ts times.NegInf times.PosInf start.is_says body from_keyword to_keyword) v))
-viable_statement {text} (in_span who here place f e opens d ended_ h) =
+    or_met (exact_stops (token_behind (local_opening opens)) h) (λ x. exact_text {HasFault = StatementFault} {IsOne = IsStatementSentence} (exact_after always (first_token text) (local_opening opens) start.reads
+    (λ ts body. statement who start.word (Keyword keywords.From) (Keyword keywords.To) ts times.NegInf times.PosInf start.is_says body from_keyword to_keyword) (λ o p k same. in_body who here e (ap (opening o) same ∙ p) k) x))
+exact_statement {text} (in_span who here place f e opens d ended_ h) =
     let start = opening_tokens text (beginning text) here who opens in
     let body = spelled d in
-    inr (viable_text {IsOne = IsStatementSentence} (viable_span start.is_says body.sentence (reads_then start.reads body.reads) h))
+    inr (exact_text {HasFault = StatementFault} {IsOne = IsStatementSentence} (exact (first_token text)
+    (met_with (λ o p same. in_span who here place f e (ap (opening o) same ∙ p.0) p.1.0 ended_ p.1.1) (met_after (local_opening opens) (met_after (local_is d) (met_span h))))
+    (viable_span start.is_says body.sentence (reads_then start.reads body.reads) h)))

@@ -1,15 +1,20 @@
 -- The tokens behind a token, and what depends on so many of them alone.
-use Rattle.std.proofs.Common.{◌≡◌, ℕ, zero, suc, ◌+◌, ◌-◌, ◌≤◌, Bool, true, false, List, refl, sym, ap, ◌∙◌, subst, arith, Result, Ok, Err}
-use Rattle.std.specs.Prelude.{if◌then◌else◌}
+use Rattle.std.proofs.Common.{◌≡◌, ℕ, zero, suc, ◌+◌, ◌-◌, ◌≤◌, Bool, true, false, List, [], ◌∷◌, refl, sym, ap, ◌∙◌, subst, arith, Result, Ok, Err, inl, inr}
+use Rattle.std.specs.Prelude.{drop, cond, if◌then◌else◌}
+use Rattle.std.specs.List.{prefix_len}
+use Rattle.std.proofs.lemmas.Bool.{cases_lt}
 use Rattle.bl_tokens.specs.declared.faults.TextFault.{TextFault}
 use Rattle.bl_tokens.specs.declared.faults.TextFault.TheVariants.{Unexpected, Sort}
+use Rattle.bl_tokens.specs.declared.classes.Class.TheVariants as classes
 use Rattle.bl_tokens.specs.declared.tokens.Sign.{Sign as Sign'}
 use Rattle.bl_tokens.specs.declared.tokens.Sign.TheVariants as signs
 use Rattle.bl_tokens.specs.declared.tokens.Here.{Here}
-use Rattle.bl_tokens.specs.Tokens.{token_from, behind, is_sign}
+use Rattle.bl_tokens.specs.Classes.{is_in}
+use Rattle.bl_tokens.specs.Tokens.{first_lexeme, token_from, behind, is_sign}
 use Rattle.bl_text.specs.Pieces.{◌>>=◌, expected}
 use Rattle.bl_text.specs.FirstTokens.{behind_tokens, SameTokens}
 use Rattle.bl_text.specs.Met.{IsAt, unexpected, IsCallOf, IsMetAt, there, at_close}
+use Rattle.bl_text.proofs.PlaceLemmas.{drop_plus}
 
 -- ---- a place without the count of nodes
 
@@ -82,6 +87,85 @@ same_number text other n k from few same =
     let parts = same_parts text other k (n - k) from (subst (λ m. SameTokens text other m from) sum same) in
     same_first text other (n - k) (behind_tokens text k from) (omega arith) parts.1
 
+-- ---- tokens that take no bytes
+
+-- the place is one of a token of the text
+pub record IsToken (text : List ℕ) (here : Here) : Type 0 where
+  pub from : ℕ
+  pub is : bare here ≡ token_from text from 0
+
+no_more_by : (p : ℕ → Bool) (x : ℕ) (xs : List ℕ) (b : Bool) → prefix_len p (drop (prefix_len p xs) xs) ≡ 0 → p x ≡ b → prefix_len p (drop (prefix_len p (x ∷ xs)) (x ∷ xs)) ≡ 0
+no_more_by p x xs true more is = ap (λ c. prefix_len p (drop (cond c (1 + prefix_len p xs) 0) (x ∷ xs))) is ∙ ap (prefix_len p) (drop_plus 1 (prefix_len p xs) (x ∷ xs)) ∙ more
+no_more_by p x xs false more is = ap (λ c. prefix_len p (drop (cond c (1 + prefix_len p xs) 0) (x ∷ xs))) is ∙ ap (λ c. cond c (1 + prefix_len p xs) 0) is
+
+no_more : (p : ℕ → Bool) (xs : List ℕ) → prefix_len p (drop (prefix_len p xs) xs) ≡ 0
+no_more p [] = refl
+no_more p (x ∷ xs) = no_more_by p x xs (p x) (no_more p xs) refl
+
+-- a token begins behind the byte from which it is read, and ends behind its beginning
+token_ordered : (text : List ℕ) (from : ℕ) → (from ≤ (token_from text from 0).at) × ((token_from text from 0).at ≤ (token_from text from 0).end)
+unfolding token_from
+token_ordered text from = (omega arith, omega arith)
+
+-- it is the one that is read from its own first byte on
+token_again : (text : List ℕ) (from : ℕ) → token_from text (token_from text from 0).at 0 ≡ token_from text from 0
+unfolding token_from
+token_again text from =
+    let start : ℕ = from + prefix_len (is_in classes.Space) (drop from text) in
+    let none : prefix_len (is_in classes.Space) (drop start text) ≡ 0 =
+    ap (prefix_len (is_in classes.Space)) (drop_plus from (prefix_len (is_in classes.Space) (drop from text)) text) ∙ no_more (is_in classes.Space) (drop from text) in
+    let at : start + prefix_len (is_in classes.Space) (drop start text) ≡ start = omega arith in
+    ap (λ n. record { at = n; token = (first_lexeme (drop n text)).token; end = n + (first_lexeme (drop n text)).size; left = 0 }) at
+
+token_here : {text : List ℕ} {here : Here} → IsToken text here → (here.at ≤ here.end) × (token_from text here.at 0 ≡ bare here)
+token_here {text} {here} t =
+    let ordered = token_ordered text t.from in
+    let at : here.at ≡ (token_from text t.from 0).at = ap (λ (h : Here). h.at) t.is in
+    let end : here.end ≡ (token_from text t.from 0).end = ap (λ (h : Here). h.end) t.is in
+    (omega arith, ap (λ n. token_from text n 0) at ∙ token_again text t.from ∙ sym t.is)
+
+later_at : (text : List ℕ) (k : ℕ) (here : Here) → here.end ≤ (walk text (suc k) here).at
+later_at text zero here = (token_ordered text here.end).0
+later_at text (suc k) here =
+    let next = token_ordered text here.end in
+    let rest = later_at text k (token_from text here.end 0) in
+    omega arith
+
+walk_token : {text : List ℕ} {here : Here} → IsToken text here → (n : ℕ) → IsToken text (walk text n here)
+walk_token t zero = t
+walk_token {text} {here} t (suc n) = record { from = behind_tokens text n here.end; is = walk_number text n here.end 0 }
+
+-- behind a token that takes no bytes there is itself again
+stays : (text other : List ℕ) (end : ℕ) → token_from text end 0 ≡ token_from other end 0 → (token_from text end 0).end ≡ end → (n : ℕ) → SameTokens text other n end
+stays text other end same at zero = tt
+stays text other end same at (suc n) = (same, subst (λ m. SameTokens text other n m) (sym at) (stays text other end same at n))
+
+same_joined : (text other : List ℕ) (j k from : ℕ) → SameTokens text other j from → SameTokens text other k (behind_tokens text j from) → SameTokens text other (j + k) from
+same_joined text other zero k from before after = let n : k ≡ 0 + k = omega arith in subst (λ m. SameTokens text other m from) n after
+same_joined text other (suc j) k from before after =
+    let n : suc (j + k) ≡ suc j + k = omega arith in
+    subst (λ m. SameTokens text other m from) n (before.0, same_joined text other j k (token_from text from 0).end before.1 after)
+
+-- so two numbers of tokens with the same place fix the same tokens
+pub same_more : (text other : List ℕ) (here : Here) (n m : ℕ) → IsToken text here → (tokens_from text here n).at ≡ (tokens_from text here m).at → SameTokens text other (m + 1) here.end → SameTokens text other (n + 1) here.end
+same_more text other here n m token at same = elim (cases_lt m n) [
+  | inl less ↦ (let mid = walk text m here in
+      let own = token_here (walk_token token m) in
+      let sum : n ≡ m + suc (n - m - 1) = omega arith in
+      let there_ : (walk text n here).at ≡ (walk text (suc (n - m - 1)) mid).at = ap (λ k. (walk text k here).at) sum ∙ ap (λ (h : Here). h.at) (walk_plus text m (suc (n - m - 1)) here) in
+      let later = later_at text (n - m - 1) mid in
+      let empty : mid.at ≡ mid.end = omega arith in
+      let parts = same_parts text other m 1 here.end same in
+      let end : behind_tokens text m here.end ≡ mid.end = sym (walk_end text m here) in
+      let again : token_from text mid.end 0 ≡ bare mid = ap (λ k. token_from text k 0) (sym empty) ∙ own.1 in
+      let first : SameTokens text other 1 mid.end = subst (λ k. SameTokens text other 1 k) end parts.1 in
+      let rest : SameTokens text other (n + 1 - m) (behind_tokens text m here.end) = subst (λ k. SameTokens text other (n + 1 - m) k) (sym end) (stays text other mid.end first.0 (ap (λ (h : Here). h.end) again) (n + 1 - m)) in
+      let whole : m + (n + 1 - m) ≡ n + 1 = omega arith in
+      subst (λ k. SameTokens text other k here.end) whole (same_joined text other m (n + 1 - m) here.end parts.0 rest))
+  | inr few ↦ (let sum : m + 1 ≡ n + 1 + (m - n) = omega arith in
+      (same_parts text other (n + 1) (m - n) here.end (subst (λ k. SameTokens text other k here.end) sum same)).0)
+]
+
 -- ---- what depends on the tokens up to a place
 
 pub record Local (text : List ℕ) (here there : Here) (P : List ℕ → Type 0) : Type 0 where
@@ -102,6 +186,14 @@ behind_parts text other j k here mid reach same =
 
 pub walk_from : (text : List ℕ) (j k : ℕ) (here mid : Here) → bare (walk text j here) ≡ bare mid → bare (walk text (j + k) here) ≡ bare (walk text k mid)
 walk_from text j k here mid reach = ap bare (walk_plus text j k here) ∙ bare_walk text k (walk text j here) mid reach
+
+pub token_behind : {text : List ℕ} {here there : Here} {P : List ℕ → Type 0} → Local text here there P → IsToken text there
+token_behind {text} {here} {there} a =
+    let steps : a.steps ≡ suc (a.steps - 1) = (let some = a.some in omega arith) in
+    record {
+      from = behind_tokens text (a.steps - 1) here.end;
+      is = sym a.reach ∙ ap (λ n. bare (walk text n here)) steps ∙ walk_number text (a.steps - 1) here.end 0;
+    }
 
 unfoldable pub local_then : {text : List ℕ} {here mid there : Here} {P Q : List ℕ → Type 0} → Local text here mid P → Local text mid there Q → Local text here there (λ o. P o × Q o)
 local_then {text} {here} {mid} {there} a b = record {
@@ -132,11 +224,11 @@ local_peeks {text} {here} left f a = record {
 
 pub record Met (text : List ℕ) (here : Here) (e : TextFault) (P : List ℕ → Type 0) : Type 0 where
   pub steps : ℕ
-  pub met : IsMetAt (tokens_from text here) steps e
+  pub at : IsAt (tokens_from text here steps).at e
   pub holds : (other : List ℕ) → SameTokens text other (steps + 1) here.end → P other
 
 pub met_with : {text : List ℕ} {here : Here} {e : TextFault} {P Q : List ℕ → Type 0} → ((other : List ℕ) → P other → Q other) → Met text here e P → Met text here e Q
-met_with f a = record { steps = a.steps; met = a.met; holds = λ o same. f o (a.holds o same) }
+met_with f a = record { steps = a.steps; at = a.at; holds = λ o same. f o (a.holds o same) }
 
 call_shifted : (f g : ℕ → Here) (j first last : ℕ) → ((k : ℕ) → f (j + k) ≡ g k) → IsCallOf g first last → IsCallOf f (j + first) (j + last)
 call_shifted f g j first last same c = record {
@@ -155,20 +247,20 @@ met_shifted f g j {n} same (at_close first c) =
     subst (λ (h : Here). IsMetAt f (j + n) (Sort h.at)) (same first) (at_close (j + first) (call_shifted f g j first n same c))
 
 pub met_after : {text : List ℕ} {here mid : Here} {e : TextFault} {P Q : List ℕ → Type 0} → Local text here mid P → Met text mid e Q → Met text here e (λ o. P o × Q o)
-met_after {text} {here} {mid} a b = record {
+met_after {text} {here} {mid} {e} a b = record {
   steps = a.steps + b.steps;
-  met = met_shifted (tokens_from text here) (tokens_from text mid) a.steps (λ k. walk_from text a.steps k here mid a.reach) b.met;
+  at = subst (λ (h : Here). IsAt h.at e) (sym (walk_from text a.steps b.steps here mid a.reach)) b.at;
   holds = λ o same. (let n : a.steps + b.steps + 1 ≡ a.steps + (b.steps + 1) = omega arith in
       let parts = behind_parts text o a.steps (b.steps + 1) here mid a.reach (subst (λ m. SameTokens text o m here.end) n same) in (a.holds o parts.0, b.holds o parts.1));
 }
 
 pub met_here : {text : List ℕ} {here : Here} {e : TextFault} {P : List ℕ → Type 0} → IsAt here.at e → ((other : List ℕ) → P other) → Met text here e P
-met_here {e = e} at p = record { steps = 0; met = there e at; holds = λ o same. p o }
+met_here at p = record { steps = 0; at = at; holds = λ o same. p o }
 
 pub met_peeks : {text : List ℕ} {here : Here} {e : TextFault} {P R : List ℕ → Type 0} (left : ℕ) → ((o : List ℕ) → token_from o here.end left ≡ token_from text here.end left → R o) → Met text here e P → Met text here e (λ o. R o × P o)
 met_peeks {text} {here} left f a = record {
   steps = a.steps;
-  met = a.met;
+  at = a.at;
   holds = λ o same. (f o (one_token text o here.end left (same_first text o (a.steps + 1) here.end (omega arith) same)), a.holds o same);
 }
 
@@ -184,7 +276,7 @@ pub record Good (text : List ℕ) (here : Here) (known : ℕ) (there : Here) (P 
 pub record Bad (text : List ℕ) (here : Here) (known : ℕ) (e : TextFault) (P : List ℕ → Type 0) : Type 0 where
   pub steps : ℕ
   pub enough : known ≤ steps + 1
-  pub met : IsMetAt (tokens_from text here) steps e
+  pub at : IsAt (tokens_from text here steps).at e
   pub holds : (other : List ℕ) → SameTokens text other (steps + 1) here.end → P other
 
 -- what is answered depends on the tokens up to where the piece ends or stops, where so many behind the first are known
@@ -201,10 +293,10 @@ pub check : {A B : Type 0} (text : List ℕ) (here h : Here) (known j : ℕ) (pl
     → ((a : A) → Piece text here known place (λ o. q o a) (q text a)) → Piece text here known place (λ o. r >>= q o) (r >>= q text)
 check text here h known j place (Ok a) q reach few at go = go a
 check text here h known j place (Err e) q reach few at go =
-    record { steps = j; enough = few; met = there e (subst (λ (h' : Here). IsAt h'.at e) (sym reach) at); holds = λ o same. refl }
+    record { steps = j; enough = few; at = subst (λ (h' : Here). IsAt h'.at e) (sym reach) at; holds = λ o same. refl }
 
 pub stop : {B : Type 0} (text : List ℕ) (here h : Here) (known j : ℕ) (place : B → Here) (e : TextFault) → bare (walk text j here) ≡ bare h → known ≤ j + 1 → IsAt h.at e → Piece text here known place (λ o. Err e) (Err e)
-stop text here h known j place e reach few at = record { steps = j; enough = few; met = there e (subst (λ (h' : Here). IsAt h'.at e) (sym reach) at); holds = λ o same. refl }
+stop text here h known j place e reach few at = record { steps = j; enough = few; at = subst (λ (h' : Here). IsAt h'.at e) (sym reach) at; holds = λ o same. refl }
 
 pub finish : {B : Type 0} (text : List ℕ) (here : Here) (known : ℕ) (place : B → Here) (b : B) → 1 ≤ known → bare (walk text known here) ≡ bare (place b) → Piece text here known place (λ o. Ok b) (Ok b)
 finish text here known place b some reach = record { steps = known; some = some; enough = omega arith; reach = reach; holds = λ o same. refl }
@@ -225,7 +317,7 @@ step text here h left known place q (Ok b) reach p = record {
 step text here h left known place q (Err e) reach p = record {
   steps = p.steps;
   enough = (let few = p.enough in omega arith);
-  met = p.met;
+  at = p.at;
   holds = λ o same. ap (q o) (known_token text o here h left known (p.steps + 1) reach p.enough same) ∙ p.holds o same;
 }
 
@@ -249,7 +341,7 @@ read_piece text here known place r p is = subst (λ x. Piece text here known pla
 pub stopped_piece : {A : Type 0} (text : List ℕ) (here : Here) (known : ℕ) (place : A → Here) (r : List ℕ → Result A TextFault) {x : Result A TextFault} {e : TextFault} → Piece text here known place r x → x ≡ Err e
     → Met text here e (λ o. r o ≡ Err e)
 stopped_piece text here known place r {x} {e} p is =
-    let bad : Bad text here known e (λ o. r o ≡ Err e) = subst (λ x'. Piece text here known place r x') is p in record { steps = bad.steps; met = bad.met; holds = bad.holds }
+    let bad : Bad text here known e (λ o. r o ≡ Err e) = subst (λ x'. Piece text here known place r x') is p in record { steps = bad.steps; at = bad.at; holds = bad.holds }
 
 pub local_piece : {text : List ℕ} {here there : Here} {known : ℕ} {P : List ℕ → Type 0} → Good text here known there P → Local text here there P
 local_piece g = record { steps = g.steps; some = g.some; reach = g.reach; holds = g.holds }

@@ -1,3 +1,4 @@
+pub mod Exact
 pub mod FirstTokens
 pub mod Grammar
 pub mod Met

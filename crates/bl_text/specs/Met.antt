@@ -7,7 +7,6 @@ use Rattle.bl_tokens.specs.declared.tokens.Sign.TheVariants as signs
 use Rattle.bl_tokens.specs.declared.tokens.Token.TheVariants as tokens
 use Rattle.bl_tokens.specs.declared.tokens.Here.{Here}
 use Rattle.bl_tokens.specs.Tokens.{is_sign}
-use Rattle.bl_text.specs.FirstTokens.{token_number, SameTokens}
 
 -- the fault is at that byte
 pub data IsAt (at : ℕ) : TextFault → Type 0 where
@@ -30,9 +29,3 @@ pub record IsCallOf (tokens_of : ℕ → Here) (first last : ℕ) : Type 0 where
 pub data IsMetAt (tokens_of : ℕ → Here) (number : ℕ) : TextFault → Type 0 where
   there : (e : TextFault) → IsAt (tokens_of number).at e → IsMetAt tokens_of number e
   at_close : (first : ℕ) → IsCallOf tokens_of first number → IsMetAt tokens_of number (Sort (tokens_of first).at)
-
--- the fault is met at a token of the text, and each text with the same tokens up to that one and the same next token has it too
-pub record IsSettled (HasFault : List ℕ → TextFault → Type 0) (text : List ℕ) (e : TextFault) : Type 0 where
-  pub number : ℕ
-  pub met : IsMetAt (token_number text) number e
-  pub same : (other : List ℕ) → SameTokens text other (number + 2) 0 → HasFault other e

@@ -5,7 +5,6 @@ use Rattle.bl_syntax.specs.declared.terms.Sort.{Sort}
 use Rattle.bl_syntax.specs.declared.terms.Term.{Term}
 use Rattle.bl_syntax.specs.declared.terms.Term.TheVariants.{Time}
 use Rattle.bl_syntax.specs.declared.terms.TimePoint.{TimePoint}
-use Rattle.bl_tokens.specs.declared.faults.TextFault.{TextFault}
 use Rattle.bl_tokens.specs.declared.tokens.Sign.{Sign}
 use Rattle.bl_tokens.specs.declared.tokens.Sign.TheVariants as signs
 use Rattle.bl_tokens.specs.declared.tokens.Keyword.TheVariants as keywords
@@ -15,7 +14,6 @@ use Rattle.bl_tokens.specs.Tokens.{token_from, is_sign, is_word}
 use Rattle.bl_text.specs.Scope.{Variable, place_of}
 use Rattle.bl_text.specs.Grammar.{Level, formula, disjunction, conjunction, unary, postfix, primary, is_quantifier}
 use Rattle.bl_text.specs.FirstTokens.{token_number}
-use Rattle.bl_text.specs.Met.{IsMetAt}
 use Rattle.bl_text.specs.Texts.{is_end}
 
 -- the token is this sign
@@ -74,13 +72,6 @@ pub data IsStatementSentence : List Token → Type 0 where
 abbrev pub first_tokens : List ℕ → ℕ → ℕ → List Token
 first_tokens text zero from = []
 first_tokens text (suc n) from = (token_from text from 0).token ∷ first_tokens text n (token_from text from 0).end
-
--- the fault is met at a token of the text, and the tokens before that one can be completed to a sentence
-pub record IsViable (IsOne : List Token → Type 0) (text : List ℕ) (e : TextFault) : Type 0 where
-  pub number : ℕ
-  pub met : IsMetAt (token_number text) number e
-  pub others : List Token
-  pub sentence : IsOne (first_tokens text number 0 ++ others)
 
 -- the whole text has the tokens of a sentence
 pub record IsSentenceText (IsOne : List Token → Type 0) (text : List ℕ) : Type 0 where

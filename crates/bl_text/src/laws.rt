@@ -1,20 +1,20 @@
 //! Laws of the texts. A law is the contract of an empty function, which nothing calls.
 
-ghost use Rattle.std.specs.Prelude.{◌≡◌, ◌⊎◌, ℕ, List};
+ghost use Rattle.std.specs.Prelude.{◌≡◌, ◌≢◌, ◌⊎◌, ℕ, List};
 ghost use Rattle.bl_syntax.specs.Formula.{Form, compare, state};
 ghost use Rattle.bl_syntax.specs.Statement.{Saying, IsStatement};
 ghost use Rattle.bl_tokens.specs.declared.faults.TextFault.{TextFault};
 ghost use Rattle.bl_text.specs.Texts.{IsFormulaText, FormulaFault, IsSayingText, IsStatementText, StatementFault, AreOneFault};
-ghost use Rattle.bl_text.specs.Met.{IsSettled};
+ghost use Rattle.bl_text.specs.Exact.{IsExact};
 ghost use Rattle.bl_text.specs.Printed.{constraint_text, state_text, formula_text, statement_text};
 ghost use Rattle.bl_text.specs.Readable.{IsReadable};
 ghost use Rattle.bl_syntax.specs.FormulaSpelling.{IsSpellableStatement};
 ghost use Rattle.bl_syntax.specs.declared.terms.Sort.{Sort};
 ghost use Rattle.bl_syntax.specs.declared.terms.Constraint.{Constraint};
 ghost use Rattle.bl_syntax.specs.declared.terms.StatePred.{StatePred};
-ghost use Rattle.bl_text.specs.Sentences.{IsSentence, IsSentenceText, IsStatementSentence, IsViable};
+ghost use Rattle.bl_text.specs.Sentences.{IsSentence, IsSentenceText, IsStatementSentence};
 
-/// A text is one formula.
+/// A text is one of one formula at most.
 pub fn one_formula()
     ensures { (text : List ℕ) (f g : Form) → IsFormulaText text f → IsFormulaText text g → f ≡ g }
 {}
@@ -25,13 +25,13 @@ pub fn no_fault_of_a_formula()
         → e ≡ TextFault.NoMemory }
 {}
 
-/// A text that is none of a formula has one fault, want of memory aside.
+/// A text has one fault of a formula at most, want of memory aside.
 pub fn one_fault_of_a_formula()
     ensures { (text : List ℕ) (e f : TextFault) → FormulaFault text e → FormulaFault text f
         → AreOneFault e f }
 {}
 
-/// A text is one statement.
+/// A text is one of one statement at most.
 pub fn one_statement()
     ensures { (text : List ℕ) (s t : Saying) → IsStatementText text s → IsStatementText text t → s ≡ t }
 {}
@@ -42,24 +42,20 @@ pub fn no_fault_of_a_statement()
         → e ≡ TextFault.NoMemory }
 {}
 
-/// A text that is none of a statement has one fault, want of memory aside.
+/// A text has one fault of a statement at most, want of memory aside.
 pub fn one_fault_of_a_statement()
     ensures { (text : List ℕ) (e f : TextFault) → StatementFault text e → StatementFault text f
         → AreOneFault e f }
 {}
 
-/// The first fault of a text of no formula is met at the token at its place, or where arguments
-/// are wrong, at the predicate's `)`. What stands behind the next token does not matter.
-pub fn settled_fault_of_a_formula()
+/// The place of the first fault of a text of no formula is exact. It is met at one token: the one at
+/// its place, or where a predicate's arguments are wrong, the predicate's `)`. The tokens before that
+/// one can be completed to a sentence of the grammar, which asks for no sorts and no number of
+/// arguments and has no limits: so no fault is told too late. Each text with the same tokens up to
+/// that one, and the same next token, has the fault too: so none is told too early.
+pub fn exact_fault_of_a_formula()
     ensures { (text : List ℕ) (e : TextFault) → FormulaFault text e
-        → (e ≡ TextFault.NoMemory) ⊎ IsSettled FormulaFault text e }
-{}
-
-/// The tokens before the one at which a formula's fault is met can be completed to a sentence of
-/// the grammar, sorts and limits aside. So no fault is told too late.
-pub fn viable_fault_of_a_formula()
-    ensures { (text : List ℕ) (e : TextFault) → FormulaFault text e
-        → (e ≡ TextFault.NoMemory) ⊎ IsViable IsSentence text e }
+        → (e ≡ TextFault.NoMemory) ⊎ IsExact FormulaFault IsSentence text e }
 {}
 
 /// The tokens of a formula's text are a sentence of the grammar.
@@ -67,16 +63,10 @@ pub fn sentence_of_a_formula()
     ensures { (text : List ℕ) (f : Form) → IsFormulaText text f → IsSentenceText IsSentence text }
 {}
 
-/// The first fault of a text of no statement is met likewise.
-pub fn settled_fault_of_a_statement()
+/// The place of the first fault of a text of no statement is exact likewise.
+pub fn exact_fault_of_a_statement()
     ensures { (text : List ℕ) (e : TextFault) → StatementFault text e
-        → (e ≡ TextFault.NoMemory) ⊎ IsSettled StatementFault text e }
-{}
-
-/// The tokens before the one at which a statement's fault is met can be completed likewise.
-pub fn viable_fault_of_a_statement()
-    ensures { (text : List ℕ) (e : TextFault) → StatementFault text e
-        → (e ≡ TextFault.NoMemory) ⊎ IsViable IsStatementSentence text e }
+        → (e ≡ TextFault.NoMemory) ⊎ IsExact StatementFault IsStatementSentence text e }
 {}
 
 /// What a text of the grammar of statements says may be said: it is closed and well sorted, within
@@ -85,22 +75,54 @@ pub fn sayable_text()
     ensures { (text : List ℕ) (s : Saying) → IsSayingText text s → IsStatement s }
 {}
 
-/// What a formula is written as is a text of it.
+/// What a formula is written as is a text of it, where it is closed and well sorted within the limits, has a
+/// spelling, and has no parameter before a `says`.
 pub fn written_formula()
     ensures { (parameters : List Sort) (f : Form) → IsReadable parameters f → IsFormulaText (formula_text 0 f) f }
 {}
 
-/// What a condition on time is written as is a text of it.
+/// What a condition on time is written as is a text of it, likewise.
 pub fn written_constraint()
     ensures { (parameters : List Sort) (c : Constraint) → IsReadable parameters (compare c) → IsFormulaText (constraint_text 0 c) (compare c) }
 {}
 
-/// What a condition on the server's state is written as is a text of it.
+/// What a condition on the server's state is written as is a text of it, likewise.
 pub fn written_state()
     ensures { (parameters : List Sort) (s : StatePred) → IsReadable parameters (state s) → IsFormulaText (state_text 0 s) (state s) }
 {}
 
-/// What a statement is written as is a text of it.
+/// What a statement is written as is a text of it, where it has a spelling.
 pub fn written_statement()
     ensures { (s : Saying) → IsSpellableStatement s → IsStatementText (statement_text s) s }
+{}
+
+/// The tokens of a statement's text are a sentence of the grammar of statements.
+pub fn sentence_of_a_statement()
+    ensures { (text : List ℕ) (s : Saying) → IsStatementText text s → IsSentenceText IsStatementSentence text }
+{}
+
+/// Each text is one of a formula or has a fault other than want of memory.
+pub fn formula_or_fault()
+    ensures { (text : List ℕ) → ((f : Form) × IsFormulaText text f)
+        ⊎ ((e : TextFault) × FormulaFault text e × (e ≢ TextFault.NoMemory)) }
+{}
+
+/// Each text is one of a statement or has a fault other than want of memory.
+pub fn statement_or_fault()
+    ensures { (text : List ℕ) → ((s : Saying) × IsStatementText text s)
+        ⊎ ((e : TextFault) × StatementFault text e × (e ≢ TextFault.NoMemory)) }
+{}
+
+/// A text whose tokens are a sentence of the grammar is one of a formula, or it has a fault of sorts
+/// or one of size.
+pub fn formula_of_a_sentence()
+    ensures { (text : List ℕ) → IsSentenceText IsSentence text → ((f : Form) × IsFormulaText text f)
+        ⊎ ((at : ℕ) × (FormulaFault text (TextFault.Sort at) ⊎ FormulaFault text (TextFault.TooLarge at))) }
+{}
+
+/// A text whose tokens are a sentence of the grammar of statements is one of a statement, or it has a
+/// fault of sorts or one of size.
+pub fn statement_of_a_sentence()
+    ensures { (text : List ℕ) → IsSentenceText IsStatementSentence text → ((s : Saying) × IsStatementText text s)
+        ⊎ ((at : ℕ) × (StatementFault text (TextFault.Sort at) ⊎ StatementFault text (TextFault.TooLarge at))) }
 {}

@@ -1,5 +1,5 @@
 -- What is no name of another predicate is a predicate on the server's state.
-use Rattle.std.proofs.Common.{◌≡◌, ℕ, List, Bool, true, false, IsTrue, refl, sym, subst, rules, Result}
+use Rattle.std.proofs.Common.{◌≡◌, ℕ, List, Bool, true, false, IsTrue, refl, sym, subst, Result}
 use Rattle.std.specs.Prelude.{if◌then◌else◌}
 use Rattle.std.proofs.lemmas.Bool.{false≢true}
 use Rattle.bl_syntax.specs.declared.terms.Term.{Term}

@@ -1,5 +1,5 @@
 -- There is a predicate's name exactly where the bytes are one.
-use Rattle.std.proofs.Common.{◌≡◌, List, ℕ, sym, subst, ◌∙◌, IsTrue}
+use Rattle.std.proofs.Common.{List, ℕ, sym, subst, ◌∙◌, IsTrue}
 use Rattle.bl_syntax.specs.Names.{is_predicate_name}
 use Rattle.bl_text.proofs.ReadLemmas.{bool_same}
 use Rattle.bl_text.proofs.applied.is_atom.Goals as goal

@@ -1,11 +1,10 @@
 -- Each level of the grammar reads its parts, and stops where the next of them stops.
-use Rattle.std.proofs.Common.{◌≡◌, ℕ, ◌+◌, ◌<◌, ◌≤◌, true, false, Ok, Err, sym, ap, ◌∙◌, refl, arith, rules, nat_lt}
+use Rattle.std.proofs.Common.{◌≡◌, true, false, sym, refl, arith, rules}
 use Rattle.std.proofs.lemmas.Result.{IfOk-weaker, IfErr-weaker}
 use Rattle.bl_syntax.specs.Formula.{formula}
 use Rattle.bl_tokens.specs.declared.faults.TextFault.TheVariants.{NoMemory}
 use Rattle.bl_tokens.specs.declared.tokens.Sign.TheVariants as signs
 use Rattle.bl_tokens.specs.Tokens.{is_sign}
-use Rattle.bl_text.specs.Scope.{variables}
 use Rattle.bl_text.specs.Grammar.{is_saying, is_call}
 use Rattle.bl_text.specs.Grammar as g
 use Rattle.bl_text.specs.Stops as s

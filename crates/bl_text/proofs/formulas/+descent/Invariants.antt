@@ -1,4 +1,4 @@
-use Rattle.std.proofs.Common.{◌≡◌, ℕ, ◌+◌, ◌-◌, ◌*◌, ◌≤◌, length, false}
+use Rattle.std.proofs.Common.{◌≡◌, ◌+◌, ◌-◌, ◌*◌, ◌≤◌, length, false}
 use Rattle.bl_syntax.specs.Formula.{formula}
 use Rattle.bl_text.specs.Scope.{variables}
 use Rattle.bl_text.specs.Grammar.{disjunction, conjunction, postfix, Is, goes_on}

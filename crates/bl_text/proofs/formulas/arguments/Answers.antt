@@ -1,10 +1,8 @@
 -- Each term that is read stands behind those before it.
-use Rattle.std.proofs.Common.{◌≡◌, ◌+◌, List, [], ◌∷◌, ◌++◌, length, Ok, sym, ap, ◌∙◌, arith, rules, Result}
+use Rattle.std.proofs.Common.{◌≡◌, List, [], ◌∷◌, ◌++◌, length, Ok, sym, ap, ◌∙◌, arith, rules, Result}
 use Rattle.bl_syntax.specs.declared.terms.Term.{Term}
 use Rattle.bl_tokens.specs.declared.faults.TextFault.{TextFault}
 use Rattle.bl_tokens.specs.declared.tokens.Sign.TheVariants.{Comma}
-use Rattle.bl_tokens.specs.declared.tokens.Here.{Here}
-use Rattle.bl_tokens.specs.Tokens.{behind}
 use Rattle.bl_text.specs.Pieces.{expected, next_argument}
 use Rattle.bl_text.specs.Scope.{variables}
 use Rattle.bl_text.specs.Grammar.{one, further}

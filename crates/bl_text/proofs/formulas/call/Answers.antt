@@ -1,5 +1,4 @@
 -- A call begins with a name.
-use Rattle.std.proofs.Common.{rules}
 use Rattle.bl_text.proofs.ReadLemmas.{is_call-name}
 use Rattle.bl_text.proofs.formulas.call.Goals as goal
 

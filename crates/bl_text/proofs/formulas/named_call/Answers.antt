@@ -1,14 +1,10 @@
 -- The name, its arguments and the parenthesis behind them, as far as they are there.
-use Rattle.std.proofs.Common.{◌≡◌, ◌+◌, ℕ, Bool, List, Ok, Err, sym, ap, ap₂, ◌∙◌, subst, arith, rules, Result}
-use Rattle.bl_syntax.specs.Names.{is_predicate_name}
-use Rattle.bl_syntax.specs.Formula.{Form, formula}
-use Rattle.bl_tokens.specs.declared.faults.TextFault.{TextFault}
-use Rattle.bl_tokens.specs.declared.tokens.Sign.TheVariants.{Close}
+use Rattle.std.proofs.Common.{◌≡◌, Bool, sym, subst, arith, rules}
+use Rattle.bl_syntax.specs.Formula.{formula}
 use Rattle.bl_tokens.specs.declared.tokens.Here.{Here}
 use Rattle.bl_tokens.specs.Tokens.{behind, behind_node}
-use Rattle.bl_text.specs.Pieces.{count, expected, applied}
 use Rattle.bl_text.specs.Scope.{variables}
-use Rattle.bl_text.specs.Grammar.{AreArguments, IsCall, call}
+use Rattle.bl_text.specs.Grammar.{AreArguments, call}
 use Rattle.bl_text.specs.Stops.{ArgumentsStop, at_name, in_arguments, before_close, by_sorts}
 use Rattle.bl_text.proofs.ReadLemmas.{passed}
 use Rattle.bl_text.proofs.formulas.named_call.Goals as goal

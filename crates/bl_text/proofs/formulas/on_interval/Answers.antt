@@ -1,5 +1,5 @@
 -- The interval is read, and the formula put on it.
-use Rattle.std.proofs.Common.{◌≡◌, refl, sym, ap, ◌∙◌, rules}
+use Rattle.std.proofs.Common.{sym, rules}
 use Rattle.bl_tokens.specs.declared.faults.TextFault.TheVariants.{NoMemory}
 use Rattle.bl_text.specs.Read.{no_memory_for_interval, interval_stops}
 use Rattle.bl_text.proofs.ReadLemmas.{passed}

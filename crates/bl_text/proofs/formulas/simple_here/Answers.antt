@@ -1,6 +1,5 @@
 -- What `simple` reads, boxed.
-use Rattle.std.proofs.Common.{◌≡◌, refl, sym, ap, ◌∙◌, rules}
-use Rattle.bl_syntax.specs.declared.formula.Formula.{Formula}
+use Rattle.std.proofs.Common.{◌≡◌, refl, ap, rules}
 use Rattle.bl_syntax.specs.Formula.{formula}
 use Rattle.bl_tokens.specs.declared.faults.TextFault.TheVariants.{NoMemory}
 use Rattle.bl_text.specs.Grammar.{one_simple}

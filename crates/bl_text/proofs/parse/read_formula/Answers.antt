@@ -2,7 +2,7 @@
 use Rattle.std.proofs.Common.{◌≡◌, true, false, sym, subst, rules}
 use Rattle.bl_syntax.specs.declared.formula.Formula.{Formula}
 use Rattle.bl_syntax.specs.Formula.{formula}
-use Rattle.bl_text.specs.Texts.{IsFormulaText, FormulaFault, whole, in_formula, behind_formula, is_end}
+use Rattle.bl_text.specs.Texts.{IsFormulaText, whole, in_formula, behind_formula, is_end}
 use Rattle.bl_text.proofs.ReadLemmas.{passed, stops_at, is_at}
 use Rattle.bl_text.proofs.parse.read_formula.Goals as goal
 

@@ -1,11 +1,8 @@
 -- The parts of a statement are read one behind the other.
-use Rattle.std.proofs.Common.{◌≡◌, List, ℕ, Ok, Err, Result, true, false, sym, ap, ◌∙◌, subst, refl, rules}
-use Rattle.bl_syntax.specs.declared.formula.Formula.{Formula}
-use Rattle.bl_syntax.specs.Formula.{Form, formula}
-use Rattle.bl_syntax.specs.Statement.{Saying, saying, IsStatement}
-use Rattle.bl_tokens.specs.declared.faults.TextFault.{TextFault}
-use Rattle.bl_tokens.specs.declared.tokens.Here.{Here}
-use Rattle.bl_text.specs.Texts.{beginning, opening, IsSayingText, whole_saying, IsStatementText, StatementFault, in_opening, in_body, in_span}
+use Rattle.std.proofs.Common.{sym, ap, ◌∙◌, subst, refl, rules}
+use Rattle.bl_syntax.specs.Formula.{formula}
+use Rattle.bl_syntax.specs.Statement.{Saying}
+use Rattle.bl_text.specs.Texts.{opening, whole_saying, IsStatementText, in_opening, in_body, in_span}
 use Rattle.std.proofs.lemmas.Bool.{false≢true}
 use Rattle.bl_text.proofs.ReadLemmas.{passed, is_form}
 use Rattle.bl_text.proofs.SaidLemmas.{statement_said}
