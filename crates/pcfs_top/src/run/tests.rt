@@ -227,9 +227,9 @@ denied 1 file at 3
 fn a_seal_is_tested_first(rt: HostRuntime) -> Result<(), Fail> {
     let lines = "\
 procap 1
-do create #1 a 470105616c69636500000000000000010202040100000000000000000606040100000000000000c8006b2e641a499dbf1435042367eaa195839b96fea528f7ec148f09a66abc07cb15
 do create #1 x 470105616c69636500000000000000010202040100000000000000000606040100000000000000c8006b2e641a499dbf1435042367eaa195839b96fea528f7ec148f09a66abc07cb14
 do create #1 x 470105616c69636500000000000000030202040100000000000000000606040100000000000000c8006b2e641a499dbf1435042367eaa195839b96fea528f7ec148f09a66abc07cb15
+do create #1 a 470105616c69636500000000000000010202040100000000000000000606040100000000000000c8006b2e641a499dbf1435042367eaa195839b96fea528f7ec148f09a66abc07cb15
 as bob
 at 300
 do create #1 x 470105616c69636500000000000000010202040100000000000000000606040100000000000000c8006b2e641a499dbf1435042367eaa195839b96fea528f7ec148f09a66abc07cb14
@@ -242,9 +242,9 @@ procap 0
 ";
     let replies = "\
 ok procap 470105616c69636500000000000000010202040100000000000000000606040100000000000000c8006b2e641a499dbf1435042367eaa195839b96fea528f7ec148f09a66abc07cb15
+denied 1 seal at 3
+denied 1 seal at 3
 ok node #3
-denied 1 seal at 4
-denied 1 seal at 4
 ok
 ok
 denied 1 seal at 4
@@ -422,6 +422,17 @@ bad 4 1 22
 bad 4 1 22
 ";
     assert!(rt; answers(&rt, lines, replies)?);
+    Ok(())
+}
+
+#[test]
+fn a_parenthesis_too_many_is_told(rt: HostRuntime) -> Result<(), Fail> {
+    let mut line = joined(rt.alloc(), "register - admin says ", "")?;
+    for _ in 0..513 {
+        line.push(b'(')?;
+    }
+    let got = run_over(&rt, &["script"], line, &[], &[])?;
+    assert!(rt; got.status == 0 && got.output.held() == b"bad 4 5 523\n".as_slice());
     Ok(())
 }
 
