@@ -1,4 +1,6 @@
 pub mod Determined
+pub mod EarlyLemmas
+pub mod EarlyTexts
 pub mod ExactLemmas
 pub mod LexedLemmas
 pub mod Outcomes

@@ -99,13 +99,13 @@ term_limited {scope} here (variable name some) is = subst (λ r. Limited r Any) 
 unless_limited : (at : ℕ) (b : Bool) → Limited {A = Unit {0}} (if b then Err (Sort at) else Ok tt) Any
 unless_limited at b = decided IsLimit Any b (Err (Sort at)) (Ok tt) (λ _. tt) (λ _. tt)
 
-sayable_limited : (st : Bool) (at : ℕ) (t : Term) → Limited (sayable st at t) Any
+pub sayable_limited : (st : Bool) (at : ℕ) (t : Term) → Limited (sayable st at t) Any
 unfolding sayable
 sayable_limited st at Ctime = unless_limited at st
 sayable_limited st at (Param n) = unless_limited at st
 sayable_limited st at _ = tt
 
-sorted_limited : (scope : List Variable) (wanted : TermSort) (at : ℕ) (t : Term) → Limited (sorted scope wanted at t) Any
+pub sorted_limited : (scope : List Variable) (wanted : TermSort) (at : ℕ) (t : Term) → Limited (sorted scope wanted at t) Any
 unfolding sorted
 sorted_limited scope wanted at t = decided IsLimit Any (fits scope wanted t) (Ok tt) (Err (Sort at)) (λ _. tt) (λ _. tt)
 

@@ -226,7 +226,7 @@ local_speaker {text} scope {here} k = local_piece (read_piece text here 0 speake
 pub local_interval : {text : List ℕ} (st : Bool) (scope : List Variable) {here mid : Here} {from to : Term} → interval text st scope here ≡ Ok (from, to, mid) → Local text here mid (λ o. interval o st scope here ≡ Ok (from, to, mid))
 local_interval {text} st scope {here} iv = local_piece (read_piece text here 0 interval_place (λ o. interval o st scope here) (piece_interval text st scope here) iv)
 
-local_simple : {text : List ℕ} (st : Bool) (scope : List Variable) {here mid : Here} {f : Form} → simple text st scope here ≡ Ok (f, mid) → Local text here mid (λ o. simple o st scope here ≡ Ok (f, mid))
+pub local_simple : {text : List ℕ} (st : Bool) (scope : List Variable) {here mid : Here} {f : Form} → simple text st scope here ≡ Ok (f, mid) → Local text here mid (λ o. simple o st scope here ≡ Ok (f, mid))
 local_simple {text} st scope {here} h = local_piece (read_piece text here 0 form_place (λ o. simple o st scope here) (piece_simple text st scope here) h)
 
 pub local_is : {text : List ℕ} {st : Bool} {level : Level} {scope : List Variable} {depth : ℕ} {here place : Here} {f : Form} → Is text st level scope depth here place f → Local text here place (λ o. Is o st level scope depth here place f)

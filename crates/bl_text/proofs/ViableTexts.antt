@@ -81,7 +81,7 @@ pub word_is : (text : List ℕ) (word : Word) (here place : Here) → word_expec
 unfolding word_expected
 word_is text word here place h = (if_ok (is_word word here.token) (Ok (behind text here)) (Unexpected here.at) place h).0
 
-word_errs : (text : List ℕ) (word : Word) (here : Here) → ErrsAt here.at (word_expected text word here)
+pub word_errs : (text : List ℕ) (word : Word) (here : Here) → ErrsAt here.at (word_expected text word here)
 unfolding word_expected
 word_errs text word here = if_errs here.at (is_word word here.token) (Ok (behind text here)) (Err (Unexpected here.at)) tt unexpected
 

@@ -9,6 +9,7 @@ pub mod Read
 pub mod Readable
 pub mod Scope
 pub mod Sentences
+pub mod Soonest
 pub mod Stops
 pub mod Texts
 pub mod Written

@@ -13,6 +13,7 @@ ghost use Rattle.bl_syntax.specs.declared.terms.Sort.{Sort};
 ghost use Rattle.bl_syntax.specs.declared.terms.Constraint.{Constraint};
 ghost use Rattle.bl_syntax.specs.declared.terms.StatePred.{StatePred};
 ghost use Rattle.bl_text.specs.Sentences.{IsSentence, IsSentenceText, IsStatementSentence};
+ghost use Rattle.bl_text.specs.Soonest.{IsMisread, IsNoSentence};
 
 /// A text is one of one formula at most.
 pub fn one_formula()
@@ -125,4 +126,17 @@ pub fn formula_of_a_sentence()
 pub fn statement_of_a_sentence()
     ensures { (text : List ℕ) → IsSentenceText IsStatementSentence text → ((s : Saying) × IsStatementText text s)
         ⊎ ((at : ℕ) × (StatementFault text (TextFault.Sort at) ⊎ StatementFault text (TextFault.TooLarge at))) }
+{}
+
+/// A fault `Unexpected`, `UnknownName` or `BadDate` of a text of no formula is at the first byte of a
+/// token of the text, and the tokens of no text with the same tokens up to and with that one are a
+/// sentence of the grammar. So none is told too early.
+pub fn no_sentence_behind_a_fault()
+    ensures { (text : List ℕ) (e : TextFault) → FormulaFault text e → IsMisread e → IsNoSentence IsSentence text e }
+{}
+
+/// Such a fault of a text of no statement is at the first byte of a token likewise.
+pub fn no_statement_behind_a_fault()
+    ensures { (text : List ℕ) (e : TextFault) → StatementFault text e → IsMisread e
+        → IsNoSentence IsStatementSentence text e }
 {}
