@@ -11,6 +11,32 @@ use bl_syntax::{
     Bytes, Constraint, Formula, NoMemory, Perm, Sort, StatePred, Statement, Term, TimePoint,
 };
 
+/// Writes a number in decimal, all of it or nothing.
+pub fn print_number(number: u64, out: &mut Bytes) -> Result<(), NoMemory>
+    ensures ok { OnOk result (out.new ≡ out.old ++ decimal number) }
+    ensures err { OnErr result (out.new ≡ out.old) }
+{
+    let len = out.len();
+    let written = write_number(out, number);
+    if written.is_err() {
+        out.truncate(len);
+    }
+    written
+}
+
+/// Writes a term outside all binders, all of it or nothing.
+pub fn print_term(term: &Term, out: &mut Bytes) -> Result<(), NoMemory>
+    ensures ok { OnOk result (out.new ≡ out.old ++ term_text 0 term.now) }
+    ensures err { OnErr result (out.new ≡ out.old) }
+{
+    let len = out.len();
+    let written = write_term(out, 0, term);
+    if written.is_err() {
+        out.truncate(len);
+    }
+    written
+}
+
 /// Writes a constraint between times, all of it or nothing.
 pub fn print_constraint(c: &Constraint, out: &mut Bytes) -> Result<(), NoMemory>
     ensures ok { OnOk result (out.new ≡ out.old ++ constraint_text 0 c.now) }
@@ -260,7 +286,7 @@ fn write_following(out: &mut Bytes, before: &str, depth: u64, term: &Term) -> Re
 }
 
 /// Writes a term within this many binders, or a part of it where there is no memory.
-pub fn write_term(out: &mut Bytes, depth: u64, term: &Term) -> Result<(), NoMemory>
+fn write_term(out: &mut Bytes, depth: u64, term: &Term) -> Result<(), NoMemory>
     ensures ok { OnOk result (out.new ≡ out.old ++ term_text depth term.now) }
     ensures err { OnErr result (BeginsWith out.new out.old) }
 {
@@ -349,7 +375,7 @@ fn write_counted(out: &mut Bytes, before: &str, number: u64) -> Result<(), NoMem
 }
 
 /// Writes a number in decimal, or a part of it where there is no memory.
-pub fn write_number(out: &mut Bytes, number: u64) -> Result<(), NoMemory>
+fn write_number(out: &mut Bytes, number: u64) -> Result<(), NoMemory>
     ensures ok { OnOk result (out.new ≡ out.old ++ decimal number) }
     ensures err { OnErr result (BeginsWith out.new out.old) }
 {

@@ -1,8 +1,8 @@
 //! Texts and what they say.
 
 use crate::{
-    TextFault, parse_formula, parse_statement, print_constraint, print_formula, print_state,
-    print_statement,
+    TextFault, parse_formula, parse_statement, print_constraint, print_formula, print_number,
+    print_state, print_statement, print_term,
 };
 use bl_syntax::{
     Bytes, Constraint, Formula, NodeId, Perm, Principal, Sequence, Sort, StatePred, Statement,
@@ -24,6 +24,10 @@ fn conditions_are_written(rt: HostRuntime) -> Result<(), Fail> {
     let owned = StatePred::Owner(Term::File(NodeId(7)), Term::Param(0));
     print_state(&owned, &mut out)?;
     assert_eq!(rt; out.as_slice(), b"owner(#7,?0)".as_slice());
+    out.clear();
+    print_term(&Term::Perm(Perm::Govern), &mut out)?;
+    print_number(u64::MAX, &mut out)?;
+    assert_eq!(rt; out.as_slice(), b"govern18446744073709551615".as_slice());
     Ok(())
 }
 

@@ -7,7 +7,7 @@ ghost use Rattle.proof_term.specs.Proof.{deduction};
 ghost use Rattle.proof_text.specs.Printed.{cited, term_field, axiom_text, one_text, two_text, proof_text};
 
 use bl_syntax::{Bytes, NoMemory, Term};
-use bl_text::{write_number, write_term};
+use bl_text::{print_number, print_term};
 use proof_term::{Axiom, OnePremise, Parts, Proof, ProofTree, TwoPremises};
 
 /// Writes a proof, all of it or nothing. It calls itself as deep as the proof is.
@@ -107,7 +107,7 @@ fn write_cited(out: &mut Bytes, name: &str, h: u16, sign: &str) -> Result<(), No
     ensures err { OnErr result (BeginsWith out.new out.old) }
 {
     write(out, name)?;
-    write_number(out, u64::from(h))?;
+    print_number(u64::from(h), out)?;
     write(out, sign)
 }
 
@@ -116,7 +116,7 @@ fn write_field(out: &mut Bytes, t: &Term) -> Result<(), NoMemory>
     ensures ok { OnOk result (out.new ≡ out.old ++ term_field t.now) }
     ensures err { OnErr result (BeginsWith out.new out.old) }
 {
-    write_term(out, 0, t)?;
+    print_term(t, out)?;
     write(out, ",")
 }
 
