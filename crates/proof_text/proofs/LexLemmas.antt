@@ -1,10 +1,11 @@
 -- The tokens of what is written: each ends where the sign behind it begins.
-use Rattle.std.proofs.Common.{◌≡◌, ℕ, zero, suc, ◌+◌, ◌^◌, ◌<◌, Bool, true, false, cond, List, [], ◌∷◌, ◌++◌, length, take, drop, get_or, refl, ap, ◌∙◌, arith, IsTrue, Some, None, Result, Ok, Err}
-use Rattle.std.specs.Prelude.{if◌then◌else◌, ◌&&◌, nat_lt}
+use Rattle.std.proofs.Common.{◌≡◌, ℕ, zero, suc, ◌+◌, ◌-◌, ◌^◌, ◌<◌, Bool, true, false, cond, List, [], ◌∷◌, ◌++◌, length, take, drop, get_or, refl, ap, ◌∙◌, arith, IsTrue, Some, None, Result, Ok, Err}
+use Rattle.std.specs.Prelude.{if◌then◌else◌, ◌&&◌, ◌==◌, nat_lt}
 use Rattle.std.specs.List.{prefix_len, take_while, list_all}
 use Rattle.std.specs.Fmt.{decimal}
 use Rattle.std.specs.Str.Parse.{digits_value}
 use Rattle.std.proofs.lemmas.Bool.{false≢true}
+use Rattle.std.proofs.lemmas.List.{length-drop, take_all}
 use Rattle.std.proofs.lemmas.Bool.Decides.{nat_tests}
 use Rattle.std.proofs.lemmas.Fmt.{decimal_digit, decimal_nonempty, first_decimal, digits_decimal, digits_value-decimal}
 use Rattle.std.proofs.Math.Seq.{take-append_seam}
@@ -18,7 +19,7 @@ use Rattle.bl_tokens.specs.declared.tokens.Lexeme.{Lexeme}
 use Rattle.bl_tokens.specs.declared.tokens.Here.{Here}
 use Rattle.bl_tokens.specs.Classes.{is_in}
 use Rattle.bl_tokens.specs.Numerals.{is_numeral, numeral_below}
-use Rattle.bl_tokens.specs.Tokens.{token_from, first_lexeme, sized, is_sign}
+use Rattle.bl_tokens.specs.Tokens.{token_from, first_lexeme, sized, sign_code, is_sign}
 use Rattle.bl_tokens.proofs.DateLemmas.{both_true}
 use Rattle.bl_tokens.proofs.NumeralLemmas.{is_numeral_model}
 use Rattle.proof_text.specs.declared.names.RuleName.{RuleName}
@@ -143,6 +144,23 @@ token_written text from left bytes found here none is =
 
 abbrev sign_of : Sign' → Here → Result Place TextFault
 sign_of sign token = if is_sign sign token.token then Ok (behind_token token) else Err (TextFault.Unexpected token.at)
+
+own_code : (n : ℕ) → (n == n) ≡ true
+own_code n = grind (arith, nat_tests)
+
+own_sign : (sign : Sign') → is_sign sign (tokens.Sign sign) ≡ true
+unfolding is_sign
+own_sign sign = own_code (sign_code sign)
+
+pub to_end : (text : List ℕ) (at : ℕ) → take (length text - at) (drop at text) ≡ drop at text
+to_end text at = let len : length (drop at text) ≡ length text - at = length-drop at text in take_all (length text - at) (drop at text) (omega arith)
+
+-- the bytes behind the spaces begin with the sign
+pub sign_there : (text : List ℕ) (sign : Sign') (here : Place) → first_lexeme (drop (first_byte text here) text) ≡ sized (tokens.Sign sign) 1 → behind_sign text sign here ≡ Ok (placed (first_byte text here + 1) here.left)
+unfolding behind_sign token_from
+sign_there text sign here is =
+    ap (λ (l : Lexeme). sign_of sign (made (first_byte text here) here.left l)) is
+    ∙ ap (λ b. if b then Ok (placed (first_byte text here + 1) here.left) else Err (TextFault.Unexpected (first_byte text here))) (own_sign sign)
 
 pub open_written : (text : List ℕ) (from left : ℕ) (ys : List ℕ) → At text from (40 ∷ ys) → behind_sign text signs.Open (placed from left) ≡ Ok (placed (from + 1) left)
 unfolding behind_sign is_sign

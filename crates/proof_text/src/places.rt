@@ -1,11 +1,13 @@
 //! The parts of a proof's text that hold no proof themselves. Each is read in one way, and has one
 //! first fault.
 
-ghost use Rattle.std.specs.Prelude.{◌≡◌, ◌+◌, ◌≤◌, length, IfOk, OnOk};
+ghost use Rattle.std.specs.Prelude.{◌≡◌, ◌+◌, ◌≤◌, length, IfOk, OnOk, IsTrue};
 ghost use Rattle.std.specs.List.{take_while};
 ghost use Rattle.bl_syntax.specs.Terms.{HasTimeInRange};
 ghost use Rattle.bl_tokens.specs.Classes.{is_in};
 ghost use Rattle.bl_tokens.specs.Ranges.{IsTokenInRange};
+ghost use Rattle.bl_tokens.specs.Tokens.{sized, first_lexeme};
+ghost use Rattle.bl_tokens.specs.declared.tokens.Token.{Token};
 ghost use Rattle.proof_text.specs.Places.{placed, first_byte, token_at, behind_token, behind_sign, term_at, time_at, hypothesis_at, is_letter, begins_word, rule_at, room, one_fewer};
 
 use crate::names::{RuleName, rule_named};
@@ -56,6 +58,21 @@ fn behind_token(token: &Here) -> Place
     placed(token.end, token.left)
 }
 
+/// Whether the bytes begin with a sign of proofs. Where they do, no whole token has to be read.
+fn begin_with(sign: Sign, bytes: &[u8]) -> bool
+    ensures { IsTrue result → first_lexeme bytes.now ≡ sized (Token.Sign sign) 1 }
+{
+    match bytes {
+        [] => false,
+        [first, ..] => match sign {
+            Sign::Open => *first == b'(',
+            Sign::Close => *first == b')',
+            Sign::Comma => *first == b',',
+            _ => false,
+        },
+    }
+}
+
 /// What stands behind the sign, where it is there.
 #[tactic(auto, unfolding(crate::specs::Places::behind_sign))]
 pub fn behind_sign(text: &[u8], sign: Sign, here: Place) -> Result<Place, TextFault>
@@ -64,6 +81,10 @@ pub fn behind_sign(text: &[u8], sign: Sign, here: Place) -> Result<Place, TextFa
     ensures within { IfOk result (λ there. there.from ≤ length text.now) }
     ensures left { IfOk result (λ there. there.left ≡ here.left) }
 {
+    let at = first_byte(text, here);
+    if begin_with(sign, &text[at..]) {
+        return Ok(placed(at + 1, here.left));
+    }
     let token = token_at(text, here);
     if is_sign(sign, &token.token) {
         Ok(behind_token(&token))
