@@ -1,16 +1,17 @@
--- The words of a line (this project's own).
-use Rattle.std.specs.Prelude.{ℕ, List, [], ◌∷◌, Bool, false, not, ◌||◌, ◌==◌, IsTrue}
+-- The words of a line, which a stop byte ends (this project's own).
+use Rattle.std.specs.Prelude.{ℕ, List, [], ◌∷◌, Bool, true, false, not, ◌==◌, IsTrue}
 use Rattle.std.specs.List.{list_all}
 
--- a space or a comma, which end a word
-abbrev pub is_stop : ℕ → Bool
-is_stop byte = (byte == 32) || (byte == 44)
+-- whether the byte stands first
+abbrev pub starts_with : ℕ → List ℕ → Bool
+starts_with stop [] = false
+starts_with stop (byte ∷ bytes) = byte == stop
 
--- whether a space or a comma stands first
-abbrev pub starts_with_stop : List ℕ → Bool
-starts_with_stop [] = false
-starts_with_stop (byte ∷ bytes) = is_stop byte
+-- whether a word ends before these bytes: the stop byte stands first, or nothing does
+abbrev pub ends_word : ℕ → List ℕ → Bool
+ends_word stop [] = true
+ends_word stop (byte ∷ bytes) = byte == stop
 
--- neither a space nor a comma is in it
-abbrev pub HasNoStop : List ℕ → Type 0
-HasNoStop word = IsTrue (list_all (λ byte. not (is_stop byte)) word)
+-- the byte is not in the word
+abbrev pub HasNo : ℕ → List ℕ → Type 0
+HasNo stop word = IsTrue (list_all (λ byte. not (byte == stop)) word)

@@ -10,4 +10,4 @@ mod words;
 
 pub use hex_word::{read_hex, write_hex};
 pub use lines::first_line;
-pub use words::{after, word_before};
+pub use words::{after, split_word, word_before};

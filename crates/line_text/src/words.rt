@@ -1,25 +1,19 @@
 //! The words of a line, and the literals between them.
 
-ghost use Rattle.std.specs.Prelude.{◌≡◌, ◌≢◌, ◌++◌, ℕ, List, IsTrue, IfSome, IsSomeAnd, MatchOption, position};
+ghost use Rattle.std.specs.Prelude.{◌≡◌, ◌≢◌, ◌++◌, ◌==◌, ℕ, List, IsTrue, IfSome, IsSomeAnd, MatchOption, position};
 ghost use Rattle.std.specs.List.{position_or_len};
-ghost use Rattle.line_text.specs.Words.{is_stop, starts_with_stop, HasNoStop};
+ghost use Rattle.line_text.specs.Words.{starts_with, ends_word, HasNo};
 
-fn is_stop(byte: u8) -> bool
-    ensures { result ≡ is_stop byte }
+fn first_stop(line: &[u8], stop: u8) -> Option<usize>
+    ensures { result ≡ position (λ byte. byte == stop) line.now }
 {
-    byte == b' ' || byte == b','
+    line.iter().position(|byte| *byte == stop)
 }
 
-fn first_stop(line: &[u8]) -> Option<usize>
-    ensures { result ≡ position is_stop line.now }
+fn word_len(line: &[u8], stop: u8) -> usize
+    ensures { result ≡ position_or_len (λ byte. byte == stop) line.now }
 {
-    line.iter().position(|byte| is_stop(*byte))
-}
-
-fn word_len(line: &[u8]) -> usize
-    ensures { result ≡ position_or_len is_stop line.now }
-{
-    first_stop(line).unwrap_or(line.len())
+    first_stop(line, stop).unwrap_or(line.len())
 }
 
 /// What stands behind the literal, where the line begins with it.
@@ -29,16 +23,25 @@ pub fn after<'a>(line: &'a [u8], literal: &[u8]) -> Option<&'a [u8]>
     line.strip_prefix(literal)
 }
 
-/// The word at the front, without a space or a comma in it, and what stands behind the literal
-/// that follows it.
+/// The word at the front, which ends before the first stop byte, and what stands behind it.
+pub fn split_word(line: &[u8], stop: u8) -> (&[u8], &[u8])
+    ensures parts { line.now ≡ result.0.now ++ result.1.now }
+    ensures one_word { HasNo stop result.0.now }
+    ensures only { (word behind : List ℕ) → HasNo stop word → IsTrue (ends_word stop behind) → line.now ≡ word ++ behind
+        → (result.0.now ≡ word) × (result.1.now ≡ behind) }
+{
+    line.split_at(word_len(line, stop))
+}
+
+/// The word at the front, without a space in it, and what stands behind the literal that follows it.
 pub fn word_before<'a>(line: &'a [u8], literal: &[u8]) -> Option<(&'a [u8], &'a [u8])>
-    requires { IsTrue (starts_with_stop literal.now) }
+    requires { IsTrue (starts_with 32 literal.now) }
     ensures found { IfSome result (λ p. line.now ≡ p.0.now ++ (literal.now ++ p.1.now)) }
-    ensures named { IfSome result (λ p. HasNoStop p.0.now) }
-    ensures only { (word rest : List ℕ) → HasNoStop word → line.now ≡ word ++ (literal.now ++ rest)
+    ensures one_word { IfSome result (λ p. HasNo 32 p.0.now) }
+    ensures only { (word rest : List ℕ) → HasNo 32 word → line.now ≡ word ++ (literal.now ++ rest)
         → IsSomeAnd result (λ p. (p.0.now ≡ word) × (p.1.now ≡ rest)) }
 {
-    let (word, behind) = line.split_at(word_len(line));
+    let (word, behind) = split_word(line, b' ');
     let rest = after(behind, literal)?;
     Some((word, rest))
 }

@@ -1,20 +1,17 @@
 -- Whether a line gives a key is decided, and so a text is a secrets file or has a first bad line.
 use Rattle.std.proofs.Common.{◌≡◌, ℕ, zero, suc, ◌+◌, Bool, true, false, Option, Some, None, List, [], ◌∷◌, ◌++◌, length, take, drop, codes, IsTrue, IsSome, refl, sym, ap, ◌∙◌, subst, arith, ◌⊎◌, inl, inr}
 use Rattle.std.specs.Prelude.{nat_lt, ◌==◌}
-use Rattle.std.specs.List.{position_or_len}
 use Rattle.std.proofs.lemmas.Bool.{eqb-true, eqb-false, ltb-true, ltb-false, false≢true}
 use Rattle.std.proofs.lemmas.List.{append_cancel_left, take-append-drop}
 use Rattle.bl_syntax.specs.Names.{is_principal_name}
 use Rattle.line_text.specs.HexWord.{IsHex}
-use Rattle.line_text.specs.Words.{is_stop}
 use Rattle.line_text.proofs.DecideHex.{DecidesHex, decided_hex}
 use Rattle.line_text.proofs.HexLemmas.{IsHex-same}
-use Rattle.line_text.proofs.WordLemmas.{IsSplit-at_word}
+use Rattle.line_text.proofs.WordLemmas.{stop_place, IsSplit-at_word, HasNo-principal}
 use Rattle.policy_statement.specs.Ring.{Key, HasKey, key_of}
 use Rattle.pcfs_secrets.specs.declared.secrets.Secrets.{Secrets}
 use Rattle.pcfs_secrets.specs.SecretLines.{IsKeyWord, IsSealLine, seal_line, IsKeyLine, key_line, GivesKey, GiveKeys, IsBadAt}
 use Rattle.pcfs_secrets.specs.SecretsFile.{IsSecrets, IsFirstBad, no_line, no_seal, no_key}
-use Rattle.pcfs_secrets.proofs.NameLemmas.{HasNoStop-principal}
 use Rattle.pcfs_secrets.proofs.LineLemmas.{seal_word, name_and_word, IsKeyLine-same}
 
 -- ---- a literal in front
@@ -74,29 +71,29 @@ decided_seal line = seal_front line (decided_front (codes "seal ") line)
 abbrev DecidesKeyLine : List ℕ → Type 0
 DecidesKeyLine line = ((k : Key) × IsKeyLine line k) ⊎ ((k : Key) → IsKeyLine line k → ⊥)
 
--- a line with a key falls at its first stop
+-- a line with a key falls at its first space
 pub record FallsAt (rest : List ℕ) (k : Key) : Type 0 where
   pub word : List ℕ
   pub named : IsTrue (is_principal_name k.who)
-  pub name_is : take (position_or_len is_stop rest) rest ≡ k.who
-  pub behind_is : drop (position_or_len is_stop rest) rest ≡ 32 ∷ word
+  pub name_is : take (stop_place 32 rest) rest ≡ k.who
+  pub behind_is : drop (stop_place 32 rest) rest ≡ 32 ∷ word
   pub key_is : IsKeyWord word k.key
 
 falls_at : (line rest : List ℕ) (k : Key) → line ≡ codes "key " ++ rest → IsKeyLine line k → FallsAt rest k
 falls_at line rest k line_is is =
     let parts = name_and_word is in
     let rest_is = append_cancel_left (codes "key ") rest (k.who ++ 32 ∷ parts.word) (sym line_is ∙ parts.line_is) in
-    let split = IsSplit-at_word rest k.who (32 ∷ parts.word) (position_or_len is_stop rest) refl rest_is (HasNoStop-principal k.who parts.named) refl in
+    let split = IsSplit-at_word 32 rest k.who (32 ∷ parts.word) (stop_place 32 rest) refl rest_is (HasNo-principal k.who parts.named) refl in
     record { word = parts.word; named = parts.named; name_is = split.front; behind_is = split.back; key_is = parts.key_is }
 
-key_step : (line rest word : List ℕ) → line ≡ codes "key " ++ rest → drop (position_or_len is_stop rest) rest ≡ 32 ∷ word → (named : Bool) → is_principal_name (take (position_or_len is_stop rest) rest) ≡ named → DecidesKeyWord word → DecidesKeyLine line
+key_step : (line rest word : List ℕ) → line ≡ codes "key " ++ rest → drop (stop_place 32 rest) rest ≡ 32 ∷ word → (named : Bool) → is_principal_name (take (stop_place 32 rest) rest) ≡ named → DecidesKeyWord word → DecidesKeyLine line
 key_step line rest word line_is behind_is false named _ = inr (λ k is.
     let falls = falls_at line rest k line_is is in
     false≢true (sym named ∙ ap is_principal_name falls.name_is ∙ falls.named))
 key_step line rest word line_is behind_is true named (inl h) =
-    let name : List ℕ = take (position_or_len is_stop rest) rest in
+    let name : List ℕ = take (stop_place 32 rest) rest in
     let k : Key = record { who = name; key = h.0 } in
-    let rest_is : rest ≡ name ++ 32 ∷ word = sym (take-append-drop (position_or_len is_stop rest) rest) ∙ ap (λ b. name ++ b) behind_is in
+    let rest_is : rest ≡ name ++ 32 ∷ word = sym (take-append-drop (stop_place 32 rest) rest) ∙ ap (λ b. name ++ b) behind_is in
     inl (k, subst (λ l. IsKeyLine l k) (sym (line_is ∙ ap (λ r. codes "key " ++ r) rest_is)) (key_line name word h.0 named h.1))
 key_step line rest word line_is behind_is true named (inr none) = inr (λ k is.
     let falls = falls_at line rest k line_is is in
@@ -104,12 +101,12 @@ key_step line rest word line_is behind_is true named (inr none) = inr (λ k is.
     let same : falls.word ≡ word = cc in
     none k.key (subst (λ w. IsKeyWord w k.key) same falls.key_is))
 
-key_behind : (line rest : List ℕ) → line ≡ codes "key " ++ rest → DecidesFront (32 ∷ []) (drop (position_or_len is_stop rest) rest) → DecidesKeyLine line
-key_behind line rest line_is (inl h) = key_step line rest h.0 line_is h.1 (is_principal_name (take (position_or_len is_stop rest) rest)) refl (decided_key_word h.0)
+key_behind : (line rest : List ℕ) → line ≡ codes "key " ++ rest → DecidesFront (32 ∷ []) (drop (stop_place 32 rest) rest) → DecidesKeyLine line
+key_behind line rest line_is (inl h) = key_step line rest h.0 line_is h.1 (is_principal_name (take (stop_place 32 rest) rest)) refl (decided_key_word h.0)
 key_behind line rest line_is (inr none) = inr (λ k is. let falls = falls_at line rest k line_is is in none falls.word falls.behind_is)
 
 key_front : (line : List ℕ) → DecidesFront (codes "key ") line → DecidesKeyLine line
-key_front line (inl h) = key_behind line h.0 h.1 (decided_front (32 ∷ []) (drop (position_or_len is_stop h.0) h.0))
+key_front line (inl h) = key_behind line h.0 h.1 (decided_front (32 ∷ []) (drop (stop_place 32 h.0) h.0))
 key_front line (inr none) = inr (λ k is. let parts = name_and_word is in none (k.who ++ 32 ∷ parts.word) parts.line_is)
 
 -- ---- the ring

@@ -2,5 +2,4 @@ pub mod DecideLemmas
 pub mod FileLemmas
 pub mod LawLemmas
 pub mod LineLemmas
-pub mod NameLemmas
 pub mod RingLemmas

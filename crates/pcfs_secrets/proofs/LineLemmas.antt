@@ -1,13 +1,10 @@
 -- A line of a secrets file gives one key.
 use Rattle.std.proofs.Common.{◌≡◌, ℕ, Bool, true, false, Option, Some, None, MatchOption, MatchBool, List, [], ◌∷◌, ◌++◌, IsTrue, codes, refl, sym, ap, ◌∙◌, subst}
-use Rattle.std.specs.List.{position_or_len}
 use Rattle.std.proofs.lemmas.List.{append_cancel_left}
 use Rattle.bl_syntax.specs.Names.{is_principal_name}
-use Rattle.line_text.specs.Words.{is_stop, HasNoStop}
 use Rattle.line_text.proofs.HexLemmas.{IsHex-same}
-use Rattle.line_text.proofs.WordLemmas.{IsSplit-at_word}
+use Rattle.line_text.proofs.WordLemmas.{same_words, HasNo-principal}
 use Rattle.policy_statement.specs.Ring.{Key, HasKey}
-use Rattle.pcfs_secrets.proofs.NameLemmas.{HasNoStop-principal}
 use Rattle.pcfs_secrets.specs.SecretLines.{IsKeyWord, IsSealLine, seal_line, IsKeyLine, key_line, GivesKey, MayHaveKey}
 
 -- ---- the line of the seal
@@ -31,27 +28,14 @@ pub record HasNameAndWord (line : List ℕ) (k : Key) : Type 0 where
 pub name_and_word : {line : List ℕ} {k : Key} → IsKeyLine line k → HasNameAndWord line k
 name_and_word (key_line who word key named h) = record { word = word; named = named; line_is = refl; key_is = h }
 
--- two words, the first without a stop, are found in one way
-pub record AreSame (a b c d : List ℕ) : Type 0 where
-  pub firsts : a ≡ c
-  pub seconds : b ≡ d
-
-pub words_are_same : (a b c d : List ℕ) → HasNoStop a → HasNoStop c → a ++ 32 ∷ b ≡ c ++ 32 ∷ d → AreSame a b c d
-words_are_same a b c d first second same =
-    let line : List ℕ = a ++ 32 ∷ b in
-    let one = IsSplit-at_word line a (32 ∷ b) (position_or_len is_stop line) refl refl first refl in
-    let other = IsSplit-at_word line c (32 ∷ d) (position_or_len is_stop line) refl same second refl in
-    let behind : 32 ∷ b ≡ 32 ∷ d = sym one.back ∙ other.back in
-    record { firsts = sym one.front ∙ other.front; seconds = cc }
-
 pub IsKeyLine-same : (line : List ℕ) (k l : Key) → IsKeyLine line k → IsKeyLine line l → k ≡ l
 IsKeyLine-same line k l first second =
     let one = name_and_word first in
     let other = name_and_word second in
-    let same = words_are_same k.who one.word l.who other.word (HasNoStop-principal k.who one.named) (HasNoStop-principal l.who other.named)
+    let same = same_words (codes " ") k.who l.who one.word other.word refl (HasNo-principal k.who one.named) (HasNo-principal l.who other.named)
     (append_cancel_left (codes "key ") (k.who ++ 32 ∷ one.word) (l.who ++ 32 ∷ other.word) (sym one.line_is ∙ other.line_is)) in
-    let keys = IsHex-same one.word k.key l.key one.key_is.hex (rw same.seconds other.key_is.hex) in
-    ap (λ who. let k' : Key = record { who = who; key = k.key } in k') same.firsts ∙ ap (λ key. let k' : Key = record { who = l.who; key = key } in k') keys
+    let keys = IsHex-same one.word k.key l.key one.key_is.hex (rw same.rest other.key_is.hex) in
+    ap (λ who. let k' : Key = record { who = who; key = k.key } in k') same.word ∙ ap (λ key. let k' : Key = record { who = l.who; key = key } in k') keys
 
 -- ---- what a reading answers
 
@@ -66,19 +50,22 @@ reads_seal line word (Some key) line_is h = subst (λ l. IsSealLine l key) (sym 
 -- where the line falls into this name and this word
 pub gives_key : (ring more : List Key) (line name word : List ℕ) → line ≡ codes "key " ++ (name ++ 32 ∷ word)
     → ((who other : List ℕ) → IsTrue (is_principal_name who) → line ≡ codes "key " ++ (who ++ 32 ∷ other) → (name ≡ who) × (word ≡ other)) → (added : Bool)
-    → MatchBool added ((key : List ℕ) × MayHaveKey ring name word key × (more ≡ ring ++ record { who = name; key = key } ∷ [])) ((key : List ℕ) → MayHaveKey ring name word key → ⊥)
-    → MatchBool added ((k : Key) × GivesKey ring line k × (more ≡ ring ++ k ∷ [])) ((k : Key) → GivesKey ring line k → ⊥)
+    → MatchBool added ((key : List ℕ) × MayHaveKey ring name word key × (more ≡ ring ++ record { who = name; key = key } ∷ [])) (((key : List ℕ) → MayHaveKey ring name word key → ⊥) × (more ≡ ring))
+    → MatchBool added ((k : Key) × GivesKey ring line k × (more ≡ ring ++ k ∷ [])) (((k : Key) → GivesKey ring line k → ⊥) × (more ≡ ring))
 gives_key ring more line name word line_is only true h =
     let k : Key = record { who = name; key = h.0 } in
     (k, record { line_is = subst (λ l. IsKeyLine l k) (sym line_is) (key_line name word h.0 h.1.named h.1.key_is); unknown = h.1.unknown }, h.2)
-gives_key ring more line name word line_is only false h = λ k gives.
-    let parts = name_and_word gives.line_is in
-    let same = only k.who parts.word parts.named parts.line_is in
-    h k.key (record {
-      named = subst (λ who. IsTrue (is_principal_name who)) (sym same.0) parts.named;
-      key_is = subst (λ w. IsKeyWord w k.key) (sym same.1) parts.key_is;
-      unknown = λ known. gives.unknown (subst (HasKey ring) same.0 known);
-    })
+gives_key ring more line name word line_is only false h = (
+  λ k gives.
+      let parts = name_and_word gives.line_is in
+      let same = only k.who parts.word parts.named parts.line_is in
+      h.0 k.key (record {
+        named = subst (λ who. IsTrue (is_principal_name who)) (sym same.0) parts.named;
+        key_is = subst (λ w. IsKeyWord w k.key) (sym same.1) parts.key_is;
+        unknown = λ known. gives.unknown (subst (HasKey ring) same.0 known);
+      }),
+  h.1,
+)
 
 -- where it falls into none
 pub gives_none : (ring : List Key) (line : List ℕ) → ((who word : List ℕ) → IsTrue (is_principal_name who) → line ≡ codes "key " ++ (who ++ 32 ∷ word) → ⊥) → (k : Key) → GivesKey ring line k → ⊥

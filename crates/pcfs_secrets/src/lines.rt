@@ -49,11 +49,11 @@ fn name_and_word(line: &[u8]) -> Option<(&[u8], &[u8])>
     word_before(rest, b" ")
 }
 
-// Gives the name this key; `false` exactly where it has one.
+// Gives the name this key; `false` exactly where it has one, and then the ring is as before.
 fn add_to(ring: &mut Keyring, who: Principal, key: &[u8]) -> Result<bool, NoMemory>
     ensures { IfOk result (λ added. MatchBool added
         ((HasKey ring.old who → ⊥) × (ring.new ≡ ring.old ++ record { who = who; key = key.now } ∷ []))
-        (HasKey ring.old who)) }
+        (HasKey ring.old who × (ring.new ≡ ring.old))) }
 {
     match ring.add(who, key) {
         Ok(()) => Ok(true),
@@ -62,11 +62,12 @@ fn add_to(ring: &mut Keyring, who: Principal, key: &[u8]) -> Result<bool, NoMemo
     }
 }
 
-// Gives the name the key that the word writes; `false` exactly where the word writes none, or the name may have none.
+// Gives the name the key that the word writes; `false` exactly where the word writes none, or the name may have none,
+// and then the ring is as before.
 fn give(alloc: Global, ring: &mut Keyring, name: &[u8], word: &[u8]) -> Result<bool, NoMemory>
     ensures { IfOk result (λ added. MatchBool added
         ((key : List ℕ) × MayHaveKey ring.old name.now word.now key × (ring.new ≡ ring.old ++ record { who = name.now; key = key } ∷ []))
-        ((key : List ℕ) → MayHaveKey ring.old name.now word.now key → ⊥)) }
+        (((key : List ℕ) → MayHaveKey ring.old name.now word.now key → ⊥) × (ring.new ≡ ring.old))) }
 {
     let Some(who) = Principal::new(name) else {
         return Ok(false);
@@ -77,11 +78,12 @@ fn give(alloc: Global, ring: &mut Keyring, name: &[u8], word: &[u8]) -> Result<b
     }
 }
 
-/// Gives the key of the line to its name; `false` exactly where the line gives none to a name that has none.
+/// Gives the key of the line to its name; `false` exactly where the line gives none to a name that has none, and then
+/// the ring is as before.
 pub fn add_key(alloc: Global, ring: &mut Keyring, line: &[u8]) -> Result<bool, NoMemory>
     ensures { IfOk result (λ added. MatchBool added
         ((k : Key) × GivesKey ring.old line.now k × (ring.new ≡ ring.old ++ k ∷ []))
-        ((k : Key) → GivesKey ring.old line.now k → ⊥)) }
+        (((k : Key) → GivesKey ring.old line.now k → ⊥) × (ring.new ≡ ring.old))) }
 {
     match name_and_word(line) {
         Some((name, word)) => give(alloc, ring, name, word),

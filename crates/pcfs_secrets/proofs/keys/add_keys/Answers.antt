@@ -7,7 +7,7 @@ use Rattle.pcfs_secrets.proofs.keys.add_keys.Goals as goal
 pub returns-then-not-branch-clause-err : goal.returns-then-not-branch-clause-err
 returns-then-not-branch-clause-err c =
     let none = rw c.if-not-branch.true at c.in_ok-add_key.ensures in
-    (c.loop-line.place, bad_here c.args.ring.now c.args.text.now c.loop-line.ring c.loop-line.rest.now c.in-Some.line.now (lines_of c.in-Some.others.now) c.loop-line.place c.loop-line.invariant c.in-Some.ensures.lines none, refl)
+    (c.loop-line.place, bad_here c.args.ring.now c.args.text.now c.loop-line.ring c.loop-line.rest.now c.in-Some.line.now (lines_of c.in-Some.others.now) c.loop-line.place c.loop-line.invariant c.in-Some.ensures.lines none.0, refl)
 
 pub loop-line-preserved : goal.loop-line-preserved
 loop-line-preserved c =
