@@ -1,6 +1,8 @@
+pub mod HeadAnswers
 pub mod HeadLemmas
 pub mod HeadTexts
 pub mod LexLemmas
+pub mod Outcomes
 pub mod PrintedTexts
 pub mod ReadLemmas
 pub mod Reader

@@ -1,6 +1,6 @@
 //! Laws of the texts of proofs. A law is the contract of an empty function, which nothing calls.
 
-ghost use Rattle.std.specs.Prelude.{◌≡◌, ◌⊎◌, ℕ, List, Some};
+ghost use Rattle.std.specs.Prelude.{◌≡◌, ◌≢◌, ◌⊎◌, ℕ, List, Some};
 ghost use Rattle.bl_tokens.specs.declared.faults.TextFault.{TextFault};
 ghost use Rattle.bl_text.specs.Texts.{AreOneFault};
 ghost use Rattle.proof_term.specs.Proof.{Deduction};
@@ -10,7 +10,7 @@ ghost use Rattle.proof_text.specs.Sentences.{IsViable, IsSentenceText};
 ghost use Rattle.proof_text.specs.Settled.{fault_place, SameUpTo};
 ghost use Rattle.proof_text.specs.Texts.{IsProofText, ProofTextFault};
 
-/// A text is one proof.
+/// A text is one of one proof at most.
 pub fn one_proof()
     ensures { (text : List ℕ) (p q : Deduction) → IsProofText text p → IsProofText text q → p ≡ q }
 {}
@@ -21,7 +21,7 @@ pub fn no_fault_of_a_proof()
         → e ≡ TextFault.NoMemory }
 {}
 
-/// A text that is none of a proof has one fault, want of memory aside.
+/// A text has one fault of a proof at most, want of memory aside.
 pub fn one_fault_of_a_proof()
     ensures { (text : List ℕ) (e f : TextFault) → ProofTextFault text e → ProofTextFault text f
         → AreOneFault e f }
@@ -51,7 +51,14 @@ pub fn text_of_a_sentence()
         → ((p : Deduction) × IsProofText text p) ⊎ ((at : ℕ) × ProofTextFault text (TextFault.TooLarge at)) }
 {}
 
-/// The text that a proof is written as is a text of it.
+/// The text that a proof is written as is a text of it, where it is within the limits, its hypotheses have
+/// numbers below 65,536, its terms have a spelling and are no variables, and those of an implication are times.
 pub fn printed_proof_is_read()
     ensures { (d : Deduction) → IsSayableProof d → IsProofText (proof_text d) d }
+{}
+
+/// Each text is one of a proof or has a fault other than want of memory.
+pub fn proof_or_fault()
+    ensures { (text : List ℕ) → ((p : Deduction) × IsProofText text p)
+        ⊎ ((e : TextFault) × ProofTextFault text e × (e ≢ TextFault.NoMemory)) }
 {}
