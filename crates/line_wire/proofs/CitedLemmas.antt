@@ -4,7 +4,7 @@ use Rattle.std.specs.Prelude.{◌==◌}
 use Rattle.std.proofs.lemmas.Bool.{false≢true, eqb-true}
 use Rattle.std.proofs.lemmas.List.{nil_from_length}
 use Rattle.access_history.specs.Citing.{DoRise}
-use Rattle.line_wire.specs.Words.{ends_word, HasNo}
+use Rattle.line_text.specs.Words.{ends_word, HasNo}
 use Rattle.line_wire.specs.Lines.{IsNumber, AreJoined, one_number, more_numbers}
 use Rattle.line_wire.specs.Forms.{AreAdded}
 use Rattle.line_wire.proofs.FormLemmas.{HasNo-number}

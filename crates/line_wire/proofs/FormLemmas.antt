@@ -21,22 +21,12 @@ use Rattle.line_wire.specs.declared.command.Command.{Command}
 use Rattle.line_wire.specs.declared.command.Command.TheVariants.{At, As, Verify, Check}
 use Rattle.line_wire.specs.declared.command.Command.TheVariants as commands
 use Rattle.line_wire.specs.declared.command.ProcapWord.{ProcapWord}
-use Rattle.line_wire.specs.Words.{HasNo}
+use Rattle.line_text.specs.Words.{HasNo}
 use Rattle.line_wire.specs.Lines.{IsSecond, IsNumber, IsFile, AreJoined, one_number, more_numbers, IsIssue, IsInquiry, IsMaking, IsRegistering, IsLine, sets_clock, sets_caller, registers, shows_procap, verifies, checks, creates, HasBadText, in_statement, in_proof, in_checked_proof}
 use Rattle.line_wire.proofs.NumeralLemmas.{IsWritten-below}
-use Rattle.line_wire.proofs.WordLemmas.{differ}
+use Rattle.line_text.proofs.WordLemmas.{HasNo-all, differ}
 
 -- ---- which words have no stop byte
-
-not_stop : (p : ℕ → Bool) (stop byte : ℕ) (test : Bool) → p stop ≡ false → (byte == stop) ≡ test → IsTrue (p byte) → IsTrue (not test)
-not_stop p stop byte true none is h = absurd (false≢true (sym none ∙ subst (λ b. p b ≡ true) (eqb-true byte stop is) h))
-not_stop p stop byte false none is h = refl
-
-pub HasNo-all : (p : ℕ → Bool) (stop : ℕ) → p stop ≡ false → (word : List ℕ) → IsTrue (list_all p word) → HasNo stop word
-HasNo-all p stop none [] h = refl
-HasNo-all p stop none (byte ∷ word) h =
-    let parts = and_parts (p byte) (list_all p word) h in
-    and_from (not (byte == stop)) (list_all (λ b. not (b == stop)) word) (not_stop p stop byte (byte == stop) none refl parts.0) (HasNo-all p stop none word parts.1)
 
 HasNo-more : (stop byte : ℕ) (word : List ℕ) → (byte == stop) ≡ false → HasNo stop word → HasNo stop (byte ∷ word)
 HasNo-more stop byte word other h = rw other h
@@ -46,17 +36,6 @@ HasNo-append stop [] others h more = more
 HasNo-append stop (byte ∷ word) others h more =
     let parts = and_parts (not (byte == stop)) (list_all (λ b. not (b == stop)) word) h in
     and_from (not (byte == stop)) (list_all (λ b. not (b == stop)) (word ++ others)) parts.0 (HasNo-append stop word others parts.1 more)
-
--- a name is a lower-case letter and bytes of a name
-name_bytes : (name : List ℕ) → IsTrue (is_identifier name) → HasNo 32 name
-name_bytes [] h = absurd (false≢true h)
-name_bytes (first ∷ others) h =
-    let parts = and_parts (is_lower_case first) (list_all is_name_byte others) (and_parts (is_lower_case first && list_all is_name_byte others) _ h).0 in
-    and_from (not (first == 32)) (list_all (λ b. not (b == 32)) others)
-    (not_stop is_lower_case 32 first (first == 32) refl refl parts.0) (HasNo-all is_name_byte 32 refl others parts.1)
-
-pub HasNo-principal : (who : List ℕ) → IsTrue (is_principal_name who) → HasNo 32 who
-HasNo-principal who h = name_bytes who (and_parts (is_identifier who) (not (is_among reserved_words who)) h).0
 
 pub HasNo-node_name : (name : List ℕ) → IsTrue (is_node_name name) → HasNo 32 name
 HasNo-node_name name h =

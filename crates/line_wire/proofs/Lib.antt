@@ -6,5 +6,4 @@ pub mod NumeralLemmas
 pub mod OneCommand
 pub mod OptionLemmas
 pub mod ProcapLemmas
-pub mod WordLemmas
 pub mod WrittenLemmas

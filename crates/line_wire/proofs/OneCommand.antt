@@ -15,30 +15,12 @@ use Rattle.proof_text.specs.Texts.{IsProofText, ProofTextFault}
 use Rattle.proof_text.proofs.TextLemmas.{proof_once, proof_or_fault, fault_once}
 use Rattle.line_wire.specs.declared.command.Command.{Command}
 use Rattle.line_wire.specs.declared.command.Command.TheVariants as commands
-use Rattle.line_wire.specs.Words.{starts_with, ends_word, HasNo}
 use Rattle.line_wire.specs.Lines.{IsNumber, IsFile, AreJoined, one_number, more_numbers, NamesGoal, IsCiting, IsInquiry, NamesPlace, IsMaking, IsRegistering, IsLine, sets_clock, sets_caller, registers, shows_procap, verifies, checks, creates, HasBadText, in_statement, in_proof, in_checked_proof}
 use Rattle.line_wire.specs.declared.command.ProcapWord.{ProcapWord}
 use Rattle.line_wire.proofs.ProcapLemmas.{IsProcapWord-same, IsSigned-same, HasNo-signed}
 use Rattle.line_wire.proofs.NumeralLemmas.{IsInteger-unique, IsNumber-unique, IsFile-unique}
-use Rattle.line_wire.proofs.WordLemmas.{IsSplit-at_word, ends_word-append, differ}
-use Rattle.line_wire.proofs.FormLemmas.{HasNo-principal, HasNo-node_name, HasNo-number, HasNo-file, HasNo-permission, HasNo-joined, clock_line, caller_line, register_line, show_line, verify_line, check_line, create_line, bad_statement, bad_verify, bad_check}
-
--- a word and what stands behind it
-pub record IsSame (a b x y : List ℕ) : Type 0 where
-  pub word : a ≡ b
-  pub rest : x ≡ y
-
-pub same_split : (stop : ℕ) (a b x y : List ℕ) → HasNo stop a → HasNo stop b → IsTrue (ends_word stop x) → IsTrue (ends_word stop y) → a ++ x ≡ b ++ y → IsSame a b x y
-same_split stop a b x y no_a no_b ends_x ends_y same =
-    let left = IsSplit-at_word stop (a ++ x) a x _ refl refl no_a ends_x in
-    let right = IsSplit-at_word stop (a ++ x) b y _ refl same no_b ends_y in
-    record { word = sym left.front ∙ right.front; rest = sym left.back ∙ right.back }
-
--- a word and what stands behind a literal
-same_words : (literal a b x y : List ℕ) → IsTrue (starts_with 32 literal) → HasNo 32 a → HasNo 32 b → a ++ (literal ++ x) ≡ b ++ (literal ++ y) → IsSame a b x y
-same_words literal a b x y stop no_a no_b same =
-    let split = same_split 32 a b (literal ++ x) (literal ++ y) no_a no_b (ends_word-append 32 literal x stop) (ends_word-append 32 literal y stop) same in
-    record { word = split.word; rest = append_cancel_left literal x y split.rest }
+use Rattle.line_text.proofs.WordLemmas.{same_split, same_words, HasNo-principal, differ}
+use Rattle.line_wire.proofs.FormLemmas.{HasNo-node_name, HasNo-number, HasNo-file, HasNo-permission, HasNo-joined, clock_line, caller_line, register_line, show_line, verify_line, check_line, create_line, bad_statement, bad_verify, bad_check}
 
 pub permission-unique : (p q : Perm) → permission_text p ≡ permission_text q → p ≡ q
 permission-unique Read Read same = refl

@@ -11,7 +11,7 @@ use Rattle.procap.specs.Procap.{procap_spelling, IsSpellableProcap}
 use Rattle.procap.proofs.ProcapLemmas.{procap_codec}
 use Rattle.line_wire.specs.declared.command.ProcapWord.{ProcapWord}
 use Rattle.line_wire.specs.declared.command.ProcapWord.TheVariants.{Held, Issue}
-use Rattle.line_wire.specs.Words.{HasNo}
+use Rattle.line_text.specs.Words.{HasNo}
 use Rattle.line_wire.specs.Lines.{IsNumber, IsHeld, IsProcapWord, by_number, held, IsSignature, IsSigned, by_ring, by_bytes}
 use Rattle.line_wire.proofs.NumeralLemmas.{IsNumber-unique}
 

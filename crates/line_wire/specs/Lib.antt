@@ -3,5 +3,4 @@ pub mod Forms
 pub mod Lines
 pub mod Numerals
 pub mod ReplyText
-pub mod Words
 pub mod Written

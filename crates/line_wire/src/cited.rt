@@ -6,9 +6,8 @@ ghost use Rattle.line_wire.specs.Lines.{AreJoined, IsCited};
 ghost use Rattle.line_wire.specs.Forms.{AreAdded};
 
 use crate::numerals::number;
-use crate::words::split_word;
 use bl_syntax::{NoMemory, Numbers};
-use line_text::after;
+use line_text::{after, split_word};
 use std::alloc::Global;
 
 /// The most statements that can be cited together.

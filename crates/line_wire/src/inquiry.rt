@@ -9,9 +9,10 @@ ghost use Rattle.line_wire.specs.Forms.{ReadsInquiry, ReadsCited, ReadsText};
 
 use crate::cited::cited_numbers;
 use crate::numerals::file;
-use crate::words::{two_words_before, word_before};
+use crate::words::two_words_before;
 use bl_syntax::{Goal, NoMemory, Numbers, Perm, Principal};
 use bl_text::TextFault;
+use line_text::word_before;
 use proof_term::ProofTree;
 use proof_text::parse_proof;
 use std::alloc::Global;

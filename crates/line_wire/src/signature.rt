@@ -3,9 +3,8 @@
 ghost use Rattle.std.specs.Prelude.{ℕ, List, Some, IfOk, MatchOption};
 ghost use Rattle.line_wire.specs.Lines.{IsSignature, IsRegistering};
 
-use crate::words::word_before;
 use bl_syntax::{Bytes, NoMemory};
-use line_text::read_hex;
+use line_text::{read_hex, word_before};
 use std::alloc::Global;
 
 /// The most bytes that a signature has.

@@ -9,6 +9,9 @@ use proof_term::ProofTree;
 use proof_text::print_proof;
 use std::test::Fail;
 
+/// What is read of a line that is outside the forms.
+const OUTSIDE: &[u8] = b"bad 9";
+
 // Adds what is asked of a proof.
 fn add_inquiry(
     alloc: Global,
@@ -98,19 +101,45 @@ fn shown(alloc: Global, line: &Line) -> Result<Bytes, NoMemory> {
     Ok(out)
 }
 
-// Whether each row shows its line, and behind an arrow what is read of it.
-fn are_read(alloc: Global, table: &str) -> Result<bool, Fail> {
+// What is read of a line, as a text.
+fn reading(alloc: Global, line: &[u8]) -> Result<Bytes, NoMemory> {
+    let read = read_line(alloc, line)?;
+    shown(alloc, &read)
+}
+
+// Whether this is what is read of the line.
+fn is_read_as(alloc: Global, line: &[u8], want: &[u8]) -> Result<bool, NoMemory> {
+    let seen = reading(alloc, line)?;
+    Ok(seen.as_slice() == want)
+}
+
+// Whether the line asks for something.
+fn is_asking(alloc: Global, line: &[u8]) -> Result<bool, NoMemory> {
+    let read = read_line(alloc, line)?;
+    Ok(matches!(read, Line::Asks(_)))
+}
+
+// The first row that does not show its line, and behind an arrow what is read of it.
+fn misread(alloc: Global, table: &str) -> Result<Option<&str>, NoMemory> {
     for row in table.lines() {
         let Some((line, want)) = row.split_once(" -> ") else {
-            return Ok(false);
+            return Ok(Some(row));
         };
-        let read = read_line(alloc, line.as_bytes())?;
-        let seen = shown(alloc, &read)?;
-        if !(seen.as_slice() == want.as_bytes()) {
-            return Ok(false);
+        if !is_read_as(alloc, line.as_bytes(), want.as_bytes())? {
+            return Ok(Some(row));
         }
     }
-    Ok(true)
+    Ok(None)
+}
+
+// The first line that is of a form.
+fn inside(alloc: Global, lines: &str) -> Result<Option<&str>, NoMemory> {
+    for line in lines.lines() {
+        if !is_read_as(alloc, line.as_bytes(), OUTSIDE)? {
+            return Ok(Some(line));
+        }
+    }
+    Ok(None)
 }
 
 #[test]
@@ -154,7 +183,8 @@ verify bob #1 write 1 said(trueR) -> bad 4 2 0
 check bob #1 write 1 init(65536) -> bad 4 1 5
 check bob #1 write 1 trueR trueR -> bad 4 1 6
 ";
-    assert!(rt; are_read(rt.alloc(), table)?);
+    let wrong = misread(rt.alloc(), table)?;
+    assert!(rt; wrong.is_none(), "{wrong:?}");
     Ok(())
 }
 
@@ -251,63 +281,68 @@ do create #1 a/b @1
 do read #1 @1
 do create #1 a1234567890123456789012345678901234567890123456789012345678901234 @1
 ";
-    for line in lines.lines() {
-        let read = read_line(rt.alloc(), line.as_bytes())?;
-        assert!(rt; matches!(read, Line::Faulty(Reply::Bad(NO_FORM))), "{line}");
-    }
+    let wrong = inside(rt.alloc(), lines)?;
+    assert!(rt; wrong.is_none(), "{wrong:?}");
     Ok(())
 }
 
 #[test]
 fn lines_of_other_bytes(rt: HostRuntime) -> Result<(), Fail> {
-    let long = vec![in rt.alloc(); b'a'; 1 << 20]?;
-    let lines: [&[u8]; 5] = [b"at \xff", b"at\t1", b"at 1\r", b"as b\0", long.as_slice()];
-    for line in lines {
-        let read = read_line(rt.alloc(), line)?;
-        assert!(rt; matches!(read, Line::Faulty(Reply::Bad(NO_FORM))));
-    }
+    let alloc = rt.alloc();
+    let long = vec![in alloc; b'a'; 1 << 20]?;
+    assert!(rt; is_read_as(alloc, b"at \xff", OUTSIDE)?);
+    assert!(rt; is_read_as(alloc, b"at\t1", OUTSIDE)?);
+    assert!(rt; is_read_as(alloc, b"at 1\r", OUTSIDE)?);
+    assert!(rt; is_read_as(alloc, b"as b\0", OUTSIDE)?);
+    assert!(rt; is_read_as(alloc, long.as_slice(), OUTSIDE)?);
     Ok(())
 }
 
 #[test]
 fn at_most_512_parentheses_are_open(rt: HostRuntime) -> Result<(), Fail> {
-    let mut line = Bytes::new(rt.alloc());
+    let alloc = rt.alloc();
+    let mut line = Bytes::new(alloc);
     line.extend(b"register - admin says ")?;
-    line.extend(vec![in rt.alloc(); b'('; 513]?.as_slice())?;
-    let read = read_line(rt.alloc(), line.as_slice())?;
-    assert!(rt; matches!(read, Line::Faulty(Reply::BadText(5, 523))));
+    line.extend(vec![in alloc; b'('; 513]?.as_slice())?;
+    assert!(rt; is_read_as(alloc, line.as_slice(), b"bad 4 5 523")?);
     Ok(())
+}
+
+// A line that cites the statements from 1 to the last.
+fn citing(alloc: Global, last: u32) -> Result<Bytes, NoMemory> {
+    let mut line = Bytes::new(alloc);
+    line.extend(b"verify bob #1 write 1")?;
+    for number in 2..=last {
+        let more = format!(in alloc; ",{number}")?;
+        line.extend(more.as_bytes())?;
+    }
+    line.extend(b" trueR")?;
+    Ok(line)
 }
 
 #[test]
 fn at_most_64_statements_are_cited(rt: HostRuntime) -> Result<(), Fail> {
-    let mut line = Bytes::new(rt.alloc());
-    line.extend(b"verify bob #1 write 1")?;
-    for number in 2..65u32 {
-        let more = format!(in rt.alloc(); ",{number}")?;
-        line.extend(more.as_bytes())?;
-    }
-    let mut more = line.copy(rt.alloc())?;
-    line.extend(b" trueR")?;
-    more.extend(b",65 trueR")?;
-    let read = read_line(rt.alloc(), line.as_slice())?;
-    assert!(rt; matches!(read, Line::Asks(_)));
-    let read = read_line(rt.alloc(), more.as_slice())?;
-    assert!(rt; matches!(read, Line::Faulty(Reply::Bad(NO_FORM))));
+    let alloc = rt.alloc();
+    assert!(rt; is_asking(alloc, citing(alloc, 64)?.as_slice())?);
+    assert!(rt; is_read_as(alloc, citing(alloc, 65)?.as_slice(), OUTSIDE)?);
     Ok(())
+}
+
+// A line with a signature of so many bytes.
+fn signed(alloc: Global, bytes: usize) -> Result<Bytes, NoMemory> {
+    let mut line = Bytes::new(alloc);
+    line.extend(b"register ")?;
+    for _ in 0..bytes {
+        line.extend(b"00")?;
+    }
+    line.extend(b" admin says true from 0 to 1")?;
+    Ok(line)
 }
 
 #[test]
 fn signatures_have_at_most_32768_bytes(rt: HostRuntime) -> Result<(), Fail> {
-    let mut line = Bytes::new(rt.alloc());
-    line.extend(b"register ")?;
-    line.extend(vec![in rt.alloc(); b'0'; 65536]?.as_slice())?;
-    let mut more = line.copy(rt.alloc())?;
-    line.extend(b" admin says true from 0 to 1")?;
-    more.extend(b"00 admin says true from 0 to 1")?;
-    let read = read_line(rt.alloc(), line.as_slice())?;
-    assert!(rt; matches!(read, Line::Asks(_)));
-    let read = read_line(rt.alloc(), more.as_slice())?;
-    assert!(rt; matches!(read, Line::Faulty(Reply::Bad(NO_FORM))));
+    let alloc = rt.alloc();
+    assert!(rt; is_asking(alloc, signed(alloc, 32768)?.as_slice())?);
+    assert!(rt; is_read_as(alloc, signed(alloc, 32769)?.as_slice(), OUTSIDE)?);
     Ok(())
 }

@@ -5,7 +5,8 @@ use Rattle.std.proofs.lemmas.Bool.{false≢true}
 use Rattle.std.proofs.lemmas.Option.{none-some, same_Some}
 use Rattle.bl_text.specs.Printed.{permission_text}
 use Rattle.line_wire.specs.Lines.{IsFile}
-use Rattle.line_wire.proofs.FormLemmas.{HasNo-principal, HasNo-file, HasNo-permission}
+use Rattle.line_text.proofs.WordLemmas.{HasNo-principal}
+use Rattle.line_wire.proofs.FormLemmas.{HasNo-file, HasNo-permission}
 use Rattle.line_wire.proofs.OneCommand.{goal-same}
 use Rattle.line_wire.proofs.inquiry.goal_and_rest.Goals as goal
 
