@@ -1,0 +1,37 @@
+#!/usr/bin/env bash
+# Runs each example by the built program, in a folder with the secrets of the examples beside it, and compares the replies
+# with those that are kept. Exits 1 if some differ.
+# usage: examples/run.sh [PROGRAM], by default crates/pcfs/out/pcfs
+set -euo pipefail
+here=$(cd "$(dirname "$0")" && pwd)
+program=$(realpath "${1:-$here/../crates/pcfs/out/pcfs}")
+work=$(mktemp -d)
+trap 'rm -rf "$work"' EXIT
+cp "$here/pcfs.secrets" "$work/"
+cd "$work"
+
+differs=0
+for script in "$here"/*.pcfs; do
+    name=$(basename "$script" .pcfs)
+    if "$program" script < "$script" > replies && cmp -s replies "$here/$name.replies"; then
+        echo "agrees $name"
+    else
+        echo "differs $name"
+        differs=1
+    fi
+done
+
+# what the client signs is registered
+while read -r statement; do
+    python3 "$here/pcfs_client.py" statement pcfs.secrets "$statement"
+done > signed.pcfs << 'END'
+admin says may(alice,#1,write) from 0 to 200
+hr says forall K:principal. (exists F:file. owner(F,K) & in_dir(F,#1)) | p @ [0,+inf] => K says q("a b",K) from -inf to 2026-12-31T23:59:59Z
+END
+if "$program" script < signed.pcfs | cmp -s - <(printf 'ok statement 1\nok statement 2\n'); then
+    echo "agrees signed statements"
+else
+    echo "differs signed statements"
+    differs=1
+fi
+exit "$differs"
