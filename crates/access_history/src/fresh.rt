@@ -25,20 +25,3 @@ impl Base {
         })
     }
 }
-
-#[cfg(test)]
-mod tests {
-    use super::*;
-    use std::test::Fail;
-
-    #[test]
-    fn nothing_has_happened(rt: HostRuntime) -> Result<(), Fail> {
-        let base = Base::fresh(rt.alloc())?;
-        assert_eq!(rt; base.world.rows().len(), 1);
-        assert_eq!(rt; base.statements.len(), 0);
-        assert_eq!(rt; base.issues.len(), 0);
-        assert_eq!(rt; base.moment, -62135596800);
-        assert_eq!(rt; base.count, 0);
-        Ok(())
-    }
-}

@@ -166,6 +166,3 @@ pub fn created_row(caller: Principal, directory: NodeId, name: &[u8], next: u64)
         name: Short::new(name),
     }
 }
-
-#[cfg(test)]
-mod tests;

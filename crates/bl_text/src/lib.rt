@@ -11,8 +11,6 @@ mod parse;
 mod pieces;
 mod print;
 mod scope;
-#[cfg(test)]
-mod tests;
 
 pub use bl_tokens::{TextFault, parse_time};
 pub use parse::{parse_formula, parse_statement};

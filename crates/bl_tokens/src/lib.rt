@@ -7,8 +7,6 @@ mod classes;
 mod dates;
 mod faults;
 mod numerals;
-#[cfg(test)]
-mod tests;
 mod times;
 mod tokens;
 mod words;

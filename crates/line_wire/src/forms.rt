@@ -164,6 +164,3 @@ fn place(words: &[u8]) -> Option<(NodeId, &[u8], &[u8])>
     let directory = file(directory)?;
     Some((directory, name, rest))
 }
-
-#[cfg(test)]
-mod tests;

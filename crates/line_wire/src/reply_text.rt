@@ -194,6 +194,3 @@ fn write(out: &mut Bytes, text: &str) -> Result<(), NoMemory>
 {
     out.extend(text.as_bytes())
 }
-
-#[cfg(test)]
-mod tests;

@@ -82,6 +82,3 @@ pub fn run<R: Threads + Wait + Sync, I: Source, O: Sink>(
         Err(ScriptFault::NoMemory) => OUT_OF_MEMORY,
     }
 }
-
-#[cfg(test)]
-mod tests;

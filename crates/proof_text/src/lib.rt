@@ -10,8 +10,6 @@ mod names;
 mod parse;
 mod places;
 mod print;
-#[cfg(test)]
-mod tests;
 
 pub use bl_tokens::TextFault;
 pub use parse::parse_proof;

@@ -15,12 +15,8 @@ mod left;
 mod place;
 mod right;
 mod root;
-#[cfg(test)]
-mod rule_tests;
 mod shapes;
 mod terms;
-#[cfg(test)]
-mod tests;
 
 pub use checked::{Checked, check, verify};
 pub use cites::{Cite, Cites};

@@ -1,0 +1,175 @@
+//! A case: what a run is given, and what is wanted of it.
+
+use crate::short_form::{RowFault, Texts, add_numbered, add_written_out, number_of, parts_at};
+use crate::values::add_value;
+use bl_syntax::{Bytes, Numbers};
+use pcfs_ports::{MemorySink, MemorySource};
+use pcfs_secrets::Secrets;
+use pcfs_top::run::run;
+use std::alloc::Global;
+use std::sync::Wait;
+use std::thread::Threads;
+
+/// What the rows of a case give and want.
+#[derive(Drop)]
+pub struct Case {
+    texts: Texts,
+    secrets: Bytes,
+    words: Vec<String>,
+    input: Bytes,
+    failing_reads: Numbers,
+    failing_writes: Numbers,
+    found: Bytes,
+    wanted: Bytes,
+    status: u8,
+}
+
+/// How a case ended: what its calls said and then what the run wrote, the run's status, and what was wanted of both.
+#[derive(Drop)]
+pub struct Ended {
+    pub found: Bytes,
+    pub status: u8,
+    pub wanted: Bytes,
+    pub wanted_status: u8,
+}
+
+// Sets the numbers to those of the words.
+fn set_numbers(words: &str, numbers: &mut Numbers) -> Result<(), RowFault> {
+    numbers.clear();
+    for word in words.split(' ') {
+        numbers.push(number_of(word)?)?;
+    }
+    Ok(())
+}
+
+// Sets the words to those of the text.
+fn set_words(alloc: Global, text: &str, words: &mut Vec<String>) -> Result<(), RowFault> {
+    words.clear();
+    for word in text.split(' ') {
+        if !word.is_empty() {
+            words.push(word.to_string(alloc)?)?;
+        }
+    }
+    Ok(())
+}
+
+// Adds the text as a line with its end.
+fn add_line(
+    alloc: Global,
+    texts: &Texts,
+    text: &str,
+    out: &mut Bytes,
+) -> Result<(), RowFault> {
+    add_written_out(alloc, texts, text, out)?;
+    out.push(b'\n')?;
+    Ok(())
+}
+
+// Adds a line for each number from the first to the last, with the number where a `%` stands.
+fn add_lines(alloc: Global, text: &str, out: &mut Bytes) -> Result<(), RowFault> {
+    let (first, others) = parts_at(text, ' ')?;
+    let (last, line) = parts_at(others, ' ')?;
+    for number in number_of(first)?..=number_of(last)? {
+        add_numbered(alloc, line, number, out)?;
+        out.push(b'\n')?;
+    }
+    Ok(())
+}
+
+impl Case {
+    /// A case that gives nothing and wants nothing.
+    pub fn new(alloc: Global) -> Case {
+        Case {
+            texts: Texts::new(alloc),
+            secrets: Bytes::new(alloc),
+            words: Vec::new(alloc),
+            input: Bytes::new(alloc),
+            failing_reads: Numbers::new(alloc),
+            failing_writes: Numbers::new(alloc),
+            found: Bytes::new(alloc),
+            wanted: Bytes::new(alloc),
+            status: 0,
+        }
+    }
+
+    // Names a text.
+    fn name_text(&mut self, alloc: Global, row: &str) -> Result<(), RowFault> {
+        let (name, text) = parts_at(row, ' ')?;
+        let mut out = Bytes::new(alloc);
+        match add_written_out(alloc, &self.texts, text, &mut out) {
+            Ok(()) => self.texts.add(alloc, name, out),
+            Err(fault) => Err(fault),
+        }
+    }
+
+    // Sets the wanted status.
+    fn set_status(&mut self, word: &str) -> Result<(), RowFault> {
+        match word.parse::<u8>() {
+            Ok(status) => {
+                self.status = status;
+                Ok(())
+            }
+            Err(_) => Err(RowFault::BadRow),
+        }
+    }
+
+    // Adds what a row of a call says.
+    fn add_found(&mut self, alloc: Global, kind: &str, text: &str) -> Result<(), RowFault> {
+        let mut written_out = Bytes::new(alloc);
+        match add_written_out(alloc, &self.texts, text, &mut written_out) {
+            Ok(()) => add_value(alloc, kind, text, written_out.as_slice(), &mut self.found),
+            Err(fault) => Err(fault),
+        }
+    }
+
+    /// Adds what a row gives or wants.
+    pub fn add_row(&mut self, alloc: Global, row: &str) -> Result<(), RowFault> {
+        let (kind, text) = row.split_once(' ').unwrap_or((row, ""));
+        match kind {
+            ">" => add_line(alloc, &self.texts, text, &mut self.input),
+            "<" => add_line(alloc, &self.texts, text, &mut self.wanted),
+            ">>" => add_lines(alloc, text, &mut self.input),
+            "<<" => add_lines(alloc, text, &mut self.wanted),
+            ">." => add_written_out(alloc, &self.texts, text, &mut self.input),
+            "let" => self.name_text(alloc, text),
+            "secret" => add_line(alloc, &self.texts, text, &mut self.secrets),
+            "words" => set_words(alloc, text, &mut self.words),
+            "reads" => set_numbers(text, &mut self.failing_reads),
+            "writes" => set_numbers(text, &mut self.failing_writes),
+            "status" => self.set_status(text),
+            "" | "#" => Ok(()),
+            _ => self.add_found(alloc, kind, text),
+        }
+    }
+
+    /// Runs the case. Bad secrets count as a bad row.
+    pub fn run<R: Threads + Wait + Sync + AllocGlobal>(self, rt: &R) -> Result<Ended, RowFault> {
+        let alloc = rt.alloc();
+        let Case {
+            texts: _,
+            secrets,
+            words,
+            input,
+            failing_reads,
+            failing_writes,
+            mut found,
+            wanted,
+            status: wanted_status,
+        } = self;
+        let mut input = MemorySource::new(alloc, input, failing_reads);
+        let mut output = MemorySink::new(alloc, failing_writes);
+        let status = match Secrets::parse(alloc, secrets.as_slice()) {
+            Ok(secrets) => run(rt, alloc, &words, &secrets, &mut input, &mut output),
+            Err(_) => return Err(RowFault::BadRow),
+        };
+        match found.extend(output.held()) {
+            Ok(()) => Ok(Ended {
+                found,
+                status,
+                wanted,
+                wanted_status,
+            }),
+            Err(_) => Err(RowFault::NoMemory),
+        }
+    }
+}

@@ -1,0 +1,139 @@
+//! A file of rows: what stands before its first case begins each of its cases.
+
+use crate::case::{Case, Ended};
+use crate::short_form::RowFault;
+use bl_syntax::{Bytes, NoMemory};
+use std::alloc::Global;
+use std::sync::Wait;
+use std::thread::Threads;
+
+// Adds a line.
+fn add_report(text: &str, name: &str, report: &mut Bytes) -> Result<(), NoMemory> {
+    report.extend(text.as_bytes())?;
+    report.extend(name.as_bytes())?;
+    report.push(b'\n')
+}
+
+// Adds the first reply that differs.
+fn add_difference(
+    alloc: Global,
+    found: &[u8],
+    wanted: &[u8],
+    report: &mut Bytes,
+) -> Result<(), NoMemory> {
+    let found = found.split(|byte| *byte == b'\n');
+    let wanted = wanted.split(|byte| *byte == b'\n');
+    for (place, (found, wanted)) in found.zip(wanted).enumerate() {
+        if found != wanted {
+            let number = format!(in alloc; "  reply {place}, from 0, is: ")?;
+            report.extend(number.as_bytes())?;
+            report.extend(found)?;
+            report.extend(b"\n  and not: ")?;
+            report.extend(wanted)?;
+            return report.push(b'\n');
+        }
+    }
+    report.extend(b"  the one has more replies\n")
+}
+
+// Adds how the case ended, and returns whether it agrees.
+fn judge(
+    alloc: Global,
+    name: &str,
+    ended: &Ended,
+    report: &mut Bytes,
+) -> Result<bool, NoMemory> {
+    let found = ended.found.as_slice();
+    let wanted = ended.wanted.as_slice();
+    if found != wanted {
+        add_report("differs: ", name, report)?;
+        add_difference(alloc, found, wanted, report)?;
+        return Ok(false);
+    }
+    if ended.status != ended.wanted_status {
+        add_report("another status: ", name, report)?;
+        return Ok(false);
+    }
+    let lines = wanted.iter().filter(|byte| **byte == b'\n').count();
+    let agrees = format!(in alloc; "agrees in {lines} lines: ")?;
+    add_report(agrees.as_str(), name, report)?;
+    Ok(true)
+}
+
+// Adds which row is bad, unless there was no memory.
+fn add_fault(fault: RowFault, row: &str, report: &mut Bytes) -> Result<bool, NoMemory> {
+    match fault {
+        RowFault::BadRow => {
+            add_report("  a bad row: ", row, report)?;
+            Ok(false)
+        }
+        RowFault::NoMemory => Err(NoMemory),
+    }
+}
+
+// Reads the rows into the case, up to the first bad one, which is added. Returns whether there is none.
+fn read_rows(
+    alloc: Global,
+    rows: &str,
+    case: &mut Case,
+    report: &mut Bytes,
+) -> Result<bool, NoMemory> {
+    for row in rows.lines() {
+        match case.add_row(alloc, row) {
+            Ok(()) => {}
+            Err(fault) => return add_fault(fault, row, report),
+        }
+    }
+    Ok(true)
+}
+
+// Runs the case of this name, and adds how it ended.
+fn run_case<R: Threads + Wait + Sync + AllocGlobal>(
+    rt: &R,
+    name: &str,
+    case: Case,
+    report: &mut Bytes,
+) -> Result<bool, NoMemory> {
+    match case.run(rt) {
+        Ok(ended) => judge(rt.alloc(), name, &ended, report),
+        Err(fault) => add_fault(fault, name, report),
+    }
+}
+
+// Reads and runs a case, of which the first line is its name.
+fn run_block<R: Threads + Wait + Sync + AllocGlobal>(
+    rt: &R,
+    beginning: &str,
+    block: &str,
+    report: &mut Bytes,
+) -> Result<bool, NoMemory> {
+    let (name, rows) = block.split_once('\n').unwrap_or((block, ""));
+    let mut case = Case::new(rt.alloc());
+    let begins = read_rows(rt.alloc(), beginning, &mut case, report);
+    let goes_on = read_rows(rt.alloc(), rows, &mut case, report);
+    match (begins, goes_on) {
+        (Ok(true), Ok(true)) => run_case(rt, name, case, report),
+        (Err(refused), _) | (_, Err(refused)) => Err(refused),
+        _ => {
+            add_report("not run: ", name, report)?;
+            Ok(false)
+        }
+    }
+}
+
+/// Runs each case of a file of rows, adds to the report how it ended, and returns whether all agree.
+pub fn run_rows<R: Threads + Wait + Sync + AllocGlobal>(
+    rt: &R,
+    name: &str,
+    text: &str,
+    report: &mut Bytes,
+) -> Result<bool, NoMemory> {
+    add_report("", name, report)?;
+    let mut blocks = text.split("\n= ");
+    let beginning = blocks.next().unwrap_or("");
+    let mut agree = true;
+    for block in blocks {
+        agree &= run_block(rt, beginning, block, report)?;
+    }
+    Ok(agree)
+}

@@ -1,0 +1,276 @@
+//! Rows that call the crates below directly, for what no line shows: written texts, and values that have no text.
+
+use crate::short_form::{RowFault, number_of, parts_at};
+use access_history::{Reply, World, create_refusal, created_row};
+use bl_codec::{read_formula, read_statement};
+use bl_syntax::{Bytes, Goal, NoMemory, NodeId, Perm, Principal, Statement, Term};
+use bl_text::{
+    TextFault, parse_formula, parse_statement, parse_time, print_formula, print_statement,
+    print_term,
+};
+use line_text::read_hex;
+use line_wire::{unproved, write_reply};
+use proof_term::{ProofTree, read_proof};
+use proof_text::{parse_proof, print_proof};
+use proof_verifier::{CheckFault, Checked, Cite, Cites, check, verify};
+use std::alloc::Global;
+
+// The same outcome, as that of a row.
+fn ended(outcome: Result<(), NoMemory>) -> Result<(), RowFault> {
+    match outcome {
+        Ok(()) => Ok(()),
+        Err(_) => Err(RowFault::NoMemory),
+    }
+}
+
+// Adds the line `bad 4` of a text with this fault.
+fn add_fault(alloc: Global, fault: TextFault, out: &mut Bytes) -> Result<(), RowFault> {
+    let (number, place) = match fault {
+        TextFault::Unexpected(place) => (1, place),
+        TextFault::UnknownName(place) => (2, place),
+        TextFault::BadDate(place) => (3, place),
+        TextFault::Sort(place) => (4, place),
+        TextFault::TooLarge(place) => (5, place),
+        TextFault::NoMemory => return Err(RowFault::NoMemory),
+    };
+    ended(write_reply(alloc, out, &Reply::BadText(number, place as u64)))
+}
+
+fn add_formula(alloc: Global, text: &[u8], out: &mut Bytes) -> Result<(), RowFault> {
+    match parse_formula(alloc, text) {
+        Ok(formula) => {
+            ended(print_formula(&formula, out))?;
+            ended(out.push(b'\n'))
+        }
+        Err(fault) => add_fault(alloc, fault, out),
+    }
+}
+
+fn add_statement(alloc: Global, text: &[u8], out: &mut Bytes) -> Result<(), RowFault> {
+    match parse_statement(alloc, text) {
+        Ok(statement) => {
+            ended(print_statement(&statement, out))?;
+            ended(out.push(b'\n'))
+        }
+        Err(fault) => add_fault(alloc, fault, out),
+    }
+}
+
+fn add_proof(alloc: Global, text: &[u8], out: &mut Bytes) -> Result<(), RowFault> {
+    match parse_proof(alloc, text) {
+        Ok(proof) => {
+            ended(print_proof(&proof, out))?;
+            ended(out.push(b'\n'))
+        }
+        Err(fault) => add_fault(alloc, fault, out),
+    }
+}
+
+fn add_time(alloc: Global, text: &[u8], out: &mut Bytes) -> Result<(), RowFault> {
+    match parse_time(text) {
+        Ok(time) => {
+            ended(print_term(&Term::Time(time), out))?;
+            ended(out.push(b'\n'))
+        }
+        Err(fault) => add_fault(alloc, fault, out),
+    }
+}
+
+// The bytes of a word of hexadecimal.
+fn bytes_of(alloc: Global, word: &str) -> Result<Bytes, RowFault> {
+    match read_hex(alloc, word.as_bytes()) {
+        Ok(Some(bytes)) => Ok(bytes),
+        Ok(None) => Err(RowFault::BadRow),
+        Err(_) => Err(RowFault::NoMemory),
+    }
+}
+
+// Adds the text of the formula with these bytes.
+fn add_written(alloc: Global, word: &str, out: &mut Bytes) -> Result<(), RowFault> {
+    let bytes = bytes_of(alloc, word)?;
+    match read_formula(alloc, bytes.as_slice()) {
+        Ok((formula, _)) => {
+            ended(print_formula(&formula, out))?;
+            ended(out.push(b'\n'))
+        }
+        Err(_) => Err(RowFault::BadRow),
+    }
+}
+
+// The statement alone, cited as number 1.
+fn cited(alloc: Global, statement: Statement) -> Option<Cites> {
+    let mut cites = Vec::new(alloc);
+    match cites.push(Cite {
+        number: 1,
+        statement,
+    }) {
+        Ok(()) => Cites::new(cites),
+        Err(_) => None,
+    }
+}
+
+// Adds the fault of a proof.
+fn add_refused(alloc: Global, fault: CheckFault, out: &mut Bytes) -> Result<(), RowFault> {
+    match unproved(fault) {
+        Ok(reply) => ended(write_reply(alloc, out, &reply)),
+        Err(_) => Err(RowFault::NoMemory),
+    }
+}
+
+// Adds what the proof grants, or its fault.
+fn add_verified(
+    alloc: Global,
+    cites: &Cites,
+    goal: &Goal,
+    proof: &ProofTree,
+    out: &mut Bytes,
+) -> Result<(), RowFault> {
+    match verify(alloc, cites, goal, proof) {
+        Ok(grant) => ended(write_reply(alloc, out, &Reply::Checked(grant))),
+        Err(fault) => add_refused(alloc, fault, out),
+    }
+}
+
+// Adds what was granted, and what the proof that was kept grants.
+fn add_kept(alloc: Global, checked: &Checked, out: &mut Bytes) -> Result<(), RowFault> {
+    match checked.grant().copy(alloc) {
+        Ok(grant) => ended(write_reply(alloc, out, &Reply::Checked(grant)))?,
+        Err(_) => return Err(RowFault::NoMemory),
+    }
+    add_verified(alloc, checked.cited(), &checked.goal(), checked.proof(), out)
+}
+
+// Adds what a copy of the checked proof says.
+fn add_copied(alloc: Global, checked: &Checked, out: &mut Bytes) -> Result<(), RowFault> {
+    match checked.copy(alloc) {
+        Ok(copied) => add_kept(alloc, &copied, out),
+        Err(_) => Err(RowFault::NoMemory),
+    }
+}
+
+// Adds what the check of copies of the statements comes to.
+fn add_checked(
+    alloc: Global,
+    cites: &Cites,
+    goal: Goal,
+    proof: ProofTree,
+    out: &mut Bytes,
+) -> Result<(), RowFault> {
+    match cites.copy(alloc) {
+        Ok(copied) => match check(alloc, copied, goal, proof) {
+            Ok(checked) => add_copied(alloc, &checked, out),
+            Err(fault) => add_refused(alloc, fault, out),
+        },
+        Err(_) => Err(RowFault::NoMemory),
+    }
+}
+
+// Adds what `verify` and what `check` say of the proof.
+fn add_both(
+    alloc: Global,
+    cites: &Cites,
+    goal: Goal,
+    proof: ProofTree,
+    out: &mut Bytes,
+) -> Result<(), RowFault> {
+    match add_verified(alloc, cites, &goal, &proof, out) {
+        Ok(()) => add_checked(alloc, cites, goal, proof, out),
+        Err(fault) => Err(fault),
+    }
+}
+
+// The statement of these bytes, cited as number 1.
+fn cites_of(alloc: Global, word: &str) -> Result<Cites, RowFault> {
+    let bytes = bytes_of(alloc, word)?;
+    match read_statement(alloc, bytes.as_slice()) {
+        Ok((statement, _)) => cited(alloc, statement).ok_or(RowFault::NoMemory),
+        Err(_) => Err(RowFault::BadRow),
+    }
+}
+
+// The proof of these bytes.
+fn proof_of(alloc: Global, word: &str) -> Result<ProofTree, RowFault> {
+    let bytes = bytes_of(alloc, word)?;
+    match read_proof(alloc, bytes.as_slice()) {
+        Ok((proof, _)) => Ok(proof),
+        Err(_) => Err(RowFault::BadRow),
+    }
+}
+
+// Adds what the proof of these bytes says of the statement of these bytes: that alice may write in node 1.
+fn add_judged(alloc: Global, text: &str, out: &mut Bytes) -> Result<(), RowFault> {
+    let (statement, proof) = parts_at(text, ' ')?;
+    let who = Principal::new(b"alice").ok_or(RowFault::BadRow)?;
+    let goal = Goal {
+        who,
+        file: NodeId(1),
+        perm: Perm::Write,
+    };
+    match proof_of(alloc, proof) {
+        Ok(proof) => match cites_of(alloc, statement) {
+            Ok(cites) => add_both(alloc, &cites, goal, proof, out),
+            Err(fault) => Err(fault),
+        },
+        Err(fault) => Err(fault),
+    }
+}
+
+// The refusal of a file of this name in a tree of the root and the file `notes` in it, whose next number is this one.
+fn refusal(
+    alloc: Global,
+    next: u64,
+    directory: u64,
+    name: &str,
+) -> Result<Option<u32>, RowFault> {
+    let alice = Principal::new(b"alice").ok_or(RowFault::BadRow)?;
+    let world = World::new(alloc)?;
+    let world = world.copy(alloc)?;
+    let mut rows = Vec::from_slice(alloc, world.rows())?;
+    rows.push(created_row(alice, NodeId(1), b"notes", 2))?;
+    Ok(create_refusal(
+        rows.as_slice(),
+        next,
+        NodeId(directory),
+        name.as_bytes(),
+    ))
+}
+
+// Adds the number of the refusal, or `none`.
+fn add_refusal(alloc: Global, text: &str, out: &mut Bytes) -> Result<(), RowFault> {
+    let (next, others) = parts_at(text, ' ')?;
+    let (directory, name) = parts_at(others, ' ')?;
+    let next = match next.parse::<u64>() {
+        Ok(number) => number,
+        Err(_) => return Err(RowFault::BadRow),
+    };
+    let directory = number_of(directory)? as u64;
+    match refusal(alloc, next, directory, name)? {
+        Some(number) => {
+            let line = format!(in alloc; "{number}\n")?;
+            out.extend(line.as_bytes())?;
+        }
+        None => out.extend(b"none\n")?,
+    }
+    Ok(())
+}
+
+/// Adds what the calls of this kind of row say of the text, of which the short forms are also written out.
+pub fn add_value(
+    alloc: Global,
+    kind: &str,
+    text: &str,
+    written_out: &[u8],
+    out: &mut Bytes,
+) -> Result<(), RowFault> {
+    match kind {
+        "formula" => add_formula(alloc, written_out, out),
+        "statement" => add_statement(alloc, written_out, out),
+        "proof" => add_proof(alloc, written_out, out),
+        "time" => add_time(alloc, written_out, out),
+        "written" => add_written(alloc, text, out),
+        "judged" => add_judged(alloc, text, out),
+        "refusal" => add_refusal(alloc, text, out),
+        "nomemory" => ended(write_reply(alloc, out, &Reply::NoMemory)),
+        _ => Err(RowFault::BadRow),
+    }
+}
