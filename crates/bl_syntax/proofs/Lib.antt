@@ -9,4 +9,5 @@ pub mod PaddingLemmas
 pub mod Same
 pub mod StatementLemmas
 pub mod TermLemmas
+pub mod Undoing
 pub mod WordLemmas

@@ -1,12 +1,17 @@
 //! Formulas of the logic.
 
+use crate::boxes::{
+    atom_of, both_of, constraint_of, either_of, every_of, falsity_of, implies_of, on_of, says_of,
+    some_of, state_of, truth_of,
+};
 use crate::lists::NoMemory;
 use crate::names::Word;
 use crate::terms::{Constraint, Sort, StatePred, Term, Terms, are_same};
 use std::alloc::Global;
+use std::mem;
 
 /// A formula. A variable is the number of binders between it and its own, so the innermost binder's is 0.
-#[derive(Debug, Drop)]
+#[derive(Debug)]
 pub enum Formula {
     /// A predicate and its arguments.
     Atom(Word, Terms),
@@ -27,36 +32,74 @@ pub enum Formula {
     At(Box<Formula>, Term, Term),
 }
 
+// A loop, so that the deepest formula takes no more of the stack than any other. What still waits for it hangs in a
+// box that was emptied, so it takes no memory either.
+impl Drop for Formula {
+    fn drop(mut self) {
+        let mut waiting: Option<Box<Formula>> = None;
+        'parts: loop {
+            match self {
+                Formula::And(mut a, b) | Formula::Or(mut a, b) | Formula::Imp(mut a, b) => {
+                    match waiting {
+                        None => {
+                            self = Box::into_inner(a);
+                            waiting = Some(b);
+                        }
+                        Some(others) => {
+                            self = mem::replace(&mut *a, Formula::And(b, others));
+                            waiting = Some(a);
+                        }
+                    }
+                }
+                Formula::Forall(_, a)
+                | Formula::Exists(_, a)
+                | Formula::Says(_, a)
+                | Formula::At(a, _, _) => self = Box::into_inner(a),
+                Formula::Atom(_, _)
+                | Formula::Cons(_)
+                | Formula::State(_)
+                | Formula::True
+                | Formula::False => match waiting {
+                    None => return,
+                    Some(part) => {
+                        self = Box::into_inner(part);
+                        waiting = None;
+                    }
+                },
+            }
+        }
+    }
+}
+
 impl Formula {
     ghost use Rattle.std.specs.Prelude.{◌≡◌, ◌↔◌, IfOk, IsTrue};
     ghost use Rattle.bl_syntax.specs.Formula.{formula};
 
     /// An equal formula in memory of its own.
-    #[cycle(copy)]
     pub fn copy(&self, alloc: Global) -> Result<Formula, NoMemory>
         ensures { IfOk result (λ copied. formula copied ≡ formula self.now) }
     {
-        match self {
-            Formula::Atom(name, terms) => Ok(Formula::Atom(*name, terms.copy(alloc)?)),
-            Formula::Cons(c) => Ok(Formula::Cons(*c)),
-            Formula::State(s) => Ok(Formula::State(*s)),
-            Formula::And(a, b) => Ok(Formula::And(a.boxed_copy(alloc)?, b.boxed_copy(alloc)?)),
-            Formula::Or(a, b) => Ok(Formula::Or(a.boxed_copy(alloc)?, b.boxed_copy(alloc)?)),
-            Formula::Imp(a, b) => Ok(Formula::Imp(a.boxed_copy(alloc)?, b.boxed_copy(alloc)?)),
-            Formula::True => Ok(Formula::True),
-            Formula::False => Ok(Formula::False),
-            Formula::Forall(sort, a) => Ok(Formula::Forall(*sort, a.boxed_copy(alloc)?)),
-            Formula::Exists(sort, a) => Ok(Formula::Exists(*sort, a.boxed_copy(alloc)?)),
-            Formula::Says(who, a) => Ok(Formula::Says(*who, a.boxed_copy(alloc)?)),
-            Formula::At(a, from, to) => Ok(Formula::At(a.boxed_copy(alloc)?, *from, *to)),
-        }
+        Ok(Box::into_inner(self.boxed_copy(alloc)?))
     }
 
-    #[cycle(copy)]
-    fn boxed_copy(&self, alloc: Global) -> Result<Box<Formula>, NoMemory>
+    /// The same in a box. It calls itself as deep as the formula is, and holds no formula on the stack.
+    pub fn boxed_copy(&self, alloc: Global) -> Result<Box<Formula>, NoMemory>
         ensures { IfOk result (λ copied. formula copied.value ≡ formula self.now) }
     {
-        Ok(Box::new(alloc, self.copy(alloc)?)?)
+        match self {
+            Formula::Atom(name, terms) => atom_of(alloc, name, terms.copy(alloc)?),
+            Formula::Cons(c) => constraint_of(alloc, c),
+            Formula::State(s) => state_of(alloc, s),
+            Formula::And(a, b) => both_of(alloc, a.boxed_copy(alloc)?, b.boxed_copy(alloc)?),
+            Formula::Or(a, b) => either_of(alloc, a.boxed_copy(alloc)?, b.boxed_copy(alloc)?),
+            Formula::Imp(a, b) => implies_of(alloc, a.boxed_copy(alloc)?, b.boxed_copy(alloc)?),
+            Formula::True => truth_of(alloc),
+            Formula::False => falsity_of(alloc),
+            Formula::Forall(sort, a) => every_of(alloc, *sort, a.boxed_copy(alloc)?),
+            Formula::Exists(sort, a) => some_of(alloc, *sort, a.boxed_copy(alloc)?),
+            Formula::Says(who, a) => says_of(alloc, who, a.boxed_copy(alloc)?),
+            Formula::At(a, from, to) => on_of(alloc, a.boxed_copy(alloc)?, from, to),
+        }
     }
 
     /// Whether it is the same formula.

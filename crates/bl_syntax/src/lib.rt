@@ -4,6 +4,7 @@
 #![tactic(auto)]
 
 mod binders;
+pub mod boxes;
 mod check;
 mod codec_fault;
 #[cfg(test)]

@@ -1,70 +1,136 @@
 //! A term in the place of a bound variable.
 
 ghost use Rattle.std.specs.Prelude.{◌≡◌, suc, IfOk, map};
-ghost use Rattle.bl_syntax.specs.Formula.{formula};
+ghost use Rattle.bl_syntax.specs.Formula.{formula, atom, compare, state, says, on};
 ghost use Rattle.bl_syntax.specs.Substitution.{put_in, put_in_term, put_in_constraint, put_in_state, instance_at};
 
+use crate::boxes::{
+    atom_of, both_of, constraint_of, either_of, every_of, falsity_of, implies_of, on_of, says_of,
+    some_of, state_of, truth_of,
+};
 use crate::formula::Formula;
 use crate::lists::{NoMemory, Sequence};
+use crate::names::Word;
 use crate::terms::{Constraint, StatePred, Term};
 use std::alloc::{AllocError, Global};
 
 /// The body of a binder with the term in the place of the binder's variable. The term is not
 /// changed on the way: one in scope holds no bound variable.
-pub fn instantiate(alloc: Global, body: &Formula, t: &Term) -> Result<Formula, NoMemory>
-    ensures { IfOk result (λ instance. formula instance ≡ instance_at t.now (formula body.now)) }
+pub fn instantiate(alloc: Global, body: &Formula, t: &Term) -> Result<Box<Formula>, NoMemory>
+    ensures { IfOk result (λ instance. formula instance.value ≡ instance_at t.now (formula body.now)) }
 {
     put_in(alloc, body, 0, t)
 }
 
-/// The formula with t for the variable of the binder that stands so many binders further out.
-#[cycle(put_in)]
-fn put_in(alloc: Global, f: &Formula, depth: usize, t: &Term) -> Result<Formula, NoMemory>
-    ensures { IfOk result (λ changed. formula changed ≡ put_in depth t.now (formula f.now)) }
+/// The formula with t for the variable of the binder that stands so many binders further out. It calls itself as deep
+/// as the formula is, and holds no formula and no term on the stack.
+fn put_in(alloc: Global, f: &Formula, depth: usize, t: &Term) -> Result<Box<Formula>, NoMemory>
+    ensures { IfOk result (λ changed. formula changed.value ≡ put_in depth t.now (formula f.now)) }
 {
     match f {
-        Formula::Atom(name, terms) => {
-            let terms = put_in_terms(alloc, terms.as_slice(), depth, t)?;
-            Ok(Formula::Atom(*name, Sequence::from_vec(terms)))
+        Formula::Atom(name, terms) => put_in_atom(alloc, name, terms.as_slice(), depth, t),
+        Formula::Cons(c) => put_in_compared(alloc, c, depth, t),
+        Formula::State(s) => put_in_stated(alloc, s, depth, t),
+        Formula::And(a, b) => {
+            both_of(
+                alloc,
+                put_in(alloc, a, depth, t)?,
+                put_in(alloc, b, depth, t)?,
+            )
         }
-        Formula::Cons(c) => Ok(Formula::Cons(put_in_constraint(c, depth, t))),
-        Formula::State(s) => Ok(Formula::State(put_in_state(s, depth, t))),
-        Formula::And(a, b) => Ok(Formula::And(
-            put_in_part(alloc, a, depth, t)?,
-            put_in_part(alloc, b, depth, t)?,
-        )),
-        Formula::Or(a, b) => Ok(Formula::Or(
-            put_in_part(alloc, a, depth, t)?,
-            put_in_part(alloc, b, depth, t)?,
-        )),
-        Formula::Imp(a, b) => Ok(Formula::Imp(
-            put_in_part(alloc, a, depth, t)?,
-            put_in_part(alloc, b, depth, t)?,
-        )),
-        Formula::True => Ok(Formula::True),
-        Formula::False => Ok(Formula::False),
-        Formula::Forall(sort, a) => {
-            Ok(Formula::Forall(*sort, put_in_part(alloc, a, deeper(depth)?, t)?))
+        Formula::Or(a, b) => {
+            either_of(
+                alloc,
+                put_in(alloc, a, depth, t)?,
+                put_in(alloc, b, depth, t)?,
+            )
         }
-        Formula::Exists(sort, a) => {
-            Ok(Formula::Exists(*sort, put_in_part(alloc, a, deeper(depth)?, t)?))
+        Formula::Imp(a, b) => {
+            implies_of(
+                alloc,
+                put_in(alloc, a, depth, t)?,
+                put_in(alloc, b, depth, t)?,
+            )
         }
-        Formula::Says(who, a) => {
-            let a = put_in_part(alloc, a, depth, t)?;
-            Ok(Formula::Says(put_in_term(who, depth, t), a))
-        }
+        Formula::True => truth_of(alloc),
+        Formula::False => falsity_of(alloc),
+        Formula::Forall(sort, a) => { every_of(alloc, *sort, put_in(alloc, a, deeper(depth)?, t)?) }
+        Formula::Exists(sort, a) => { some_of(alloc, *sort, put_in(alloc, a, deeper(depth)?, t)?) }
+        Formula::Says(who, a) => put_in_said(alloc, who, put_in(alloc, a, depth, t)?, depth, t),
         Formula::At(a, from, to) => {
-            let a = put_in_part(alloc, a, depth, t)?;
-            Ok(Formula::At(a, put_in_term(from, depth, t), put_in_term(to, depth, t)))
+            put_in_placed(alloc, put_in(alloc, a, depth, t)?, from, to, depth, t)
         }
     }
 }
 
-#[cycle(put_in)]
-fn put_in_part(alloc: Global, f: &Formula, depth: usize, t: &Term) -> Result<Box<Formula>, NoMemory>
-    ensures { IfOk result (λ changed. formula changed.value ≡ put_in depth t.now (formula f.now)) }
+#[inline(never)]
+fn put_in_atom(
+    alloc: Global,
+    name: &Word,
+    terms: &[Term],
+    depth: usize,
+    t: &Term,
+) -> Result<Box<Formula>, NoMemory>
+    ensures { IfOk result (λ f. formula f.value ≡ atom name.now (map (put_in_term depth t.now) terms.now)) }
 {
-    Ok(Box::new(alloc, put_in(alloc, f, depth, t)?)?)
+    let terms = put_in_terms(alloc, terms, depth, t)?;
+    atom_of(alloc, name, Sequence::from_vec(terms))
+}
+
+#[inline(never)]
+fn put_in_compared(
+    alloc: Global,
+    c: &Constraint,
+    depth: usize,
+    t: &Term,
+) -> Result<Box<Formula>, NoMemory>
+    ensures { IfOk result (λ f. formula f.value ≡ compare (put_in_constraint depth t.now c.now)) }
+{
+    constraint_of(alloc, &put_in_constraint(c, depth, t))
+}
+
+#[inline(never)]
+fn put_in_stated(
+    alloc: Global,
+    s: &StatePred,
+    depth: usize,
+    t: &Term,
+) -> Result<Box<Formula>, NoMemory>
+    ensures { IfOk result (λ f. formula f.value ≡ state (put_in_state depth t.now s.now)) }
+{
+    state_of(alloc, &put_in_state(s, depth, t))
+}
+
+#[inline(never)]
+fn put_in_said(
+    alloc: Global,
+    who: &Term,
+    a: Box<Formula>,
+    depth: usize,
+    t: &Term,
+) -> Result<Box<Formula>, NoMemory>
+    ensures { IfOk result (λ f. formula f.value ≡ says (put_in_term depth t.now who.now) (formula a.value)) }
+{
+    says_of(alloc, &put_in_term(who, depth, t), a)
+}
+
+#[inline(never)]
+fn put_in_placed(
+    alloc: Global,
+    a: Box<Formula>,
+    from: &Term,
+    to: &Term,
+    depth: usize,
+    t: &Term,
+) -> Result<Box<Formula>, NoMemory>
+    ensures { IfOk result (λ f. formula f.value ≡ on (formula a.value) (put_in_term depth t.now from.now) (put_in_term depth t.now to.now)) }
+{
+    on_of(
+        alloc,
+        a,
+        &put_in_term(from, depth, t),
+        &put_in_term(to, depth, t),
+    )
 }
 
 /// One binder further in. No memory holds a formula with so many binders that their number does not fit.
