@@ -1,12 +1,15 @@
+pub mod BeginsWithLemmas
 pub mod CodecLemmas
 pub mod ConditionLemmas
+pub mod ConditionTestLemmas
 pub mod EntailmentLemmas
+pub mod EqualityLemmas
 pub mod FaultLemmas
 pub mod FieldCodecs
 pub mod FieldLemmas
 pub mod GrantLemmas
+pub mod InstanceLemmas
 pub mod PaddingLemmas
-pub mod Same
 pub mod StatementLemmas
 pub mod TermLemmas
 pub mod Undoing

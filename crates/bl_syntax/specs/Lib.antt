@@ -1,7 +1,10 @@
 pub mod Assignment
+pub mod BeginsWith
 pub mod Binders
 pub mod Codec
+pub mod ConditionTests
 pub mod Entailment
+pub mod Equality
 pub mod FirstFailing
 pub mod FirstFault
 pub mod Formula

@@ -7,6 +7,10 @@ use Rattle.std.specs.Str.{bytes_eq}
 abbrev pub is_lower_case : ℕ → Bool
 is_lower_case byte = nat_le 97 byte && nat_le byte 122
 
+-- from `A` to `Z`
+abbrev pub is_upper_case : ℕ → Bool
+is_upper_case byte = nat_le 65 byte && nat_le byte 90
+
 -- from `0` to `9`
 abbrev pub is_digit : ℕ → Bool
 is_digit byte = nat_le 48 byte && nat_le byte 57

@@ -1,9 +1,13 @@
 //! Laws of the definitions. A law is the contract of an empty function, which nothing calls.
 
-ghost use Rattle.std.specs.Prelude.{◌≡◌, ◌↔◌, List, None, IsTrue};
+ghost use Rattle.std.specs.Prelude.{◌≡◌, ◌↔◌, List, [], ◌∷◌, None, IsTrue};
 ghost use Rattle.bl_syntax.specs.declared.terms.Sort.{Sort};
+ghost use Rattle.bl_syntax.specs.declared.terms.Term.{Term};
 ghost use Rattle.bl_syntax.specs.Formula.{Form};
-ghost use Rattle.bl_syntax.specs.WellSorted.{IsFormula};
+ghost use Rattle.bl_syntax.specs.WellSorted.{HasSort, IsWellSorted, IsFormula, size, widest_atom};
+ghost use Rattle.bl_syntax.specs.Substitution.{instance_at};
+ghost use Rattle.bl_syntax.specs.Statement.{AllTerms};
+ghost use Rattle.bl_syntax.specs.Terms.{HasTimeInRange};
 ghost use Rattle.bl_syntax.specs.FirstFault.{formula_fault};
 ghost use Rattle.bl_syntax.specs.TimeOrder.{IsInRange};
 ghost use Rattle.bl_syntax.specs.Names.{is_principal_name, is_predicate_name, is_text};
@@ -15,6 +19,17 @@ ghost use Rattle.bl_syntax.specs.Codec.{IsCodec};
 pub fn no_fault_of_a_formula()
     ensures { (parameters : List Sort) (f : Form)
         → (formula_fault parameters f ≡ None) ↔ IsFormula parameters f }
+{}
+
+/// An instance of a well sorted body at a term of its sort is closed and well sorted. It has as many nodes and as wide
+/// atoms as the body, and all its times are moments if those of the body and the term are.
+pub fn an_instance_is_well_sorted()
+    ensures sorted { (parameters : List Sort) (sort : Sort) (t : Term) (body : Form)
+        → HasSort parameters [] sort t → IsWellSorted parameters (sort ∷ []) body → IsWellSorted parameters [] (instance_at t body) }
+    ensures nodes { (t : Term) (body : Form) → size (instance_at t body) ≡ size body }
+    ensures arguments { (t : Term) (body : Form) → widest_atom (instance_at t body) ≡ widest_atom body }
+    ensures times { (t : Term) (body : Form)
+        → HasTimeInRange t → AllTerms HasTimeInRange body → AllTerms HasTimeInRange (instance_at t body) }
 {}
 
 /// The spelling of names, texts and points in time, and the reading of them, belong together.

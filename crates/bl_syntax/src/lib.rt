@@ -5,6 +5,7 @@
 
 mod binders;
 pub mod boxes;
+pub mod byte_classes;
 mod check;
 mod codec_fault;
 #[cfg(test)]
@@ -28,7 +29,7 @@ mod writing;
 
 pub use check::{SyntaxFault, check_formula};
 pub use codec_fault::CodecFault;
-pub use conditions::holds_at;
+pub use conditions::{holds_at, is_constant, is_state_condition, is_time_condition};
 pub use formula::Formula;
 pub use grant::{Goal, Grant};
 pub use lists::{Bytes, NoMemory, Numbers, Sequence};

@@ -3,8 +3,9 @@
 ghost use Rattle.std.specs.Prelude.{◌≡◌, ◌↔◌, ◌≤◌, length, IsSome, IfSome, IsTrue};
 ghost use Rattle.std.specs.List.{list_all, list_any};
 ghost use Rattle.std.specs.Str.{bytes_eq};
-ghost use Rattle.bl_syntax.specs.Names.{is_lower_case, is_name_byte, is_identifier, is_principal_name, is_predicate_name, is_text_byte, is_text};
+ghost use Rattle.bl_syntax.specs.Names.{is_name_byte, is_identifier, is_principal_name, is_predicate_name, is_text_byte, is_text};
 
+use crate::byte_classes::{is_lower_case, is_name_byte, is_text_byte};
 use crate::short::Short;
 use std::marker::Model;
 
@@ -184,18 +185,6 @@ impl Text {
     }
 }
 
-fn is_lower_case(byte: u8) -> bool
-    ensures { result ≡ is_lower_case byte }
-{
-    b'a' <= byte && byte <= b'z'
-}
-
-fn is_name_byte(byte: u8) -> bool
-    ensures { result ≡ is_name_byte byte }
-{
-    is_lower_case(byte) || (b'0' <= byte && byte <= b'9') || byte == b'_'
-}
-
 fn are_name_bytes(bytes: &[u8]) -> bool
     ensures { result ≡ list_all is_name_byte bytes.now }
 {
@@ -229,12 +218,6 @@ fn is_predicate_name(bytes: &[u8]) -> bool
     ensures { result ≡ is_predicate_name bytes.now }
 {
     is_principal_name(bytes) && !is_among(&STATE_PREDICATES, bytes)
-}
-
-fn is_text_byte(byte: u8) -> bool
-    ensures { result ≡ is_text_byte byte }
-{
-    32 <= byte && byte <= 126 && !(byte == b'"') && !(byte == b'\\')
 }
 
 // It looks at each byte, so that the compiler can have it look at many at once.

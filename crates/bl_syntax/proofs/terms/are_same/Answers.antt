@@ -1,4 +1,4 @@
-use Rattle.bl_syntax.proofs.Same.{Decides-term_eq}
+use Rattle.bl_syntax.proofs.EqualityLemmas.{Decides-term_eq}
 use Rattle.std.proofs.lemmas.Slice.Eq.{slice_eq-Decides}
 use Rattle.bl_syntax.proofs.terms.are_same.Goals as goal
 

@@ -1,5 +1,5 @@
 use Rattle.std.proofs.lemmas.Bool.Decides.{Decides-at}
-use Rattle.bl_syntax.proofs.Same.{Decides-constraint_eq}
+use Rattle.bl_syntax.proofs.EqualityLemmas.{Decides-constraint_eq}
 use Rattle.bl_syntax.proofs.terms.Constraint.is_same.Goals as goal
 
 pub returns : goal.returns

@@ -1,5 +1,5 @@
 use Rattle.std.proofs.lemmas.Bool.Decides.{Decides-at}
-use Rattle.bl_syntax.proofs.Same.{Decides-state_eq}
+use Rattle.bl_syntax.proofs.EqualityLemmas.{Decides-state_eq}
 use Rattle.bl_syntax.proofs.terms.StatePred.is_same.Goals as goal
 
 pub returns : goal.returns
