@@ -35,6 +35,7 @@ pub enum Formula {
 // A loop, so that the deepest formula takes no more of the stack than any other. What still waits for it hangs in a
 // box that was emptied, so it takes no memory either.
 impl Drop for Formula {
+    #[inline(never)]
     fn drop(mut self) {
         let mut waiting: Option<Box<Formula>> = None;
         'parts: loop {

@@ -13,7 +13,8 @@ use Rattle.bl_syntax.specs.WellSorted.{terms_of_state}
 use Rattle.bl_syntax.specs.Grant.{IsTimeCondition, IsStateCondition, AreDistinct}
 use Rattle.bl_syntax.specs.Spelling.{IsSpellable}
 use Rattle.bl_syntax.proofs.GrantLemmas.{AreDistinct-push, AllByRecursion-push}
-use Rattle.bl_syntax.proofs.Same.{constraint_eq, Decides-constraint_eq, state_eq, Decides-state_eq}
+use Rattle.bl_syntax.specs.Equality.{constraint_eq, state_eq}
+use Rattle.bl_syntax.proofs.EqualityLemmas.{Decides-constraint_eq, Decides-state_eq}
 use Rattle.procap.specs.GrantSpelling.{IsSpellableTime, IsSpellableState}
 use Rattle.procap.specs.GrantReading.{is_constant, is_ctime, is_time_condition, is_state_condition, is_time_among, is_state_among, may_follow_times, may_follow_states}
 use Rattle.procap.proofs.ItemsLemmas.{AllFollow}

@@ -19,7 +19,8 @@ use Rattle.bl_syntax.specs.TimeOrder.{IsUpTo, IsInRange}
 use Rattle.bl_syntax.specs.Terms.{IsConstant, HasTimeInRange, IsAtLeastAsStrong}
 use Rattle.bl_syntax.specs.WellSorted.{terms_of_state}
 use Rattle.bl_syntax.specs.Grant.{IsCtimeOrConstant, IsTimeCondition, IsStateCondition}
-use Rattle.bl_syntax.proofs.Same.{term_eq, constraint_eq, state_eq, Decides-sort_eq, Decides-term_eq, Decides-constraint_eq, Decides-state_eq}
+use Rattle.bl_syntax.specs.Equality.{term_eq, constraint_eq, state_eq}
+use Rattle.bl_syntax.proofs.EqualityLemmas.{Decides-sort_eq, Decides-term_eq, Decides-constraint_eq, Decides-state_eq}
 use Rattle.proof_verifier.specs.Tests.{are_same, has_constraint, has_state, is_as_strong, is_at_most, is_up_to, is_in_range, is_constant, is_ctime, may_stay_open, state_may_stay_open}
 use Rattle.proof_verifier.specs.Conditions.{of_sort}
 

@@ -15,7 +15,7 @@ use Rattle.bl_syntax.specs.TimeOrder.{IsInRange}
 use Rattle.bl_syntax.specs.Terms.{IsConstant, HasTimeInRange}
 use Rattle.bl_syntax.specs.WellSorted.{terms_of_state}
 use Rattle.bl_syntax.specs.Grant.{Granted, IsCtimeOrConstant, IsTimeCondition, IsStateCondition}
-use Rattle.bl_syntax.proofs.Same.{Decides-sort_eq, Decides-term_eq}
+use Rattle.bl_syntax.proofs.EqualityLemmas.{Decides-sort_eq, Decides-term_eq}
 use Rattle.proof_verifier.specs.Tests.{are_same, is_in_range, is_constant, is_ctime, may_stay_open, state_may_stay_open}
 use Rattle.proof_verifier.specs.Conditions.{of_sort, is_full}
 use Rattle.proof_verifier.proofs.SoundnessTests.{both_true, same_terms, of_its_sort, Decides-is_at_most, time_condition_kept, state_condition_kept}

@@ -6,7 +6,7 @@ use Rattle.bl_syntax.specs.declared.terms.StatePred.{StatePred}
 use Rattle.bl_syntax.specs.declared.terms.Constraint.{Constraint}
 use Rattle.bl_syntax.specs.Terms.{sort_of}
 use Rattle.bl_syntax.specs.Grant.{Granted}
-use Rattle.bl_syntax.proofs.Same.{sort_eq}
+use Rattle.bl_syntax.specs.Equality.{sort_eq}
 use Rattle.proof_verifier.specs.declared.fault.CheckFault.{CheckFault}
 use Rattle.proof_verifier.specs.declared.fault.CheckFault.TheVariants.{NotEntailed, NotInState, BadTerm, ViewTooWeak, TooManyConditions}
 use Rattle.proof_verifier.specs.Tests.{has_constraint, has_state, is_as_strong, may_stay_open, state_may_stay_open}

@@ -6,7 +6,7 @@ use Rattle.bl_syntax.specs.declared.terms.Term.{Term}
 use Rattle.bl_syntax.specs.declared.terms.Term.TheVariants.{Time}
 use Rattle.bl_syntax.specs.declared.terms.TimePoint.TheVariants.{NegInf, PosInf}
 use Rattle.bl_syntax.specs.declared.terms.Constraint.{Constraint}
-use Rattle.bl_syntax.proofs.Same.{term_eq}
+use Rattle.bl_syntax.specs.Equality.{term_eq}
 use Rattle.proof_verifier.specs.Tests.{is_up_to}
 
 -- whether they are two constant times, the first not after the second

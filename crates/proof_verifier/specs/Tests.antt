@@ -9,7 +9,7 @@ use Rattle.bl_syntax.specs.declared.terms.TimePoint.TheVariants.{NegInf, At, Pos
 use Rattle.bl_syntax.specs.declared.terms.Constraint.{Constraint}
 use Rattle.bl_syntax.specs.declared.terms.StatePred.{StatePred}
 use Rattle.bl_syntax.specs.WellSorted.{terms_of_state}
-use Rattle.bl_syntax.proofs.Same.{term_eq, constraint_eq, state_eq}
+use Rattle.bl_syntax.specs.Equality.{term_eq, constraint_eq, state_eq}
 
 -- whether they are the same terms in the same order
 abbrev pub are_same : List Term → List Term → Bool

@@ -23,6 +23,7 @@ use std::alloc::Global;
 
 impl Desk {
     /// The goal is the atom of a truth whose interval holds the goal's.
+    #[inline(never)]
     pub fn init(&mut self, place: &Place<'_>, h: u16) -> Result<usize, CheckFault>
         requires { HasRoom self.old place.now (size (init h)) (depth (init h)) }
         ensures { Follows self.old self.new (place.now.node + size (init h)) result
@@ -37,6 +38,7 @@ impl Desk {
 
     /// A truth is a constraint: it is one of the constraints in p.
     #[cycle(follow)]
+    #[inline(never)]
     pub fn cons_l(
         &mut self,
         alloc: Global,
@@ -63,6 +65,7 @@ impl Desk {
 
     /// A truth is a predicate on the server's state: it is a fact in p.
     #[cycle(follow)]
+    #[inline(never)]
     pub fn inter_l(
         &mut self,
         alloc: Global,
@@ -87,6 +90,7 @@ impl Desk {
 
     /// A truth is a conjunction: p has its first part, and then its second.
     #[cycle(follow)]
+    #[inline(never)]
     pub fn and_l(
         &mut self,
         alloc: Global,
@@ -113,6 +117,7 @@ impl Desk {
 
     /// A truth is a disjunction: p has its first part, and q its second.
     #[cycle(follow)]
+    #[inline(never)]
     pub fn or_l(
         &mut self,
         alloc: Global,
@@ -146,6 +151,7 @@ impl Desk {
     }
 
     /// A truth is false.
+    #[inline(never)]
     pub fn false_l(&mut self, place: &Place<'_>, h: u16) -> Result<usize, CheckFault>
         requires { HasRoom self.old place.now (size (false_l h)) (depth (false_l h)) }
         ensures { Follows self.old self.new (place.now.node + size (false_l h)) result
@@ -158,6 +164,7 @@ impl Desk {
 
     /// A truth is an implication: on an interval within its own, p proves the assumption, and q has what follows.
     #[cycle(follow)]
+    #[inline(never)]
     pub fn imp_l(
         &mut self,
         alloc: Global,
@@ -198,6 +205,7 @@ impl Desk {
 
     /// A truth is about all: p has the instance at t.
     #[cycle(follow)]
+    #[inline(never)]
     pub fn forall_l(
         &mut self,
         alloc: Global,
@@ -214,7 +222,7 @@ impl Desk {
         let (sort, a) = as_forall(every, place.node)?;
         test_term(t, sort, self.sorts.as_slice(), place.node)?;
         let instance = instantiate(alloc, a, t)?;
-        let hypotheses = Hypotheses::More(place.hypotheses, Held::Truth(&instance, from, to));
+        let hypotheses = Hypotheses::More(place.hypotheses, Held::Truth(&*instance, from, to));
         let premise = Place {
             node: place.node + 1,
             hypotheses: &hypotheses,
@@ -226,6 +234,7 @@ impl Desk {
 
     /// A truth is about one: p has the instance at a new parameter.
     #[cycle(follow)]
+    #[inline(never)]
     pub fn exists_l(
         &mut self,
         alloc: Global,
@@ -242,7 +251,7 @@ impl Desk {
         let sorts = self.sorts.len();
         let parameter = self.declare(sort)?;
         let instance = instantiate(alloc, a, &parameter)?;
-        let hypotheses = Hypotheses::More(place.hypotheses, Held::Truth(&instance, from, to));
+        let hypotheses = Hypotheses::More(place.hypotheses, Held::Truth(&*instance, from, to));
         let premise = Place {
             node: place.node + 1,
             hypotheses: &hypotheses,
@@ -256,6 +265,7 @@ impl Desk {
 
     /// A truth is what a principal says: p has its claim.
     #[cycle(follow)]
+    #[inline(never)]
     pub fn says_l(
         &mut self,
         alloc: Global,
@@ -281,6 +291,7 @@ impl Desk {
 
     /// A claim of a principal that is strong enough for the view, on an interval that holds the view's: p has the truth.
     #[cycle(follow)]
+    #[inline(never)]
     pub fn claim(
         &mut self,
         alloc: Global,
@@ -308,6 +319,7 @@ impl Desk {
 
     /// A truth is a formula on its own interval: p has it there.
     #[cycle(follow)]
+    #[inline(never)]
     pub fn at_l(
         &mut self,
         alloc: Global,

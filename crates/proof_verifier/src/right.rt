@@ -22,6 +22,7 @@ use std::alloc::Global;
 
 impl Desk {
     /// The goal is a constraint.
+    #[inline(never)]
     pub fn cons_r(&mut self, place: &Place<'_>) -> Result<usize, CheckFault>
         requires { HasRoom self.old place.now (size (cons_r)) (depth (cons_r)) }
         ensures { Follows self.old self.new (place.now.node + size (cons_r)) result
@@ -33,6 +34,7 @@ impl Desk {
     }
 
     /// The goal is a predicate on the server's state.
+    #[inline(never)]
     pub fn inter_r(&mut self, place: &Place<'_>) -> Result<usize, CheckFault>
         requires { HasRoom self.old place.now (size (inter_r)) (depth (inter_r)) }
         ensures { Follows self.old self.new (place.now.node + size (inter_r)) result
@@ -45,6 +47,7 @@ impl Desk {
 
     /// The goal is a conjunction: p proves the first part, and q the second.
     #[cycle(follow)]
+    #[inline(never)]
     pub fn and_r(
         &mut self,
         alloc: Global,
@@ -73,6 +76,7 @@ impl Desk {
 
     /// The goal is a disjunction: p proves its first part.
     #[cycle(follow)]
+    #[inline(never)]
     pub fn or_r1(
         &mut self,
         alloc: Global,
@@ -94,6 +98,7 @@ impl Desk {
 
     /// The goal is a disjunction: p proves its second part.
     #[cycle(follow)]
+    #[inline(never)]
     pub fn or_r2(
         &mut self,
         alloc: Global,
@@ -114,6 +119,7 @@ impl Desk {
     }
 
     /// The goal is true.
+    #[inline(never)]
     pub fn true_r(&mut self, place: &Place<'_>) -> Result<usize, CheckFault>
         requires { HasRoom self.old place.now (size (true_r)) (depth (true_r)) }
         ensures { Follows self.old self.new (place.now.node + size (true_r)) result
@@ -125,6 +131,7 @@ impl Desk {
 
     /// The goal is an implication: p proves what follows, on a new interval within the goal's, from the assumption there.
     #[cycle(follow)]
+    #[inline(never)]
     pub fn imp_r(
         &mut self,
         alloc: Global,
@@ -160,6 +167,7 @@ impl Desk {
 
     /// The goal is about all: p proves the instance at a new parameter.
     #[cycle(follow)]
+    #[inline(never)]
     pub fn forall_r(
         &mut self,
         alloc: Global,
@@ -176,7 +184,7 @@ impl Desk {
         let instance = instantiate(alloc, a, &parameter)?;
         let premise = Place {
             node: place.node + 1,
-            goal: &instance,
+            goal: &*instance,
             ..*place
         };
         let node = self.follow(alloc, &premise, p)?;
@@ -186,6 +194,7 @@ impl Desk {
 
     /// The goal is about one: p proves the instance at t.
     #[cycle(follow)]
+    #[inline(never)]
     pub fn exists_r(
         &mut self,
         alloc: Global,
@@ -202,7 +211,7 @@ impl Desk {
         let instance = instantiate(alloc, a, t)?;
         let premise = Place {
             node: place.node + 1,
-            goal: &instance,
+            goal: &*instance,
             ..*place
         };
         self.follow(alloc, &premise, p)
@@ -210,6 +219,7 @@ impl Desk {
 
     /// The goal is what a principal says: p proves it from the claims alone, in the view of that principal.
     #[cycle(follow)]
+    #[inline(never)]
     pub fn says_r(
         &mut self,
         alloc: Global,
@@ -236,6 +246,7 @@ impl Desk {
 
     /// The goal is a formula on its own interval: p proves it there.
     #[cycle(follow)]
+    #[inline(never)]
     pub fn at_r(&mut self, alloc: Global, place: &Place<'_>, p: &Proof) -> Result<usize, CheckFault>
         requires { HasRoom self.old place.now (size (at_r (deduction p.now))) (depth (at_r (deduction p.now))) }
         ensures { Follows self.old self.new (place.now.node + size (at_r (deduction p.now))) result
