@@ -6,8 +6,6 @@
 mod binders;
 mod check;
 mod codec_fault;
-#[cfg(test)]
-mod codec_tests;
 mod conditions;
 pub mod fields;
 mod formula;
@@ -20,8 +18,6 @@ mod short;
 mod statement;
 mod substitution;
 mod terms;
-#[cfg(test)]
-mod tests;
 mod time;
 mod writing;
 
