@@ -152,20 +152,22 @@ fn fill(grant: &mut Grant) -> Result<(), CollectFault> {
     Ok(())
 }
 
-// The answers to the first conditions once more, to the last of 64 once more, and to a new one.
-fn answers_when_full(alloc: Global) -> Result<[Result<(), CollectFault>; 4], Fail> {
+// The answers to the first conditions once more, to the last of 64 once more, and to a new one of each kind.
+fn answers_when_full(alloc: Global) -> Result<[Result<(), CollectFault>; 5], Fail> {
     let mut grant = unconditional(alloc)?;
     let filled = fill(&mut grant);
     let first = add_numbered(&mut grant, 0);
     let last = add_numbered(&mut grant, 31);
-    let new = add_numbered(&mut grant, 32);
-    Ok([filled, first, last, new])
+    let new_time = grant.add_time(condition(Form::From(32)));
+    let new_state = grant.add_state(in_root(32));
+    Ok([filled, first, last, new_time, new_state])
 }
 
 #[test]
 fn a_new_condition_past_64_is_refused(rt: HostRuntime) -> Result<(), Fail> {
+    let full = Err(CollectFault::Full);
     let answers = answers_when_full(rt.alloc())?;
-    assert_eq!(rt; answers, [Ok(()), Ok(()), Ok(()), Err(CollectFault::Full)]);
+    assert_eq!(rt; answers, [Ok(()), Ok(()), Ok(()), full, full]);
     Ok(())
 }
 

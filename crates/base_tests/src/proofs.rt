@@ -253,10 +253,19 @@ fn is_full_end(alloc: Global, count: usize, want: &str) -> Result<bool, Fail> {
     is_chain_end(alloc, count, last.as_slice(), want)
 }
 
+// The same with a last byte that is no rule's.
+fn is_spoilt_end(alloc: Global, count: usize, want: &str) -> Result<bool, Fail> {
+    let mut last = full(alloc)?;
+    last.truncate(4094);
+    last.push(0x1c)?;
+    is_chain_end(alloc, count, last.as_slice(), want)
+}
+
 #[test]
 fn large_proofs_are_not_read(rt: HostRuntime) -> Result<(), Fail> {
     assert!(rt; is_full_end(rt.alloc(), 1, "ok 4096")?);
     assert!(rt; is_full_end(rt.alloc(), 2, "too large 4096")?);
+    assert!(rt; is_spoilt_end(rt.alloc(), 2, "bad tag 4096")?);
     Ok(())
 }
 

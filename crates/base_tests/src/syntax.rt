@@ -105,7 +105,7 @@ fn is_owned_by(alloc: Global, f: &Formula, owner: Term) -> Result<bool, Fail> {
 
 fn has_instance(alloc: Global, body: &Formula, t: &Term) -> Result<bool, Fail> {
     let instance = instantiate(alloc, body, t)?;
-    is_owned_by(alloc, &instance, *t)
+    is_owned_by(alloc, &*instance, *t)
 }
 
 fn is_put_for_the_outer(alloc: Global, t: &Term) -> Result<bool, Fail> {
