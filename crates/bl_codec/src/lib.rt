@@ -8,8 +8,6 @@ mod formula_reading;
 mod formula_writing;
 pub mod laws;
 mod statement;
-#[cfg(test)]
-mod tests;
 
 pub use formula_reading::{read_formula, whole_formula_at};
 pub use formula_writing::write_formula;

@@ -11,6 +11,3 @@ mod search;
 mod sources;
 
 pub use entailment::entails;
-
-#[cfg(test)]
-mod tests;

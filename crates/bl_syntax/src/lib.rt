@@ -8,8 +8,6 @@ pub mod boxes;
 pub mod byte_classes;
 mod check;
 mod codec_fault;
-#[cfg(test)]
-mod codec_tests;
 mod conditions;
 pub mod fields;
 mod formula;
@@ -22,8 +20,6 @@ mod short;
 mod statement;
 mod substitution;
 mod terms;
-#[cfg(test)]
-mod tests;
 mod time;
 mod writing;
 

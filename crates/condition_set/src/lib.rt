@@ -11,6 +11,3 @@ mod time_window;
 pub use collect::{Collect, CollectFault};
 pub use failing::{Facts, first_failing_state, first_failing_time};
 pub use time_window::window;
-
-#[cfg(test)]
-mod tests;

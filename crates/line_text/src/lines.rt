@@ -23,33 +23,3 @@ pub fn first_line(rest: &[u8]) -> Option<(&[u8], &[u8])>
         None => Some((rest, &[])),
     }
 }
-
-#[cfg(test)]
-mod tests {
-    use super::*;
-
-    #[test]
-    fn lines_come_in_order(rt: HostRuntime) {
-        let cases: [(&[u8], &[&str]); 7] = [
-            (b"", &[]),
-            (b"\n", &[""]),
-            (b"a", &["a"]),
-            (b"a\n", &["a"]),
-            (b"a\n\nbc", &["a", "", "bc"]),
-            (b"a\r\nb \n", &["a\r", "b "]),
-            (b"\n\n", &["", ""]),
-        ];
-        for (input, lines) in cases {
-            let mut rest = input;
-            for want in lines.iter() {
-                if let Some((line, behind)) = first_line(rest) {
-                    assert_eq!(rt; line, want.as_bytes());
-                    rest = behind;
-                } else {
-                    assert!(rt; false, "a line is lost");
-                }
-            }
-            assert!(rt; first_line(rest).is_none());
-        }
-    }
-}

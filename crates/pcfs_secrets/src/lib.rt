@@ -9,8 +9,6 @@ mod keys;
 pub mod laws;
 mod lines;
 mod secrets;
-#[cfg(test)]
-mod tests;
 
 pub use fault::SecretFault;
 pub use secrets::Secrets;

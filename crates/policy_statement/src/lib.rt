@@ -9,8 +9,6 @@ mod digests;
 mod messages;
 mod registry;
 mod ring;
-#[cfg(test)]
-mod tests;
 
 pub use messages::{login_message, statement_message};
 pub use registry::{RegisterFault, Registered, Registry};

@@ -9,8 +9,6 @@ pub mod laws;
 mod procap;
 mod reading;
 mod sealing;
-#[cfg(test)]
-mod tests;
 mod writing;
 
 pub use procap::Procap;

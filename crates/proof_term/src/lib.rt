@@ -23,8 +23,3 @@ pub use reading::read_proof;
 pub use rule::{Axiom, OnePremise, Parts, Rule, TwoPremises};
 pub use tree::{LimitFault, ProofTree};
 pub use writing::write_proof;
-
-#[cfg(test)]
-mod byte_tests;
-#[cfg(test)]
-mod tests;

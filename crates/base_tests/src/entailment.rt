@@ -1,7 +1,9 @@
 //! `entails` beside a plain and slow program that computes the definition.
 
-use super::*;
+use crate::rows::word_and_rest;
+use bl_constraints::entails;
 use bl_syntax::{Constraint, NodeId, Term, TimePoint};
+use std::alloc::Global;
 use std::test::Fail;
 
 /// The most terms that occur in one question to the slow program.
@@ -24,8 +26,8 @@ fn term(letter: u8) -> Term {
 }
 
 /// A constraint for each two letters.
-fn constraints(rt: &HostRuntime, letters: &[u8]) -> Result<Vec<Constraint>, Fail> {
-    let mut psi = Vec::new(rt.alloc());
+fn constraints(alloc: Global, letters: &[u8]) -> Result<Vec<Constraint>, Fail> {
+    let mut psi = Vec::new(alloc);
     for pair in letters.chunks_exact(2) {
         if let [low, high] = pair {
             psi.push(Constraint {
@@ -109,58 +111,71 @@ fn slowly(psi: &[Constraint], u: &Term, v: &Term) -> bool {
     contradictory || leads[1]
 }
 
+// The terms of two letters.
+fn both(letters: &str) -> Result<(Term, Term), Fail> {
+    match letters.as_bytes() {
+        [u, v] => Ok((term(*u), term(*v))),
+        _ => Err(Fail::from("no two letters")),
+    }
+}
+
+// Whether both programs give that answer.
+fn are_answers(psi: &[Constraint], u: &Term, v: &Term, want: bool) -> bool {
+    answer(psi, u, v) == want && slowly(psi, u, v) == want
+}
+
+fn is_row(alloc: Global, letters: &str, question: &str, want: bool) -> Result<bool, Fail> {
+    let (u, v) = both(question)?;
+    let psi = constraints(alloc, letters.as_bytes())?;
+    Ok(are_answers(psi.as_slice(), &u, &v, want))
+}
+
+/// Constraints of two letters each, a question, and its answer.
+const QUESTIONS: &str = ". pp yes
+. pq no
+. 12 yes
+. 22 yes
+. 21 no
+. -p yes
+. p- no
+. p+ yes
+. +p no
+. +- no
+. 1c no
+. ff yes
+. f1 no
+. qb no
+. q1 no
+pq pq yes
+pq qp no
+pqqr pr yes
+qrpq pr yes
+pqpr qr no
+p2 p3 yes
+p3 p2 no
+1p 0p yes
+1p 2p no
+p13q pq yes
+p31q pq no
+p- pq yes
++p qp yes
+bqqf bf yes
+2cc1 pq yes
+1cc2 pq no
+c12c pq yes
++cc5 fb yes
+5cc- pq yes
+3ppqqrrcc2 fb yes
+3ppqqrrcc4 fb no";
+
 #[test]
 fn each_kind_of_link_and_of_contradiction(rt: HostRuntime) -> Result<(), Fail> {
-    let cases: [(&[u8], [u8; 2], bool); 36] = [
-        (b"", *b"pp", true),
-        (b"", *b"pq", false),
-        (b"", *b"12", true),
-        (b"", *b"22", true),
-        (b"", *b"21", false),
-        (b"", *b"-p", true),
-        (b"", *b"p-", false),
-        (b"", *b"p+", true),
-        (b"", *b"+p", false),
-        (b"", *b"+-", false),
-        (b"", *b"1c", false),
-        (b"", *b"ff", true),
-        (b"", *b"f1", false),
-        (b"", *b"qb", false),
-        (b"", *b"q1", false),
-        (b"pq", *b"pq", true),
-        (b"pq", *b"qp", false),
-        (b"pqqr", *b"pr", true),
-        (b"qrpq", *b"pr", true),
-        (b"pqpr", *b"qr", false),
-        (b"p2", *b"p3", true),
-        (b"p3", *b"p2", false),
-        (b"1p", *b"0p", true),
-        (b"1p", *b"2p", false),
-        (b"p13q", *b"pq", true),
-        (b"p31q", *b"pq", false),
-        (b"p-", *b"pq", true),
-        (b"+p", *b"qp", true),
-        (b"bqqf", *b"bf", true),
-        (b"2cc1", *b"pq", true),
-        (b"1cc2", *b"pq", false),
-        (b"c12c", *b"pq", true),
-        (b"+cc5", *b"fb", true),
-        (b"5cc-", *b"pq", true),
-        (b"3ppqqrrcc2", *b"fb", true),
-        (b"3ppqqrrcc4", *b"fb", false),
-    ];
-    for (letters, question, expected) in cases {
-        let psi = constraints(&rt, letters)?;
-        let [u, v] = question;
-        assert_eq!(rt;
-            answer(&psi, &term(u), &term(v)),
-            expected,
-            "{letters:?} {question:?}"
-        );
-        assert_eq!(rt;
-            slowly(&psi, &term(u), &term(v)),
-            expected,
-            "{letters:?} {question:?}"
+    for row in QUESTIONS.lines() {
+        let (letters, others) = word_and_rest(row)?;
+        let (question, want) = word_and_rest(others)?;
+        assert!(rt;
+            is_row(rt.alloc(), letters, question, want == "yes")?,
+            "{row}"
         );
     }
     Ok(())
@@ -200,12 +215,12 @@ fn all_questions_of_two_constraints_over_six_terms(rt: HostRuntime) {
 
 /// A chain of so many parameters, and a last constraint, in the order of the chain or the other way round.
 fn chain(
-    rt: &HostRuntime,
+    alloc: Global,
     length: u32,
     last: &Constraint,
     forwards: bool,
 ) -> Result<Vec<Constraint>, Fail> {
-    let mut psi = Vec::new(rt.alloc());
+    let mut psi = Vec::new(alloc);
     for step in 0..length {
         let at = if forwards { step } else { length - 1 - step };
         psi.push(Constraint {
@@ -217,40 +232,46 @@ fn chain(
     Ok(psi)
 }
 
-#[test]
-fn a_chain_of_512(rt: HostRuntime) -> Result<(), Fail> {
-    let first = Term::Param(0);
+// Whether a chain of that length to the current time answers so, and not the other way.
+fn is_led(alloc: Global, length: u32, forwards: bool) -> Result<bool, Fail> {
     let last = Constraint {
         low: Term::Param(511),
-        high: term(b'c'),
+        high: Term::Ctime,
     };
+    let psi = chain(alloc, length, &last, forwards)?;
+    let first = Term::Param(0);
+    Ok(
+        answer(psi.as_slice(), &first, &Term::Ctime)
+            && !answer(psi.as_slice(), &Term::Ctime, &first),
+    )
+}
+
+#[test]
+fn a_chain_of_512(rt: HostRuntime) -> Result<(), Fail> {
     for forwards in [true, false] {
-        let whole = chain(&rt, 511, &last, forwards)?;
-        assert_eq!(rt; whole.len(), 512);
-        assert!(rt; answer(&whole, &first, &term(b'c')));
-        assert!(rt; !answer(&whole, &term(b'c'), &first));
-        let broken = chain(&rt, 510, &last, forwards)?;
-        assert!(rt; !answer(&broken, &first, &term(b'c')));
+        assert!(rt; is_led(rt.alloc(), 511, forwards)?);
+        assert!(rt; !is_led(rt.alloc(), 510, forwards)?);
     }
     Ok(())
 }
 
-#[test]
-fn a_contradiction_by_the_last_of_512(rt: HostRuntime) -> Result<(), Fail> {
+// Whether 512 constraints, of which the last leads to that term, contradict each other.
+fn is_contradiction(alloc: Global, end: u8) -> Result<bool, Fail> {
     let first = Constraint {
         low: term(b'5'),
         high: Term::Param(0),
     };
-    let mut psi = chain(&rt, 510, &first, true)?;
-    for (end, expected) in [(b'5', false), (b'4', true)] {
-        let last = Constraint {
-            low: Term::Param(510),
-            high: term(end),
-        };
-        psi.push(last)?;
-        assert_eq!(rt; psi.len(), 512);
-        assert_eq!(rt; answer(&psi, &term(b'f'), &term(b'b')), expected);
-        psi.truncate(511);
-    }
+    let mut psi = chain(alloc, 510, &first, true)?;
+    psi.push(Constraint {
+        low: Term::Param(510),
+        high: term(end),
+    })?;
+    Ok(psi.len() == 512 && answer(psi.as_slice(), &term(b'f'), &term(b'b')))
+}
+
+#[test]
+fn a_contradiction_by_the_last_of_512(rt: HostRuntime) -> Result<(), Fail> {
+    assert!(rt; !is_contradiction(rt.alloc(), b'5')?);
+    assert!(rt; is_contradiction(rt.alloc(), b'4')?);
     Ok(())
 }

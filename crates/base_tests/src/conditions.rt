@@ -1,12 +1,15 @@
-//! Conditions that are added, tested and bounded, as tables of cases.
+//! Conditions of a grant: added, tested and bounded.
 
 ghost use Rattle.std.specs.Prelude.{List};
 ghost use Rattle.bl_syntax.specs.declared.terms.StatePred.{StatePred};
 ghost use Rattle.bl_syntax.specs.Terms.{IsConstant, HasTimeInRange};
 ghost use Rattle.bl_syntax.specs.Grant.{IsTimeCondition, IsStateCondition};
 
-use super::*;
 use bl_syntax::{Constraint, Goal, Grant, NodeId, Perm, Principal, StatePred, Term, TimePoint};
+use condition_set::{
+    Collect, CollectFault, Facts, first_failing_state, first_failing_time, window,
+};
+use std::alloc::Global;
 use std::test::Fail;
 
 /// A condition on time, by its form.
@@ -59,76 +62,118 @@ fn in_root(file: u64) -> StatePred
     StatePred::InDir(Term::File(NodeId(file)), Term::File(NodeId(1)))
 }
 
-fn unconditional(rt: &HostRuntime) -> Result<Grant, Fail> {
+fn unconditional(alloc: Global) -> Result<Grant, Fail> {
     let who = Principal::new(b"alice").ok_or("no name")?;
     let goal = Goal {
         who,
         file: NodeId(2),
         perm: Perm::Read,
     };
-    Ok(Grant::collect(rt.alloc(), goal))
+    Ok(Grant::collect(alloc, goal))
 }
 
-fn grant_under(rt: &HostRuntime, forms: &[Form]) -> Result<Grant, Fail> {
-    let mut grant = unconditional(rt)?;
+fn add_times(grant: &mut Grant, forms: &[Form]) -> Result<(), CollectFault> {
     for form in forms {
         grant.add_time(condition(*form))?;
     }
-    Ok(grant)
+    Ok(())
+}
+
+fn add_files(grant: &mut Grant, files: &[u64]) -> Result<(), CollectFault> {
+    for file in files {
+        grant.add_state(in_root(*file))?;
+    }
+    Ok(())
+}
+
+fn grant_under(alloc: Global, forms: &[Form]) -> Result<Grant, Fail> {
+    let mut grant = unconditional(alloc)?;
+    match add_times(&mut grant, forms) {
+        Ok(()) => Ok(grant),
+        Err(_) => Err(Fail::from("a condition is refused")),
+    }
+}
+
+fn grant_on(alloc: Global, files: &[u64]) -> Result<Grant, Fail> {
+    let mut grant = unconditional(alloc)?;
+    match add_files(&mut grant, files) {
+        Ok(()) => Ok(grant),
+        Err(_) => Err(Fail::from("a condition is refused")),
+    }
+}
+
+// Whether the grant's conditions on time are these.
+fn has_times(grant: &Grant, forms: &[Form]) -> bool {
+    grant.times().len() == forms.len()
+        && grant
+            .times()
+            .iter()
+            .zip(forms)
+            .all(|(kept, form)| *kept == condition(*form))
+}
+
+fn keeps_times(alloc: Global, added: &[Form], kept: &[Form]) -> Result<bool, Fail> {
+    let grant = grant_under(alloc, added)?;
+    Ok(has_times(&grant, kept))
+}
+
+fn keeps_states(alloc: Global, added: &[u64], kept: &[StatePred]) -> Result<bool, Fail> {
+    let grant = grant_on(alloc, added)?;
+    Ok(grant.states() == kept)
 }
 
 #[test]
 fn each_condition_is_kept_once(rt: HostRuntime) -> Result<(), Fail> {
-    let mut grant = unconditional(&rt)?;
-    assert_eq!(rt; grant.goal().file, NodeId(2));
-    assert!(rt; grant.times().is_empty() && grant.states().is_empty());
-    for form in [
+    let added = [
         Form::From(5),
         Form::UpTo(9),
         Form::From(5),
         Form::Itself,
         Form::UpTo(9),
-    ] {
-        assert_eq!(rt; grant.add_time(condition(form)), Ok(()));
-    }
-    for file in [3, 2, 2, 3] {
-        assert_eq!(rt; grant.add_state(in_root(file)), Ok(()));
-    }
-    let times = [
-        condition(Form::From(5)),
-        condition(Form::UpTo(9)),
-        condition(Form::Itself),
     ];
-    assert_eq!(rt; grant.times(), times.as_slice());
-    assert_eq!(rt; grant.states(), [in_root(3), in_root(2)].as_slice());
+    let kept = [Form::From(5), Form::UpTo(9), Form::Itself];
+    assert!(rt; keeps_times(rt.alloc(), &added, &kept)?);
+    let kept = [in_root(3), in_root(2)];
+    assert!(rt; keeps_states(rt.alloc(), &[3, 2, 2, 3], &kept)?);
     Ok(())
+}
+
+// Adds the conditions of this number.
+fn add_numbered(grant: &mut Grant, number: u8) -> Result<(), CollectFault> {
+    grant.add_time(condition(Form::From(i32::from(number))))?;
+    grant.add_state(in_root(u64::from(number)))
+}
+
+// Adds 32 conditions of each kind.
+fn fill(grant: &mut Grant) -> Result<(), CollectFault> {
+    for number in 0u8..32 {
+        add_numbered(grant, number)?;
+    }
+    Ok(())
+}
+
+// The answers to the first conditions once more, to the last of 64 once more, and to a new one of each kind.
+fn answers_when_full(alloc: Global) -> Result<[Result<(), CollectFault>; 5], Fail> {
+    let mut grant = unconditional(alloc)?;
+    let filled = fill(&mut grant);
+    let first = add_numbered(&mut grant, 0);
+    let last = add_numbered(&mut grant, 31);
+    let new_time = grant.add_time(condition(Form::From(32)));
+    let new_state = grant.add_state(in_root(32));
+    Ok([filled, first, last, new_time, new_state])
 }
 
 #[test]
 fn a_new_condition_past_64_is_refused(rt: HostRuntime) -> Result<(), Fail> {
-    let mut grant = unconditional(&rt)?;
-    for number in 0u8..32 {
-        assert_eq!(rt;
-            grant.add_time(condition(Form::From(i32::from(number)))),
-            Ok(())
-        );
-        assert_eq!(rt; grant.add_state(in_root(u64::from(number))), Ok(()));
-    }
-    let cases: [(u8, Result<(), CollectFault>); 3] = [
-        (0, Ok(())),
-        (31, Ok(())),
-        (32, Err(CollectFault::Full)),
-    ];
-    for (number, answer) in cases {
-        assert_eq!(rt;
-            grant.add_time(condition(Form::From(i32::from(number)))),
-            answer
-        );
-        assert_eq!(rt; grant.add_state(in_root(u64::from(number))), answer);
-        assert_eq!(rt; grant.times().len(), 32);
-        assert_eq!(rt; grant.states().len(), 32);
-    }
+    let full = Err(CollectFault::Full);
+    let answers = answers_when_full(rt.alloc())?;
+    assert_eq!(rt; answers, [Ok(()), Ok(()), Ok(()), full, full]);
     Ok(())
+}
+
+fn failing_place(alloc: Global, forms: &[Form], moment: i64) -> Result<Option<usize>, Fail> {
+    let grant = grant_under(alloc, forms)?;
+    Ok(first_failing_time(&grant, moment))
 }
 
 #[test]
@@ -146,10 +191,7 @@ fn the_first_condition_that_fails_is_found(rt: HostRuntime) -> Result<(), Fail> 
         (&[Form::UpToPosInf, Form::UpToFile], 9, Some(1)),
     ];
     for (forms, moment, place) in cases {
-        assert_eq!(rt;
-            first_failing_time(&grant_under(&rt, forms)?, moment),
-            place
-        );
+        assert_eq!(rt; failing_place(rt.alloc(), forms, moment)?, place);
     }
     Ok(())
 }
@@ -168,25 +210,36 @@ impl Facts for Listed<'_> {
     }
 }
 
+// The place of the first of these conditions that is not listed.
+fn unlisted_place(
+    alloc: Global,
+    files: &[u64],
+    listed: &[StatePred],
+) -> Result<Option<usize>, Fail> {
+    let grant = grant_on(alloc, files)?;
+    Ok(first_failing_state(&grant, &Listed { listed }))
+}
+
 #[test]
 fn the_first_condition_that_is_no_fact_is_found(rt: HostRuntime) -> Result<(), Fail> {
-    let mut grant = unconditional(&rt)?;
-    assert_eq!(rt; first_failing_state(&grant, &Listed { listed: &[] }), None);
-    for file in [3, 2, 4] {
-        grant.add_state(in_root(file))?;
-    }
     let known = [in_root(4), in_root(3), in_root(2), in_root(1)];
     let known = known.as_slice();
-    let cases: [(&[StatePred], Option<usize>); 4] = [
-        (&known[..0], Some(0)),
-        (&known[..2], Some(1)),
-        (&known[1..3], Some(2)),
-        (known, None),
+    let cases: [(&[u64], &[StatePred], Option<usize>); 5] = [
+        (&[], &known[..0], None),
+        (&[3, 2, 4], &known[..0], Some(0)),
+        (&[3, 2, 4], &known[..2], Some(1)),
+        (&[3, 2, 4], &known[1..3], Some(2)),
+        (&[3, 2, 4], known, None),
     ];
-    for (listed, place) in cases {
-        assert_eq!(rt; first_failing_state(&grant, &Listed { listed }), place);
+    for (files, listed, place) in cases {
+        assert_eq!(rt; unlisted_place(rt.alloc(), files, listed)?, place);
     }
     Ok(())
+}
+
+fn window_under(alloc: Global, forms: &[Form]) -> Result<Option<(TimePoint, TimePoint)>, Fail> {
+    let grant = grant_under(alloc, forms)?;
+    Ok(window(&grant))
 }
 
 #[test]
@@ -228,7 +281,7 @@ fn a_window_reaches_from_the_greatest_lower_to_the_least_upper_bound(
         ),
     ];
     for (forms, ends) in cases {
-        assert_eq!(rt; window(&grant_under(&rt, forms)?), ends);
+        assert_eq!(rt; window_under(rt.alloc(), forms)?, ends);
     }
     Ok(())
 }

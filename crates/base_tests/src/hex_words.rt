@@ -1,0 +1,43 @@
+//! Words of hexadecimal, both ways.
+
+use bl_syntax::{Bytes, NoMemory};
+use line_text::{read_hex, write_hex};
+use std::alloc::Global;
+use std::test::Fail;
+
+fn is_written(alloc: Global, bytes: &[u8], word: &[u8]) -> Result<bool, NoMemory> {
+    let mut written = Bytes::new(alloc);
+    write_hex(alloc, bytes, &mut written)?;
+    Ok(written.as_slice() == word)
+}
+
+// Whether the word is read, as bytes that are written as it.
+fn is_read(alloc: Global, word: &[u8]) -> Result<bool, NoMemory> {
+    match read_hex(alloc, word)? {
+        Some(bytes) => is_written(alloc, bytes.as_slice(), word),
+        None => Ok(false),
+    }
+}
+
+#[test]
+fn words_are_those_of_their_bytes(rt: HostRuntime) -> Result<(), Fail> {
+    assert!(rt; is_written(rt.alloc(), b"", b"-")?);
+    assert!(rt; is_written(rt.alloc(), b"kiwi", b"6b697769")?);
+    for (word, want) in [
+        ("-", true),
+        ("00", true),
+        ("6b697769", true),
+        ("ff0a", true),
+        ("", false),
+        ("0", false),
+        ("000", false),
+        ("FF", false),
+        ("fF", false),
+        ("0g", false),
+        ("--", false),
+        (" 00", false),
+    ] {
+        assert_eq!(rt; is_read(rt.alloc(), word.as_bytes())?, want, "{word}");
+    }
+    Ok(())
+}
