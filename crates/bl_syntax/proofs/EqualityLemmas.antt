@@ -1,6 +1,6 @@
 -- `==` tells exactly whether two values are the same. Crates above cite these for `contains` or `==` over a slice of such values, as
 -- `contains_decides constraint_eq Decides-constraint_eq` with std's lemma on the elements of a list.
-use Rattle.std.proofs.Common.{◌≡◌, ◌∙◌, ℕ, List, Bool, ap, rules}
+use Rattle.std.proofs.Common.{◌≡◌, ◌∙◌, ℕ, List, ap, rules}
 use Rattle.std.specs.Bool.{Decides}
 use Rattle.std.proofs.lemmas.Bool.Decides.{Decides-and, Decides-like}
 use Rattle.std.proofs.lemmas.Bool.{false≢true}

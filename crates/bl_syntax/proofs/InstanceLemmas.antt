@@ -1,5 +1,5 @@
 -- An instance of a well sorted body, at a term of its sort, part by part.
-use Rattle.std.proofs.Common.{◌≡◌, ◌≢◌, ◌<◌, ◌+◌, ℕ, zero, suc, List, [], ◌∷◌, ◌++◌, length, Bool, true, false, map, max, refl, sym, ◌∙◌, ap, ap₂, eqb-true, eq-eqb, length-append, arith}
+use Rattle.std.proofs.Common.{◌≡◌, ◌<◌, ◌+◌, ℕ, zero, suc, List, [], ◌∷◌, ◌++◌, length, Bool, true, false, map, max, refl, sym, ◌∙◌, ap, ap₂, eqb-true, eq-eqb, length-append, arith}
 use Rattle.std.specs.Prelude.{Option, Some, None, IsSome, ◌==◌, if◌then◌else◌}
 use Rattle.std.specs.List.{slice_get, AllByRecursion}
 use Rattle.std.proofs.lemmas.Bool.{false≢true}
@@ -12,9 +12,9 @@ use Rattle.bl_syntax.specs.declared.terms.StatePred.{StatePred}
 use Rattle.bl_syntax.specs.declared.terms.StatePred.TheVariants.{Owner, HasXattr, InDir}
 use Rattle.bl_syntax.specs.Formula.{Form, atom, compare, state, both, either, implies, truth, falsity, forall_, exists_, says, on}
 use Rattle.bl_syntax.specs.Terms.{sort_of, HasTimeInRange}
-use Rattle.bl_syntax.specs.WellSorted.{HasSort, IsInScope, HaveSorts, FitsPredicate, IsSortedState, IsWellSorted, IsFormula, sorts_of_may, terms_of_state, size, widest_atom}
+use Rattle.bl_syntax.specs.WellSorted.{HasSort, IsInScope, HaveSorts, IsSortedState, IsWellSorted, sorts_of_may, terms_of_state, size, widest_atom}
 use Rattle.bl_syntax.specs.Statement.{AllTerms}
-use Rattle.bl_syntax.specs.Substitution.{put_in_term, put_in_state, put_in, instance_at}
+use Rattle.bl_syntax.specs.Substitution.{put_in_term, put_in_state, put_in}
 
 -- ---- the term that is put in, and the place where it is put
 
