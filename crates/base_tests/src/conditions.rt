@@ -210,30 +210,25 @@ impl Facts for Listed<'_> {
     }
 }
 
-// The place of the first of these conditions that is not listed.
-fn unlisted_place(
-    alloc: Global,
-    files: &[u64],
-    listed: &[StatePred],
-) -> Result<Option<usize>, Fail> {
-    let grant = grant_on(alloc, files)?;
+// The place of the first of three conditions that is not listed.
+fn unlisted_place(alloc: Global, listed: &[StatePred]) -> Result<Option<usize>, Fail> {
+    let grant = grant_on(alloc, &[3, 2, 4])?;
     Ok(first_failing_state(&grant, &Listed { listed }))
+}
+
+fn place_of_none(alloc: Global) -> Result<Option<usize>, Fail> {
+    let grant = grant_on(alloc, &[])?;
+    Ok(first_failing_state(&grant, &Listed { listed: &[] }))
 }
 
 #[test]
 fn the_first_condition_that_is_no_fact_is_found(rt: HostRuntime) -> Result<(), Fail> {
     let known = [in_root(4), in_root(3), in_root(2), in_root(1)];
-    let known = known.as_slice();
-    let cases: [(&[u64], &[StatePred], Option<usize>); 5] = [
-        (&[], &known[..0], None),
-        (&[3, 2, 4], &known[..0], Some(0)),
-        (&[3, 2, 4], &known[..2], Some(1)),
-        (&[3, 2, 4], &known[1..3], Some(2)),
-        (&[3, 2, 4], known, None),
-    ];
-    for (files, listed, place) in cases {
-        assert_eq!(rt; unlisted_place(rt.alloc(), files, listed)?, place);
-    }
+    assert_eq!(rt; place_of_none(rt.alloc())?, None);
+    assert_eq!(rt; unlisted_place(rt.alloc(), &known[..0])?, Some(0));
+    assert_eq!(rt; unlisted_place(rt.alloc(), &known[..2])?, Some(1));
+    assert_eq!(rt; unlisted_place(rt.alloc(), &known[1..3])?, Some(2));
+    assert_eq!(rt; unlisted_place(rt.alloc(), &known)?, None);
     Ok(())
 }
 
