@@ -2,7 +2,7 @@
 
 use crate::short_form::{RowFault, Texts, add_numbered, add_written_out, number_of, parts_at};
 use crate::values::add_value;
-use bl_syntax::{Bytes, Numbers};
+use bl_syntax::{Bytes, NoMemory, Numbers};
 use pcfs_ports::{MemorySink, MemorySource};
 use pcfs_secrets::Secrets;
 use pcfs_top::run::run;
@@ -54,12 +54,7 @@ fn set_words(alloc: Global, text: &str, words: &mut Vec<String>) -> Result<(), R
 }
 
 // Adds the text as a line with its end.
-fn add_line(
-    alloc: Global,
-    texts: &Texts,
-    text: &str,
-    out: &mut Bytes,
-) -> Result<(), RowFault> {
+fn add_line(alloc: Global, texts: &Texts, text: &str, out: &mut Bytes) -> Result<(), RowFault> {
     add_written_out(alloc, texts, text, out)?;
     out.push(b'\n')?;
     Ok(())
@@ -74,6 +69,17 @@ fn add_lines(alloc: Global, text: &str, out: &mut Bytes) -> Result<(), RowFault>
         out.push(b'\n')?;
     }
     Ok(())
+}
+
+// The status, unless a growth was refused.
+fn unless_refused(
+    grown: Result<(), NoMemory>,
+    status: Result<u8, RowFault>,
+) -> Result<u8, RowFault> {
+    match grown {
+        Ok(()) => status,
+        Err(_) => Err(RowFault::NoMemory),
+    }
 }
 
 impl Case {
@@ -159,17 +165,17 @@ impl Case {
         let mut input = MemorySource::new(alloc, input, failing_reads);
         let mut output = MemorySink::new(alloc, failing_writes);
         let status = match Secrets::parse(alloc, secrets.as_slice()) {
-            Ok(secrets) => run(rt, alloc, &words, &secrets, &mut input, &mut output),
-            Err(_) => return Err(RowFault::BadRow),
+            Ok(secrets) => Ok(run(rt, alloc, &words, &secrets, &mut input, &mut output)),
+            Err(_) => Err(RowFault::BadRow),
         };
-        match found.extend(output.held()) {
-            Ok(()) => Ok(Ended {
+        match unless_refused(found.extend(output.held()), status) {
+            Ok(status) => Ok(Ended {
                 found,
                 status,
                 wanted,
                 wanted_status,
             }),
-            Err(_) => Err(RowFault::NoMemory),
+            Err(fault) => Err(fault),
         }
     }
 }

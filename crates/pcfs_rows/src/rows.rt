@@ -37,12 +37,7 @@ fn add_difference(
 }
 
 // Adds how the case ended, and returns whether it agrees.
-fn judge(
-    alloc: Global,
-    name: &str,
-    ended: &Ended,
-    report: &mut Bytes,
-) -> Result<bool, NoMemory> {
+fn judge(alloc: Global, name: &str, ended: &Ended, report: &mut Bytes) -> Result<bool, NoMemory> {
     let found = ended.found.as_slice();
     let wanted = ended.wanted.as_slice();
     if found != wanted {

@@ -132,12 +132,7 @@ fn add_bytes(alloc: Global, word: &str, out: &mut Bytes) -> Result<(), RowFault>
 }
 
 // Adds what a short form stands for.
-fn add_form(
-    alloc: Global,
-    texts: &Texts,
-    form: &str,
-    out: &mut Bytes,
-) -> Result<(), RowFault> {
+fn add_form(alloc: Global, texts: &Texts, form: &str, out: &mut Bytes) -> Result<(), RowFault> {
     if let Some(word) = form.strip_prefix("x ") {
         return add_bytes(alloc, word, out);
     }

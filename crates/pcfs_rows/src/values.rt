@@ -137,7 +137,13 @@ fn add_kept(alloc: Global, checked: &Checked, out: &mut Bytes) -> Result<(), Row
         Ok(grant) => ended(write_reply(alloc, out, &Reply::Checked(grant)))?,
         Err(_) => return Err(RowFault::NoMemory),
     }
-    add_verified(alloc, checked.cited(), &checked.goal(), checked.proof(), out)
+    add_verified(
+        alloc,
+        checked.cited(),
+        &checked.goal(),
+        checked.proof(),
+        out,
+    )
 }
 
 // Adds what a copy of the checked proof says.
@@ -215,24 +221,29 @@ fn add_judged(alloc: Global, text: &str, out: &mut Bytes) -> Result<(), RowFault
     }
 }
 
-// The refusal of a file of this name in a tree of the root and the file `notes` in it, whose next number is this one.
-fn refusal(
+// The refusal of a file of this name, if the tree also has the file `notes` in its root and this next number.
+fn refusal_in(
     alloc: Global,
+    world: &World,
     next: u64,
     directory: u64,
     name: &str,
 ) -> Result<Option<u32>, RowFault> {
     let alice = Principal::new(b"alice").ok_or(RowFault::BadRow)?;
-    let world = World::new(alloc)?;
-    let world = world.copy(alloc)?;
     let mut rows = Vec::from_slice(alloc, world.rows())?;
     rows.push(created_row(alice, NodeId(1), b"notes", 2))?;
-    Ok(create_refusal(
-        rows.as_slice(),
-        next,
-        NodeId(directory),
-        name.as_bytes(),
-    ))
+    Ok(create_refusal(rows.as_slice(), next, NodeId(directory), name.as_bytes()))
+}
+
+// The same for a copy of the tree with the root alone.
+fn refusal(alloc: Global, next: u64, directory: u64, name: &str) -> Result<Option<u32>, RowFault> {
+    match World::new(alloc) {
+        Ok(world) => match world.copy(alloc) {
+            Ok(copied) => refusal_in(alloc, &copied, next, directory, name),
+            Err(_) => Err(RowFault::NoMemory),
+        },
+        Err(_) => Err(RowFault::NoMemory),
+    }
 }
 
 // Adds the number of the refusal, or `none`.
