@@ -4,8 +4,7 @@ ghost use Rattle.std.specs.Prelude.{◌≡◌};
 ghost use Rattle.proof_term.specs.Faults.{of_field};
 ghost use Rattle.proof_term.specs.declared.fault.ProofFault.TheVariants as faults;
 
-use bl_syntax::CodecFault;
-use std::alloc::{AllocError, AllocFailed};
+use bl_syntax::{CodecFault, NoMemory};
 
 /// The first fault of a reading from the left. A place is a number of bytes of the input before it.
 #[derive(Clone, Copy, Debug, PartialEq, Eq)]
@@ -36,18 +35,10 @@ impl From<CodecFault> for ProofFault {
     }
 }
 
-impl From<AllocError> for ProofFault {
+impl From<NoMemory> for ProofFault {
     ghost from_gives = { λ _ e. e ≡ faults.NoMemory };
 
-    fn from(_refused: AllocError) -> ProofFault {
-        ProofFault::NoMemory
-    }
-}
-
-impl<T: Drop> From<AllocFailed<T>> for ProofFault {
-    ghost from_gives = { λ _ e. e ≡ faults.NoMemory };
-
-    fn from(_refused: AllocFailed<T>) -> ProofFault {
+    fn from(_refused: NoMemory) -> ProofFault {
         ProofFault::NoMemory
     }
 }

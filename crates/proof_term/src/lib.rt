@@ -4,6 +4,7 @@
 //! the one proof whose spelling begins the bytes, or the first fault.
 #![tactic(auto)]
 
+mod boxes;
 mod fault;
 mod kinds;
 pub mod laws;

@@ -1,5 +1,8 @@
 //! Proofs, one variant a rule.
 
+use crate::boxes::{by_axiom, by_instance, by_interval, by_one, by_two, by_witness};
+use crate::kinds::{PlainOne, PlainTwo};
+use crate::rule::Axiom;
 use bl_syntax::{NoMemory, Term};
 use std::alloc::Global;
 
@@ -58,46 +61,64 @@ impl Proof {
     ghost use Rattle.std.specs.Prelude.{◌≡◌, IfOk};
     ghost use Rattle.proof_term.specs.Proof.{deduction};
 
-    /// An equal proof in memory of its own. It calls itself as deep as the proof is.
-    #[cycle(copy)]
+    /// An equal proof in memory of its own.
     pub fn copy(&self, alloc: Global) -> Result<Proof, NoMemory>
         ensures { IfOk result (λ copied. deduction copied ≡ deduction self.now) }
     {
-        match self {
-            Proof::Init(h) => Ok(Proof::Init(*h)),
-            Proof::ConsR => Ok(Proof::ConsR),
-            Proof::InterR => Ok(Proof::InterR),
-            Proof::AndR(p, q) => Ok(Proof::AndR(p.boxed_copy(alloc)?, q.boxed_copy(alloc)?)),
-            Proof::OrR1(p) => Ok(Proof::OrR1(p.boxed_copy(alloc)?)),
-            Proof::OrR2(p) => Ok(Proof::OrR2(p.boxed_copy(alloc)?)),
-            Proof::TrueR => Ok(Proof::TrueR),
-            Proof::ImpR(p) => Ok(Proof::ImpR(p.boxed_copy(alloc)?)),
-            Proof::ForallR(p) => Ok(Proof::ForallR(p.boxed_copy(alloc)?)),
-            Proof::ExistsR(t, p) => Ok(Proof::ExistsR(*t, p.boxed_copy(alloc)?)),
-            Proof::SaysR(p) => Ok(Proof::SaysR(p.boxed_copy(alloc)?)),
-            Proof::AtR(p) => Ok(Proof::AtR(p.boxed_copy(alloc)?)),
-            Proof::ConsL(h, p) => Ok(Proof::ConsL(*h, p.boxed_copy(alloc)?)),
-            Proof::InterL(h, p) => Ok(Proof::InterL(*h, p.boxed_copy(alloc)?)),
-            Proof::AndL(h, p) => Ok(Proof::AndL(*h, p.boxed_copy(alloc)?)),
-            Proof::OrL(h, p, q) => {
-                Ok(Proof::OrL(*h, p.boxed_copy(alloc)?, q.boxed_copy(alloc)?))
-            }
-            Proof::FalseL(h) => Ok(Proof::FalseL(*h)),
-            Proof::ImpL(h, t1, t2, p, q) => {
-                Ok(Proof::ImpL(*h, *t1, *t2, p.boxed_copy(alloc)?, q.boxed_copy(alloc)?))
-            }
-            Proof::ForallL(h, t, p) => Ok(Proof::ForallL(*h, *t, p.boxed_copy(alloc)?)),
-            Proof::ExistsL(h, p) => Ok(Proof::ExistsL(*h, p.boxed_copy(alloc)?)),
-            Proof::SaysL(h, p) => Ok(Proof::SaysL(*h, p.boxed_copy(alloc)?)),
-            Proof::Claim(h, p) => Ok(Proof::Claim(*h, p.boxed_copy(alloc)?)),
-            Proof::AtL(h, p) => Ok(Proof::AtL(*h, p.boxed_copy(alloc)?)),
-        }
+        Ok(Box::into_inner(self.boxed_copy(alloc)?))
     }
 
-    #[cycle(copy)]
+    /// The same in a box. It calls itself as deep as the proof is, and holds neither proofs nor terms on the stack.
     fn boxed_copy(&self, alloc: Global) -> Result<Box<Proof>, NoMemory>
         ensures { IfOk result (λ copied. deduction copied.value ≡ deduction self.now) }
     {
-        Ok(Box::new(alloc, self.copy(alloc)?)?)
+        match self {
+            Proof::Init(h) => by_axiom(alloc, Axiom::Init(*h)),
+            Proof::ConsR => by_axiom(alloc, Axiom::ConsR),
+            Proof::InterR => by_axiom(alloc, Axiom::InterR),
+            Proof::AndR(p, q) => {
+                by_two(
+                    alloc,
+                    PlainTwo::AndR,
+                    p.boxed_copy(alloc)?,
+                    q.boxed_copy(alloc)?,
+                )
+            }
+            Proof::OrR1(p) => by_one(alloc, PlainOne::OrR1, p.boxed_copy(alloc)?),
+            Proof::OrR2(p) => by_one(alloc, PlainOne::OrR2, p.boxed_copy(alloc)?),
+            Proof::TrueR => by_axiom(alloc, Axiom::TrueR),
+            Proof::ImpR(p) => by_one(alloc, PlainOne::ImpR, p.boxed_copy(alloc)?),
+            Proof::ForallR(p) => by_one(alloc, PlainOne::ForallR, p.boxed_copy(alloc)?),
+            Proof::ExistsR(t, p) => by_witness(alloc, t, p.boxed_copy(alloc)?),
+            Proof::SaysR(p) => by_one(alloc, PlainOne::SaysR, p.boxed_copy(alloc)?),
+            Proof::AtR(p) => by_one(alloc, PlainOne::AtR, p.boxed_copy(alloc)?),
+            Proof::ConsL(h, p) => by_one(alloc, PlainOne::ConsL(*h), p.boxed_copy(alloc)?),
+            Proof::InterL(h, p) => by_one(alloc, PlainOne::InterL(*h), p.boxed_copy(alloc)?),
+            Proof::AndL(h, p) => by_one(alloc, PlainOne::AndL(*h), p.boxed_copy(alloc)?),
+            Proof::OrL(h, p, q) => {
+                by_two(
+                    alloc,
+                    PlainTwo::OrL(*h),
+                    p.boxed_copy(alloc)?,
+                    q.boxed_copy(alloc)?,
+                )
+            }
+            Proof::FalseL(h) => by_axiom(alloc, Axiom::FalseL(*h)),
+            Proof::ImpL(h, t1, t2, p, q) => {
+                by_interval(
+                    alloc,
+                    *h,
+                    t1,
+                    t2,
+                    p.boxed_copy(alloc)?,
+                    q.boxed_copy(alloc)?,
+                )
+            }
+            Proof::ForallL(h, t, p) => by_instance(alloc, *h, t, p.boxed_copy(alloc)?),
+            Proof::ExistsL(h, p) => by_one(alloc, PlainOne::ExistsL(*h), p.boxed_copy(alloc)?),
+            Proof::SaysL(h, p) => by_one(alloc, PlainOne::SaysL(*h), p.boxed_copy(alloc)?),
+            Proof::Claim(h, p) => by_one(alloc, PlainOne::Claim(*h), p.boxed_copy(alloc)?),
+            Proof::AtL(h, p) => by_one(alloc, PlainOne::AtL(*h), p.boxed_copy(alloc)?),
+        }
     }
 }

@@ -1,15 +1,14 @@
 //! The reader of proofs.
 
 ghost use Rattle.std.specs.Prelude.{◌≡◌, ◌≢◌, ◌<◌, ◌⊎◌, ℕ, true, false, OnOk, IfOk, IfErr};
-ghost use Rattle.proof_term.specs.Proof.{deduction, exists_r, forall_l, imp_l};
+ghost use Rattle.proof_term.specs.Proof.{deduction};
 ghost use Rattle.bl_syntax.specs.Reading.{place};
 ghost use Rattle.proof_term.specs.ProofReading.{Gives, Fails, is_right, is_left, right_rule_at, left_rule_at, interval_at, rule_at, rule_within, premises_at, proof_at, proof_reading};
-ghost use Rattle.proof_term.specs.RuleKinds.{names_terms, one_rule, two_rule, plain_rule, termed_rule};
+ghost use Rattle.proof_term.specs.RuleKinds.{names_terms, plain_rule, termed_rule};
 ghost use Rattle.proof_term.specs.NodeReading.{behind_tag};
 ghost use Rattle.proof_term.specs.ProofCodec.{ReadsProof};
-ghost use Rattle.proof_term.specs.Rules.{by_axiom, by_one, by_two};
-ghost use Rattle.proof_term.specs.declared.fault.ProofFault.TheVariants.{NoMemory};
 
+use crate::boxes::{by_axiom, by_instance, by_interval, by_one, by_two, by_witness};
 use crate::fault::ProofFault;
 use crate::kinds::{Plain, PlainOne, PlainTwo, Termed};
 use crate::measure::{MOST_LEVELS, MOST_NODES};
@@ -188,68 +187,7 @@ fn tag_within(levels: u8, nodes: u16, input: usize, bytes: &[u8]) -> Result<(u8,
     }
 }
 
-// A proof and a term are large, and a function clears its locals when it begins: so those that call themselves hold no
-// proof, and only the ones for rules with terms hold terms.
-
-#[inline(never)]
-fn by_axiom(alloc: Global, r: Axiom) -> Result<Box<Proof>, ProofFault>
-    ensures ok { IfOk result (λ b. deduction b.value ≡ by_axiom r) }
-    ensures err { IfErr result (λ fault. fault ≡ NoMemory) }
-{
-    Ok(Box::new(alloc, r.proof())?)
-}
-
-#[inline(never)]
-fn by_one(alloc: Global, r: PlainOne, p: Box<Proof>) -> Result<Box<Proof>, ProofFault>
-    ensures ok { IfOk result (λ b. deduction b.value ≡ by_one (one_rule r) (deduction p.value)) }
-    ensures err { IfErr result (λ fault. fault ≡ NoMemory) }
-{
-    Ok(Box::new(alloc, r.proof(p))?)
-}
-
-#[inline(never)]
-fn by_two(
-    alloc: Global,
-    r: PlainTwo,
-    p: Box<Proof>,
-    q: Box<Proof>,
-) -> Result<Box<Proof>, ProofFault>
-    ensures ok { IfOk result (λ b. deduction b.value ≡ by_two (two_rule r) (deduction p.value) (deduction q.value)) }
-    ensures err { IfErr result (λ fault. fault ≡ NoMemory) }
-{
-    Ok(Box::new(alloc, r.proof(p, q))?)
-}
-
-#[inline(never)]
-fn by_witness(alloc: Global, t: &Term, p: Box<Proof>) -> Result<Box<Proof>, ProofFault>
-    ensures ok { IfOk result (λ b. deduction b.value ≡ exists_r t.now (deduction p.value)) }
-    ensures err { IfErr result (λ fault. fault ≡ NoMemory) }
-{
-    Ok(Box::new(alloc, Proof::ExistsR(*t, p))?)
-}
-
-#[inline(never)]
-fn by_instance(alloc: Global, h: u16, t: &Term, p: Box<Proof>) -> Result<Box<Proof>, ProofFault>
-    ensures ok { IfOk result (λ b. deduction b.value ≡ forall_l h t.now (deduction p.value)) }
-    ensures err { IfErr result (λ fault. fault ≡ NoMemory) }
-{
-    Ok(Box::new(alloc, Proof::ForallL(h, *t, p))?)
-}
-
-#[inline(never)]
-fn by_interval(
-    alloc: Global,
-    h: u16,
-    t1: &Term,
-    t2: &Term,
-    p: Box<Proof>,
-    q: Box<Proof>,
-) -> Result<Box<Proof>, ProofFault>
-    ensures ok { IfOk result (λ b. deduction b.value ≡ imp_l h t1.now t2.now (deduction p.value) (deduction q.value)) }
-    ensures err { IfErr result (λ fault. fault ≡ NoMemory) }
-{
-    Ok(Box::new(alloc, Proof::ImpL(h, *t1, *t2, p, q))?)
-}
+// A function clears its locals when it begins, and a term is large: only the calls for rules with terms hold terms.
 
 /// A proof of at most so many levels and nodes, how many nodes are left, and the bytes behind it.
 /// It calls itself no deeper than there are levels.
