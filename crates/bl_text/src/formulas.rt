@@ -22,42 +22,49 @@ use bl_syntax::{Formula, NoMemory, Principal, Sequence, Sort, Term, Terms};
 use bl_tokens::{Here, Keyword, Sign, TextFault, Token, behind, behind_node, is_sign, is_word};
 use std::alloc::Global;
 
+#[inline(never)]
 fn both_of(alloc: Global, a: Box<Formula>, b: Box<Formula>) -> Result<Box<Formula>, TextFault>
     ensures { MatchResult result (λ f. formula f.value ≡ both (formula a.value) (formula b.value)) (λ e. e ≡ TextFault.NoMemory) }
 {
     Ok(Box::new(alloc, Formula::And(a, b))?)
 }
 
+#[inline(never)]
 fn either_of(alloc: Global, a: Box<Formula>, b: Box<Formula>) -> Result<Box<Formula>, TextFault>
     ensures { MatchResult result (λ f. formula f.value ≡ either (formula a.value) (formula b.value)) (λ e. e ≡ TextFault.NoMemory) }
 {
     Ok(Box::new(alloc, Formula::Or(a, b))?)
 }
 
+#[inline(never)]
 fn implies_of(alloc: Global, a: Box<Formula>, b: Box<Formula>) -> Result<Box<Formula>, TextFault>
     ensures { MatchResult result (λ f. formula f.value ≡ implies (formula a.value) (formula b.value)) (λ e. e ≡ TextFault.NoMemory) }
 {
     Ok(Box::new(alloc, Formula::Imp(a, b))?)
 }
 
+#[inline(never)]
 fn every_of(alloc: Global, sort: Sort, a: Box<Formula>) -> Result<Box<Formula>, TextFault>
     ensures { MatchResult result (λ f. formula f.value ≡ forall_ sort (formula a.value)) (λ e. e ≡ TextFault.NoMemory) }
 {
     Ok(Box::new(alloc, Formula::Forall(sort, a))?)
 }
 
+#[inline(never)]
 fn some_of(alloc: Global, sort: Sort, a: Box<Formula>) -> Result<Box<Formula>, TextFault>
     ensures { MatchResult result (λ f. formula f.value ≡ exists_ sort (formula a.value)) (λ e. e ≡ TextFault.NoMemory) }
 {
     Ok(Box::new(alloc, Formula::Exists(sort, a))?)
 }
 
+#[inline(never)]
 fn says_of(alloc: Global, who: Term, a: Box<Formula>) -> Result<Box<Formula>, TextFault>
     ensures { MatchResult result (λ f. formula f.value ≡ says who (formula a.value)) (λ e. e ≡ TextFault.NoMemory) }
 {
     Ok(Box::new(alloc, Formula::Says(who, a))?)
 }
 
+#[inline(never)]
 fn on_of(alloc: Global, a: Box<Formula>, from: Term, to: Term) -> Result<Box<Formula>, TextFault>
     ensures { MatchResult result (λ f. formula f.value ≡ on (formula a.value) from to) (λ e. e ≡ TextFault.NoMemory) }
 {
@@ -65,6 +72,7 @@ fn on_of(alloc: Global, a: Box<Formula>, from: Term, to: Term) -> Result<Box<For
 }
 
 /// The formula on the interval behind the sign `@` at that place, and what follows it.
+#[inline(never)]
 fn on_interval(
     alloc: Global,
     text: &[u8],
@@ -189,6 +197,7 @@ fn call(
 }
 
 /// A formula without parentheses at that place, and goes behind it.
+#[inline(never)]
 fn simple_here(
     alloc: Global,
     text: &[u8],
@@ -213,6 +222,7 @@ fn simple_here(
 }
 
 /// A predicate with arguments at that place, and goes behind it.
+#[inline(never)]
 fn call_here(
     alloc: Global,
     text: &[u8],

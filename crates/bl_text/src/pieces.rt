@@ -53,6 +53,7 @@ pub fn step(text: &[u8], here: &mut Here)
 
 /// Goes to the place behind a token that is no node of the formula, by what was read ahead.
 #[tactic(auto, unfolding(bl_tokens::specs::Tokens::behind, bl_tokens::specs::Tokens::behind_node, bl_tokens::specs::Tokens::token_from))]
+#[inline(never)]
 pub fn step_into(text: &[u8], here: &mut Here, ahead: &Here)
     requires ahead { ahead.now ≡ behind_node text.now here.old }
     requires ahead_within { ahead.now.end ≤ length text.now }
@@ -68,6 +69,7 @@ pub fn step_into(text: &[u8], here: &mut Here, ahead: &Here)
 }
 
 /// Goes to the place behind a token that is a node of the formula.
+#[inline(never)]
 pub fn step_node(text: &[u8], here: &mut Here)
     requires { here.old.end ≤ length text.now }
     ensures same { here.new ≡ behind_node text.now here.old }
@@ -79,6 +81,7 @@ pub fn step_node(text: &[u8], here: &mut Here)
 
 /// Goes to the place behind the sign, where it is there.
 #[tactic(auto, unfolding(crate::specs::Pieces::expected))]
+#[inline(never)]
 pub fn go_behind(text: &[u8], sign: Sign, here: &mut Here) -> Result<(), TextFault>
     requires { here.old.end ≤ length text.now }
     ensures value { MatchResult result (λ _. expected text.now sign here.old ≡ Ok here.new) (λ e. expected text.now sign here.old ≡ Err e) }
@@ -238,6 +241,7 @@ fn sort_at(here: &Here) -> Result<Sort, TextFault>
 
 /// The variable and the sort of a binder whose word stands at that place. It goes behind the dot.
 #[tactic(auto, unfolding(crate::specs::Pieces::binder))]
+#[inline(never)]
 pub fn binder(text: &[u8], here: &mut Here) -> Result<(Short<32>, Sort), TextFault>
     requires { here.old.end ≤ length text.now }
     ensures value { MatchResult result (λ r. binder text.now here.old ≡ Ok (r.0, r.1, here.new)) (λ e. binder text.now here.old ≡ Err e) }
@@ -257,6 +261,7 @@ pub fn binder(text: &[u8], here: &mut Here) -> Result<(Short<32>, Sort), TextFau
 
 /// The principal at that place, before `says`. It goes behind that word.
 #[tactic(auto, unfolding(crate::specs::Pieces::speaker))]
+#[inline(never)]
 pub fn speaker(
     text: &[u8],
     scope: &Scope<'_>,

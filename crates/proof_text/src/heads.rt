@@ -182,6 +182,7 @@ fn named_head(text: &[u8], name: RuleName, here: Place) -> Result<(Rule, Place),
 /// The rule at that place with its fields before the premises, where so many levels are left, and
 /// what follows.
 #[tactic(auto, unfolding(crate::specs::Heads::head))]
+#[inline(never)]
 pub fn head(text: &[u8], levels: u8, here: Place) -> Result<(Rule, Place), TextFault>
     requires { here.from ≤ length text.now }
     ensures value { result ≡ head text.now levels here }
