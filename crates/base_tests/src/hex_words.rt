@@ -19,25 +19,28 @@ fn is_read(alloc: Global, word: &[u8]) -> Result<bool, NoMemory> {
     }
 }
 
+/// Words that are read.
+const WORDS: &str = "- 00 6b697769 ff0a";
+
+/// Words that are not; the empty one is another.
+const OTHERS: &str = "0 000 FF fF 0g -- 00-";
+
 #[test]
 fn words_are_those_of_their_bytes(rt: HostRuntime) -> Result<(), Fail> {
     assert!(rt; is_written(rt.alloc(), b"", b"-")?);
     assert!(rt; is_written(rt.alloc(), b"kiwi", b"6b697769")?);
-    for (word, want) in [
-        ("-", true),
-        ("00", true),
-        ("6b697769", true),
-        ("ff0a", true),
-        ("", false),
-        ("0", false),
-        ("000", false),
-        ("FF", false),
-        ("fF", false),
-        ("0g", false),
-        ("--", false),
-        (" 00", false),
-    ] {
-        assert_eq!(rt; is_read(rt.alloc(), word.as_bytes())?, want, "{word}");
+    for word in WORDS.split(' ') {
+        assert!(rt; is_read(rt.alloc(), word.as_bytes())?, "{word}");
+    }
+    Ok(())
+}
+
+#[test]
+fn other_words_are_not_read(rt: HostRuntime) -> Result<(), Fail> {
+    assert!(rt; !is_read(rt.alloc(), b"")?);
+    assert!(rt; !is_read(rt.alloc(), b" 00")?);
+    for word in OTHERS.split(' ') {
+        assert!(rt; !is_read(rt.alloc(), word.as_bytes())?, "{word}");
     }
     Ok(())
 }

@@ -159,7 +159,7 @@ fn fields_have_these_bytes(rt: HostRuntime) -> Result<(), Fail> {
 
 #[test]
 fn fields_have_these_faults(rt: HostRuntime) {
-    assert_eq!(rt; read_name(b"\x03b"), Err(CodecFault::Short));
-    assert_eq!(rt; read_text(b"\x02x"), Err(CodecFault::Short));
-    assert_eq!(rt; read_time(b"\x03"), Err(CodecFault::NotCanonical(0)));
+    assert!(rt; read_name(b"\x03b").err() == Some(CodecFault::Short));
+    assert!(rt; read_text(b"\x02x").err() == Some(CodecFault::Short));
+    assert!(rt; read_time(b"\x03").err() == Some(CodecFault::NotCanonical(0)));
 }
