@@ -3,3 +3,6 @@ pub mod Told
 pub mod Calls
 pub mod MemorySource
 pub mod MemorySink
+pub mod Disk
+pub mod MemoryDisk
+pub mod DiskLaws

@@ -4,13 +4,21 @@
 //! A port in memory tells its bytes, and fails only where it was to or where a growth is refused.
 #![tactic(auto)]
 
+mod disk;
+mod disk_call;
 mod faults;
+mod file_disk;
+mod memory_disk;
 mod signatures;
 mod sinks;
 mod sources;
 mod streams;
 
+pub use disk::Disk;
+pub use disk_call::DiskCall;
 pub use faults::Failed;
+pub use file_disk::FileDisk;
+pub use memory_disk::MemoryDisk;
 pub use signatures::Signatures;
 pub use sinks::{MemorySink, Sink, StdSink};
 pub use sources::{MemorySource, Source, StdSource};

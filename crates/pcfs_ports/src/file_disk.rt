@@ -1,0 +1,261 @@
+//! A disk over a file of the system.
+
+ghost use Rattle.std.specs.Prelude.{◌≡◌, ℕ, ◌≤◌, List, Option, None, IfOk, length, is_ok, if◌then◌else◌};
+ghost use Rattle.pcfs_ports.specs.Faults.{raised};
+ghost use Rattle.pcfs_ports.specs.DiskLaws.{untold};
+
+use super::disk::Disk;
+use super::faults::Failed;
+use std::fs::{File, OpenFile, OpenOptions};
+use std::io::{self, ErrorKind, Read, Seek, SeekFrom, Write};
+use std::marker::Model;
+use std::path::Path;
+use std::rt::Files;
+
+// How far the file was opened.
+#[derive(Clone, Copy, PartialEq, Eq)]
+enum State {
+    // Not yet.
+    Unopened,
+    // It is open, or it is not there.
+    Opened,
+    // It cannot be opened, or a sync of it failed.
+    Broken,
+}
+
+// The file, if it is there and open.
+#[derive(Drop)]
+struct Handle<F> {
+    state: State,
+    file: Option<F>,
+    // It was made, and its folder was not synced since.
+    is_new: bool,
+}
+
+/// A disk over one file, which is opened at the first call. As a disk it tells nothing of the bytes.
+/// A file that is not there reads as empty, and the first write makes it.
+///
+/// A sync waits until the file's bytes and its length are on the device, and after the file was made
+/// until its name is in its folder there. Each error of the system is a fault, but for a file that is
+/// not there. If the file cannot be opened for another reason, or after a sync failed, every call
+/// fails: the system may have dropped what it could not write.
+#[derive(Drop)]
+pub struct FileDisk<'a, R: Files> {
+    rt: &'a R,
+    path: &'a str,
+    handle: Handle<R::File>,
+    faults: u64,
+}
+
+impl<'a, R: Files> Model for FileDisk<'a, R> {
+    ghost use Rattle.std.specs.Prelude.{ℕ};
+
+    // the count of faults
+    ghost Value = { ℕ };
+
+    ghost view = { λ s. s.faults };
+}
+
+impl<'a, R: Files> FileDisk<'a, R> {
+    /// A disk over the file with this path, without a fault. It opens no file yet.
+    pub fn new(rt: &'a R, path: &'a str) -> Self
+        ensures { result ≡ 0 }
+    {
+        FileDisk {
+            rt,
+            path,
+            handle: Handle {
+                state: State::Unopened,
+                file: None,
+                is_new: false,
+            },
+            faults: 0,
+        }
+    }
+}
+
+// Opens the file if no call did so before, and it is there.
+fn open_once<R: Files>(rt: &R, path: &str, handle: &mut Handle<R::File>) -> io::Result<()> {
+    match handle.state {
+        State::Opened => Ok(()),
+        State::Broken => Err(ErrorKind::Other.into()),
+        State::Unopened => match OpenOptions::new().read(true).write(true).open(rt, path) {
+            Ok(file) => {
+                handle.state = State::Opened;
+                handle.file = Some(file);
+                Ok(())
+            }
+            Err(error) => {
+                if error.kind() == ErrorKind::NotFound {
+                    handle.state = State::Opened;
+                    Ok(())
+                } else {
+                    handle.state = State::Broken;
+                    Err(error)
+                }
+            }
+        },
+    }
+}
+
+// Makes the file if it is not there.
+fn make_once<R: Files>(rt: &R, path: &str, handle: &mut Handle<R::File>) -> io::Result<()> {
+    if handle.file.is_none() {
+        let file = OpenOptions::new()
+            .read(true)
+            .write(true)
+            .create(true)
+            .open(rt, path)?;
+        handle.file = Some(file);
+        handle.is_new = true;
+    }
+    Ok(())
+}
+
+// Reads until the buffer is full or the file ends.
+fn fill<F: Read>(file: &mut F, buf: &mut [u8]) -> io::Result<usize>
+    ensures { IfOk result (λ count. count ≤ length buf.new) }
+{
+    let mut count: usize = 0;
+    while count < buf.len() {
+        let more = file.read(&mut buf[count..])?;
+        if more == 0 {
+            return Ok(count);
+        }
+        count += more;
+    }
+    Ok(count)
+}
+
+fn read_file<R: Files>(
+    rt: &R,
+    path: &str,
+    handle: &mut Handle<R::File>,
+    at: u64,
+    buf: &mut [u8],
+) -> io::Result<usize>
+    ensures { IfOk result (λ count. count ≤ length buf.new) }
+{
+    open_once(rt, path, handle)?;
+    match &mut handle.file {
+        Some(file) => {
+            file.seek(SeekFrom::Start(at))?;
+            fill(file, buf)
+        }
+        None => Ok(0),
+    }
+}
+
+fn write_file<R: Files>(
+    rt: &R,
+    path: &str,
+    handle: &mut Handle<R::File>,
+    at: u64,
+    piece: &[u8],
+) -> io::Result<()> {
+    open_once(rt, path, handle)?;
+    make_once(rt, path, handle)?;
+    if let Some(file) = &mut handle.file {
+        file.seek(SeekFrom::Start(at))?;
+        file.write_all(piece)?;
+    }
+    Ok(())
+}
+
+// Makes the file's name durable in its folder.
+fn sync_folder<R: Files>(rt: &R, path: &str) -> io::Result<()> {
+    let folder = match Path::new(path).parent() {
+        Some(parent) => parent,
+        None => Path::new("."),
+    };
+    let folder = if folder.as_str().is_empty() {
+        Path::new(".")
+    } else {
+        folder
+    };
+    File::open(rt, folder)?.sync_all()
+}
+
+fn sync_file<R: Files>(rt: &R, path: &str, handle: &mut Handle<R::File>) -> io::Result<()> {
+    open_once(rt, path, handle)?;
+    if let Some(file) = &handle.file {
+        file.sync_data()?;
+    }
+    if handle.is_new {
+        sync_folder(rt, path)?;
+        handle.is_new = false;
+    }
+    Ok(())
+}
+
+impl<'a, R: Files> Disk for FileDisk<'a, R> {
+    ghost image = { λ _. None };
+
+    ghost clock = { λ _. 0 };
+
+    ghost left_since = { λ _ _ _. ⊥ };
+
+    ghost faults = { λ s. s };
+
+    ghost since_earlier = { λ disk t u bytes le left. left };
+
+    ghost image_may_stay = { λ disk bytes is. untold bytes is };
+
+    fn read(&mut self, at: u64, buf: &mut [u8]) -> Result<usize, Failed> {
+        match read_file(self.rt, self.path, &mut self.handle, at, buf) {
+            Ok(count) => Ok(count),
+            Err(_) => {
+                self.faults = self.faults.saturating_add(1);
+                Err(Failed)
+            }
+        }
+    }
+
+    fn write_at(&mut self, at: u64, piece: &[u8]) -> Result<(), Failed> {
+        match write_file(self.rt, self.path, &mut self.handle, at, piece) {
+            Ok(()) => Ok(()),
+            Err(_) => {
+                self.faults = self.faults.saturating_add(1);
+                Err(Failed)
+            }
+        }
+    }
+
+    fn sync(&mut self) -> Result<(), Failed> {
+        match sync_file(self.rt, self.path, &mut self.handle) {
+            Ok(()) => Ok(()),
+            Err(_) => {
+                self.handle.state = State::Broken;
+                self.faults = self.faults.saturating_add(1);
+                Err(Failed)
+            }
+        }
+    }
+}
+
+#[cfg(test)]
+mod tests {
+    use super::*;
+    use std::fs;
+    use std::test::Fail;
+
+    #[test]
+    fn a_file_is_made_by_the_first_write(rt: HostRuntime) -> Result<(), Fail> {
+        let path = "file_disk_of_the_test";
+        let _ = fs::remove_file(&rt, path);
+        let mut disk = FileDisk::new(&rt, path);
+        let mut buf = [7u8; 8];
+        assert_eq!(rt; disk.read(0, &mut buf), Ok(0));
+        assert_eq!(rt; disk.sync(), Ok(()));
+        assert_eq!(rt; fs::exists(&rt, path)?, false);
+        assert_eq!(rt; disk.write_at(2, b"cde"), Ok(()));
+        assert_eq!(rt; disk.sync(), Ok(()));
+        assert_eq!(rt; disk.write_at(4, b"E"), Ok(()));
+        assert_eq!(rt; disk.read(1, &mut buf), Ok(4));
+        assert_eq!(rt; &buf[..4], b"\0cdE".as_slice());
+        assert_eq!(rt; FileDisk::new(&rt, path).read(3, &mut buf), Ok(2));
+        assert_eq!(rt; FileDisk::new(&rt, "/tmp").sync(), Err(Failed));
+        fs::remove_file(&rt, path)?;
+        Ok(())
+    }
+}

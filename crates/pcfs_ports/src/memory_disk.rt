@@ -1,0 +1,300 @@
+//! A disk in memory, with a record of its calls.
+
+ghost use Rattle.std.specs.Prelude.{◌≡◌, ℕ, ◌+◌, ◌-◌, ◌≤◌, ◌⊎◌, ◌↔◌, List, [], ◌∷◌, ◌++◌, Some, IfOk, IfSome, IsErr, OnOk, OnErr, length, take, drop, replicate, min, is_some};
+ghost use Rattle.std.specs.Option.{option_map};
+ghost use Rattle.pcfs_ports.specs.Faults.{HasRisen};
+ghost use Rattle.pcfs_ports.specs.Calls.{no_calls, FailsNext};
+ghost use Rattle.pcfs_ports.specs.Disk.{written, TornFrom, LeftNow, Elapses, Idles, IsPinned, ReadsAt};
+ghost use Rattle.pcfs_ports.specs.MemoryDisk.{image_after, new_disk, disk_image, disk_clock, disk_left_since, after_disk_read, after_disk_call, after_failed_disk_call, after_refused_disk_call};
+ghost use Rattle.pcfs_ports.specs.declared.disk_call.DiskCall.TheVariants.{Wrote, Synced};
+ghost use Rattle.pcfs_ports.specs.DiskLaws.{left_since_earlier, image_stays};
+
+use super::disk::Disk;
+use super::disk_call::DiskCall;
+use super::faults::{CallPlan, Failed};
+use bl_syntax::{Bytes, NoMemory, Numbers, Sequence};
+use std::alloc::Global;
+use std::marker::Model;
+
+/// A disk that holds its bytes in memory and remembers its writes and syncs. It fails at the calls
+/// that are to fail, and if a growth is refused; a call that fails changes nothing.
+#[derive(Debug, Drop)]
+pub struct MemoryDisk {
+    alloc: Global,
+    start: Bytes,
+    image: Vec<u8>,
+    made: Sequence<DiskCall>,
+    plan: CallPlan,
+    refused: u64,
+}
+
+impl Model for MemoryDisk {
+    ghost use Rattle.std.specs.Prelude.{◌≡◌};
+    ghost use Rattle.pcfs_ports.specs.MemoryDisk.{DiskState, image_after};
+
+    ghost Value = { DiskState };
+
+    ghost view = { λ s. record { start = s.start; made = s.made; calls = s.plan; refused = s.refused } };
+
+    ghost invariant = { λ s. s.image.items ≡ image_after s.start s.made };
+}
+
+// Lets the image reach to the end of a range, with zero bytes from its old end on.
+fn reach(image: &mut Vec<u8>, at: u64, len: usize) -> Result<(), NoMemory>
+    ensures ok { OnOk result (image.new.items ≡ image.old.items ++ replicate (at + len - length image.old.items) 0) }
+    ensures err { OnErr result (image.new.items ≡ image.old.items) }
+{
+    let at = at as usize;
+    let end = at.checked_add(len).ok_or(NoMemory)?;
+    if image.len() < end {
+        image.resize(end, 0)?;
+    }
+    Ok(())
+}
+
+// Puts a piece over the bytes from `at` on.
+fn overwrite(image: &mut [u8], at: usize, piece: &[u8])
+    requires { at + length piece.now ≤ length image.old }
+    ensures { image.new ≡ take at image.old ++ (piece.now ++ drop (at + length piece.now) image.old) }
+{
+    let end = at + piece.len();
+    image[at..end].copy_from_slice(piece);
+}
+
+// Remembers that this piece was written at this place.
+fn remember_write(
+    alloc: Global,
+    made: &mut Sequence<DiskCall>,
+    at: u64,
+    piece: &[u8],
+) -> Result<(), NoMemory>
+    ensures ok { OnOk result (made.new ≡ made.old ++ Wrote at piece.now ∷ []) }
+    ensures err { OnErr result (made.new ≡ made.old) }
+{
+    let mut copied = Bytes::new(alloc);
+    copied.extend(piece)?;
+    made.push(DiskCall::Wrote(at, copied))?;
+    Ok(())
+}
+
+// Writes a piece into the image and remembers this, or changes nothing.
+fn write_and_remember(
+    alloc: Global,
+    image: &mut Vec<u8>,
+    made: &mut Sequence<DiskCall>,
+    at: u64,
+    piece: &[u8],
+) -> Result<(), NoMemory>
+    ensures image { OnOk result (image.new.items ≡ written at piece.now image.old.items) }
+    ensures made { OnOk result (made.new ≡ made.old ++ Wrote at piece.now ∷ []) }
+    ensures image_err { OnErr result (image.new.items ≡ image.old.items) }
+    ensures made_err { OnErr result (made.new ≡ made.old) }
+{
+    let len = image.len();
+    reach(image, at, piece.len())?;
+    match remember_write(alloc, made, at, piece) {
+        Ok(()) => {
+            overwrite(image, at as usize, piece);
+            Ok(())
+        }
+        Err(NoMemory) => {
+            image.truncate(len);
+            Err(NoMemory)
+        }
+    }
+}
+
+impl MemoryDisk {
+    /// A disk with these bytes, all of them synced. `failing` lists the numbers, from 0, of the calls
+    /// that fail.
+    pub fn new(alloc: Global, bytes: Bytes, failing: Numbers) -> Result<MemoryDisk, NoMemory>
+        ensures { IfOk result (λ disk. disk ≡ new_disk bytes (no_calls failing)) }
+    {
+        let image = bytes.copy(alloc)?;
+        Ok(MemoryDisk {
+            alloc,
+            start: bytes,
+            image: image.into_vec(),
+            made: Sequence::new(alloc),
+            plan: CallPlan::new(failing),
+            refused: 0,
+        })
+    }
+
+    /// What a read gives.
+    pub fn image(&self) -> &[u8]
+        ensures { result.now ≡ image_after self.now.start self.now.made }
+    {
+        self.image.as_slice()
+    }
+
+    /// The writes and syncs that were done, the oldest first.
+    pub fn made(&self) -> &[DiskCall]
+        ensures { result.now ≡ self.now.made }
+    {
+        self.made.as_slice()
+    }
+
+    /// How many growths were refused. At `u64::MAX` it counts as risen.
+    pub fn refused(&self) -> u64
+        ensures { result ≡ self.now.refused }
+    {
+        self.refused
+    }
+}
+
+impl Disk for MemoryDisk {
+    ghost image = { disk_image };
+
+    ghost clock = { disk_clock };
+
+    ghost left_since = { disk_left_since };
+
+    ghost faults = { λ s. s.calls.faults };
+
+    ghost since_earlier = { left_since_earlier };
+
+    ghost image_may_stay = { image_stays };
+
+    fn read(&mut self, at: u64, buf: &mut [u8]) -> Result<usize, Failed>
+        // It fails exactly if it is to.
+        ensures planned { IsErr result ↔ FailsNext self.old.calls }
+        ensures failed { OnErr result (self.new ≡ after_failed_disk_call self.old) }
+        ensures done { OnOk result (self.new ≡ after_disk_read self.old) }
+
+        ensures bound { IfOk result (λ count. count ≤ length buf.new) }
+        ensures ok { IfOk result (λ count. IfSome (disk_image self.old) (λ bytes. ReadsAt at bytes count buf.new)) }
+        ensures same { OnOk result (disk_image self.new ≡ disk_image self.old) }
+        ensures told { is_some (disk_image self.new) ≡ is_some (disk_image self.old) }
+        ensures time { Idles disk_clock disk_left_since self.old self.new }
+        ensures never_falls { self.old.calls.faults ≤ self.new.calls.faults }
+    {
+        if self.plan.fails_next() {
+            self.plan.count_failed();
+            return Err(Failed);
+        }
+        self.plan.count();
+        let image = self.image.as_slice();
+        let from = (at as usize).min(image.len());
+        let rest = &image[from..];
+        let count = buf.len().min(rest.len());
+        buf[..count].copy_from_slice(&rest[..count]);
+        Ok(count)
+    }
+
+    fn write_at(&mut self, at: u64, piece: &[u8]) -> Result<(), Failed>
+        // It fails if it is to, and else only if a growth is refused.
+        ensures planned { FailsNext self.old.calls → IsErr result × (self.new ≡ after_failed_disk_call self.old) }
+        ensures refused { OnErr result (
+            FailsNext self.old.calls ⊎ (self.new ≡ after_refused_disk_call self.old)) }
+        ensures done { OnOk result (self.new ≡ after_disk_call self.old (Wrote at piece.now)) }
+
+        ensures ok { OnOk result (disk_image self.new ≡ option_map (written at piece.now) (disk_image self.old)) }
+        ensures told { is_some (disk_image self.new) ≡ is_some (disk_image self.old) }
+        ensures time { Elapses disk_clock disk_left_since self.old self.new }
+        ensures torn { (bytes : List ℕ) → LeftNow disk_clock disk_left_since self.new bytes →
+            TornFrom at piece.now (LeftNow disk_clock disk_left_since self.old) bytes }
+        ensures never_falls { self.old.calls.faults ≤ self.new.calls.faults }
+    {
+        if self.plan.fails_next() {
+            self.plan.count_failed();
+            return Err(Failed);
+        }
+        match write_and_remember(self.alloc, &mut self.image, &mut self.made, at, piece) {
+            Ok(()) => {
+                self.plan.count();
+                Ok(())
+            }
+            Err(NoMemory) => {
+                self.plan.count_failed();
+                self.refused = self.refused.saturating_add(1);
+                Err(Failed)
+            }
+        }
+    }
+
+    fn sync(&mut self) -> Result<(), Failed>
+        // It fails if it is to, and else only if a growth is refused.
+        ensures planned { FailsNext self.old.calls → IsErr result × (self.new ≡ after_failed_disk_call self.old) }
+        ensures refused { OnErr result (
+            FailsNext self.old.calls ⊎ (self.new ≡ after_refused_disk_call self.old)) }
+        ensures done { OnOk result (self.new ≡ after_disk_call self.old Synced) }
+
+        ensures ok { OnOk result (IsPinned disk_clock disk_left_since disk_image self.new) }
+        ensures same { OnOk result (disk_image self.new ≡ disk_image self.old) }
+        ensures told { is_some (disk_image self.new) ≡ is_some (disk_image self.old) }
+        ensures time { Idles disk_clock disk_left_since self.old self.new }
+        ensures never_falls { self.old.calls.faults ≤ self.new.calls.faults }
+    {
+        if self.plan.fails_next() {
+            self.plan.count_failed();
+            return Err(Failed);
+        }
+        match self.made.push(DiskCall::Synced) {
+            Ok(()) => {
+                self.plan.count();
+                Ok(())
+            }
+            Err(NoMemory) => {
+                self.plan.count_failed();
+                self.refused = self.refused.saturating_add(1);
+                Err(Failed)
+            }
+        }
+    }
+}
+
+#[cfg(test)]
+mod tests {
+    use super::*;
+    use std::test::Fail;
+
+    // A disk of these bytes whose calls with these numbers fail.
+    fn disk(alloc: Global, bytes: &[u8], failing: &[u32]) -> Result<MemoryDisk, NoMemory> {
+        let bytes = Bytes::from_vec(bytes.to_vec(alloc)?);
+        let failing = Numbers::from_vec(failing.to_vec(alloc)?);
+        MemoryDisk::new(alloc, bytes, failing)
+    }
+
+    #[test]
+    fn memory_disk_holds_what_was_written_and_fails_where_it_is_to(
+        rt: HostRuntime,
+    ) -> Result<(), Fail> {
+        let cases: [(&[u32], [bool; 4], &str); 4] = [
+            (&[], [true, true, true, true], "aXYd\0\0Z"),
+            (&[0, 1], [false, false, true, true], "abcd\0\0Z"),
+            (&[2], [true, true, false, true], "aXYd"),
+            (&[9, 3], [true, true, true, false], "aXYd\0\0Z"),
+        ];
+        for (failing, answers, held) in cases {
+            let mut disk = disk(rt.alloc(), b"abcd", failing)?;
+            assert_eq!(rt; disk.write_at(1, b"XY").is_ok(), answers[0]);
+            assert_eq!(rt; disk.sync().is_ok(), answers[1]);
+            assert_eq!(rt; disk.write_at(6, b"Z").is_ok(), answers[2]);
+            let mut buf = [0u8; 2];
+            assert_eq!(rt; disk.read(1, &mut buf).is_ok(), answers[3]);
+            assert_eq!(rt; disk.image(), held.as_bytes());
+            assert_eq!(rt; disk.refused(), 0);
+        }
+        Ok(())
+    }
+
+    #[test]
+    fn memory_disk_remembers_its_calls_and_reads_what_is_there(
+        rt: HostRuntime,
+    ) -> Result<(), Fail> {
+        let mut disk = disk(rt.alloc(), b"abcd", &[])?;
+        assert_eq!(rt; disk.write_at(3, b"D\xc3\xa9"), Ok(()));
+        assert_eq!(rt; disk.sync(), Ok(()));
+        let mut buf = [0u8; 4];
+        assert_eq!(rt; disk.read(2, &mut buf), Ok(4));
+        assert_eq!(rt; buf, *b"cD\xc3\xa9");
+        assert_eq!(rt; disk.read(5, &mut buf), Ok(1));
+        assert_eq!(rt; disk.read(u64::MAX, &mut buf), Ok(0));
+        assert_eq!(rt; disk.made().len(), 2);
+        assert_eq!(rt; disk.write_at(u64::MAX, b"x"), Err(Failed));
+        assert_eq!(rt; disk.refused(), 1);
+        assert_eq!(rt; disk.image(), b"abcD\xc3\xa9".as_slice());
+        Ok(())
+    }
+}
