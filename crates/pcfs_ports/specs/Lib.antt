@@ -3,3 +3,5 @@ pub mod Told
 pub mod Calls
 pub mod MemorySource
 pub mod MemorySink
+pub mod MemoryListener
+pub mod Accepted
