@@ -138,6 +138,7 @@ impl<'a, R: Files> Nonces for UrandomNonces<'a, R> {
 
     fn next(&mut self) -> Result<[u8; 16], Failed>
         ensures faults { self.new ≡ (if is_ok result then self.old else raised self.old) }
+        ensures risen { OnErr result (HasRisen self.old self.new) }
         ensures never_falls { self.old ≤ self.new }
     {
         match read_nonce(self.rt, &mut self.file) {

@@ -1,6 +1,6 @@
 //! A port of the system, on the loopback address.
 
-ghost use Rattle.std.specs.Prelude.{◌≡◌, ◌≢◌, ℕ, ◌≤◌, None, is_ok, if◌then◌else◌};
+ghost use Rattle.std.specs.Prelude.{◌≡◌, ◌≢◌, ℕ, ◌≤◌, None, OnErr, is_ok, if◌then◌else◌};
 ghost use Rattle.pcfs_ports.specs.Faults.{raised, HasRisen};
 
 use super::accepted::Accepted;
@@ -85,6 +85,7 @@ where
 
     fn listen(&mut self, port: u16) -> Result<(), Failed>
         ensures faults { self.new ≡ (if is_ok result then self.old else raised self.old) }
+        ensures risen { OnErr result (HasRisen self.old self.new) }
         ensures never_falls { self.old ≤ self.new }
     {
         match TcpListener::bind(self.rt, (Ipv4Addr::LOCALHOST, port)) {
@@ -104,6 +105,7 @@ where
         ensures memory { result ≢ Accepted.NoMemory }
         ensures failed { result ≡ Accepted.Failed → self.new ≡ raised self.old }
         ensures ok { result ≢ Accepted.Failed → self.new ≡ self.old }
+        ensures risen { result ≡ Accepted.Failed → HasRisen self.old self.new }
         ensures never_falls { self.old ≤ self.new }
     {
         match next_stream(&self.listener) {
