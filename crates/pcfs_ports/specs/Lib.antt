@@ -6,3 +6,5 @@ pub mod MemorySink
 pub mod Disk
 pub mod MemoryDisk
 pub mod DiskLaws
+pub mod MemoryListener
+pub mod Accepted

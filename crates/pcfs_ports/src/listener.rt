@@ -1,0 +1,180 @@
+//! Listeners: where connections come from.
+
+ghost use Rattle.std.specs.Prelude.{◌≡◌, ◌≢◌, ℕ, ◌≤◌, ◌↔◌, List, [], ◌∷◌, ◌++◌, Option, Some, IfSome, IsErr, OnOk, OnErr, length};
+ghost use Rattle.pcfs_ports.specs.Faults.{HasRisen};
+ghost use Rattle.pcfs_ports.specs.Calls.{no_calls, FailsNext, after_call, after_failed_call};
+ghost use Rattle.pcfs_ports.specs.Accepted.{connections_of, count_of, FallsBy};
+
+use super::accepted::Accepted;
+use super::faults::{CallPlan, Failed};
+use super::sinks::{MemorySink, Sink};
+use super::sources::{MemorySource, Source};
+use bl_syntax::{NoMemory, Numbers};
+use std::alloc::Global;
+use std::collections::VecDeque;
+use std::marker::Model;
+
+/// Where connections come from, one after another.
+///
+/// Its meaning is how many connections are still to come, which it tells or does not tell; whether it is over; and a count
+/// of faults that never falls, and counts as risen where it stands at `u64::MAX`. Whether it tells how many come is the
+/// same after each call as before.
+pub trait Listener {
+    /// Where a connection's bytes come from.
+    type In: Source + Send + Drop;
+
+    /// Where a connection's bytes go.
+    type Out: Sink + Send + Drop;
+
+    // How many connections are still to come, where it tells that.
+    ghost waiting: { Self → Option ℕ };
+
+    // No connection comes any more.
+    ghost over: { Self → Type 0 };
+
+    // How many faults it has had.
+    ghost faults: { Self → ℕ };
+
+    /// Begins to listen on a port. `Failed` comes only where the count of faults rose.
+    fn listen(&mut self, port: u16) -> Result<(), Failed>
+        ensures waiting { waiting self.new ≡ waiting self.old }
+        ensures risen { OnErr result (HasRisen (faults self.old) (faults self.new)) }
+        ensures never_falls { faults self.old ≤ faults self.new };
+
+    /// The next connection. It may wait for one.
+    ///
+    /// `Closed` comes only where it is over, and none is still to come. `Failed` comes only where the count of faults rose.
+    fn accept(&mut self, alloc: Global) -> Accepted<Self::In, Self::Out>
+        ensures waiting { FallsBy (count_of result) (waiting self.old) (waiting self.new) }
+        ensures closed { result ≡ Accepted.Closed → over self.new }
+        ensures none_left { result ≡ Accepted.Closed → IfSome (waiting self.new) (λ left. left ≡ 0) }
+        ensures risen { result ≡ Accepted.Failed → HasRisen (faults self.old) (faults self.new) }
+        ensures never_falls { faults self.old ≤ faults self.new };
+}
+
+/// A listener that gives connections from memory, in the order in which they were added, and is over where none is left.
+/// It fails exactly at the calls, of `listen` and `accept` together, that are to fail, which give no connection.
+#[derive(Debug, Drop)]
+pub struct MemoryListener {
+    queue: VecDeque<(MemorySource, MemorySink)>,
+    plan: CallPlan,
+}
+
+impl Model for MemoryListener {
+    ghost use Rattle.pcfs_ports.specs.MemoryListener.{ListenerState};
+
+    ghost Value = { ListenerState };
+
+    ghost view = { λ s. record { queue = s.queue.items; calls = s.plan } };
+}
+
+impl MemoryListener {
+    /// A listener without connections. `failing` lists the numbers, from 0, of the calls that fail. It takes no memory.
+    pub fn new(alloc: Global, failing: Numbers) -> Self
+        ensures { result ≡ record { queue = []; calls = no_calls failing } }
+    {
+        MemoryListener {
+            queue: VecDeque::new(alloc),
+            plan: CallPlan::new(failing),
+        }
+    }
+
+    /// Adds a connection as the last.
+    pub fn add(&mut self, input: MemorySource, output: MemorySink) -> Result<(), NoMemory>
+        ensures ok { OnOk result (self.new ≡ record self.old { queue = self.old.queue ++ (input, output) ∷ [] }) }
+        ensures err { OnErr result (self.new ≡ self.old) }
+    {
+        self.queue.push_back((input, output))?;
+        Ok(())
+    }
+}
+
+impl Listener for MemoryListener {
+    type In = MemorySource;
+
+    type Out = MemorySink;
+
+    ghost waiting = { λ s. Some (length s.queue) };
+
+    ghost over = { λ s. s.queue ≡ [] };
+
+    ghost faults = { λ s. s.calls.faults };
+
+    fn listen(&mut self, _port: u16) -> Result<(), Failed>
+        ensures planned { IsErr result ↔ FailsNext self.old.calls }
+        ensures failed { OnErr result (self.new ≡ record self.old { calls = after_failed_call self.old.calls }) }
+        ensures ok { OnOk result (self.new ≡ record self.old { calls = after_call self.old.calls }) }
+        ensures never_falls { self.old.calls.faults ≤ self.new.calls.faults }
+    {
+        if self.plan.fails_next() {
+            self.plan.count_failed();
+            return Err(Failed);
+        }
+        self.plan.count();
+        Ok(())
+    }
+
+    fn accept(&mut self, _alloc: Global) -> Accepted<MemorySource, MemorySink>
+        ensures planned { (result ≡ Accepted.Failed) ↔ FailsNext self.old.calls }
+        ensures failed { result ≡ Accepted.Failed → self.new ≡ record self.old { calls = after_failed_call self.old.calls } }
+
+        // Else it gives the first connection, and is closed where there is none.
+        ensures closed { result ≡ Accepted.Closed → self.old.queue ≡ [] }
+        ensures taken { self.old.queue ≡ connections_of result ++ self.new.queue }
+        ensures calls { result ≢ Accepted.Failed → self.new.calls ≡ after_call self.old.calls }
+        ensures memory { result ≢ Accepted.NoMemory }
+
+        ensures never_falls { self.old.calls.faults ≤ self.new.calls.faults }
+    {
+        if self.plan.fails_next() {
+            self.plan.count_failed();
+            return Accepted::Failed;
+        }
+        self.plan.count();
+        match self.queue.pop_front() {
+            Some((input, output)) => Accepted::Conn(input, output),
+            None => Accepted::Closed,
+        }
+    }
+}
+
+#[cfg(test)]
+mod tests {
+    use super::*;
+    use bl_syntax::Bytes;
+    use std::test::Fail;
+
+    // The first byte of the next connection's input, or what came in its place.
+    fn next_byte(alloc: Global, listener: &mut MemoryListener) -> Result<u8, &'static str> {
+        match listener.accept(alloc) {
+            Accepted::Conn(mut input, _) => {
+                let mut byte = [0u8; 1];
+                match input.read(&mut byte) {
+                    Ok(_) => Ok(byte[0]),
+                    Err(Failed) => Err("not read"),
+                }
+            }
+            Accepted::Closed => Err("closed"),
+            Accepted::Failed => Err("failed"),
+            Accepted::NoMemory => Err("no memory"),
+        }
+    }
+
+    #[test]
+    fn memory_listener_gives_connections_in_order(rt: HostRuntime) -> Result<(), Fail> {
+        let alloc = rt.alloc();
+        let failing = Numbers::from_vec([2u32].to_vec(alloc)?);
+        let mut listener = MemoryListener::new(alloc, failing);
+        for text in ["a", "b"] {
+            let bytes = Bytes::from_vec(text.as_bytes().to_vec(alloc)?);
+            let input = MemorySource::new(alloc, bytes, Numbers::new(alloc));
+            listener.add(input, MemorySink::new(alloc, Numbers::new(alloc)))?;
+        }
+        assert_eq!(rt; listener.listen(4040), Ok(()));
+        assert_eq!(rt; next_byte(alloc, &mut listener), Ok(b'a'));
+        assert_eq!(rt; next_byte(alloc, &mut listener), Err("failed"));
+        assert_eq!(rt; next_byte(alloc, &mut listener), Ok(b'b'));
+        assert_eq!(rt; next_byte(alloc, &mut listener), Err("closed"));
+        Ok(())
+    }
+}

@@ -1,0 +1,179 @@
+//! Nonces: sixteen bytes at a time that a client has to sign.
+
+ghost use Rattle.std.specs.Prelude.{◌≡◌, ℕ, ◌<◌, ◌≤◌, ◌↔◌, ◌⊎◌, IfOk, IsErr, OnOk, OnErr, length, take, is_ok, if◌then◌else◌};
+ghost use Rattle.pcfs_ports.specs.Faults.{HasRisen, raised};
+ghost use Rattle.pcfs_ports.specs.Calls.{no_calls, FailsNext};
+ghost use Rattle.pcfs_ports.specs.MemorySource.{after_read, after_failed_read};
+
+use super::faults::{CallPlan, Failed};
+use bl_syntax::{Bytes, Numbers};
+use std::alloc::Global;
+use std::io::Read;
+use std::marker::Model;
+use std::rt::Files;
+use std::{fs, io};
+
+/// How many bytes a nonce has.
+pub const NONCE_LEN: usize = 16;
+
+/// Where nonces come from.
+///
+/// Its meaning is a count of faults that never falls, and counts as risen where it stands at `u64::MAX`. Nothing is told
+/// of the bytes. Asking takes no memory.
+pub trait Nonces {
+    // How many faults it has had.
+    ghost faults: { Self → ℕ };
+
+    /// The next nonce. `Failed` comes only where the count of faults rose.
+    fn next(&mut self) -> Result<[u8; 16], Failed>
+        ensures risen { OnErr result (HasRisen (faults self.old) (faults self.new)) }
+        ensures never_falls { faults self.old ≤ faults self.new };
+}
+
+/// Nonces from a list of bytes, sixteen at a time. It fails at the calls that are to fail, which take no byte, and where
+/// fewer than sixteen bytes are left.
+#[derive(Debug, Drop)]
+pub struct ListNonces {
+    bytes: Bytes,
+    at: usize,
+    plan: CallPlan,
+}
+
+impl Model for ListNonces {
+    ghost use Rattle.std.specs.Prelude.{◌≤◌, drop, length};
+    ghost use Rattle.pcfs_ports.specs.MemorySource.{SourceState};
+
+    // the bytes that are left, and the calls
+    ghost Value = { SourceState };
+
+    ghost view = { λ s. record { left = drop s.at s.bytes; calls = s.plan } };
+
+    ghost invariant = { λ s. s.at ≤ length s.bytes };
+}
+
+impl ListNonces {
+    /// Nonces from these bytes. `failing` lists the numbers, from 0, of the calls that fail. It takes no memory.
+    pub fn new(_alloc: Global, list: Bytes, failing: Numbers) -> Self
+        ensures { result ≡ record { left = list; calls = no_calls failing } }
+    {
+        ListNonces {
+            bytes: list,
+            at: 0,
+            plan: CallPlan::new(failing),
+        }
+    }
+}
+
+impl Nonces for ListNonces {
+    ghost faults = { λ s. s.calls.faults };
+
+    fn next(&mut self) -> Result<[u8; 16], Failed>
+        ensures cause { IsErr result ↔ (FailsNext self.old.calls ⊎ (length self.old.left < NONCE_LEN)) }
+        ensures failed { OnErr result (self.new ≡ after_failed_read self.old) }
+
+        // Else it takes the next sixteen bytes.
+        ensures nonce { IfOk result (λ nonce. nonce ≡ take NONCE_LEN self.old.left) }
+        ensures taken { OnOk result (self.new ≡ after_read self.old NONCE_LEN) }
+
+        ensures never_falls { self.old.calls.faults ≤ self.new.calls.faults }
+    {
+        let left = &self.bytes.as_slice()[self.at..];
+        if self.plan.fails_next() || left.len() < NONCE_LEN {
+            self.plan.count_failed();
+            return Err(Failed);
+        }
+        self.plan.count();
+        let mut nonce = [0u8; NONCE_LEN];
+        nonce.copy_from_slice(&left[..NONCE_LEN]);
+        self.at += NONCE_LEN;
+        Ok(nonce)
+    }
+}
+
+/// The system's random bytes, from `/dev/urandom`. It opens that file at its first call, and again after a call that
+/// failed. Each error, and an end of the file, is a fault.
+#[derive(Drop)]
+pub struct UrandomNonces<'a, R: Files> {
+    rt: &'a R,
+    file: Option<R::File>,
+    faults: u64,
+}
+
+impl<'a, R: Files> Model for UrandomNonces<'a, R> {
+    ghost use Rattle.std.specs.Prelude.{ℕ};
+
+    // the count of faults
+    ghost Value = { ℕ };
+
+    ghost view = { λ s. s.faults };
+}
+
+impl<'a, R: Files> UrandomNonces<'a, R> {
+    /// Nonces of this runtime's system, without a fault. It opens no file yet.
+    pub fn new(rt: &'a R) -> Self
+        ensures { result ≡ 0 }
+    {
+        UrandomNonces {
+            rt,
+            file: None,
+            faults: 0,
+        }
+    }
+}
+
+// The next bytes of the file, which is opened first where it is not open. After an error it is closed.
+fn read_nonce<R: Files>(rt: &R, file: &mut Option<R::File>) -> io::Result<[u8; 16]> {
+    let mut reader = match file.take() {
+        Some(reader) => reader,
+        None => fs::open(rt, "/dev/urandom")?,
+    };
+    let mut nonce = [0u8; NONCE_LEN];
+    reader.read_exact(&mut nonce)?;
+    *file = Some(reader);
+    Ok(nonce)
+}
+
+impl<'a, R: Files> Nonces for UrandomNonces<'a, R> {
+    ghost faults = { λ s. s };
+
+    fn next(&mut self) -> Result<[u8; 16], Failed>
+        ensures faults { self.new ≡ (if is_ok result then self.old else raised self.old) }
+        ensures risen { OnErr result (HasRisen self.old self.new) }
+        ensures never_falls { self.old ≤ self.new }
+    {
+        match read_nonce(self.rt, &mut self.file) {
+            Ok(nonce) => Ok(nonce),
+            Err(_) => {
+                self.faults = self.faults.saturating_add(1);
+                Err(Failed)
+            }
+        }
+    }
+}
+
+#[cfg(test)]
+mod tests {
+    use super::*;
+    use std::test::Fail;
+
+    #[test]
+    fn list_nonces_come_in_order(rt: HostRuntime) -> Result<(), Fail> {
+        let list = Bytes::from_vec(b"0123456789abcdefghijklmnopqrstuvwxyz".to_vec(rt.alloc())?);
+        let failing = Numbers::from_vec([1u32].to_vec(rt.alloc())?);
+        let mut nonces = ListNonces::new(rt.alloc(), list, failing);
+        assert_eq!(rt; nonces.next(), Ok(*b"0123456789abcdef"));
+        assert_eq!(rt; nonces.next(), Err(Failed));
+        assert_eq!(rt; nonces.next(), Ok(*b"ghijklmnopqrstuv"));
+        assert_eq!(rt; nonces.next(), Err(Failed));
+        Ok(())
+    }
+
+    #[test]
+    fn urandom_nonces_differ(rt: HostRuntime) -> Result<(), Fail> {
+        let mut nonces = UrandomNonces::new(&rt);
+        let first = nonces.next().ok().ok_or("no first nonce")?;
+        let second = nonces.next().ok().ok_or("no second nonce")?;
+        assert_ne!(rt; first, second);
+        Ok(())
+    }
+}

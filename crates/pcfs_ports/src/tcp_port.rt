@@ -1,0 +1,160 @@
+//! A port of the system, on the loopback address.
+
+ghost use Rattle.std.specs.Prelude.{◌≡◌, ◌≢◌, ℕ, ◌≤◌, None, OnErr, is_ok, if◌then◌else◌};
+ghost use Rattle.pcfs_ports.specs.Faults.{raised, HasRisen};
+
+use super::accepted::Accepted;
+use super::faults::Failed;
+use super::listener::Listener;
+use super::sinks::StdSink;
+use super::sources::StdSource;
+use std::alloc::Global;
+use std::io;
+use std::io::ErrorKind;
+use std::marker::Model;
+use std::net::{Ipv4Addr, Net, OpenListener, OpenStream, TcpListener};
+
+/// A TCP port on 127.0.0.1.
+///
+/// A connection is read and written in pieces, and its two halves can be used at once. It is sent without delay, where
+/// the system has `TCP_NODELAY`, and closes once both halves were dropped. A connection that was broken off before it was
+/// accepted is passed over. Each other error is a fault. It is never over, and does not tell how many connections come.
+#[derive(Drop)]
+pub struct TcpPort<'a, R: Net> {
+    rt: &'a R,
+    listener: Option<R::Listener>,
+    faults: u64,
+}
+
+impl<'a, R: Net> Model for TcpPort<'a, R> {
+    ghost use Rattle.std.specs.Prelude.{ℕ};
+
+    // the count of faults
+    ghost Value = { ℕ };
+
+    ghost view = { λ s. s.faults };
+}
+
+impl<'a, R: Net> TcpPort<'a, R> {
+    /// A port of this runtime's system, without a fault. It does not listen yet.
+    pub fn new(rt: &'a R) -> Self
+        ensures { result ≡ 0 }
+    {
+        TcpPort {
+            rt,
+            listener: None,
+            faults: 0,
+        }
+    }
+}
+
+// The next connection, twice.
+fn next_stream<L: OpenListener>(listener: &Option<L>) -> io::Result<(L::Stream, L::Stream)>
+where
+    L::Stream: OpenStream,
+{
+    let Some(listener) = listener else {
+        return Err(ErrorKind::NotConnected.into());
+    };
+    for _ in 0..u64::MAX {
+        match listener.accept() {
+            Ok((stream, _)) => {
+                let _ = stream.set_nodelay(true);
+                return Ok((stream.try_clone()?, stream));
+            }
+            Err(e) if e.kind() == ErrorKind::ConnectionAborted => {}
+            Err(e) => return Err(e),
+        }
+    }
+    Err(ErrorKind::Other.into())
+}
+
+impl<'a, R: Net> Listener for TcpPort<'a, R>
+where
+    R::Stream: Send,
+{
+    type In = StdSource<R::Stream>;
+
+    type Out = StdSink<R::Stream>;
+
+    ghost waiting = { λ _. None };
+
+    ghost over = { λ _. ⊥ };
+
+    ghost faults = { λ s. s };
+
+    fn listen(&mut self, port: u16) -> Result<(), Failed>
+        ensures faults { self.new ≡ (if is_ok result then self.old else raised self.old) }
+        ensures risen { OnErr result (HasRisen self.old self.new) }
+        ensures never_falls { self.old ≤ self.new }
+    {
+        match TcpListener::bind(self.rt, (Ipv4Addr::LOCALHOST, port)) {
+            Ok(listener) => {
+                self.listener = Some(listener);
+                Ok(())
+            }
+            Err(_) => {
+                self.faults = self.faults.saturating_add(1);
+                Err(Failed)
+            }
+        }
+    }
+
+    fn accept(&mut self, _alloc: Global) -> Accepted<StdSource<R::Stream>, StdSink<R::Stream>>
+        ensures never_closed { result ≢ Accepted.Closed }
+        ensures memory { result ≢ Accepted.NoMemory }
+        ensures failed { result ≡ Accepted.Failed → self.new ≡ raised self.old }
+        ensures ok { result ≢ Accepted.Failed → self.new ≡ self.old }
+        ensures risen { result ≡ Accepted.Failed → HasRisen self.old self.new }
+        ensures never_falls { self.old ≤ self.new }
+    {
+        match next_stream(&self.listener) {
+            Ok((input, output)) => Accepted::Conn(StdSource::new(input), StdSink::new(output)),
+            Err(_) => {
+                self.faults = self.faults.saturating_add(1);
+                Accepted::Failed
+            }
+        }
+    }
+}
+
+#[cfg(test)]
+mod tests {
+    use super::*;
+    use crate::sinks::Sink;
+    use crate::sources::Source;
+    use std::io::{Read, Write};
+    use std::net::TcpStream;
+    use std::test::Fail;
+
+    // Listens on the first port from 40,000 that is free.
+    fn listen_somewhere<'a>(port: &mut TcpPort<'a, HostRuntime>) -> Option<u16> {
+        for number in 40_000..41_000 {
+            if port.listen(number).is_ok() {
+                return Some(number);
+            }
+        }
+        None
+    }
+
+    #[test]
+    fn tcp_port_gives_both_halves_of_a_connection(rt: HostRuntime) -> Result<(), Fail> {
+        let mut port = TcpPort::new(&rt);
+        let number = listen_somewhere(&mut port).ok_or("no free port")?;
+        assert_eq!(rt; TcpPort::new(&rt).listen(number), Err(Failed));
+        let mut client = TcpStream::connect(&rt, (Ipv4Addr::LOCALHOST, number))?;
+        client.write_all(b"ping")?;
+        let Accepted::Conn(mut input, mut output) = port.accept(rt.alloc()) else {
+            return Err("no connection".into());
+        };
+        let mut buf = [0u8; 8];
+        assert_eq!(rt; input.read(&mut buf), Ok(4));
+        assert_eq!(rt; &buf[..4], b"ping".as_slice());
+        assert_eq!(rt; output.write(b"pong"), Ok(4));
+        assert_eq!(rt; client.read(&mut buf)?, 4);
+        assert_eq!(rt; &buf[..4], b"pong".as_slice());
+        drop(client);
+        assert_eq!(rt; input.read(&mut buf), Ok(0));
+        Ok(())
+    }
+}
