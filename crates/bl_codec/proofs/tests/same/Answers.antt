@@ -1,6 +1,0 @@
-use Rattle.bl_syntax.specs.Formula.{formula}
-use Rattle.bl_codec.proofs.StatementTest.{terms_in_range}
-use Rattle.bl_codec.proofs.tests.same.Goals as goal
-
-pub write_formula-requires-clause-times : goal.write_formula-requires-clause-times
-write_formula-requires-clause-times c = terms_in_range (formula c.in-Ok.found.0) c.in-Ok.ensures.front.found.0.terms
