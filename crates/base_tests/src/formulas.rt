@@ -81,14 +81,13 @@ fn above(alloc: Global, tag: u8) -> Result<Formula, Fail> {
 
 // Whether the bytes are read as the formula, and this is written as them.
 fn has_bytes(alloc: Global, f: &Formula, bytes: &[u8]) -> Result<bool, Fail> {
-    match read_formula(alloc, bytes) {
-        Ok((read, count)) => {
-            let mut out = Sequence::new(alloc);
-            let written = write_formula(&read, &mut out).is_ok();
-            Ok(written && read.is_same(f) && count == bytes.len() && out.as_slice() == bytes)
-        }
-        Err(_) => Ok(false),
-    }
+    let (read, count) = match read_formula(alloc, bytes) {
+        Ok(found) => found,
+        Err(_) => return Ok(false),
+    };
+    let mut out = Sequence::new(alloc);
+    write_formula(&read, &mut out)?;
+    Ok(read.is_same(f) && count == bytes.len() && out.as_slice() == bytes)
 }
 
 // The formula of the table with that tag.
