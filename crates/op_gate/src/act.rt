@@ -37,12 +37,14 @@ fn making(
     ensures event { IfOk result (λ step. step.event ≡ Event.Acted pass caller.now (Op.Create (record { 0 = row.parent }) name.now) (procap.now ∷ []) moment) }
     ensures change { IfOk result (λ step. step.change ≡ Change.Node (record { row = row; moment = moment })) }
 {
+    let name = name.copy(alloc)?;
+    let procaps = bringing(alloc, procap)?;
     Ok(Step {
         event: Event::Acted {
             pass,
             caller: *caller,
-            op: Op::Create(NodeId(row.parent), name.copy(alloc)?),
-            procaps: bringing(alloc, procap)?,
+            op: Op::Create(NodeId(row.parent), name),
+            procaps,
             moment,
         },
         change: Change::Node(AddedNode { row, moment }),

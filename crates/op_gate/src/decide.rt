@@ -43,6 +43,19 @@ fn rejection(fault: RegistryFault) -> Result<RegisterFault, NoMemory>
     }
 }
 
+// A statement and its signature in memory of their own.
+fn signed_copy(
+    alloc: Global,
+    statement: &Statement,
+    signature: &Bytes,
+) -> Result<(Statement, Bytes), NoMemory>
+    ensures { IfOk result (λ copied. copied ≡ (statement.now, signature.now)) }
+{
+    let statement = statement.copy(alloc)?;
+    let signature = signature.copy(alloc)?;
+    Ok((statement, signature))
+}
+
 // The step that registers a statement.
 fn registering(
     alloc: Global,
@@ -53,13 +66,15 @@ fn registering(
     ensures event { IfOk result (λ step. step.event ≡ Event.Registered pass statement.now signature.now) }
     ensures change { IfOk result (λ step. step.change ≡ Change.Statement statement.now signature.now) }
 {
+    let (kept_statement, kept_signature) = signed_copy(alloc, statement, signature)?;
+    let (statement, signature) = signed_copy(alloc, statement, signature)?;
     Ok(Step {
         event: Event::Registered {
             pass,
-            statement: statement.copy(alloc)?,
-            signature: signature.copy(alloc)?,
+            statement,
+            signature,
         },
-        change: Change::Statement(statement.copy(alloc)?, signature.copy(alloc)?),
+        change: Change::Statement(kept_statement, kept_signature),
     })
 }
 
@@ -146,10 +161,13 @@ pub fn decide_show(
 fn issue_of(alloc: Global, checked: &Checked) -> Result<Issue, NoMemory>
     ensures { IfOk result (λ issue. issue ≡ record { cited = numbers_of checked.now.cited; proof = checked.now.proof; grant = checked.now.grant }) }
 {
+    let cited = cited_numbers(alloc, checked.cited().as_slice())?;
+    let proof = checked.proof().copy(alloc)?;
+    let grant = checked.grant().copy(alloc)?;
     Ok(Issue {
-        cited: cited_numbers(alloc, checked.cited().as_slice())?,
-        proof: checked.proof().copy(alloc)?,
-        grant: checked.grant().copy(alloc)?,
+        cited,
+        proof,
+        grant,
     })
 }
 
@@ -158,6 +176,7 @@ fn issuing(alloc: Global, pass: u64, checked: &Checked) -> Result<Step, NoMemory
     ensures event { IfOk result (λ step. step.event ≡ Event.Issued pass (numbers_of checked.now.cited) checked.now.proof checked.now.grant) }
     ensures change { IfOk result (λ step. step.change ≡ Change.Issue (record { cited = numbers_of checked.now.cited; proof = checked.now.proof; grant = checked.now.grant })) }
 {
+    let kept = issue_of(alloc, checked)?;
     let Issue {
         cited,
         proof,
@@ -170,7 +189,7 @@ fn issuing(alloc: Global, pass: u64, checked: &Checked) -> Result<Step, NoMemory
             proof,
             grant,
         },
-        change: Change::Issue(issue_of(alloc, checked)?),
+        change: Change::Issue(kept),
     })
 }
 
