@@ -1,11 +1,11 @@
 -- Where chains lead, by constraints that lead only to one another.
-use Rattle.std.proofs.Common.{◌⊎◌, inl, inr, List, []}
+use Rattle.std.proofs.Common.{◌≡◌, ◌⊎◌, inl, inr, List, [], ◌∷◌, length, arith}
 use Rattle.std.specs.Prelude.{Contains}
 use Rattle.bl_syntax.specs.declared.terms.Term.{Term}
 use Rattle.bl_syntax.specs.declared.terms.Constraint.{Constraint}
-use Rattle.bl_syntax.specs.Entailment.{IsLink, same, constants, from_the_start, to_the_end, constrained, IsChain, link, longer}
+use Rattle.bl_syntax.specs.Entailment.{IsLink, same, constants, from_the_start, to_the_end, constrained, IsChain, link, longer, IsContradictory}
 use Rattle.bl_syntax.proofs.EntailmentLemmas.{IsChain-joined}
-use Rattle.bl_constraints.proofs.LinkLemmas.{link_in, link_transitive}
+use Rattle.bl_constraints.proofs.LinkLemmas.{link_in, link_transitive, link_of_times}
 
 pub by_cases : {A B C : Type 0} → A ⊎ B → (A → C) → (B → C) → C
 by_cases (inl a) f g = f a
@@ -68,3 +68,15 @@ module _ (psi : List Constraint) (Among : Constraint → Type 0) (from : Term)
 
   pub led_to : (y : Term) → IsChain psi from y → IsLedTo psi Among from y
   led_to y chain = along_chain chain (inl (same from))
+
+-- without constraints a chain is a link, and nothing contradicts
+link_of_chain : {u v : Term} → IsChain [] u v → IsLink [] u v
+link_of_chain (link u v l) = l
+link_of_chain (longer u v w l chain) = link_transitive l (link_of_chain chain)
+
+pub link_without_constraints : (psi : List Constraint) {u v : Term} → length psi ≡ 0 → IsChain psi u v → IsLink [] u v
+link_without_constraints [] e chain = link_of_chain chain
+link_without_constraints (c ∷ psi) e chain = absurd (omega (arith, e))
+
+pub no_contradiction : (psi : List Constraint) → length psi ≡ 0 → IsContradictory psi → ⊥
+no_contradiction psi e k = k.out_of_order ((link_of_times k.greater k.lesser).0 (link_without_constraints psi e k.chain))

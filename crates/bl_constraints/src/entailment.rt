@@ -28,7 +28,10 @@ fn leads(psi: &[Constraint], u: &Term, v: &Term) -> bool
     if is_linked(u, v) {
         return true;
     }
-    let mut table = [0; MOST_CONSTRAINTS];
+    if psi.len() == 0 {
+        return false;
+    }
+    let mut table = [0u16; MOST_CONSTRAINTS];
     let order = &mut table[..psi.len()];
     number_places(psi, order);
     let reached = reach_from(psi, u, order, 0);
@@ -41,7 +44,10 @@ fn is_contradictory(psi: &[Constraint]) -> bool
     requires { length psi.now ≤ 512 }
     ensures { IsTrue result ↔ IsContradictory psi.now }
 {
-    let mut table = [0; MOST_CONSTRAINTS];
+    if psi.len() == 0 {
+        return false;
+    }
+    let mut table = [0u16; MOST_CONSTRAINTS];
     let order = &mut table[..psi.len()];
     number_places(psi, order);
     let mut reached = 0;
@@ -59,7 +65,7 @@ fn is_contradictory(psi: &[Constraint]) -> bool
 fn reach_source(
     psi: &[Constraint],
     source: Source,
-    order: &mut [usize],
+    order: &mut [u16],
     reached: usize,
 ) -> Option<usize>
     requires safe { IsSafe psi.now order.old reached }

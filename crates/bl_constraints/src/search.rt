@@ -8,24 +8,25 @@ use crate::links::{End, is_linked};
 use bl_syntax::{Constraint, Term};
 
 /// Puts the constraints in the order in which they are given.
-pub(crate) fn number_places(psi: &[Constraint], order: &mut [usize])
-    requires { length order.old ≡ length psi.now }
+pub(crate) fn number_places(psi: &[Constraint], order: &mut [u16])
+    requires same { length order.old ≡ length psi.now }
+    requires few { length psi.now ≤ 512 }
     ensures { IsOrder psi.now order.new }
 {
     for place in 0..psi.len() {
-        order[place] = place;
+        order[place] = place as u16;
     }
 }
 
 /// Reaches the constraints that begin where the term leads and were not reached, and answers how many are reached then.
-pub(crate) fn reach_from(psi: &[Constraint], t: &Term, order: &mut [usize], reached: usize) -> usize
+pub(crate) fn reach_from(psi: &[Constraint], t: &Term, order: &mut [u16], reached: usize) -> usize
     requires order { IsOrder psi.now order.old }
     requires within { reached ≤ length order.old }
     ensures { IsReachedFrom psi.now t.now order.old reached order.new result }
 {
     let mut count = reached;
     for place in reached..order.len() {
-        if is_linked(t, &psi[order[place]].low) {
+        if is_linked(t, &psi[order[place] as usize].low) {
             order.swap(place, count);
             count += 1;
         }
@@ -38,7 +39,7 @@ pub(crate) fn reach_from(psi: &[Constraint], t: &Term, order: &mut [usize], reac
 pub(crate) fn search(
     psi: &[Constraint],
     end: &End,
-    order: &mut [usize],
+    order: &mut [u16],
     done: usize,
     reached: usize,
 ) -> Option<usize>
@@ -51,7 +52,7 @@ pub(crate) fn search(
     let mut next = done;
     let mut count = reached;
     while next < count {
-        let high = &psi[order[next]].high;
+        let high = &psi[order[next] as usize].high;
         if end.is_at(high) {
             return None;
         }

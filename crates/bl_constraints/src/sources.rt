@@ -15,14 +15,14 @@ pub(crate) struct Source {
 }
 
 /// The greatest constant with which a constraint begins that was not reached.
-pub(crate) fn greatest_source(psi: &[Constraint], order: &[usize], reached: usize) -> Option<Source>
+pub(crate) fn greatest_source(psi: &[Constraint], order: &[u16], reached: usize) -> Option<Source>
     requires order { IsOrder psi.now order.now }
     requires within { reached ≤ length order.now }
     ensures { MatchOption result (HasNoSource psi.now order.now reached) (IsGreatestSource psi.now order.now reached) }
 {
     let mut greatest = None;
     for place in reached..order.len() {
-        let c = &psi[order[place]];
+        let c = &psi[order[place] as usize];
         if let Term::Time(point) = c.low {
             greatest = Some(later(greatest, Source { place, point }));
         }
