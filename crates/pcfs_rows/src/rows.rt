@@ -82,6 +82,25 @@ fn read_rows(
     Ok(true)
 }
 
+// Reads the rows that begin each case and those of the case. Returns whether none is bad.
+fn read_case(
+    alloc: Global,
+    beginning: &str,
+    rows: &str,
+    case: &mut Case,
+    report: &mut Bytes,
+) -> Result<bool, NoMemory> {
+    let begins = read_rows(alloc, beginning, case, report)?;
+    let goes_on = read_rows(alloc, rows, case, report)?;
+    Ok(begins && goes_on)
+}
+
+// Adds that the case is not run.
+fn add_unread(name: &str, report: &mut Bytes) -> Result<bool, NoMemory> {
+    add_report("not run: ", name, report)?;
+    Ok(false)
+}
+
 // Runs the case of this name, and adds how it ended.
 fn run_case<R: Threads + Wait + Sync + AllocGlobal>(
     rt: &R,
@@ -104,15 +123,15 @@ fn run_block<R: Threads + Wait + Sync + AllocGlobal>(
 ) -> Result<bool, NoMemory> {
     let (name, rows) = block.split_once('\n').unwrap_or((block, ""));
     let mut case = Case::new(rt.alloc());
-    let begins = read_rows(rt.alloc(), beginning, &mut case, report);
-    let goes_on = read_rows(rt.alloc(), rows, &mut case, report);
-    match (begins, goes_on) {
-        (Ok(true), Ok(true)) => run_case(rt, name, case, report),
-        (Err(refused), _) | (_, Err(refused)) => Err(refused),
-        _ => {
-            add_report("not run: ", name, report)?;
-            Ok(false)
+    match read_case(rt.alloc(), beginning, rows, &mut case, report) {
+        Ok(is_read) => {
+            if is_read {
+                run_case(rt, name, case, report)
+            } else {
+                add_unread(name, report)
+            }
         }
+        Err(refused) => Err(refused),
     }
 }
 
