@@ -1,19 +1,16 @@
 -- Reading grants from their canonical bytes, from the left: the value and the bytes behind it, or the first fault. The order of the faults is this project's
 -- own. A condition is read whole, and then tested as one field; the number of conditions is tested as soon as it is there.
-use Rattle.std.specs.Prelude.{ℕ, zero, suc, ◌-◌, List, [], ◌∷◌, ◌++◌, length, Bool, true, false, not, ◌&&◌, ◌||◌, nat_lt, ◌==◌, if◌then◌else◌, Result, Ok, Err}
-use Rattle.std.specs.List.{list_all, list_any}
+use Rattle.std.specs.Prelude.{ℕ, zero, suc, ◌-◌, List, [], ◌∷◌, ◌++◌, length, Bool, not, ◌&&◌, nat_lt, ◌==◌, if◌then◌else◌, Result, Ok, Err}
+use Rattle.std.specs.List.{list_any}
 use Rattle.std.specs.Int.{w64}
 use Rattle.bl_syntax.specs.declared.codec_fault.CodecFault.{CodecFault}
 use Rattle.bl_syntax.specs.declared.codec_fault.CodecFault.TheVariants.{Short, BadTag, NotCanonical}
-use Rattle.bl_syntax.specs.declared.terms.Term.{Term}
-use Rattle.bl_syntax.specs.declared.terms.Term.TheVariants as term
 use Rattle.bl_syntax.specs.declared.terms.Constraint.{Constraint}
 use Rattle.bl_syntax.specs.declared.terms.StatePred.{StatePred}
 use Rattle.bl_syntax.specs.declared.terms.StatePred.TheVariants.{Owner, HasXattr, InDir}
 use Rattle.bl_syntax.specs.declared.grant.Goal.{Goal}
-use Rattle.bl_syntax.specs.contracts.terms.ConstraintPartialEq.TheImpl as constraints
-use Rattle.bl_syntax.specs.contracts.terms.StatePredPartialEq.TheImpl as states
-use Rattle.bl_syntax.specs.WellSorted.{terms_of_state}
+use Rattle.bl_syntax.specs.Equality.{constraint_eq, state_eq}
+use Rattle.bl_syntax.specs.ConditionTests.{is_time_condition, is_state_condition}
 use Rattle.bl_syntax.specs.Grant.{Granted}
 use Rattle.bl_syntax.specs.Reading.{◌>>=◌, Reading, place, made, number_at, name_at, permission_at, term_at}
 use Rattle.bl_syntax.specs.FormulaReading.{is_formula_tag}
@@ -56,42 +53,12 @@ unfoldable pub state_condition_at : ℕ → List ℕ → Reading StatePred
 state_condition_at input [] = Err Short
 state_condition_at input (tag ∷ rest) = state_terms_at input (place input (tag ∷ rest)) tag rest
 
--- whether it names one thing, whatever the current time and the parameters are
-abbrev pub is_constant : Term → Bool
-is_constant (term.Prin name) = true
-is_constant (term.File node) = true
-is_constant (term.Perm permission) = true
-is_constant (term.Time point) = true
-is_constant (term.Text text) = true
-is_constant term.Ctime = false
-is_constant (term.Param n) = false
-is_constant (term.Bound n) = false
-
--- whether it is the current time
-abbrev pub is_ctime : Term → Bool
-is_ctime (term.Prin name) = false
-is_ctime (term.File node) = false
-is_ctime (term.Perm permission) = false
-is_ctime (term.Time point) = false
-is_ctime (term.Text text) = false
-is_ctime term.Ctime = true
-is_ctime (term.Param n) = false
-is_ctime (term.Bound n) = false
-
--- the current time on one side, and the current time or a constant on the other
-abbrev pub is_time_condition : Constraint → Bool
-is_time_condition c = (is_ctime c.low && (is_ctime c.high || is_constant c.high)) || (is_constant c.low && is_ctime c.high)
-
--- constants alone
-abbrev pub is_state_condition : StatePred → Bool
-is_state_condition s = list_all is_constant (terms_of_state s)
-
 -- whether the condition is one of these
 abbrev pub is_time_among : List Constraint → Constraint → Bool
-is_time_among before c = list_any (λ known. constraints.ghosts.eq known c) before
+is_time_among before c = list_any (λ known. constraint_eq known c) before
 
 abbrev pub is_state_among : List StatePred → StatePred → Bool
-is_state_among before s = list_any (λ known. states.ghosts.eq known s) before
+is_state_among before s = list_any (λ known. state_eq known s) before
 
 -- whether the condition may stand behind these: it is in its form, and none of them
 abbrev pub may_follow_times : List Constraint → Constraint → Bool

@@ -1,19 +1,21 @@
 //! Reading grants and procaps.
 
 ghost use Rattle.std.specs.Prelude.{◌≡◌, ◌≤◌, ◌+◌, ◌-◌, ℕ, List, [], IsTrue, IfOk, length};
-ghost use Rattle.std.specs.List.{list_all, list_any};
+ghost use Rattle.std.specs.List.{list_any};
 ghost use Rattle.bl_syntax.specs.Grant.{Granted};
-ghost use Rattle.bl_syntax.specs.WellSorted.{terms_of_state};
 ghost use Rattle.bl_syntax.specs.Reading.{Gives, reading, term_at};
 ghost use Rattle.bl_syntax.specs.Codec.{GivesOrStops, ReadsFront};
 ghost use Rattle.bl_syntax.specs.FormulaReading.{is_formula_tag};
 ghost use Rattle.procap.specs.GrantSpelling.{grant_spelling, IsSpellableGrant};
-ghost use Rattle.procap.specs.GrantReading.{marker_at, goal_at, both_at, time_condition_at, state_terms_at, state_condition_at, is_constant, is_ctime, is_time_condition, is_state_condition, is_time_among, is_state_among, may_follow_times, may_follow_states, items_at, count_at, conditions_at, head_at, grant_at};
+ghost use Rattle.procap.specs.GrantReading.{marker_at, goal_at, both_at, time_condition_at, state_terms_at, state_condition_at, is_time_among, is_state_among, may_follow_times, may_follow_states, items_at, count_at, conditions_at, head_at, grant_at};
 ghost use Rattle.procap.specs.Procap.{procap_spelling, IsSpellableProcap, procap_at, whole_procap, ReadsWhole};
 
 use crate::procap::Procap;
 use bl_syntax::fields::{name_at, permission_at, place, term_at, u64_at};
-use bl_syntax::{CodecFault, Constraint, Goal, Grant, NodeId, StatePred, Term};
+use bl_syntax::{
+    CodecFault, Constraint, Goal, Grant, NodeId, StatePred, Term, is_state_condition,
+    is_time_condition,
+};
 use std::alloc::Global;
 
 /// The version of a grant's bytes.
@@ -166,43 +168,6 @@ fn state_condition_at(input: usize, bytes: &[u8]) -> Result<(StatePred, &[u8]), 
     match bytes {
         [] => Err(CodecFault::Short),
         [tag, rest @ ..] => state_terms_at(input, place(input, bytes), *tag, rest),
-    }
-}
-
-fn is_constant(t: &Term) -> bool
-    ensures { result ≡ is_constant t.now }
-{
-    match t {
-        Term::Ctime | Term::Param(_) | Term::Bound(_) => false,
-        _ => true,
-    }
-}
-
-fn is_ctime(t: &Term) -> bool
-    ensures { result ≡ is_ctime t.now }
-{
-    match t {
-        Term::Ctime => true,
-        _ => false,
-    }
-}
-
-fn is_time_condition(c: &Constraint) -> bool
-    ensures { result ≡ is_time_condition c.now }
-{
-    (is_ctime(&c.low) && (is_ctime(&c.high) || is_constant(&c.high)))
-        || (is_constant(&c.low) && is_ctime(&c.high))
-}
-
-fn is_state_condition(s: &StatePred) -> bool
-    ensures { result ≡ is_state_condition s.now }
-{
-    match s {
-        StatePred::Owner(file, owner) => is_constant(file) && is_constant(owner),
-        StatePred::HasXattr(file, name, value) => {
-            is_constant(file) && is_constant(name) && is_constant(value)
-        }
-        StatePred::InDir(file, directory) => is_constant(file) && is_constant(directory),
     }
 }
 
