@@ -1,0 +1,46 @@
+-- Seats at the lock's table, between the steps of a turn. This project's own.
+use Rattle.std.specs.Prelude.{◌≡◌, ℕ, ◌≤◌, ◌%◌, ◌^◌, List, [], ◌∷◌, Option, Some, true}
+use Rattle.atomic_table.specs.Seated.{TableId}
+use Rattle.atomic_table.specs.declared.shared.Seat.{Seat}
+use Rattle.tree_lock.specs.declared.view.View.{View}
+use Rattle.tree_lock.specs.declared.view.Stage.TheVariants.{Idle, Waiting, Holding}
+use Rattle.tree_lock.specs.Entries.{Appends}
+use Rattle.tree_lock.specs.Seen.{PassView}
+
+-- the table has the lock's words, and its slot
+pub record IsLockTable (table : TableId) : Type 0 where
+  pub words : table.words ≡ 96
+  pub slots : table.slots ≡ 1
+
+module _ {V E : Type 0} where
+  abbrev pub seat_view : Seat (Option V) (View E) → PassView E
+  seat_view seat = record { lock = seat.table_id; number = seat.me.0.number; seen = seat.me.0.seen; own = seat.me.0.own }
+
+  -- the seat of a pass at this table
+  pub record IsPassAt (table : TableId) (seat : Seat (Option V) (View E)) : Type 0 where
+    pub lock : IsLockTable table
+    pub here : seat.table_id ≡ table
+    pub out : seat.me.0.out ≡ true
+    pub number : 1 ≤ seat.me.0.number
+
+  -- it has no ticket, and not the value
+  pub record IsIdle (table : TableId) (seat : Seat (Option V) (View E)) : Type 0 where
+    pub at : IsPassAt table seat
+    pub free : seat.me.1 ≡ []
+    pub stage : seat.me.0.stage ≡ Idle
+
+  -- it waits for a ticket, of which this is the remainder
+  pub record IsWaiting (table : TableId) (seat : Seat (Option V) (View E)) (ticket : ℕ) : Type 0 where
+    pub at : IsPassAt table seat
+    pub free : seat.me.1 ≡ []
+    pub full : ℕ
+    pub stage : seat.me.0.stage ≡ Waiting full
+    pub is : ticket ≡ full % 2 ^ 64
+
+  -- it holds this value
+  pub record IsHolding (entries : V → List (ℕ × E)) (table : TableId) (seat : Seat (Option V) (View E)) (value : V) : Type 0 where
+    pub at : IsPassAt table seat
+    pub value : seat.me.1 ≡ (0, Some value) ∷ []
+    pub full : ℕ
+    pub stage : seat.me.0.stage ≡ Holding full
+    pub appends : Appends seat.me.0.number seat.me.0.seen (entries value)

@@ -1,0 +1,110 @@
+//! How a lock is made and closed, and how passes are made and taken in.
+ghost use Rattle.std.specs.Prelude.{◌≡◌, ◌+◌, ◌<◌, ◌^◌, ◌-◌, [], ◌∷◌, length, IfOk, IfErr};
+ghost use mathlib.Core.List.{IsPrefix};
+ghost use Rattle.tree_lock.specs.Entries.{AllOfNumber};
+ghost use Rattle.tree_lock.specs.Seen.{DoorView, PassView};
+ghost use Rattle.tree_lock.specs.Closing.{TakesIn, IsClosed};
+
+use crate::parts::{Doorman, Pass, TreeLock};
+use crate::recorded::Recorded;
+use crate::rule::{LockTable, Looks, Makes, Retires, TICKETS};
+use atomic_table::{Refused, Table};
+use std::alloc::Global;
+use std::snapshot::Snapshot;
+
+const WORDS: usize = 96;
+
+impl<V: Recorded> TreeLock<V> {
+    /// A lock over a value, and its doorman. If memory runs out, the value comes back.
+    pub fn new(alloc: Global, value: V) -> Result<(TreeLock<V>, Doorman<V>), V>
+        requires { AllOfNumber 0 (V.entries value) }
+        ensures ok { IfOk result (λ r. r.1 ≡ record { lock = r.0; seen = V.entries value; opening = V.entries value; made = 0; retired = [] }) }
+        ensures err { IfErr result (λ v. v ≡ value) }
+    {
+        let about = Snapshot::of(&value);
+        let mut slots = Vec::new(alloc);
+        if let Err(failed) = slots.push(Some(value)) {
+            let Some(value) = failed.value else {
+                unreachable!()
+            };
+            slots.destroy_empty();
+            return Err(value);
+        }
+        match LockTable::<V>::new(alloc, &[0; WORDS], slots, &about) {
+            Ok((table, seat)) => Ok((
+                TreeLock { table },
+                Doorman {
+                    seat,
+                    made: 0,
+                    out: 0,
+                },
+            )),
+            Err(Refused { mut slots }) => {
+                let Some(Some(value)) = slots.pop() else {
+                    unreachable!()
+                };
+                slots.destroy_empty();
+                Err(value)
+            }
+        }
+    }
+
+    /// A pass with a new number, from 1. It has seen what the doorman has.
+    pub fn pass(&self, door: &mut Doorman<V>) -> Pass<V>
+        requires lock { door.old.lock ≡ self.now }
+        requires room { door.old.made < 2 ^ 64 - 1 }
+        ensures pass { result ≡ record { lock = self.now; number = door.old.made + 1; seen = door.old.seen; own = [] } }
+        ensures door { door.new ≡ record door.old { made = door.old.made + 1 } }
+    {
+        let seat = self.table.shared.split_seat::<Makes>(&mut door.seat);
+        door.made += 1;
+        door.out += 1;
+        Pass {
+            seat,
+            number: door.made,
+        }
+    }
+
+    /// Takes a pass in. The doorman has then seen all that it had seen, and knows its own entries.
+    pub fn retire(&self, door: &mut Doorman<V>, pass: Pass<V>)
+        requires door { door.old.lock ≡ self.now }
+        requires pass { pass.lock ≡ self.now }
+        ensures { TakesIn pass door.old door.new }
+    {
+        self.table.shared.join_seat::<Retires>(&mut door.seat, pass.seat);
+        self.table.shared.load::<Looks>(&mut door.seat, TICKETS);
+        door.out -= 1;
+    }
+
+    /// The value of a lock whose passes were all taken in.
+    pub fn close(self, door: Doorman<V>) -> V
+        requires lock { door.lock ≡ self }
+        requires all { length door.retired ≡ door.made }
+        ensures { IsClosed door (V.entries result) }
+    {
+        let TreeLock { table } = self;
+        let mut closed = table.close_with(door.seat);
+        let Some(value) = closed.take(0) else {
+            unreachable!()
+        };
+        closed.free();
+        value
+    }
+}
+
+impl<V: Recorded> Doorman<V> {
+    /// How many passes were made and not taken in.
+    pub fn out(&self) -> u64
+        ensures { result + length self.now.retired ≡ self.now.made }
+    {
+        self.out
+    }
+}
+
+impl<V: Recorded> Pass<V> {
+    pub fn number(&self) -> u64
+        ensures { result ≡ self.now.number }
+    {
+        self.number
+    }
+}

@@ -1,0 +1,61 @@
+//! The lock, its doorman and its passes.
+use crate::recorded::Recorded;
+use crate::rule::{LockSeat, LockTable};
+use std::marker::Model;
+
+/// A lock. Contracts see it as the name of its table.
+pub struct TreeLock<V: Recorded> {
+    pub(crate) table: LockTable<V>,
+}
+
+impl<V: Recorded> Model for TreeLock<V> {
+    ghost use Rattle.std.specs.Prelude.{◌≡◌};
+    ghost use Rattle.atomic_table.specs.Seated.{TableId, table_id_coded};
+
+    ghost Value = { TableId };
+
+    ghost coded = { table_id_coded };
+
+    ghost view = { λ l. l.table.shared.table_id };
+
+    ghost invariant = { λ l. (l.table.shared.table_id.words ≡ 96) × (l.table.shared.table_id.slots ≡ 1) };
+}
+
+/// What makes passes and takes them in.
+#[derive(Drop)]
+pub struct Doorman<V: Recorded> {
+    pub(crate) seat: LockSeat<V>,
+    pub(crate) made: u64,
+    pub(crate) out: u64,
+}
+
+impl<V: Recorded> Model for Doorman<V> {
+    ghost use Rattle.std.specs.Prelude.{◌≡◌, [], ◌+◌, length};
+    ghost use mathlib.Core.List.{IsPrefix};
+    ghost use Rattle.tree_lock.specs.Seen.{DoorView, AreNumbers};
+
+    ghost Value = { DoorView V.Entry };
+
+    ghost view = { λ d. record { lock = d.seat.table_id; seen = d.seat.me.0.seen; opening = d.seat.me.0.own; made = d.seat.me.0.made; retired = d.seat.me.0.retired } };
+
+    ghost invariant = { λ d. (d.seat.id ≡ 0) × (d.seat.me.1 ≡ []) × (d.made ≡ d.seat.me.0.made) × (d.out + length d.seat.me.0.retired ≡ d.made) };
+}
+
+/// What has turns at the lock.
+#[derive(Drop)]
+pub struct Pass<V: Recorded> {
+    pub(crate) seat: LockSeat<V>,
+    pub(crate) number: u64,
+}
+
+impl<V: Recorded> Model for Pass<V> {
+    ghost use Rattle.std.specs.Prelude.{◌≡◌, [], ◌≤◌, true};
+    ghost use Rattle.tree_lock.specs.Seen.{PassView};
+    ghost use Rattle.tree_lock.specs.declared.view.Stage.TheVariants.{Idle};
+
+    ghost Value = { PassView V.Entry };
+
+    ghost view = { λ p. record { lock = p.seat.table_id; number = p.number; seen = p.seat.me.0.seen; own = p.seat.me.0.own } };
+
+    ghost invariant = { λ p. (p.seat.me.1 ≡ []) × (p.number ≡ p.seat.me.0.number) × (1 ≤ p.number) × (p.seat.me.0.stage ≡ Idle) × (p.seat.me.0.out ≡ true) };
+}

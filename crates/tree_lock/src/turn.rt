@@ -1,0 +1,100 @@
+//! A turn: a ticket is drawn, waited for, and served after the job's work.
+ghost use Rattle.std.specs.Prelude.{◌≡◌, ℕ, [], ◌∷◌, Some};
+ghost use Rattle.tree_lock.specs.Entries.{of_number, Appends};
+ghost use Rattle.tree_lock.specs.Knowledge.{after_turn};
+ghost use Rattle.tree_lock.specs.Seats.{seat_view, IsPassAt, IsIdle, IsWaiting, IsHolding};
+ghost use Rattle.tree_lock.specs.Steps.{Takes};
+ghost use Rattle.tree_lock.specs.Turned.{Turned};
+
+use crate::parts::{Pass, TreeLock};
+use crate::recorded::{Job, Recorded};
+use crate::rule::{Draws, LockSeat, LockShared, SERVED, Serves, TICKETS, Waits};
+use std::sync::Wait;
+use std::thread;
+
+impl<V: Recorded> TreeLock<V> {
+    /// Waits for the pass's turn, in which the job works on the value.
+    pub fn turn<J: Job<V>, R: Wait>(&self, rt: &R, pass: &mut Pass<V>, job: J) -> J::Out
+        requires { pass.old.lock ≡ self.now }
+        ensures { Turned V.entries (J.done job) pass.old pass.new result }
+    {
+        let number = pass.number;
+        turn_at(rt, &self.table.shared, &mut pass.seat, number, job)
+    }
+}
+
+fn turn_at<V: Recorded, J: Job<V>, R: Wait>(
+    rt: &R,
+    shared: &LockShared<V>,
+    seat: &mut LockSeat<V>,
+    number: u64,
+    job: J,
+) -> J::Out
+    requires idle { IsIdle shared.now.table_id seat.old }
+    requires number { number ≡ seat.old.me.0.number }
+    ensures idle { IsIdle shared.now.table_id seat.new }
+    ensures turned { Turned V.entries (J.done job) (seat_view seat.old) (seat_view seat.new) result }
+{
+    let ticket = draw(shared, seat);
+    wait_turn(rt, shared, seat, ticket);
+    let out = work_at(shared, seat, number, job);
+    serve(shared, seat);
+    out
+}
+
+// Draws a ticket.
+fn draw<V: Recorded>(shared: &LockShared<V>, seat: &mut LockSeat<V>) -> u64
+    requires { IsIdle shared.now.table_id seat.old }
+    ensures seat { IsWaiting shared.now.table_id seat.new result }
+    ensures same { seat_view seat.new ≡ seat_view seat.old }
+{
+    shared.fetch_add::<Draws>(seat, TICKETS, 1)
+}
+
+// Waits until the ticket is served, and takes the value.
+fn wait_turn<V: Recorded, R: Wait>(
+    rt: &R,
+    shared: &LockShared<V>,
+    seat: &mut LockSeat<V>,
+    ticket: u64,
+)
+    requires { IsWaiting shared.now.table_id seat.old ticket }
+    ensures { (seat.new.table_id ≡ seat.old.table_id) × ((t : ℕ) × Takes V.entries t seat.old.me seat.new.me) }
+{
+    for _ in rt.forever() {
+        if shared.load::<Waits>(seat, SERVED) == ticket {
+            return;
+        }
+        thread::yield_now();
+    }
+    unreachable!()
+}
+
+// The job works on the value that the pass has taken.
+fn work_at<V: Recorded, J: Job<V>>(
+    shared: &LockShared<V>,
+    seat: &mut LockSeat<V>,
+    number: u64,
+    job: J,
+) -> J::Out
+    requires at { IsPassAt shared.now.table_id seat.old }
+    requires value { (before : V) × (seat.old.me.1 ≡ (0, Some before) ∷ []) }
+    ensures { (before after : V) × (seat.old.me.1 ≡ (0, Some before) ∷ []) × J.done job before number after result × Appends number (V.entries before) (V.entries after) × (seat.new.table_id ≡ seat.old.table_id) × (seat.new.me ≡ (seat.old.me.0, (0, Some after) ∷ [])) }
+{
+    let Some(mut value) = shared.exchange(seat, 0, None) else {
+        unreachable!()
+    };
+    let out = job.work(&mut value, number);
+    let left = shared.exchange(seat, 0, Some(value));
+    let None = left else { unreachable!() };
+    out
+}
+
+// Gives the value back, and serves the next ticket.
+fn serve<V: Recorded>(shared: &LockShared<V>, seat: &mut LockSeat<V>)
+    requires { (value : V) × IsHolding V.entries shared.now.table_id seat.old value }
+    ensures idle { IsIdle shared.now.table_id seat.new }
+    ensures view { (value : V) → seat.old.me.1 ≡ (0, Some value) ∷ [] → seat.new.me.0 ≡ after_turn seat.old.me.0 (V.entries value) (of_number seat.old.me.0.number (V.entries value)) }
+{
+    shared.fetch_add::<Serves>(seat, SERVED, 1);
+}
