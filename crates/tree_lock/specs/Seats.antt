@@ -40,7 +40,7 @@ module _ {V E : Type 0} where
   -- it holds this value
   pub record IsHolding (entries : V → List (ℕ × E)) (table : TableId) (seat : Seat (Option V) (View E)) (value : V) : Type 0 where
     pub at : IsPassAt table seat
-    pub value : seat.me.1 ≡ (0, Some value) ∷ []
+    pub held : seat.me.1 ≡ (0, Some value) ∷ []
     pub full : ℕ
     pub stage : seat.me.0.stage ≡ Holding full
     pub appends : Appends seat.me.0.number seat.me.0.seen (entries value)

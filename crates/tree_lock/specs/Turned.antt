@@ -9,7 +9,7 @@ pub record Turned {V E Out : Type 0} (entries : V → List (ℕ × E)) (done : V
   pub before : V
   pub after : V
   pub added : List (ℕ × E)
-  pub done : done before old.number after result
+  pub worked : done before old.number after result
   pub found : IsPrefix old.seen (entries before)
   pub left : entries after ≡ entries before ++ added
   pub of_pass : AllOfNumber old.number added

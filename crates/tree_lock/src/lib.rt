@@ -10,6 +10,7 @@ mod recorded;
 mod rule;
 mod turn;
 mod view;
+mod waiting;
 
 pub use parts::{Doorman, Pass, TreeLock};
 pub use recorded::{Job, Recorded};

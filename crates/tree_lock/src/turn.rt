@@ -9,8 +9,8 @@ ghost use Rattle.tree_lock.specs.Turned.{Turned};
 use crate::parts::{Pass, TreeLock};
 use crate::recorded::{Job, Recorded};
 use crate::rule::{Draws, LockSeat, LockShared, SERVED, Serves, TICKETS, Waits};
+use crate::waiting::{bell_of, rest, ring_near};
 use std::sync::Wait;
-use std::thread;
 
 impl<V: Recorded> TreeLock<V> {
     /// Waits for the pass's turn, in which the job works on the value.
@@ -39,6 +39,7 @@ fn turn_at<V: Recorded, J: Job<V>, R: Wait>(
     wait_turn(rt, shared, seat, ticket);
     let out = work_at(shared, seat, number, job);
     serve(shared, seat);
+    ring_near(shared, seat, ticket);
     out
 }
 
@@ -61,11 +62,14 @@ fn wait_turn<V: Recorded, R: Wait>(
     requires { IsWaiting shared.now.table_id seat.old ticket }
     ensures { (seat.new.table_id ≡ seat.old.table_id) × ((t : ℕ) × Takes V.entries t seat.old.me seat.new.me) }
 {
+    let bell = bell_of(ticket);
     for _ in rt.forever() {
-        if shared.load::<Waits>(seat, SERVED) == ticket {
+        let rung = shared.peek(bell);
+        let served = shared.load::<Waits>(seat, SERVED);
+        if served == ticket {
             return;
         }
-        thread::yield_now();
+        rest(rt, shared, bell, rung, ticket.wrapping_sub(served));
     }
     unreachable!()
 }
