@@ -1,3 +1,4 @@
 pub mod EntryLemmas
 pub mod SeatLemmas
 pub mod StepLemmas
+pub mod TurnLemmas

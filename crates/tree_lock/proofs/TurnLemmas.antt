@@ -1,0 +1,67 @@
+-- What the steps of a turn come to.
+use Rattle.std.proofs.Common.{◌≡◌, ℕ, List, [], ◌∷◌, ◌++◌, refl, sym, ap, ◌∙◌, subst}
+use Rattle.std.specs.Prelude.{Option, Some, None}
+use mathlib.Core.List.{IsPrefix}
+use Rattle.atomic_table.specs.Table.{Me}
+use Rattle.atomic_table.specs.declared.shared.Seat.{Seat}
+use Rattle.tree_lock.specs.declared.view.View.{View}
+use Rattle.tree_lock.specs.Entries.{of_number, AllOfNumber, Appends}
+use Rattle.tree_lock.specs.Seen.{PassView}
+use Rattle.tree_lock.specs.Knowledge.{after_turn, holding}
+use Rattle.tree_lock.specs.Seats.{seat_view}
+use Rattle.tree_lock.specs.Steps.{Takes}
+use Rattle.tree_lock.specs.Turned.{Turned}
+use Rattle.tree_lock.proofs.EntryLemmas.{of_number-added}
+
+module _ {V : Type 0} where
+  first_of : V → List (ℕ × Option V) → V
+  first_of d [] = d
+  first_of d (x ∷ xs) = elim (x.1) [ Some v ↦ v | None ↦ d ]
+
+  same_value : (k : ℕ) (x y : V) (xs ys : List (ℕ × Option V)) → ◌≡◌ {A = List (ℕ × Option V)} ((k, Some x) ∷ xs) ((k, Some y) ∷ ys) → x ≡ y
+  unfolding first_of
+  same_value k x y xs ys e = ap (first_of x) e
+
+module _ {V E Out : Type 0} (entries : V → List (ℕ × E)) (done : V → ℕ → V → Out → Type 0) where
+  abbrev S : Type 0
+  S = Seat (Option V) (View E)
+
+  -- what the job's work says
+  abbrev pub Worked : S → ℕ → Out → S → Type 0
+  Worked s2 number result s3 = (before after : V) × (s2.me.1 ≡ (0, Some before) ∷ []) × done before number after result × Appends number (entries before) (entries after) × (s3.table_id ≡ s2.table_id)
+      × (s3.me ≡ (s2.me.0, (0, Some after) ∷ []))
+
+  pub turned : (s0 s1 s2 s3 s4 s5 : S) (number t : ℕ) (result : Out) → number ≡ s0.me.0.number → seat_view s1 ≡ seat_view s0 → s2.table_id ≡ s1.table_id → Takes entries t s1.me s2.me → Worked s2 number result s3
+      → s4.table_id ≡ s3.table_id → ((value : V) → s3.me.1 ≡ (0, Some value) ∷ [] → s4.me.0 ≡ after_turn s3.me.0 (entries value) (of_number s3.me.0.number (entries value)))
+      → s5.table_id ≡ s4.table_id → s5.me ≡ s4.me → Turned entries done (seat_view s0) (seat_view s5) result
+  turned s0 s1 s2 s3 s4 s5 number t result is drawn waited takes work served gave rung same =
+      let before : V = work.0 in
+      let after : V = work.1 in
+      let appends = work.4 in
+      let added : List (ℕ × E) = appends.added in
+      let value_is : takes.value ≡ before = same_value 0 takes.value before s1.me.1 [] (sym (ap (λ (m : Me (Option V) (View E)). m.1) takes.is) ∙ work.2) in
+      let number1 : s1.me.0.number ≡ s0.me.0.number = ap (λ (p : PassView E). p.number) drawn in
+      let own1 : s1.me.0.own ≡ s0.me.0.own = ap (λ (p : PassView E). p.own) drawn in
+      let seen1 : s1.me.0.seen ≡ s0.me.0.seen = ap (λ (p : PassView E). p.seen) drawn in
+      let view3 : s3.me.0 ≡ holding s1.me.0 t (entries takes.value) = ap (λ (m : Me (Option V) (View E)). m.0) work.6 ∙ ap (λ (m : Me (Option V) (View E)). m.0) takes.is in
+      let number3 : s3.me.0.number ≡ s0.me.0.number = ap (λ (v : View E). v.number) view3 ∙ number1 in
+      let view5 : s5.me.0 ≡ after_turn s3.me.0 (entries after) (of_number s3.me.0.number (entries after)) = ap (λ (m : Me (Option V) (View E)). m.0) same ∙ gave after (ap (λ (m : Me (Option V) (View E)). m.1) work.6) in
+      let all : AllOfNumber s0.me.0.number added = subst (λ (n : ℕ). AllOfNumber n added) is appends.of_number in
+      let own_before : of_number s0.me.0.number (entries before) ≡ s0.me.0.own = ap (λ (n : ℕ). of_number n (entries before)) (sym number1) ∙ ap (λ (v : V). of_number s1.me.0.number (entries v)) (sym value_is) ∙ takes.own ∙ own1 in
+      let number5 : s5.me.0.number ≡ s0.me.0.number = ap (λ (v : View E). v.number) view5 ∙ number3 in
+      let own5 : s5.me.0.own ≡ of_number s0.me.0.number (entries after) = ap (λ (v : View E). v.own) view5 ∙ ap (λ (n : ℕ). of_number n (entries after)) number3 in
+      record {
+        before = before;
+        after = after;
+        added = added;
+        worked = subst (λ (n : ℕ). done before n after result) is work.3;
+        found = subst (λ (l : List (ℕ × E)). IsPrefix l (entries before)) seen1 (subst (λ (v : V). IsPrefix s1.me.0.seen (entries v)) value_is takes.seen);
+        left = appends.is;
+        of_pass = all;
+        seen = ap (λ (v : View E). v.seen) view5;
+        own = own5 ∙ ap (of_number s0.me.0.number) appends.is ∙ of_number-added s0.me.0.number (entries before) added all ∙ ap (λ (l : List (ℕ × E)). l ++ added) own_before;
+        lock = rung ∙ served ∙ work.5 ∙ waited ∙ ap (λ (p : PassView E). p.lock) drawn;
+        number = number5;
+        own_before = own_before;
+        own_after = ap (λ (n : ℕ). of_number n (entries after)) number5 ∙ sym own5;
+      }
