@@ -2,3 +2,5 @@ pub mod EntryLemmas
 pub mod SeatLemmas
 pub mod StepLemmas
 pub mod TurnLemmas
+pub mod NumberLemmas
+pub mod DoorLemmas

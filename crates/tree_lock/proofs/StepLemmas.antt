@@ -26,7 +26,7 @@ pub each_weaker : {X : Type 0} (P Q : X → Type 0) (xs : List X) → ((x : X) �
 each_weaker P Q [] weaker all = tt
 each_weaker P Q (x ∷ xs) weaker all = (weaker x all.0, each_weaker P Q xs weaker all.1)
 
-true_is_not_false : true ≡ false → ⊥
+pub true_is_not_false : true ≡ false → ⊥
 true_is_not_false e = true≢false e
 
 module _ {E : Type 0} where
