@@ -18,6 +18,8 @@ use Rattle.tree_lock.specs.Seen.{Retired, AreNumbers, AreOwn, DoorView}
 use Rattle.tree_lock.specs.Knowledge.{tickets_at, is_holding, tickets_out, opening_view, new_view, spent_view, after_making, made_by, after_retiring, after_look}
 use Rattle.tree_lock.specs.Rule.{IsAtStage, IsKnown, Fits, IsSpent, IsDoorman, IsHome, IsAway, Kept}
 use Rattle.tree_lock.specs.Steps.{looks, Looks}
+use Rattle.tree_lock.specs.Closing.{IsClosed}
+use Rattle.atomic_table.specs.Seated.{TableId}
 use Rattle.tree_lock.proofs.EntryLemmas.{of_number-all, of_number-none, prefix_refl, prefix_nil}
 use Rattle.tree_lock.proofs.NumberLemmas.{retired-le, each_made}
 use Rattle.tree_lock.proofs.SeatLemmas.{at_default, each_set, each_snoc, at_within, length-set, length-snoc, tickets_out-set, tickets_out-snoc}
@@ -282,3 +284,13 @@ module _ {V E : Type 0} (entries : V → List (ℕ × E)) where
         ap (of_number 0) (sym is) ∙ (known_out r.history 0 v v.out d.out fits.known).1,
         λ n above. ap (of_number n) (sym is) ∙ r.none_above n (let le : v.made + 1 ≤ n = above in omega arith),
       )
+
+  -- what a closed lock gives
+  pub closed_is : (v : View E) (lock : TableId) (words : List ℕ) (slots : List (std.Option V)) (value : V) → length v.retired ≡ v.made → Final (Seen (Kept entries) 0 v) words slots → get_elem? slots 0 ≡ some (Some value)
+      → IsClosed record { lock = lock; seen = v.seen; opening = v.own; made = v.made; retired = v.retired } (entries value)
+  closed_is v lock words slots value all final at =
+      let told = closes v words slots all final in
+      let options : ◌≡◌ {A = std.Option V} (Some told.0) (Some value) = some-injective (Some told.0) (Some value) (sym told.1 ∙ at) in
+      let same : told.0 ≡ value = cc in
+      let P : V → Type 0 = λ x. IsClosed record { lock = lock; seen = v.seen; opening = v.own; made = v.made; retired = v.retired } (entries x) in
+      subst P same record { seen = told.2; numbers = told.3; own = told.4; opening = told.5; none_above = told.6 }
