@@ -1,5 +1,5 @@
 //! How a lock is made and closed, and how passes are made and taken in.
-ghost use Rattle.std.specs.Prelude.{◌≡◌, ◌+◌, ◌<◌, ◌^◌, ◌-◌, [], ◌∷◌, length, IfOk, IfErr};
+ghost use Rattle.std.specs.Prelude.{◌≡◌, ◌+◌, ◌<◌, ◌^◌, ◌-◌, [], ◌∷◌, length, slice_index, Some, IfOk, IfErr};
 ghost use mathlib.Core.List.{IsPrefix};
 ghost use Rattle.tree_lock.specs.Entries.{AllOfNumber};
 ghost use Rattle.tree_lock.specs.Seen.{DoorView, PassView};
@@ -9,10 +9,44 @@ use crate::parts::{Doorman, Pass, TreeLock};
 use crate::recorded::Recorded;
 use crate::rule::{LockTable, Looks, Makes, Retires, TICKETS};
 use atomic_table::{Refused, Table};
-use std::alloc::Global;
+use std::alloc::{AllocFailed, Global};
 use std::snapshot::Snapshot;
 
-const WORDS: usize = 96;
+// The words of the table before a ticket is drawn.
+fn first_words() -> [u64; 96]
+    ensures { (length result ≡ 96) × (slice_index result 0 ≡ 0) × (slice_index result 16 ≡ 0) }
+{
+    [0; 96]
+}
+
+// The slot of a new table, or else the value.
+fn one_slot<T>(alloc: Global, value: T) -> Result<Vec<Option<T>>, T>
+    ensures ok { IfOk result (λ v. v.items ≡ Some value ∷ []) }
+    ensures err { IfErr result (λ v. v ≡ value) }
+{
+    let mut slots = Vec::new(alloc);
+    match slots.push(Some(value)) {
+        Ok(()) => Ok(slots),
+        Err(failed) => {
+            let AllocFailed { value } = failed;
+            let Some(value) = value else { unreachable!() };
+            slots.destroy_empty();
+            Err(value)
+        }
+    }
+}
+
+// The value of the one slot.
+fn from_slot<T>(mut slots: Vec<Option<T>>) -> T
+    requires { (value : T) × (slots.items ≡ Some value ∷ []) }
+    ensures { slots.items ≡ Some result ∷ [] }
+{
+    let Some(Some(value)) = slots.pop() else {
+        unreachable!()
+    };
+    slots.destroy_empty();
+    value
+}
 
 impl<V: Recorded> TreeLock<V> {
     /// A lock over a value, and its doorman. If memory runs out, the value comes back.
@@ -22,15 +56,8 @@ impl<V: Recorded> TreeLock<V> {
         ensures err { IfErr result (λ v. v ≡ value) }
     {
         let about = Snapshot::of(&value);
-        let mut slots = Vec::new(alloc);
-        if let Err(failed) = slots.push(Some(value)) {
-            let Some(value) = failed.value else {
-                unreachable!()
-            };
-            slots.destroy_empty();
-            return Err(value);
-        }
-        match LockTable::<V>::new(alloc, &[0; WORDS], slots, &about) {
+        let slots = one_slot(alloc, value)?;
+        match LockTable::<V>::new(alloc, &first_words(), slots, &about) {
             Ok((table, seat)) => Ok((
                 TreeLock { table },
                 Doorman {
@@ -39,13 +66,7 @@ impl<V: Recorded> TreeLock<V> {
                     out: 0,
                 },
             )),
-            Err(Refused { mut slots }) => {
-                let Some(Some(value)) = slots.pop() else {
-                    unreachable!()
-                };
-                slots.destroy_empty();
-                Err(value)
-            }
+            Err(Refused { slots }) => Err(from_slot(slots)),
         }
     }
 
