@@ -1,5 +1,5 @@
 -- The doorman's steps keep the rule, and what a closed table tells.
-use Rattle.std.proofs.Common.{◌≡◌, ◌≢◌, ◌⊎◌, ℕ, zero, suc, ◌+◌, ◌^◌, ◌%◌, ◌<◌, ◌≤◌, List, [], ◌∷◌, ◌++◌, map, length, get_or, set, Bool, eqb, true, false, true≢false, eq-eqb, ne_eqb, refl, sym, ap, ◌∙◌, subst, ⊎_elim, inl, inr, arith}
+use Rattle.std.proofs.Common.{◌≡◌, ◌≢◌, ◌⊎◌, ℕ, zero, suc, ◌+◌, ◌-◌, ◌^◌, ◌%◌, ◌<◌, ◌≤◌, List, [], ◌∷◌, ◌++◌, map, length, get_or, set, Bool, eqb, true, false, true≢false, eq-eqb, ne_eqb, refl, sym, ap, ◌∙◌, subst, ⊎_elim, inl, inr, arith}
 use Rattle.std.specs.Prelude as std
 use Rattle.std.specs.Prelude.{Some, None}
 use Rattle.std.specs.List.{AllByRecursion, IsDistinct, list_any}
@@ -14,13 +14,14 @@ use Rattle.tree_lock.specs.declared.view.View.{View}
 use Rattle.tree_lock.specs.declared.view.Stage.{Stage}
 use Rattle.tree_lock.specs.declared.view.Stage.TheVariants.{Idle, Waiting, Holding}
 use Rattle.tree_lock.specs.Entries.{of_number, AllOfNumber}
-use Rattle.tree_lock.specs.Seen.{Retired, AreNumbers, AreOwn, DoorView}
+use Rattle.tree_lock.specs.Seen.{Retired, AreNumbers, AreOwn, PassView, DoorView}
+use Rattle.tree_lock.specs.Seats.{door_view}
 use Rattle.tree_lock.specs.Knowledge.{tickets_at, is_holding, tickets_out, opening_view, new_view, spent_view, after_making, made_by, after_retiring, after_look}
 use Rattle.tree_lock.specs.Rule.{IsAtStage, IsKnown, Fits, IsSpent, IsDoorman, IsHome, IsAway, Kept}
 use Rattle.tree_lock.specs.Steps.{looks, Looks}
-use Rattle.tree_lock.specs.Closing.{IsClosed}
+use Rattle.tree_lock.specs.Closing.{Knows, TakesIn, IsClosed}
 use Rattle.atomic_table.specs.Seated.{TableId}
-use Rattle.tree_lock.proofs.EntryLemmas.{of_number-all, of_number-none, prefix_refl, prefix_nil}
+use Rattle.tree_lock.proofs.EntryLemmas.{of_number-all, of_number-none, prefix_refl, prefix_nil, prefix_trans}
 use Rattle.tree_lock.proofs.NumberLemmas.{retired-le, each_made}
 use Rattle.tree_lock.proofs.SeatLemmas.{at_default, each_set, each_snoc, at_within, length-set, length-snoc, tickets_out-set, tickets_out-snoc}
 use Rattle.tree_lock.proofs.StepLemmas.{each_weaker, known_out, is_known, true_is_not_false, spent_set, nothing_changes}
@@ -247,7 +248,20 @@ module _ {V E : Type 0} (entries : V → List (ℕ × E)) where
               record { seen = prefix_refl r.history; told = fits.told; known = let k = known_out r.history 0 v v.out d.out fits.known in is_known r.history 0 w w.out d.out k.0 k.1; stage = subst (IsAtStage r.history r.served r.drawn r.seat_of 0 r.history) (sym d.idle) tt };
           slot = slot_stays s r 0 v w at (ap is_holding d.idle) (ap is_holding d.idle) s.views s.homes r.slot at;
         },
-        (record { history = r.history; seen = fits.seen; told = fits.told; within = retired-le v.made v.retired d.numbers; own = d.own; is = refl }, refl),
+        (
+          record {
+            history = r.history;
+            seen = fits.seen;
+            told = fits.told;
+            numbers = d.numbers;
+            within = retired-le v.made v.retired d.numbers;
+            own = d.own;
+            opening = (known_out r.history 0 v v.out d.out fits.known).1;
+            none_above = λ n above. r.none_above n (let le : v.made + 1 ≤ n = above in omega arith);
+            is = refl;
+          },
+          refl,
+        ),
       )
 
   -- no pass holds the value where all were retired
@@ -286,11 +300,30 @@ module _ {V E : Type 0} (entries : V → List (ℕ × E)) where
       )
 
   -- what a closed lock gives
-  pub closed_is : (v : View E) (lock : TableId) (words : List ℕ) (slots : List (std.Option V)) (value : V) → length v.retired ≡ v.made → Final (Seen (Kept entries) 0 v) words slots → get_elem? slots 0 ≡ some (Some value)
-      → IsClosed record { lock = lock; seen = v.seen; opening = v.own; made = v.made; retired = v.retired } (entries value)
-  closed_is v lock words slots value all final at =
+  pub closed_is : (v : View E) (lock : TableId) (out : ℕ) (words : List ℕ) (slots : List (std.Option V)) (value : V) → length v.retired ≡ v.made → IsPrefix v.own v.seen → Final (Seen (Kept entries) 0 v) words slots
+      → get_elem? slots 0 ≡ some (Some value) → IsClosed (door_view v lock out) (entries value)
+  closed_is v lock out words slots value all opened final at =
       let told = closes v words slots all final in
       let options : ◌≡◌ {A = std.Option V} (Some told.0) (Some value) = some-injective (Some told.0) (Some value) (sym told.1 ∙ at) in
       let same : told.0 ≡ value = cc in
-      let P : V → Type 0 = λ x. IsClosed record { lock = lock; seen = v.seen; opening = v.own; made = v.made; retired = v.retired } (entries x) in
-      subst P same record { seen = told.2; numbers = told.3; own = told.4; opening = told.5; none_above = told.6 }
+      let P : V → Type 0 = λ x. IsClosed (door_view v lock out) (entries x) in
+      subst P same record { all = all; knows = record { opened = prefix_trans v.own v.seen (entries told.0) opened told.2; seen = told.2; numbers = told.3; own = told.4; opening = told.5; none_above = told.6 } }
+
+module _ {E : Type 0} where
+  -- what the doorman's look comes to, after a pass was taken in
+  pub takes_in : (v w : View E) (lock : TableId) (out : ℕ) (pass : PassView E) (new : View E) → IsPrefix v.own v.seen → out + length v.retired ≡ v.made → pass.number ≡ w.number → pass.own ≡ w.own → pass.seen ≡ w.seen
+      → Looks (after_retiring v w) new → TakesIn pass (door_view v lock out) (door_view new lock (out - 1))
+  takes_in v w lock out pass new opened counted number own seen look =
+      let within : suc (length v.retired) ≤ v.made = look.within in
+      let opened_new : IsPrefix v.own look.history = prefix_trans v.own v.seen look.history opened look.seen in
+      let P : View E → Type 0 = λ x. TakesIn pass (door_view v lock out) (door_view x lock (out - 1)) in
+      subst P (sym look.is) record {
+        lock = refl;
+        opening = refl;
+        made = refl;
+        retired = λ i. (sym number i, sym own i) ∷ v.retired;
+        out = omega arith;
+        seen = look.seen;
+        told = subst (λ l. IsPrefix l look.history) (sym seen) look.told;
+        knows = record { opened = opened_new; seen = prefix_refl look.history; numbers = look.numbers; own = look.own; opening = look.opening; none_above = look.none_above };
+      }

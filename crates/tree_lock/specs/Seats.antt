@@ -5,12 +5,16 @@ use Rattle.atomic_table.specs.declared.shared.Seat.{Seat}
 use Rattle.tree_lock.specs.declared.view.View.{View}
 use Rattle.tree_lock.specs.declared.view.Stage.TheVariants.{Idle, Waiting, Holding}
 use Rattle.tree_lock.specs.Entries.{Appends}
-use Rattle.tree_lock.specs.Seen.{PassView}
+use Rattle.tree_lock.specs.Seen.{PassView, DoorView}
 
 -- the table has the lock's words, and its slot
 pub record IsLockTable (table : TableId) : Type 0 where
   pub words : table.words ≡ 96
   pub slots : table.slots ≡ 1
+
+-- what contracts see of a doorman whose seat has this view
+abbrev pub door_view : {E : Type 0} → View E → TableId → ℕ → DoorView E
+door_view v lock out = record { lock = lock; seen = v.seen; opening = v.own; made = v.made; out = out; retired = v.retired }
 
 module _ {V E : Type 0} where
   abbrev pub seat_view : Seat (Option V) (View E) → PassView E

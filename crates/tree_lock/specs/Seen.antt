@@ -26,6 +26,8 @@ pub record DoorView (E : Type 0) : Type 0 where
   pub opening : List (ℕ × E)
   -- how many numbers were made
   pub made : ℕ
+  -- how many passes were made and not retired
+  pub out : ℕ
   -- the passes that were retired, the last one first
   pub retired : List (Retired E)
 

@@ -1,5 +1,5 @@
 -- What each step at the lock's table tells. This project's own.
-use Rattle.std.specs.Prelude.{◌≡◌, ◌≢◌, ℕ, ◌%◌, ◌^◌, ◌≤◌, List, [], ◌∷◌, length, Option, Some, None}
+use Rattle.std.specs.Prelude.{◌≡◌, ◌≢◌, ℕ, ◌+◌, ◌%◌, ◌^◌, ◌≤◌, List, [], ◌∷◌, length, Option, Some, None}
 use mathlib.Core.List.{IsPrefix}
 use Rattle.atomic_table.specs.Table.{Me, Step, rest}
 use Rattle.tree_lock.specs.declared.view.View.{View}
@@ -12,13 +12,16 @@ abbrev Seated : Type 0 → Type 0 → Type 0
 Seated V E = Me (Option V) (View E)
 
 module _ {E : Type 0} where
-  -- the doorman sees the whole history, in which the entries of each retired pass are its own, and as many were retired as were made at most
+  -- the doorman sees the whole history, in which the entries of each retired pass are its own, those under the number 0 are the opening ones, and there are none under a number that was not made
   pub record Looks (before after : View E) : Type 0 where
     pub history : List (ℕ × E)
     pub seen : IsPrefix before.seen history
     pub told : IsPrefix before.told history
+    pub numbers : AreNumbers before.made before.retired
     pub within : length before.retired ≤ before.made
     pub own : AreOwn history before.retired
+    pub opening : of_number 0 history ≡ before.own
+    pub none_above : (n : ℕ) → before.made + 1 ≤ n → of_number n history ≡ []
     pub is : after ≡ after_look before history
 
 module _ {V E : Type 0} where

@@ -52,7 +52,7 @@ impl<V: Recorded> TreeLock<V> {
     /// A lock over a value, and its doorman. If memory runs out, the value comes back.
     pub fn new(alloc: Global, value: V) -> Result<(TreeLock<V>, Doorman<V>), V>
         requires { AllOfNumber 0 (V.entries value) }
-        ensures ok { IfOk result (λ r. r.1 ≡ record { lock = r.0; seen = V.entries value; opening = V.entries value; made = 0; retired = [] }) }
+        ensures ok { IfOk result (λ r. r.1 ≡ record { lock = r.0; seen = V.entries value; opening = V.entries value; made = 0; out = 0; retired = [] }) }
         ensures err { IfErr result (λ v. v ≡ value) }
     {
         let about = Snapshot::of(&value);
@@ -75,7 +75,8 @@ impl<V: Recorded> TreeLock<V> {
         requires lock { door.old.lock ≡ self.now }
         requires room { door.old.made < 2 ^ 64 - 1 }
         ensures pass { result ≡ record { lock = self.now; number = door.old.made + 1; seen = door.old.seen; own = [] } }
-        ensures door { door.new ≡ record door.old { made = door.old.made + 1 } }
+        ensures opened { IsPrefix door.old.opening door.old.seen }
+        ensures door { door.new ≡ record door.old { made = door.old.made + 1; out = door.old.out + 1 } }
     {
         let seat = self.table.shared.split_seat::<Makes>(&mut door.seat);
         door.made += 1;
@@ -92,7 +93,7 @@ impl<V: Recorded> TreeLock<V> {
         requires pass { pass.lock ≡ self.now }
         ensures { TakesIn pass door.old door.new }
     {
-        self.table.shared.join_seat::<Retires>(&mut door.seat, pass.seat);
+        self.table.shared.join_seat::<Retires>(&mut door.seat, pass.into_seat());
         self.table.shared.load::<Looks>(&mut door.seat, TICKETS);
         door.out -= 1;
     }
@@ -100,11 +101,11 @@ impl<V: Recorded> TreeLock<V> {
     /// The value of a lock whose passes were all taken in.
     pub fn close(self, door: Doorman<V>) -> V
         requires lock { door.lock ≡ self }
-        requires all { length door.retired ≡ door.made }
+        requires all { door.out ≡ 0 }
         ensures { IsClosed door (V.entries result) }
     {
         let TreeLock { table } = self;
-        let mut closed = table.close_with(door.seat);
+        let mut closed = table.close_with(door.into_seat());
         let Some(value) = closed.take(0) else {
             unreachable!()
         };
@@ -116,9 +117,16 @@ impl<V: Recorded> TreeLock<V> {
 impl<V: Recorded> Doorman<V> {
     /// How many passes were made and not taken in.
     pub fn out(&self) -> u64
-        ensures { result + length self.now.retired ≡ self.now.made }
+        ensures { result ≡ self.now.out }
     {
         self.out
+    }
+
+    /// How many passes were made.
+    pub fn made(&self) -> u64
+        ensures { result ≡ self.now.made }
+    {
+        self.made
     }
 }
 

@@ -4,6 +4,7 @@ use crate::rule::{LockSeat, LockTable};
 use std::marker::Model;
 
 /// A lock. Contracts see it as the name of its table.
+#[derive(Drop)]
 pub struct TreeLock<V: Recorded> {
     pub(crate) table: LockTable<V>,
 }
@@ -22,7 +23,6 @@ impl<V: Recorded> Model for TreeLock<V> {
 }
 
 /// What makes passes and takes them in.
-#[derive(Drop)]
 pub struct Doorman<V: Recorded> {
     pub(crate) seat: LockSeat<V>,
     pub(crate) made: u64,
@@ -36,13 +36,44 @@ impl<V: Recorded> Model for Doorman<V> {
 
     ghost Value = { DoorView V.Entry };
 
-    ghost view = { λ d. record { lock = d.seat.table_id; seen = d.seat.me.0.seen; opening = d.seat.me.0.own; made = d.seat.me.0.made; retired = d.seat.me.0.retired } };
+    ghost use Rattle.tree_lock.specs.Seats.{door_view};
 
-    ghost invariant = { λ d. (d.seat.id ≡ 0) × (d.seat.me.1 ≡ []) × (d.made ≡ d.seat.me.0.made) × (d.out + length d.seat.me.0.retired ≡ d.made) };
+    ghost view = { λ d. door_view d.seat.me.0 d.seat.table_id d.out };
+
+    ghost invariant = { λ d. (d.seat.id ≡ 0) × (d.seat.me.1 ≡ []) × (d.made ≡ d.seat.me.0.made) × (d.out + length d.seat.me.0.retired ≡ d.made) × IsPrefix d.seat.me.0.own d.seat.me.0.seen };
+}
+
+impl<V: Recorded> Doorman<V> {
+    ghost use Rattle.std.specs.Prelude.{◌≡◌, [], ◌+◌, length};
+    ghost use mathlib.Core.List.{IsPrefix};
+    ghost use Rattle.tree_lock.specs.Seats.{door_view};
+
+    pub(crate) fn into_seat(self) -> LockSeat<V>
+        ensures seat { (result.id ≡ 0) × (result.me.1 ≡ []) }
+        ensures view { door_view result.me.0 result.table_id self.out ≡ self }
+        ensures counted { self.out + length self.retired ≡ self.made }
+        ensures opened { IsPrefix self.opening self.seen }
+    {
+        let Doorman {
+            seat,
+            made: _,
+            out: _,
+        } = self;
+        seat
+    }
+}
+
+impl<V: Recorded> Drop for Doorman<V> {
+    fn drop(self) {
+        let Doorman {
+            seat: _,
+            made: _,
+            out: _,
+        } = self;
+    }
 }
 
 /// What has turns at the lock.
-#[derive(Drop)]
 pub struct Pass<V: Recorded> {
     pub(crate) seat: LockSeat<V>,
     pub(crate) number: u64,
@@ -58,4 +89,24 @@ impl<V: Recorded> Model for Pass<V> {
     ghost view = { λ p. record { lock = p.seat.table_id; number = p.number; seen = p.seat.me.0.seen; own = p.seat.me.0.own } };
 
     ghost invariant = { λ p. (p.seat.me.1 ≡ []) × (p.number ≡ p.seat.me.0.number) × (1 ≤ p.number) × (p.seat.me.0.stage ≡ Idle) × (p.seat.me.0.out ≡ true) };
+}
+
+impl<V: Recorded> Pass<V> {
+    ghost use Rattle.std.specs.Prelude.{◌≡◌, [], ◌≤◌, true};
+    ghost use Rattle.tree_lock.specs.Seats.{seat_view};
+    ghost use Rattle.tree_lock.specs.declared.view.Stage.TheVariants.{Idle};
+
+    pub(crate) fn into_seat(self) -> LockSeat<V>
+        ensures seat { (result.me.1 ≡ []) × (result.me.0.stage ≡ Idle) × (result.me.0.out ≡ true) × (1 ≤ result.me.0.number) }
+        ensures view { seat_view result ≡ self }
+    {
+        let Pass { seat, number: _ } = self;
+        seat
+    }
+}
+
+impl<V: Recorded> Drop for Pass<V> {
+    fn drop(self) {
+        let Pass { seat: _, number: _ } = self;
+    }
 }
