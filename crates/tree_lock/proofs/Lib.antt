@@ -4,3 +4,4 @@ pub mod StepLemmas
 pub mod TurnLemmas
 pub mod NumberLemmas
 pub mod DoorLemmas
+pub mod MergeLemmas

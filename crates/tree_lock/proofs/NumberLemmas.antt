@@ -66,3 +66,12 @@ module _ {E : Type 0} where
   each_made P made retired n numbers all holds low high =
       let xs : List ℕ = map (λ (r : Retired E). r.0) retired in
       all_among P n xs (all_of_them made xs n numbers.distinct (mapped (λ y. (1 ≤ y) × (y ≤ made)) retired numbers.within) (same_length retired ∙ all) low high) (mapped P retired holds)
+
+  -- each retired pass's number is among the numbers
+  pub among_of : (retired : List (Retired E)) → AllByRecursion (λ (r : Retired E). IsAmong r.0 (map (λ (r : Retired E). r.0) retired)) retired
+  among_of [] = tt
+  among_of (x ∷ xs) = (inl refl, later xs (map (λ (r : Retired E). r.0) xs) (among_of xs))
+    where
+      later : (rs : List (Retired E)) (ns : List ℕ) → AllByRecursion (λ (r : Retired E). IsAmong r.0 ns) rs → AllByRecursion (λ (r : Retired E). IsAmong r.0 (x.0 ∷ ns)) rs
+      later [] ns all = tt
+      later (r ∷ rs) ns all = (inr all.0, later rs ns all.1)

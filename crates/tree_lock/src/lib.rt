@@ -5,6 +5,7 @@
 #![tactic(auto)]
 
 mod door;
+mod laws;
 mod parts;
 mod recorded;
 mod rule;
@@ -12,5 +13,6 @@ mod turn;
 mod view;
 mod waiting;
 
+pub use laws::closed_histories_are_merges;
 pub use parts::{Doorman, Pass, TreeLock};
 pub use recorded::{Job, Recorded};
