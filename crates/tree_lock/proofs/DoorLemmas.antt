@@ -172,7 +172,7 @@ module _ {V E : Type 0} (entries : V → List (ℕ × E)) where
       let F : ℕ → View E → Type 0 = Fits r.history r.served r.drawn r.seat_of in
       let slot_mid = slot_stays s r 0 v both at (ap is_holding d.idle) (ap is_holding d.idle) s.views s.homes r.slot at in
       let apart : AllByRecursion (λ y. eqb w.number y ≡ false) (map (λ (x : Retired E). x.0) v.retired) =
-              subst (λ n. AllByRecursion (λ y. eqb n y ≡ false) (map (λ (x : Retired E). x.0) v.retired)) (sym is) (apart_from_spent s.views other w v.retired at_w out d.spent) in record {
+      subst (λ n. AllByRecursion (λ y. eqb n y ≡ false) (map (λ (x : Retired E). x.0) v.retired)) (sym is) (apart_from_spent s.views other w v.retired at_w out d.spent) in record {
         history = r.history;
         served = r.served;
         drawn = r.drawn;

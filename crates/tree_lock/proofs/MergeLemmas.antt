@@ -37,12 +37,12 @@ module _ {E : Type 0} where
   taken e es [] distinct here = absurd here
   taken e es (n ∷ ns) distinct here = dite (ℕ_discrete e.0 n)
       (λ is.
-          let head : of_number n (e ∷ es) ≡ e ∷ of_number e.0 es = of_number-here n e es is ∙ ap (λ m. e ∷ of_number m es) (sym is) in
-          let apart : AllByRecursion (λ y. eqb e.0 y ≡ false) ns = subst (λ m. AllByRecursion (λ y. eqb m y ≡ false) ns) (sym is) distinct.0 in
-          (0, (ap Some head, λ i. of_number (is i) es ∷ others e es ns apart i)))
+      let head : of_number n (e ∷ es) ≡ e ∷ of_number e.0 es = of_number-here n e es is ∙ ap (λ m. e ∷ of_number m es) (sym is) in
+      let apart : AllByRecursion (λ y. eqb e.0 y ≡ false) ns = subst (λ m. AllByRecursion (λ y. eqb m y ≡ false) ns) (sym is) distinct.0 in
+      (0, (ap Some head, λ i. of_number (is i) es ∷ others e es ns apart i)))
       (λ ne.
-          let found = taken e es ns distinct.1 (⊎_elim (λ (is : e.0 ≡ n). absurd (ne is)) (λ (t : IsAmong e.0 ns). t) here) in
-          (suc found.0, (found.1.0, λ i. of_number-else n e es ne i ∷ found.1.1 i)))
+      let found = taken e es ns distinct.1 (⊎_elim (λ (is : e.0 ≡ n). absurd (ne is)) (λ (t : IsAmong e.0 ns). t) here) in
+      (suc found.0, (found.1.0, λ i. of_number-else n e es ne i ∷ found.1.1 i)))
 
   merges : (ns : List ℕ) → IsDistinct eqb ns → (es : List (ℕ × E)) → AllByRecursion (λ (e : ℕ × E). IsAmong e.0 ns) es → Merges (lists_of ns es) es
   merges ns distinct [] known = ends (all_empty [] refl ns)
@@ -97,12 +97,12 @@ module _ {E : Type 0} where
       let none_opening : of_number 0 rest ≡ [] = nothing_more door.opening (of_number 0 rest) (ap (λ l. l ++ of_number 0 rest) (sym (of_number-all 0 door.opening all)) ∙ sym (in_rest 0) ∙ knows.opening) in
       let numbers : List ℕ = map (λ (r : Retired E). r.0) door.retired in
       let known : (n : ℕ) → (of_number n rest ≡ []) ⊎ IsAmong n numbers = λ n. dite (ℕ_discrete n 0)
-              (λ zero_is. inl (ap (λ m. of_number m rest) zero_is ∙ none_opening))
-              (λ ne. dite (dec_le n door.made)
-                  (λ high. let low : 1 ≤ n = omega arith in inr (each_made (λ m. IsAmong m numbers) door.made door.retired n knows.numbers closed.all (among_of door.retired) low high))
-                  (λ above.
-                      let high : door.made + 1 ≤ n = omega arith in
-                      inl (ends_empty (of_number n door.opening) (of_number n rest) (sym (in_rest n) ∙ knows.none_above n high)))) in
+      (λ zero_is. inl (ap (λ m. of_number m rest) zero_is ∙ none_opening))
+      (λ ne. dite (dec_le n door.made)
+      (λ high. let low : 1 ≤ n = omega arith in inr (each_made (λ m. IsAmong m numbers) door.made door.retired n knows.numbers closed.all (among_of door.retired) low high))
+      (λ above.
+      let high : door.made + 1 ≤ n = omega arith in
+      inl (ends_empty (of_number n door.opening) (of_number n rest) (sym (in_rest n) ∙ knows.none_above n high)))) in
       record { rest = rest; is = is; merged = subst (λ l. Merges l rest) (own_lists rest door.retired own) (merges numbers knows.numbers.distinct rest (each_entry (λ n. IsAmong n numbers) rest known)) }
     where
       ends_empty : (xs ys : List (ℕ × E)) → xs ++ ys ≡ [] → ys ≡ []

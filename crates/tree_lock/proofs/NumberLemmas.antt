@@ -30,7 +30,7 @@ few : (count : ℕ) (xs : List ℕ) → IsDistinct eqb xs → AllByRecursion (λ
 unfolding IsDistinct
 few count xs distinct within =
     let more : suc (length xs) ≤ count + 1 = length-le_from_distinct_below (0 ∷ xs) (count + 1) (zero_apart xs within, distinct)
-        (λ q e. ⊎_elim (λ (z : q ≡ 0). omega arith) (λ (t : IsAmong q xs). let b = all_among (λ y. (1 ≤ y) × (y ≤ count)) q xs t within in let le : q ≤ count = b.1 in omega arith) (listed q (0 ∷ xs) e)) in
+    (λ q e. ⊎_elim (λ (z : q ≡ 0). omega arith) (λ (t : IsAmong q xs). let b = all_among (λ y. (1 ≤ y) × (y ≤ count)) q xs t within in let le : q ≤ count = b.1 in omega arith) (listed q (0 ∷ xs) e)) in
     omega arith
   where
     zero_apart : (ys : List ℕ) → AllByRecursion (λ y. (1 ≤ y) × (y ≤ count)) ys → AllByRecursion (λ y. eqb 0 y ≡ false) ys

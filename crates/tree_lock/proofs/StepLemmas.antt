@@ -87,9 +87,9 @@ module _ {V E : Type 0} (entries : V → List (ℕ × E)) where
   is_home s r id v at free here = ⊎_elim
       (λ home. home)
       (λ (away : IsAway s.views).
-          let fits = r.each away.holder away.view away.here in
-          let same : id ≡ away.holder = sym here ∙ (holds_of r.history r.served r.drawn r.seat_of away.holder away.view.seen away.view.stage away.holding fits.stage).0 in
-          absurd (true_is_not_false (sym away.holding ∙ ap (λ (u : View E). is_holding u.stage) (some-injective away.view v (sym away.here ∙ ap (λ j. get_elem? s.views j) (sym same) ∙ at)) ∙ free)))
+      let fits = r.each away.holder away.view away.here in
+      let same : id ≡ away.holder = sym here ∙ (holds_of r.history r.served r.drawn r.seat_of away.holder away.view.seen away.view.stage away.holding fits.stage).0 in
+      absurd (true_is_not_false (sym away.holding ∙ ap (λ (u : View E). is_holding u.stage) (some-injective away.view v (sym away.here ∙ ap (λ j. get_elem? s.views j) (sym same) ∙ at)) ∙ free)))
       r.slot
 
   -- where a seat changes that did not hold the value, and does not after, the slot is as it was
@@ -127,12 +127,12 @@ module _ {V E : Type 0} (entries : V → List (ℕ × E)) where
       let count : tickets_out (set s.views id w) + tickets_at v.stage ≡ tickets_out s.views + 1 = tickets_out-set s.views id v w at in
       let none_out : tickets_at v.stage ≡ 0 = ap tickets_at idle in
       let stays : (j t : ℕ) → IsOut r.served r.drawn r.seat_of j t → IsOut r.served (r.drawn + 1) seat_of j t = λ j t o. let below : t < r.drawn = o.exists in record {
-            waits = o.waits;
-            exists = omega arith;
-            here = ap (λ b. cond b id (r.seat_of t)) (ne_eqb t r.drawn (λ e. omega arith)) ∙ o.here;
-          } in
+        waits = o.waits;
+        exists = omega arith;
+        here = ap (λ b. cond b id (r.seat_of t)) (ne_eqb t r.drawn (λ e. omega arith)) ∙ o.here;
+      } in
       let at_stage_stays : (j : ℕ) (seen : List (ℕ × E)) (stage : Stage) → IsAtStage r.history r.served r.drawn r.seat_of j seen stage → IsAtStage r.history r.served (r.drawn + 1) seat_of j seen stage = λ j seen.
-          elim [ Idle ↦ λ _. tt | Waiting t ↦ λ o. stays j t o | Holding t ↦ λ h. (h.0, stays j t h.1, h.2) ] in (
+      elim [ Idle ↦ λ _. tt | Waiting t ↦ λ o. stays j t o | Holding t ↦ λ h. (h.0, stays j t h.1, h.2) ] in (
         w,
         keeps,
         tt,
@@ -226,44 +226,44 @@ module _ {V E : Type 0} (entries : V → List (ℕ × E)) where
       let o : IsOut r.served r.drawn r.seat_of id t = waits_of r.history r.served r.drawn r.seat_of id v.seen v.stage t waiting fits.stage in
       dite (ℕ_discrete found (t % 2 ^ 64))
       (λ hit.
-          let now : r.served ≡ t = served_is s r id t o hit in
-          let home = is_home s r id v at (ap is_holding waiting) (ap r.seat_of now ∙ o.here) in
-          let w : View E = holding v t (entries home.value) in
-          let known = known_out r.history id v v.out out fits.known in
-          let own : of_number v.number (entries home.value) ≡ v.own = ap (of_number v.number) home.is ∙ ap (λ n. of_number n r.history) known.0 ∙ known.1 in
-          let words : set s.words 16 found ≡ s.words = set_again s.words 16 found (at_default s.words 16 0 (omega arith)) in
-          let apart = apart_from_door s r id v at out number in
-          let same : tickets_out (set s.views id w) + tickets_at v.stage ≡ tickets_out s.views + 1 = tickets_out-set s.views id v w at in
-          let one : tickets_at v.stage ≡ 1 = ap tickets_at waiting in
-          let before : r.served + tickets_out s.views ≡ r.drawn = r.counted in
-          let slots : length s.homes ≡ 1 = r.slots in (
-            w,
-            takes 0 (Some home.value),
-            home.here,
-            subst (λ (words : List ℕ). Kept entries record { words = words; homes = set s.homes 0 none; views = set s.views id w }) (sym words) record {
-              history = r.history;
-              served = r.served;
-              drawn = r.drawn;
-              seat_of = r.seat_of;
-              door = r.door;
-              wide = wide;
-              slots = length-set s.homes 0 none ∙ slots;
-              drawn_is = r.drawn_is;
-              served_is = r.served_is;
-              counted = omega arith;
-              doorman = doorman_stays r.history r.history s.views r.door id v w r.doorman apart at out r.doorman.own;
-              none_above = λ n above. r.none_above n (subst (λ m. m ≤ n) (length-set s.views id w) above);
-              each = each_set (Fits r.history r.served r.drawn r.seat_of) s.views id w (λ j u _ e. r.each j u e) record {
-                seen = subst (λ l. IsPrefix l r.history) (sym home.is) (prefix_refl r.history);
-                told = fits.told;
-                known = is_known r.history id w w.out out known.0 known.1;
-                stage = (sym now, o, home.is);
-              };
-              slot = inr record { holder = id; view = w; here = set_here s.views id w (at_within s.views id v at); holding = refl };
-            },
-            told_at me t found (w, (0, Some home.value) ∷ me.1) waiting
-                ((λ _. record { value = home.value; seen = subst (IsPrefix v.seen) (sym home.is) fits.seen; own = own; is = refl }), (λ miss. absurd (miss hit))),
-          ))
+      let now : r.served ≡ t = served_is s r id t o hit in
+      let home = is_home s r id v at (ap is_holding waiting) (ap r.seat_of now ∙ o.here) in
+      let w : View E = holding v t (entries home.value) in
+      let known = known_out r.history id v v.out out fits.known in
+      let own : of_number v.number (entries home.value) ≡ v.own = ap (of_number v.number) home.is ∙ ap (λ n. of_number n r.history) known.0 ∙ known.1 in
+      let words : set s.words 16 found ≡ s.words = set_again s.words 16 found (at_default s.words 16 0 (omega arith)) in
+      let apart = apart_from_door s r id v at out number in
+      let same : tickets_out (set s.views id w) + tickets_at v.stage ≡ tickets_out s.views + 1 = tickets_out-set s.views id v w at in
+      let one : tickets_at v.stage ≡ 1 = ap tickets_at waiting in
+      let before : r.served + tickets_out s.views ≡ r.drawn = r.counted in
+      let slots : length s.homes ≡ 1 = r.slots in (
+        w,
+        takes 0 (Some home.value),
+        home.here,
+        subst (λ (words : List ℕ). Kept entries record { words = words; homes = set s.homes 0 none; views = set s.views id w }) (sym words) record {
+          history = r.history;
+          served = r.served;
+          drawn = r.drawn;
+          seat_of = r.seat_of;
+          door = r.door;
+          wide = wide;
+          slots = length-set s.homes 0 none ∙ slots;
+          drawn_is = r.drawn_is;
+          served_is = r.served_is;
+          counted = omega arith;
+          doorman = doorman_stays r.history r.history s.views r.door id v w r.doorman apart at out r.doorman.own;
+          none_above = λ n above. r.none_above n (subst (λ m. m ≤ n) (length-set s.views id w) above);
+          each = each_set (Fits r.history r.served r.drawn r.seat_of) s.views id w (λ j u _ e. r.each j u e) record {
+            seen = subst (λ l. IsPrefix l r.history) (sym home.is) (prefix_refl r.history);
+            told = fits.told;
+            known = is_known r.history id w w.out out known.0 known.1;
+            stage = (sym now, o, home.is);
+          };
+          slot = inr record { holder = id; view = w; here = set_here s.views id w (at_within s.views id v at); holding = refl };
+        },
+        told_at me t found (w, (0, Some home.value) ∷ me.1) waiting
+            ((λ _. record { value = home.value; seen = subst (IsPrefix v.seen) (sym home.is) fits.seen; own = own; is = refl }), (λ miss. absurd (miss hit))),
+      ))
       (λ miss. (v, keeps, tt, nothing_changes s 16 id v r at (omega arith), told_at me t found me waiting ((λ hit. absurd (miss hit)), (λ _. refl))))
 
   -- the lists of retired passes stay their own where the history goes on with the entries of a pass that is out
@@ -298,13 +298,13 @@ module _ {V E : Type 0} (entries : V → List (ℕ × E)) where
       let before : r.served + tickets_out s.views ≡ r.drawn = r.counted in
       let slots_is : length s.homes ≡ 1 = r.slots in
       let not_mine : (j t : ℕ) → j ≢ id → IsOut r.served r.drawn r.seat_of j t → IsOut (r.served + 1) r.drawn r.seat_of j t = λ j t ne o.
-              let waits : r.served ≤ t = o.waits in
-              let other : r.served ≢ t = λ e. ne (sym o.here ∙ ap r.seat_of (sym e) ∙ here) in
-              record { waits = omega arith; exists = o.exists; here = o.here } in
+      let waits : r.served ≤ t = o.waits in
+      let other : r.served ≢ t = λ e. ne (sym o.here ∙ ap r.seat_of (sym e) ∙ here) in
+      record { waits = omega arith; exists = o.exists; here = o.here } in
       let stage_stays : (j : ℕ) (seen : List (ℕ × E)) → j ≢ id → (stage : Stage) → IsAtStage r.history r.served r.drawn r.seat_of j seen stage → IsAtStage history (r.served + 1) r.drawn r.seat_of j seen stage = λ j seen ne.
-              elim [ Idle ↦ λ _. tt | Waiting t ↦ λ o. not_mine j t ne o | Holding t ↦ λ h. absurd (ne (sym h.1.here ∙ ap r.seat_of h.0 ∙ here)) ] in
+      elim [ Idle ↦ λ _. tt | Waiting t ↦ λ o. not_mine j t ne o | Holding t ↦ λ h. absurd (ne (sym h.1.here ∙ ap r.seat_of h.0 ∙ here)) ] in
       let free : (j : ℕ) (u : View E) → j ≢ id → get_elem? s.views j ≡ some u → (b : Bool) → is_holding u.stage ≡ b → b ≡ false = λ j u ne e.
-              elim [ true ↦ λ h. absurd (ne (sym (holds_of r.history r.served r.drawn r.seat_of j u.seen u.stage h (r.each j u e).stage).0 ∙ here)) | false ↦ λ h. refl ] in (
+      elim [ true ↦ λ h. absurd (ne (sym (holds_of r.history r.served r.drawn r.seat_of j u.seen u.stage h (r.each j u e).stage).0 ∙ here)) | false ↦ λ h. refl ] in (
         w,
         gives,
         tt,

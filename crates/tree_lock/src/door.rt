@@ -93,7 +93,9 @@ impl<V: Recorded> TreeLock<V> {
         requires pass { pass.lock ≡ self.now }
         ensures { TakesIn pass door.old door.new }
     {
-        self.table.shared.join_seat::<Retires>(&mut door.seat, pass.into_seat());
+        self.table
+            .shared
+            .join_seat::<Retires>(&mut door.seat, pass.into_seat());
         self.table.shared.load::<Looks>(&mut door.seat, TICKETS);
         door.out -= 1;
     }

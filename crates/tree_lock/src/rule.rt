@@ -24,7 +24,13 @@ impl<V: Recorded> TableRule<Option<V>, View<V::Entry>, Snapshot<V>> for Turns<V>
     ghost first = { λ key. opening_view (V.entries key.value) };
 }
 
-pub type LockTable<V> = Table<Option<V>, View<<V as Recorded>::Entry>, Snapshot<V>, Turns<V>, Global>;
+pub type LockTable<V> = Table<
+    Option<V>,
+    View<<V as Recorded>::Entry>,
+    Snapshot<V>,
+    Turns<V>,
+    Global,
+>;
 
 pub type LockShared<V> = Shared<Option<V>, View<<V as Recorded>::Entry>, Snapshot<V>, Turns<V>>;
 
