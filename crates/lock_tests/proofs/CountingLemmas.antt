@@ -1,0 +1,21 @@
+-- A pass that counts.
+use Rattle.std.proofs.Common.{◌≡◌, ℕ, suc, ◌+◌, List, [], ◌∷◌, ◌++◌, true, refl, sym, ap, ◌∙◌, subst, arith, append_assoc}
+use Rattle.std.proofs.lemmas.List.{append_cancel_left}
+use Rattle.tree_lock.specs.Seen.{PassView}
+use Rattle.tree_lock.specs.Turned.{Turned}
+use Rattle.lock_tests.specs.Counting.{Noted, counted}
+
+-- after a turn that noted the next number, the pass has counted one further
+pub counts_on : {V : Type 0} (entries : V → List (ℕ × ℕ)) (old new first : PassView ℕ) (number : ℕ) (result : _)
+    → Turned entries (λ before pass after result. Noted pass number (entries before) (entries after) result) old new result → result ≡ true
+    → old.lock ≡ first.lock → old.number ≡ first.number → old.own ≡ first.own ++ counted first.number number
+    → (new.lock ≡ first.lock) × (new.number ≡ first.number) × (new.own ≡ first.own ++ counted first.number (number + 1))
+counts_on entries old new first number result turned is lock same own =
+    let noted = subst (λ b. Noted old.number number (entries turned.before) (entries turned.after) b) is turned.worked in
+    let added : turned.added ≡ (old.number, number) ∷ [] = append_cancel_left (entries turned.before) turned.added ((old.number, number) ∷ []) (sym turned.left ∙ noted) in
+    let next : number + 1 ≡ suc number = omega arith in (
+      turned.lock ∙ lock,
+      turned.number ∙ same,
+      turned.own ∙ ap (λ l. old.own ++ l) (added ∙ ap (λ (n : ℕ). (n, number) ∷ []) same) ∙ ap (λ l. l ++ (first.number, number) ∷ []) own
+          ∙ append_assoc first.own (counted first.number number) ((first.number, number) ∷ []) ∙ ap (λ (n : ℕ). first.own ++ counted first.number n) (sym next),
+    )
