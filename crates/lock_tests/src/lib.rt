@@ -7,4 +7,7 @@ mod log;
 mod threads;
 
 pub use log::{Log, Note};
-pub use threads::take_turns;
+pub use threads::{count_in_threads, take_turns};
+
+#[cfg(test)]
+mod tests;
