@@ -18,7 +18,7 @@ use Rattle.tree_lock.specs.Entries.{of_number, AllOfNumber, Appends}
 use Rattle.tree_lock.specs.Seen.{Retired, AreNumbers, AreOwn}
 use Rattle.tree_lock.specs.Knowledge.{tickets_at, is_holding, tickets_out, at_stage, holding, after_turn}
 use Rattle.tree_lock.specs.Rule.{IsOut, IsAtStage, IsKnown, Fits, IsSpent, IsDoorman, IsHome, IsAway, Kept}
-use Rattle.tree_lock.specs.Steps.{draws, waits, serves, rings, Takes, entries_held}
+use Rattle.tree_lock.specs.Steps.{draws, waits, serves, Takes, entries_held}
 use Rattle.tree_lock.proofs.EntryLemmas.{of_number-added, of_number-others, prefix_refl, prefix_append, prefix_more}
 use Rattle.tree_lock.proofs.SeatLemmas.{at_default, each_set, at_within, length-set, tickets_out-set, tickets_out-le}
 
@@ -170,10 +170,10 @@ module _ {V E : Type 0} (entries : V → List (ℕ × E)) where
       let views : s.views ≡ set s.views id v = sym (set_again s.views id v at) in
       subst (Kept entries) (λ k. record { words = words k; homes = s.homes; views = views k }) r
 
-  -- a bell is rung
-  pub rings_keeps : (slots id word : ℕ) (me : Me (std.Option V) (View E)) → 32 ≤ word → Allows (Kept entries) slots id me word (λ n. (n + 1) % 2 ^ 64) (rings (step slots word 1 0 none) me)
-  rings_keeps slots id word me far s r _ at _ =
-      let next : ℕ = (get_or s.words word 0 + 1) % 2 ^ 64 in
+  -- a word changes of which the rule says nothing
+  pub signals_keeps : (slots id word : ℕ) (me : Me (std.Option V) (View E)) (f : ℕ → ℕ) → 32 ≤ word → Allows (Kept entries) slots id me word f (λ found after. after ≡ me)
+  signals_keeps slots id word me f far s r _ at _ =
+      let next : ℕ = f (get_or s.words word 0) in
       let wide : 32 < length s.words = r.wide in
       let views : set s.views id me.0 ≡ s.views = set_again s.views id me.0 at in (
         me.0,

@@ -22,6 +22,10 @@ module _ {V : Type 0} where
   unfolding first_of
   same_value k x y xs ys e = ap (first_of x) e
 
+module _ {V E : Type 0} where
+  pub same_view : (s t : Seat (Option V) (View E)) → t.table_id ≡ s.table_id → t.me ≡ s.me → seat_view t ≡ seat_view s
+  same_view s t table me = λ i. record { lock = table i; number = (me i).0.number; seen = (me i).0.seen; own = (me i).0.own }
+
 module _ {V E Out : Type 0} (entries : V → List (ℕ × E)) (done : V → ℕ → V → Out → Type 0) where
   abbrev S : Type 0
   S = Seat (Option V) (View E)

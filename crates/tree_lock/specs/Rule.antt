@@ -1,5 +1,5 @@
 -- The rule of the lock's table. This project's own.
--- Word 0 counts the tickets that were drawn, and word 16 those that were served, both modulo 2 ^ 64. The words from 32 on are bells, of which the rule says nothing.
+-- Word 0 counts the tickets that were drawn, and word 16 those that were served, both modulo 2 ^ 64. Of the words from 32 on, by which passes wake each other, the rule says nothing.
 -- The one slot has the value, or is out with the pass that holds it. The seat of a pass is its number, and that of the doorman is 0.
 use Rattle.std.specs.Prelude.{◌≡◌, ℕ, ◌+◌, ◌^◌, ◌%◌, ◌<◌, ◌≤◌, List, [], length, Bool, true, false, slice_index, ◌⊎◌, Some}
 use Rattle.std.specs.List.{AllByRecursion}

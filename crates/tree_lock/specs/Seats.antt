@@ -9,7 +9,7 @@ use Rattle.tree_lock.specs.Seen.{PassView, DoorView}
 
 -- the table has the lock's words, and its slot
 pub record IsLockTable (table : TableId) : Type 0 where
-  pub words : table.words ≡ 96
+  pub words : table.words ≡ 64
   pub slots : table.slots ≡ 1
 
 -- what contracts see of a doorman whose seat has this view

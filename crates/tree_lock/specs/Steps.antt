@@ -30,8 +30,8 @@ module _ {V E : Type 0} where
   draws step before found after = (t : ℕ) × (found ≡ t % 2 ^ 64) × (after ≡ (at_stage before.0 (Waiting t), before.1))
 
   -- nothing is told
-  abbrev pub rings : Step (Option V) → Seated V E → ℕ → Seated V E → Type 0
-  rings step before found after = after ≡ before
+  abbrev pub signals : Step (Option V) → Seated V E → ℕ → Seated V E → Type 0
+  signals step before found after = after ≡ before
 
   abbrev pub looks : Step (Option V) → Seated V E → ℕ → Seated V E → Type 0
   looks step before found after = Looks before.0 after.0 × (after.1 ≡ before.1)

@@ -13,10 +13,10 @@ use std::alloc::{AllocFailed, Global};
 use std::snapshot::Snapshot;
 
 // The words of the table before a ticket is drawn.
-fn first_words() -> [u64; 96]
-    ensures { (length result ≡ 96) × (slice_index result 0 ≡ 0) × (slice_index result 16 ≡ 0) }
+fn first_words() -> [u64; 64]
+    ensures { (length result ≡ 64) × (slice_index result 0 ≡ 0) × (slice_index result 16 ≡ 0) }
 {
-    [0; 96]
+    [0; 64]
 }
 
 // The slot of a new table, or else the value.

@@ -19,7 +19,7 @@ impl<V: Recorded> Model for TreeLock<V> {
 
     ghost view = { λ l. l.table.shared.table_id };
 
-    ghost invariant = { λ l. (l.table.shared.table_id.words ≡ 96) × (l.table.shared.table_id.slots ≡ 1) };
+    ghost invariant = { λ l. (l.table.shared.table_id.words ≡ 64) × (l.table.shared.table_id.slots ≡ 1) };
 }
 
 /// What makes passes and takes them in.

@@ -6,10 +6,15 @@ use std::alloc::Global;
 use std::marker::PhantomData;
 use std::snapshot::Snapshot;
 
-// The words that count the tickets drawn and those served stand on cache lines of their own.
+// The words: how many tickets were drawn, how many were served, how many passes sleep, and whether one was called. They
+// stand on cache lines of their own.
 pub const TICKETS: usize = 0;
 
 pub const SERVED: usize = 16;
+
+pub const SLEEPERS: usize = 32;
+
+pub const CALL: usize = 48;
 
 pub struct Turns<V> {
     value: PhantomData<V>,
@@ -94,11 +99,11 @@ impl<V: Recorded> Play<Option<V>, View<V::Entry>> for Serves {
     ghost then = { serves V.entries };
 }
 
-/// A pass rings a bell.
-pub struct Rings;
+/// A pass says that it sleeps, or calls one that does.
+pub struct Signals;
 
-impl<V, E> Play<Option<V>, View<E>> for Rings {
-    ghost use Rattle.tree_lock.specs.Steps.{rings};
+impl<V, E> Play<Option<V>, View<E>> for Signals {
+    ghost use Rattle.tree_lock.specs.Steps.{signals};
 
-    ghost then = { rings };
+    ghost then = { signals };
 }

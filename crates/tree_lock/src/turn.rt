@@ -9,7 +9,7 @@ ghost use Rattle.tree_lock.specs.Turned.{Turned};
 use crate::parts::{Pass, TreeLock};
 use crate::recorded::{Job, Recorded};
 use crate::rule::{Draws, LockSeat, LockShared, SERVED, Serves, TICKETS, Waits};
-use crate::waiting::{bell_of, rest, ring_near};
+use crate::waiting::{approach, call_next, rest};
 use std::sync::Wait;
 
 impl<V: Recorded> TreeLock<V> {
@@ -35,11 +35,12 @@ fn turn_at<V: Recorded, J: Job<V>, R: Wait>(
     ensures idle { IsIdle shared.now.table_id seat.new }
     ensures turned { Turned V.entries (J.done job) (seat_view seat.old) (seat_view seat.new) result }
 {
+    approach(rt, shared, seat);
     let ticket = draw(shared, seat);
     wait_turn(rt, shared, seat, ticket);
     let out = work_at(shared, seat, number, job);
     serve(shared, seat);
-    ring_near(shared, seat, ticket);
+    call_next(shared, seat);
     out
 }
 
@@ -62,14 +63,14 @@ fn wait_turn<V: Recorded, R: Wait>(
     requires { IsWaiting shared.now.table_id seat.old ticket }
     ensures { (seat.new.table_id ≡ seat.old.table_id) × ((t : ℕ) × Takes V.entries t seat.old.me seat.new.me) }
 {
-    let bell = bell_of(ticket);
+    let mut looks: u32 = 0;
     for _ in rt.forever() {
-        let rung = shared.peek(bell);
         let served = shared.load::<Waits>(seat, SERVED);
         if served == ticket {
             return;
         }
-        rest(rt, shared, bell, rung, ticket.wrapping_sub(served));
+        rest(rt, shared, served, looks);
+        looks = looks.saturating_add(1);
     }
     unreachable!()
 }

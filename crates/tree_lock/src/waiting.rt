@@ -1,60 +1,93 @@
-//! How a pass waits for its ticket: it spins and yields where the ticket is near, and sleeps where it is far.
+//! How a pass waits. It draws a ticket only where nobody has one, and else sleeps until it is called; after a few calls it
+//! draws one all the same, so that those who come again and again do not keep it out.
 //!
-//! Who sleeps is woken by a bell, a word that is counted up when the ticket has come near. No clause says that it is.
-ghost use Rattle.std.specs.Prelude.{◌≡◌, ◌+◌, ◌<◌, ◌≤◌};
-ghost use Rattle.tree_lock.specs.Seats.{IsPassAt};
+//! Who ends a turn calls one that sleeps, unless a call is under way. No clause says that a call comes: what is proved
+//! here is that the lock's rule does not hang on these words.
+ghost use Rattle.std.specs.Prelude.{◌≡◌};
+ghost use Rattle.tree_lock.specs.Seats.{IsLockTable, IsPassAt};
 
 use crate::recorded::Recorded;
-use crate::rule::{LockSeat, LockShared, Rings, TICKETS};
+use crate::rule::{CALL, LockSeat, LockShared, SERVED, SLEEPERS, Signals, TICKETS};
 use std::hint::spin_loop;
 use std::sync::Wait;
 use std::thread;
+use std::time::Duration;
 
-// So many tickets ahead of the one that is served are near.
-const NEAR: u64 = 3;
+// How often a pass looks for a free lock before it sleeps.
+const LOOKS: u32 = 200;
 
-const SPINS: u32 = 64;
+// After so many calls in vain a pass draws a ticket.
+const CALLS: u32 = 3;
 
-const BELLS: u64 = 64;
+// How often a pass with a ticket looks for its turn before it yields between looks, and before it dozes between them.
+const SPINS: u32 = 200;
 
-const FIRST_BELL: usize = 32;
+const YIELDS: u32 = 300;
 
-/// The word of a ticket's bell.
-pub fn bell_of(ticket: u64) -> usize
-    ensures { (32 ≤ result) × (result < 96) }
-{
-    FIRST_BELL + (ticket % BELLS) as usize
-}
+const DOZE_MICROS: u64 = 100;
 
-/// Waits for a while. The bell had this count before the ticket was found to be so far ahead.
-pub fn rest<V: Recorded, R: Wait>(
-    rt: &R,
-    shared: &LockShared<V>,
-    bell: usize,
-    rung: u64,
-    ahead: u64,
-)
-    requires { (bell < 96) × (shared.now.table_id.words ≡ 96) }
-{
-    if ahead > NEAR {
-        shared.park(rt, bell, (rung % (1 << 32)) as u32);
-        return;
-    }
-    for _ in 0..SPINS {
-        spin_loop();
-    }
-    thread::yield_now();
-}
-
-/// Wakes the pass whose ticket has come near, since this one was served.
-pub fn ring_near<V: Recorded>(shared: &LockShared<V>, seat: &mut LockSeat<V>, ticket: u64)
+/// Waits until nobody has a ticket, or it is time to draw one.
+pub fn approach<V: Recorded, R: Wait>(rt: &R, shared: &LockShared<V>, seat: &mut LockSeat<V>)
     requires { IsPassAt shared.now.table_id seat.old }
     ensures { (seat.new.table_id ≡ seat.old.table_id) × (seat.new.me ≡ seat.old.me) }
 {
-    let drawn = shared.peek(TICKETS).wrapping_sub(ticket);
-    if drawn > NEAR + 1 {
-        let bell = bell_of(ticket.wrapping_add(NEAR + 1));
-        shared.fetch_add::<Rings>(seat, bell, 1);
-        shared.wake_all(bell);
+    for _ in 0..LOOKS {
+        if !is_taken(shared) {
+            return;
+        }
+        spin_loop();
+    }
+    sleep(rt, shared, seat);
+}
+
+// Sleeps until nobody has a ticket, or a few calls were in vain.
+fn sleep<V: Recorded, R: Wait>(rt: &R, shared: &LockShared<V>, seat: &mut LockSeat<V>)
+    requires { IsPassAt shared.now.table_id seat.old }
+    ensures { (seat.new.table_id ≡ seat.old.table_id) × (seat.new.me ≡ seat.old.me) }
+{
+    shared.fetch_add::<Signals>(seat, SLEEPERS, 1);
+    for _ in 0..CALLS {
+        if !is_taken(shared) {
+            break;
+        }
+        shared.park(rt, CALL, 0);
+        shared.store::<Signals>(seat, CALL, 0);
+    }
+    shared.fetch_sub::<Signals>(seat, SLEEPERS, 1);
+}
+
+// Whether somebody has a ticket.
+fn is_taken<V: Recorded>(shared: &LockShared<V>) -> bool
+    requires { IsLockTable shared.now.table_id }
+{
+    shared.peek(TICKETS) != shared.peek(SERVED)
+}
+
+/// Calls a pass that sleeps.
+pub fn call_next<V: Recorded>(shared: &LockShared<V>, seat: &mut LockSeat<V>)
+    requires { IsPassAt shared.now.table_id seat.old }
+    ensures { (seat.new.table_id ≡ seat.old.table_id) × (seat.new.me ≡ seat.old.me) }
+{
+    if shared.peek(SLEEPERS) != 0 && shared.peek(CALL) == 0 {
+        shared.store::<Signals>(seat, CALL, 1);
+        shared.wake_one(CALL);
+    }
+}
+
+/// Waits for a moment with a ticket in hand, after so many looks. So many tickets were served at the last one.
+pub fn rest<V: Recorded, R: Wait>(rt: &R, shared: &LockShared<V>, served: u64, looks: u32)
+    requires { IsLockTable shared.now.table_id }
+{
+    if looks < SPINS {
+        spin_loop();
+    } else if looks < YIELDS {
+        thread::yield_now();
+    } else {
+        shared.park_timeout(
+            rt,
+            SERVED,
+            (served % (1 << 32)) as u32,
+            Duration::from_micros(DOZE_MICROS),
+        );
     }
 }

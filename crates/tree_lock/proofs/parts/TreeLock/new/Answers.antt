@@ -9,7 +9,7 @@ pub new-requires : goal.new-requires
 new-requires g c =
     let entries = g.V.Recorded.entries in
     let words : List ℕ = c.first_words.result in
-    let long : length words ≡ 96 = c.first_words.ensures.0 in
+    let long : length words ≡ 64 = c.first_words.ensures.0 in
     let wide : 32 < length words = omega arith in
     let kept = opens entries words c.args.value wide c.first_words.ensures.1 c.first_words.ensures.2 c.requires in
     subst (λ v. Kept entries (opening words c.in_ok-slots.slots.items (opening_view (entries v)))) (sym c.of-about.ensures)
