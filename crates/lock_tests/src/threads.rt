@@ -1,5 +1,5 @@
 //! Passes that count, each in a thread of its own.
-ghost use Rattle.std.specs.Prelude.{◌≡◌, ℕ, ◌≤◌, ◌+◌, true, [], ◌++◌, All, IfSome};
+ghost use Rattle.std.specs.Prelude.{◌≡◌, ℕ, ◌≤◌, ◌+◌, true, [], ◌++◌, length, vec_len, All, IfSome};
 ghost use Rattle.lock_tests.specs.Counting.{counted, HasCounted, HaveCounted, IsNew};
 ghost use Rattle.tree_lock.specs.Entries.{of_number};
 
@@ -55,7 +55,7 @@ fn retire_all(
 ) -> bool
     requires door { (door.old.lock ≡ lock.now) × (door.old.retired ≡ []) }
     requires turned { All (HasCounted lock.now count) turned.items }
-    ensures { result ≡ true → (door.new.lock ≡ lock.now) × (door.new.made ≡ door.old.made) × HaveCounted count door.new.retired }
+    ensures { result ≡ true → (door.new.lock ≡ lock.now) × (door.new.made ≡ door.old.made) × HaveCounted count door.new.retired × (length door.new.retired ≡ vec_len turned) }
 {
     let _ = count;
     while let Some((pass, done)) = turned.pop() {

@@ -1,30 +1,27 @@
 -- The doorman's steps keep the rule, and what a closed table tells.
-use Rattle.std.proofs.Common.{◌≡◌, ◌≢◌, ◌⊎◌, ℕ, zero, suc, ◌+◌, ◌-◌, ◌^◌, ◌%◌, ◌<◌, ◌≤◌, List, [], ◌∷◌, ◌++◌, map, length, get_or, set, Bool, eqb, true, false, true≢false, eq-eqb, ne_eqb, refl, sym, ap, ◌∙◌, subst, ⊎_elim, inl, inr, arith}
+use Rattle.std.proofs.Common.{◌≡◌, ◌≢◌, ◌⊎◌, ℕ, suc, ◌+◌, ◌-◌, ◌^◌, ◌<◌, ◌≤◌, List, [], ◌∷◌, ◌++◌, map, length, get_or, set, Bool, eqb, true, false, ne_eqb, refl, sym, ap, ◌∙◌, subst, ⊎_elim, inl, inr, arith}
 use Rattle.std.specs.Prelude as std
 use Rattle.std.specs.Prelude.{Some, None}
-use Rattle.std.specs.List.{AllByRecursion, IsDistinct, list_any}
+use Rattle.std.specs.List.{AllByRecursion, IsDistinct}
 use mathlib.Core.Option.{Option, some, none, some-injective, some-ne-none}
 use mathlib.Core.List.{IsPrefix}
-use mathlib.Core.Logic.{dite}
-use native.Mathlib.Decide.{ℕ_discrete}
 use lib.ListN.{get_elem?}
 use Rattle.atomic_table.specs.Table.{State, Me, step, keeps, opening, Allows, Splits, Joins, Final, Seen}
-use Rattle.atomic_table.proofs.Lists.{at_longer, set_here, set_else, set_again, at_set}
+use Rattle.atomic_table.proofs.Lists.{at_longer, set_here, set_else, set_again}
 use Rattle.tree_lock.specs.declared.view.View.{View}
-use Rattle.tree_lock.specs.declared.view.Stage.{Stage}
-use Rattle.tree_lock.specs.declared.view.Stage.TheVariants.{Idle, Waiting, Holding}
+use Rattle.tree_lock.specs.declared.view.Stage.TheVariants.{Idle}
 use Rattle.tree_lock.specs.Entries.{of_number, AllOfNumber}
-use Rattle.tree_lock.specs.Seen.{Retired, AreNumbers, AreOwn, PassView, DoorView}
+use Rattle.tree_lock.specs.Seen.{Retired, AreNumbers, AreOwn, PassView}
 use Rattle.tree_lock.specs.Seats.{door_view}
-use Rattle.tree_lock.specs.Knowledge.{tickets_at, is_holding, tickets_out, opening_view, new_view, spent_view, after_making, made_by, after_retiring, after_look}
+use Rattle.tree_lock.specs.Knowledge.{tickets_at, is_holding, tickets_out, opening_view, spent_view, after_making, made_by, after_retiring, after_look}
 use Rattle.tree_lock.specs.Rule.{IsAtStage, IsKnown, Fits, IsSpent, IsDoorman, IsHome, IsAway, Kept}
 use Rattle.tree_lock.specs.Steps.{looks, Looks}
-use Rattle.tree_lock.specs.Closing.{Knows, TakesIn, IsClosed}
+use Rattle.tree_lock.specs.Closing.{TakesIn, IsClosed}
 use Rattle.atomic_table.specs.Seated.{TableId}
 use Rattle.tree_lock.proofs.EntryLemmas.{of_number-all, of_number-none, prefix_refl, prefix_nil, prefix_trans}
 use Rattle.tree_lock.proofs.NumberLemmas.{retired-le, each_made}
 use Rattle.tree_lock.proofs.SeatLemmas.{at_default, each_set, each_snoc, at_within, length-set, length-snoc, tickets_out-set, tickets_out-snoc}
-use Rattle.tree_lock.proofs.StepLemmas.{each_weaker, known_out, is_known, true_is_not_false, spent_set, nothing_changes}
+use Rattle.tree_lock.proofs.StepLemmas.{each_weaker, known_out, is_known, true_is_not_false, spent_set}
 
 module _ {E : Type 0} where
   idle_of : (history : List (ℕ × E)) (i : ℕ) (v : View E) (b : Bool) → b ≡ false → IsKnown history i v b → v.stage ≡ Idle

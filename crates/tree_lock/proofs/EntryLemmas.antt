@@ -1,9 +1,9 @@
 -- Entries under numbers, and beginnings of lists.
-use Rattle.std.proofs.Common.{◌≡◌, ◌≢◌, ℕ, List, [], ◌∷◌, ◌++◌, cond, eqb, true, false, eq-eqb, ne_eqb, refl, sym, ap, ◌∙◌, subst, append_assoc, append-nil}
+use Rattle.std.proofs.Common.{◌≡◌, ◌≢◌, ℕ, List, [], ◌∷◌, ◌++◌, cond, eq-eqb, ne_eqb, refl, sym, ap, ◌∙◌, append_assoc, append-nil}
 use mathlib.Core.Logic.{dite}
 use mathlib.Core.List.{IsPrefix}
 use native.Mathlib.Decide.{ℕ_discrete}
-use Rattle.tree_lock.specs.Entries.{of_number, AllOfNumber, Appends}
+use Rattle.tree_lock.specs.Entries.{of_number, AllOfNumber}
 
 module _ {E : Type 0} where
   pub of_number-here : (n : ℕ) (e : ℕ × E) (es : List (ℕ × E)) → e.0 ≡ n → of_number n (e ∷ es) ≡ e ∷ of_number n es

@@ -1,12 +1,12 @@
 -- A history of numbered entries is a merge of the entries under its numbers.
-use Rattle.std.proofs.Common.{◌≡◌, ◌≢◌, ◌⊎◌, ℕ, zero, suc, ◌+◌, ◌<◌, ◌≤◌, List, [], ◌∷◌, ◌++◌, map, length, set, eqb, true, false, true≢false, eq-eqb, refl, sym, ap, ◌∙◌, subst, ⊎_elim, inl, inr, arith, length-append}
+use Rattle.std.proofs.Common.{◌≡◌, ◌≢◌, ◌⊎◌, ℕ, suc, ◌+◌, ◌≤◌, List, [], ◌∷◌, ◌++◌, map, length, eqb, false, true≢false, eq-eqb, refl, sym, ap, ◌∙◌, subst, ⊎_elim, inl, inr, arith, length-append}
 use Rattle.std.specs.Prelude.{Some, slice_get, slice_set}
 use Rattle.std.specs.List.{AllByRecursion, IsDistinct}
 use mathlib.Core.Logic.{dite}
 use native.Mathlib.Decide.{ℕ_discrete, dec_le}
 use Rattle.tree_lock.specs.Entries.{of_number, AllOfNumber}
-use Rattle.tree_lock.specs.Seen.{Retired, AreNumbers, AreOwn, DoorView}
-use Rattle.tree_lock.specs.Closing.{Knows, IsClosed}
+use Rattle.tree_lock.specs.Seen.{Retired, AreOwn, DoorView}
+use Rattle.tree_lock.specs.Closing.{IsClosed}
 use Rattle.tree_lock.specs.Merge.{Merges, ends, takes, IsMerge}
 use Rattle.tree_lock.proofs.EntryLemmas.{of_number-here, of_number-else, of_number-append, of_number-all, of_number-none}
 use Rattle.tree_lock.proofs.NumberLemmas.{IsAmong, each_made, among_of}

@@ -1,25 +1,25 @@
 -- The steps of a turn keep the rule.
-use Rattle.std.proofs.Common.{◌≡◌, ◌≢◌, ◌⊎◌, ℕ, zero, suc, ◌+◌, ◌^◌, ◌%◌, ◌<◌, ◌≤◌, List, [], ◌∷◌, ◌++◌, length, get_or, set, Bool, cond, eqb, true, false, true≢false, eq-eqb, ne_eqb, refl, sym, ap, ◌∙◌, subst, ⊎_elim, inl, inr, arith, get_or-set_same, get_or-set_other, append_assoc}
+use Rattle.std.proofs.Common.{◌≡◌, ◌≢◌, ◌⊎◌, ℕ, ◌+◌, ◌^◌, ◌%◌, ◌<◌, ◌≤◌, List, [], ◌∷◌, ◌++◌, length, get_or, set, Bool, cond, eqb, true, false, true≢false, eq-eqb, ne_eqb, refl, sym, ap, ◌∙◌, subst, ⊎_elim, inl, inr, arith, get_or-set_same, get_or-set_other}
 use Rattle.std.proofs.Math.Nat.{mod-add-mod}
 use Rattle.std.specs.Prelude as std
 use Rattle.std.specs.Prelude.{Some, None}
 use Rattle.std.specs.List.{AllByRecursion}
-use mathlib.Core.Option.{Option, some, none, some-injective, some-ne-none}
+use mathlib.Core.Option.{some, none, some-injective}
 use mathlib.Core.List.{IsPrefix}
 use mathlib.Core.Logic.{dite}
 use native.Mathlib.Decide.{ℕ_discrete}
 use lib.ListN.{get_elem?}
-use Rattle.atomic_table.specs.Table.{State, Me, step, stepped, keeps, takes, gives, Allows}
+use Rattle.atomic_table.specs.Table.{State, Me, step, keeps, takes, gives, Allows}
 use Rattle.atomic_table.proofs.Lists.{set_here, set_else, set_again, one_turn}
 use Rattle.tree_lock.specs.declared.view.View.{View}
 use Rattle.tree_lock.specs.declared.view.Stage.{Stage}
 use Rattle.tree_lock.specs.declared.view.Stage.TheVariants.{Idle, Waiting, Holding}
 use Rattle.tree_lock.specs.Entries.{of_number, AllOfNumber, Appends}
-use Rattle.tree_lock.specs.Seen.{Retired, AreNumbers, AreOwn}
+use Rattle.tree_lock.specs.Seen.{Retired, AreOwn}
 use Rattle.tree_lock.specs.Knowledge.{tickets_at, is_holding, tickets_out, at_stage, holding, after_turn}
 use Rattle.tree_lock.specs.Rule.{IsOut, IsAtStage, IsKnown, Fits, IsSpent, IsDoorman, IsHome, IsAway, Kept}
-use Rattle.tree_lock.specs.Steps.{draws, waits, serves, Takes, entries_held}
-use Rattle.tree_lock.proofs.EntryLemmas.{of_number-added, of_number-others, prefix_refl, prefix_append, prefix_more}
+use Rattle.tree_lock.specs.Steps.{draws, waits, serves, Takes}
+use Rattle.tree_lock.proofs.EntryLemmas.{of_number-others, prefix_refl, prefix_more}
 use Rattle.tree_lock.proofs.SeatLemmas.{at_default, each_set, at_within, length-set, tickets_out-set, tickets_out-le}
 
 pub each_weaker : {X : Type 0} (P Q : X → Type 0) (xs : List X) → ((x : X) → P x → Q x) → AllByRecursion P xs → AllByRecursion Q xs

@@ -1,5 +1,5 @@
 -- What the steps of a turn come to.
-use Rattle.std.proofs.Common.{◌≡◌, ℕ, List, [], ◌∷◌, ◌++◌, refl, sym, ap, ◌∙◌, subst}
+use Rattle.std.proofs.Common.{◌≡◌, ℕ, List, [], ◌∷◌, ◌++◌, sym, ap, ◌∙◌, subst}
 use Rattle.std.specs.Prelude.{Option, Some, None}
 use mathlib.Core.List.{IsPrefix}
 use Rattle.atomic_table.specs.Table.{Me}
@@ -11,7 +11,7 @@ use Rattle.tree_lock.specs.Knowledge.{after_turn, holding}
 use Rattle.tree_lock.specs.Seats.{seat_view}
 use Rattle.tree_lock.specs.Steps.{Takes}
 use Rattle.tree_lock.specs.Turned.{Turned}
-use Rattle.tree_lock.proofs.EntryLemmas.{of_number-added}
+use Rattle.tree_lock.proofs.EntryLemmas.{of_number-added, prefix_more}
 
 module _ {V : Type 0} where
   first_of : V → List (ℕ × Option V) → V
@@ -69,3 +69,12 @@ module _ {V E Out : Type 0} (entries : V → List (ℕ × E)) (done : V → ℕ 
         own_before = own_before;
         own_after = ap (λ (n : ℕ). of_number n (entries after)) number5 ∙ sym own5;
       }
+
+module _ {V E Out : Type 0} (entries : V → List (ℕ × E)) (done : V → ℕ → V → Out → Type 0) (old new : PassView E) (result : Out) where
+  -- what a pass has seen begins what it has seen after a turn
+  pub seen_grew : Turned entries done old new result → IsPrefix old.seen new.seen
+  seen_grew t = subst (IsPrefix old.seen) (sym t.left ∙ sym t.seen) (prefix_more old.seen (entries t.before) t.added t.found)
+
+  -- what is a pass's own begins what is its own after a turn
+  pub own_grew : Turned entries done old new result → IsPrefix old.own new.own
+  own_grew t = (t.added, sym t.own)

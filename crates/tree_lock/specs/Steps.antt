@@ -3,7 +3,7 @@ use Rattle.std.specs.Prelude.{◌≡◌, ◌≢◌, ℕ, ◌+◌, ◌%◌, ◌^�
 use mathlib.Core.List.{IsPrefix}
 use Rattle.atomic_table.specs.Table.{Me, Step, rest}
 use Rattle.tree_lock.specs.declared.view.View.{View}
-use Rattle.tree_lock.specs.declared.view.Stage.TheVariants.{Idle, Waiting, Holding}
+use Rattle.tree_lock.specs.declared.view.Stage.TheVariants.{Waiting}
 use Rattle.tree_lock.specs.Entries.{of_number}
 use Rattle.tree_lock.specs.Seen.{AreNumbers, AreOwn}
 use Rattle.tree_lock.specs.Knowledge.{at_stage, holding, after_turn, after_look}

@@ -1,4 +1,4 @@
-use Rattle.std.proofs.Common.{◌≡◌, vec_len}
+use Rattle.std.proofs.Common.{◌≡◌, ◌+◌, length, vec_len}
 use Rattle.std.specs.Prelude.{All}
 use Rattle.lock_tests.specs.Counting.{HasCounted, HaveCounted}
 use Rattle.lock_tests.proofs.threads.retire_all.Given as goal
@@ -8,6 +8,7 @@ invariant-loop-pass l = record {
   turned : All (HasCounted l.lock l.count) l.turned.items;
   lock : l.door.lock ≡ l.lock;
   made : l.door.made ≡ l.initial.door.made;
+  all : length l.door.retired + vec_len l.turned ≡ vec_len l.initial.turned;
   counted : HaveCounted l.count l.door.retired;
 }
 

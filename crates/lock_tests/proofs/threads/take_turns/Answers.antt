@@ -1,4 +1,3 @@
-use Rattle.std.proofs.Common.{rules}
 use Rattle.lock_tests.proofs.CountingLemmas.{counts_on}
 use Rattle.lock_tests.proofs.threads.take_turns.Goals as goal
 

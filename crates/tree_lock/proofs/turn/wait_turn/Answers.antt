@@ -1,5 +1,4 @@
-use Rattle.std.proofs.Common.{◌≡◌, ℕ, ◌≤◌, true, rules, sym, ap, ◌∙◌, subst}
-use Rattle.tree_lock.specs.declared.view.Stage.TheVariants.{Waiting}
+use Rattle.std.proofs.Common.{◌≤◌, rules, sym, ap, ◌∙◌, subst}
 use Rattle.tree_lock.proofs.StepLemmas.{waits_keeps}
 use Rattle.tree_lock.proofs.turn.wait_turn.Goals as goal
 

@@ -1,4 +1,4 @@
-use Rattle.std.proofs.Common.{◌≡◌, ℕ, ◌<◌, List, [], ◌∷◌, length, Some, sym, ap, subst, arith}
+use Rattle.std.proofs.Common.{◌≡◌, ℕ, ◌<◌, List, length, sym, subst, arith}
 use Rattle.atomic_table.specs.Table.{opening}
 use Rattle.tree_lock.specs.Knowledge.{opening_view}
 use Rattle.tree_lock.specs.Rule.{Kept}

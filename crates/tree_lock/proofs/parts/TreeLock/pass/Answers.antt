@@ -1,4 +1,4 @@
-use Rattle.std.proofs.Common.{◌≡◌, ℕ, ◌+◌, ◌-◌, ◌^◌, ◌<◌, rules, sym, ap, ◌∙◌, subst, arith}
+use Rattle.std.proofs.Common.{◌≡◌, ℕ, ◌-◌, ◌^◌, ◌<◌, rules, sym, ap, ◌∙◌, subst, arith}
 use Rattle.atomic_table.specs.Table.{Splits}
 use Rattle.tree_lock.specs.Knowledge.{after_making, made_by}
 use Rattle.tree_lock.specs.Rule.{Kept}
