@@ -1,0 +1,3 @@
+pub mod Moments
+pub mod AreaLemmas
+pub mod RecordLemmas

@@ -1,0 +1,6 @@
+pub mod Frame
+pub mod Area
+pub mod Contents
+pub mod Reports
+pub mod Rest
+pub mod Faults

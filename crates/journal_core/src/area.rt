@@ -1,0 +1,213 @@
+//! Areas: a disk with an image, and with records that are added to it one by one.
+
+ghost use Rattle.std.specs.Prelude.{◌≡◌, ◌≢◌, ◌↔◌, ◌+◌, ◌<◌, ◌≤◌, ◌^◌, ℕ, List, [], ◌∷◌, ◌++◌, Some, IfOk, IfErr, OnOk, OnErr, IsErrOf, IsErrAnd, MatchResult, length, is_some};
+ghost use Rattle.std.specs.Option.{option_map};
+ghost use Rattle.pcfs_ports.specs.Faults.{HasRisen};
+ghost use Rattle.pcfs_ports.specs.Disk.{written, IsPinned, LeavesOnly};
+ghost use Rattle.journal_core.specs.Frame.{frame_bytes};
+ghost use Rattle.journal_core.specs.Area.{area_limit, magic, base_bytes, area_bytes, record_bytes, Stands, IsGeneration};
+ghost use Rattle.journal_core.specs.Rest.{Rests, IsWithOrWithout, IsOldOrShutOrNew};
+ghost use Rattle.journal_core.specs.declared.area.AreaFault.TheVariants.{Disk as DiskFailed, NoMemory as OutOfMemory};
+
+use crate::durable::{write_then_open, write_through};
+use crate::frames::Framed;
+use bl_syntax::NoMemory;
+use bl_syntax::fields::u64_bytes;
+use pcfs_ports::{Disk, Failed};
+use std::alloc::{AllocError, AllocFailed, Global};
+
+/// The greatest length of an area with its closed gate, in bytes.
+pub const AREA_LIMIT: u64 = 67_108_864;
+
+/// What stands in front of the generation: the name and the version of the format.
+pub const MAGIC: [u8; 7] = [80, 67, 70, 83, 0, 0, 1];
+
+/// Why an area was not made, or a record not added.
+#[derive(Clone, Copy, Debug, PartialEq, Eq)]
+pub enum AreaFault {
+    /// The disk failed.
+    Disk,
+    /// With it, and with a closed gate after it, the area would pass `AREA_LIMIT`.
+    AreaFull,
+    /// A growth was refused.
+    NoMemory,
+}
+
+impl From<Failed> for AreaFault {
+    ghost from_gives = { λ _ e. e ≡ DiskFailed };
+
+    fn from(_failed: Failed) -> AreaFault {
+        AreaFault::Disk
+    }
+}
+
+impl From<AllocError> for AreaFault {
+    ghost from_gives = { λ _ e. e ≡ OutOfMemory };
+
+    fn from(_refused: AllocError) -> AreaFault {
+        AreaFault::NoMemory
+    }
+}
+
+impl<T: Drop> From<AllocFailed<T>> for AreaFault {
+    ghost from_gives = { λ _ e. e ≡ OutOfMemory };
+
+    fn from(_refused: AllocFailed<T>) -> AreaFault {
+        AreaFault::NoMemory
+    }
+}
+
+/// A disk whose bytes are an area, and where its closed gate stands.
+#[derive(Debug, Drop)]
+pub struct Area<D: Disk> {
+    pub(crate) disk: D,
+    pub(crate) end: u64,
+}
+
+// All of an area without records from offset 1 on, and its closed gate.
+fn base(alloc: Global, generation: u64, image: &[u8]) -> Result<Vec<u8>, AreaFault>
+    requires { length image.now < area_limit }
+    ensures ok { IfOk result (λ bytes. bytes.items ≡ base_bytes generation image.now ++ 0 ∷ []) }
+    ensures err { IfErr result (λ fault. fault ≡ AreaFault.NoMemory) }
+{
+    let mut bytes = Vec::with_capacity(alloc, image.len() + 24)?;
+    bytes.extend_from_slice(&MAGIC)?;
+    bytes.extend_from_slice(&u64_bytes(generation))?;
+    bytes.extend_from_slice(&u64_bytes(image.len() as u64))?;
+    bytes.extend_from_slice(image)?;
+    bytes.push(0)?;
+    Ok(bytes)
+}
+
+// Writes an area over what a disk has: it closes the gate first, and opens it last.
+fn write_area<D: Disk>(disk: &mut D, base: &[u8]) -> Result<(), Failed>
+    ensures image { OnOk result (D.image disk.new ≡ option_map (written 0 (1 ∷ base.now)) (D.image disk.old)) }
+    ensures pinned { OnOk result (IsPinned D.clock D.left_since D.image disk.new) }
+    ensures any_moment { (bytes tail : List ℕ) → base.now ≡ tail ++ 0 ∷ [] → D.image disk.old ≡ Some bytes →
+        IsPinned D.clock D.left_since D.image disk.old →
+        LeavesOnly D.clock D.left_since disk.old disk.new (IsOldOrShutOrNew bytes (1 ∷ tail)) }
+    ensures told { is_some (D.image disk.new) ≡ is_some (D.image disk.old) }
+    ensures risen { OnErr result (HasRisen (D.faults disk.old) (D.faults disk.new)) }
+    ensures never_falls { D.faults disk.old ≤ D.faults disk.new }
+{
+    write_through(disk, 0, &[0])?;
+    write_then_open(disk, 0, base)?;
+    Ok(())
+}
+
+// Makes the disk an area without records, and returns where its closed gate stands.
+fn format_disk<D: Disk>(
+    alloc: Global,
+    disk: &mut D,
+    generation: u64,
+    image: &[u8],
+) -> Result<u64, AreaFault>
+    ensures full { IsErrOf result AreaFault.AreaFull ↔ area_limit < length image.now + 25 }
+    ensures unchanged { result ≡ Err AreaFault.AreaFull → disk.new ≡ disk.old }
+    ensures memory { result ≡ Err AreaFault.NoMemory → disk.new ≡ disk.old }
+    ensures end { IfOk result (λ end. end ≡ length image.now + 24) }
+    ensures image { OnOk result (D.image disk.new ≡
+        option_map (written 0 (area_bytes generation image.now [] ++ 0 ∷ [])) (D.image disk.old)) }
+    ensures pinned { OnOk result (IsPinned D.clock D.left_since D.image disk.new) }
+    ensures any_moment { (bytes : List ℕ) → D.image disk.old ≡ Some bytes → IsPinned D.clock D.left_since D.image disk.old →
+        LeavesOnly D.clock D.left_since disk.old disk.new (IsOldOrShutOrNew bytes (area_bytes generation image.now [])) }
+    ensures told { is_some (D.image disk.new) ≡ is_some (D.image disk.old) }
+    ensures risen { IsErrOf result AreaFault.Disk → HasRisen (D.faults disk.old) (D.faults disk.new) }
+    ensures never_falls { D.faults disk.old ≤ D.faults disk.new }
+{
+    let end = (image.len() as u64).saturating_add(24);
+    if AREA_LIMIT <= end {
+        return Err(AreaFault::AreaFull);
+    }
+    let base = base(alloc, generation, image)?;
+    write_area(disk, &base)?;
+    Ok(end)
+}
+
+impl<D: Disk> Area<D> {
+    /// Writes an area without records over what a disk has.
+    ///
+    /// `AreaFull` is returned by length, before anything else. After it and after `NoMemory` the disk
+    /// is as it was. `Disk` is returned only if the disk's count of faults rose.
+    pub fn format(
+        alloc: Global,
+        disk: D,
+        generation: u64,
+        image: &[u8],
+    ) -> Result<Area<D>, (AreaFault, D)>
+        requires { IsGeneration generation }
+
+        ensures full { IsErrAnd result (λ e. e.0 ≡ AreaFault.AreaFull) ↔ area_limit < length image.now + 25 }
+        ensures unchanged { IfErr result (λ e. e.0 ≢ AreaFault.Disk → e.1 ≡ disk) }
+        ensures end { IfOk result (λ area. area.end ≡ length image.now + 24) }
+        ensures image { IfOk result (λ area. D.image area.disk ≡
+            option_map (written 0 (area_bytes generation image.now [] ++ 0 ∷ [])) (D.image disk)) }
+        ensures pinned { IfOk result (λ area. IsPinned D.clock D.left_since D.image area.disk) }
+
+        // A crash at any moment leaves the area as it was, or none that is open, or the new one.
+        ensures any_moment { (bytes : List ℕ) → D.image disk ≡ Some bytes → IsPinned D.clock D.left_since D.image disk →
+            MatchResult result
+            (λ area. LeavesOnly D.clock D.left_since disk area.disk (IsOldOrShutOrNew bytes (area_bytes generation image.now [])))
+            (λ e. LeavesOnly D.clock D.left_since disk e.1 (IsOldOrShutOrNew bytes (area_bytes generation image.now []))) }
+
+        ensures told { MatchResult result
+            (λ area. is_some (D.image area.disk) ≡ is_some (D.image disk))
+            (λ e. is_some (D.image e.1) ≡ is_some (D.image disk)) }
+        ensures risen { IfErr result (λ e. e.0 ≡ AreaFault.Disk → HasRisen (D.faults disk) (D.faults e.1)) }
+        ensures never_falls { MatchResult result
+            (λ area. D.faults disk ≤ D.faults area.disk)
+            (λ e. D.faults disk ≤ D.faults e.1) }
+    {
+        let mut disk = disk;
+        match format_disk(alloc, &mut disk, generation, image) {
+            Ok(end) => Ok(Area { disk, end }),
+            Err(fault) => Err((fault, disk)),
+        }
+    }
+
+    /// Adds a record, or nothing.
+    ///
+    /// `AreaFull` is returned by length, before anything is written, and leaves the area as it was.
+    /// `Disk` is returned only if the disk's count of faults rose; the record may be there or not
+    /// then.
+    pub fn append(&mut self, framed: &Framed) -> Result<(), AreaFault>
+        ensures full { IsErrOf result AreaFault.AreaFull ↔ area_limit < self.old.end + length framed.now + 6 }
+        ensures unchanged { IsErrOf result AreaFault.AreaFull → self.new ≡ self.old }
+        ensures not_memory { result ≢ Err AreaFault.NoMemory }
+        ensures end { OnOk result (self.new.end ≡ self.old.end + length framed.now + 5) }
+        ensures end_stays { OnErr result (self.new.end ≡ self.old.end) }
+        ensures image { OnOk result (D.image self.new.disk ≡
+            option_map (written self.old.end (record_bytes framed.now ++ 0 ∷ [])) (D.image self.old.disk)) }
+        ensures pinned { OnOk result (IsPinned D.clock D.left_since D.image self.new.disk) }
+
+        // Then the disk is at rest with the record, also if the closed gate was cut off before.
+        ensures rests { OnOk result ((body bytes : List ℕ) → length body ≡ self.old.end →
+            D.image self.old.disk ≡ Some bytes → Stands body bytes →
+            Rests D.clock D.left_since D.image self.new.disk (body ++ record_bytes framed.now)) }
+
+        // A crash at any moment leaves the records of before, with the new one or without.
+        ensures any_moment { (body : List ℕ) → length body ≡ self.old.end →
+            Rests D.clock D.left_since D.image self.old.disk body →
+            LeavesOnly D.clock D.left_since self.old.disk self.new.disk (IsWithOrWithout body framed.now) }
+
+        ensures told { is_some (D.image self.new.disk) ≡ is_some (D.image self.old.disk) }
+        ensures risen { IsErrOf result AreaFault.Disk → HasRisen (D.faults self.old.disk) (D.faults self.new.disk) }
+        ensures never_falls { D.faults self.old.disk ≤ D.faults self.new.disk }
+    {
+        let frame = framed.bytes();
+        let end = self.end.saturating_add(frame.len() as u64);
+        if AREA_LIMIT <= end {
+            return Err(AreaFault::AreaFull);
+        }
+        write_then_open(&mut self.disk, self.end, frame)?;
+        self.end = end;
+        Ok(())
+    }
+
+    /// The disk.
+    pub fn into_disk(self) -> D
+        ensures { result ≡ self.disk }
+    {
+        self.disk
+    }
+}

@@ -1,0 +1,19 @@
+//! The journal: an image and records on one disk, in the bytes of an area.
+//!
+//! A record is added whole or not at all, at every moment at which a crash may come, and so is a new
+//! area. A scan of any bytes gives the image and the records of the area, or says why there is none.
+#![tactic(auto)]
+
+mod area;
+mod contents;
+mod durable;
+mod frames;
+mod generation;
+mod records;
+mod scan;
+
+pub use area::{AREA_LIMIT, Area, AreaFault};
+pub use contents::Scan;
+pub use frames::{Framed, frame};
+pub use generation::peek;
+pub use scan::ScanFault;
