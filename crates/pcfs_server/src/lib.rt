@@ -1,0 +1,19 @@
+//! Serving: each connection of a listener is attended once by a service, in a thread of its own, at most so many at a time.
+//!
+//! `serve_conns` returns how it ended and how many connections were attended: what the service's own count rose by. Each
+//! token that the service admitted was attended once and has left.
+#![tactic(auto)]
+
+mod desk;
+mod end;
+mod ended;
+pub mod laws;
+mod service;
+mod serving;
+#[cfg(test)]
+mod tests;
+mod threads;
+
+pub use end::ServeEnd;
+pub use service::{AdmitFault, Service};
+pub use serving::serve_conns;

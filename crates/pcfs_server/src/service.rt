@@ -1,0 +1,95 @@
+//! Services: what is done with a connection.
+
+ghost use Rattle.std.specs.Prelude.{◌≡◌, ℕ, ◌+◌, ◌<◌, ◌≤◌, Bool, true, false, IfOk, IsErrOf, is_ok, if◌then◌else◌};
+ghost use Rattle.pcfs_ports.specs.Faults.{HasRisen};
+
+use pcfs_ports::{Sink, Source};
+use std::alloc::Global;
+use std::sync::Wait;
+
+/// Why a connection was not admitted.
+#[derive(Clone, Copy, Debug, PartialEq, Eq)]
+pub enum AdmitFault {
+    /// The door failed.
+    Failed,
+    /// A growth was refused.
+    NoMemory,
+}
+
+/// What is done with a connection, from an input and to an output.
+///
+/// A door admits it: it gives a token. With the token the connection is attended, in any thread, and then the token leaves by
+/// the door. Each call keeps what belongs to the service: its door and its tokens.
+pub trait Service<I: Source, O: Sink> {
+    /// What admits connections, one at a time.
+    type Door;
+
+    /// What a connection is attended with.
+    type Token: Send + Drop;
+
+    /// What no call changes of a door. It is for contracts alone.
+    type Kept;
+
+    // The door belongs to the service.
+    ghost is_door: { Self → Self.Door → Type 0 };
+
+    // The token belongs to the service.
+    ghost is_token: { Self → Self.Token → Type 0 };
+
+    // The connection of this token was attended.
+    ghost attended: { Self.Token → Bool };
+
+    // How many tokens were attended and left.
+    ghost served: { Self.Door → ℕ };
+
+    // How many tokens were admitted and have not left.
+    ghost out: { Self.Door → ℕ };
+
+    // How many more tokens can be admitted.
+    ghost room: { Self.Door → ℕ };
+
+    // How many faults the door has had. It counts as risen where it stands at `u64::MAX`.
+    ghost faults: { Self.Door → ℕ };
+
+    // What no call changes of the door.
+    ghost kept: { Self.Door → Self.Kept };
+
+    /// Admits a connection. `Failed` comes only where the door's count of faults rose.
+    fn admit(&self, alloc: Global, door: &mut Self::Door) -> Result<Self::Token, AdmitFault>
+        requires belongs { is_door self.now door.old }
+        requires room { 0 < room door.old }
+        ensures belongs { is_door self.now door.new }
+        ensures token { IfOk result (λ token. is_token self.now token × (attended token ≡ false)) }
+        ensures out { out door.new ≡ (if is_ok result then out door.old + 1 else out door.old) }
+        ensures served { served door.new ≡ served door.old }
+        ensures room { room door.old ≤ room door.new + 1 }
+        ensures risen { IsErrOf result AdmitFault.Failed → HasRisen (faults door.old) (faults door.new) }
+        ensures never_falls { faults door.old ≤ faults door.new }
+        ensures kept { kept door.new ≡ kept door.old };
+
+    /// Attends a connection, whatever its input and output do. It may wait.
+    fn attend<R: Wait>(
+        &self,
+        rt: &R,
+        alloc: Global,
+        token: &mut Self::Token,
+        input: &mut I,
+        output: &mut O,
+    )
+        requires belongs { is_token self.now token.old }
+        requires once { attended token.old ≡ false }
+        ensures belongs { is_token self.now token.new }
+        ensures attended { attended token.new ≡ true };
+
+    /// Lets a token leave by the door that admitted it.
+    fn leave(&self, door: &mut Self::Door, token: Self::Token)
+        requires door { is_door self.now door.old }
+        requires token { is_token self.now token }
+        requires out { 0 < out door.old }
+        ensures belongs { is_door self.now door.new }
+        ensures out { out door.new + 1 ≡ out door.old }
+        ensures served { served door.new ≡ (if attended token then served door.old + 1 else served door.old) }
+        ensures room { room door.old ≤ room door.new }
+        ensures never_falls { faults door.old ≤ faults door.new }
+        ensures kept { kept door.new ≡ kept door.old };
+}
