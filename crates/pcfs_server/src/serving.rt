@@ -193,7 +193,17 @@ where
     );
 }
 
-/// Listens on a port, and attends `count` of its connections, at most `most` at a time.
+/// Listens on `port`, and attends `count` of its connections, each once, at most `most` at a time.
+///
+/// Each connection is attended in a thread of its own. Where none can be started, or `most` is 1, the caller attends it
+/// itself. While as many as `most` are at hand, the next connection is accepted only after one has ended. Before it returns
+/// it waits until all have ended, so each token has left: as many are out as before, and the number in the end is what the
+/// door's count of tokens that were attended and left rose by.
+///
+/// `Done` comes exactly if `count` were attended or the listener is over. `NetFault` comes only if the listener's count of
+/// faults or the door's rose. `NoMemory` may come at any time before that. Memory that is refused for a thread is no end:
+/// the caller then attends the connection itself. A connection that was accepted and not admitted is dropped. With a
+/// `count` of 0 it does not listen.
 pub fn serve_conns<R: Threads + Wait + Sync, L: Listener, H: Service<L::In, L::Out> + Sync>(
     rt: &R,
     alloc: Global,
