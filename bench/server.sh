@@ -52,7 +52,7 @@ fn open_gate() -> Gate
     }
 }
 
-fn echo<I: Source, O: Sink>(input: &mut I, output: &mut O) {
+fn give_back<I: Source, O: Sink>(input: &mut I, output: &mut O) {
     let mut buf = [0u8; 4096];
     for _ in 0..u64::MAX {
         let count = input.read(&mut buf).unwrap_or(0);
@@ -104,7 +104,7 @@ impl<I: Source, O: Sink> Service<I, O> for Echo {
         input: &mut I,
         output: &mut O,
     ) {
-        echo(input, output);
+        give_back(input, output);
         token.attended = true;
     }
 
