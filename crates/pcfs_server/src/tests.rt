@@ -1,6 +1,6 @@
 //! Connections from memory, attended by a service that counts how many are at hand.
 
-ghost use Rattle.std.specs.Prelude.{◌≡◌, ◌+◌, ◌-◌, ◌≤◌};
+ghost use Rattle.std.specs.Prelude.{◌≡◌, ◌+◌, ◌-◌, ◌<◌, ◌≤◌};
 
 use super::{AdmitFault, ServeEnd, Service, serve_conns};
 use bl_syntax::{Bytes, NoMemory, Numbers};
@@ -10,6 +10,7 @@ use std::sync::Wait;
 use std::sync::atomic::{AtomicU64, Ordering};
 use std::test::Fail;
 use std::thread;
+use std::thread::Threads;
 
 // How many tokens were made, are out, and were attended and left. One admission may be to fail.
 #[derive(Drop)]
@@ -160,27 +161,43 @@ fn listener(
     Ok(listener)
 }
 
+// How serving ended, how many tokens are out and were served then, and how many connections were at hand at most.
+fn served<R: Threads + Wait + Sync>(
+    rt: &R,
+    alloc: Global,
+    net: &mut MemoryListener,
+    failing_admission: Option<u64>,
+    count: u64,
+    most: usize,
+) -> (ServeEnd, u64, u64, u64)
+    requires { 0 < most }
+{
+    let service = Counting::new();
+    let mut gate = open_gate(failing_admission);
+    let end = serve_conns(rt, alloc, net, &service, &mut gate, 4040, count, most);
+    (
+        end,
+        gate.out,
+        gate.served,
+        service.highest.load(Ordering::SeqCst),
+    )
+}
+
 #[test]
 fn two_at_a_time_are_never_three(rt: HostRuntime) -> Result<(), Fail> {
-    let service = Counting::new();
-    let mut gate = open_gate(None);
     let mut net = listener(rt.alloc(), 5, None)?;
-    let end = serve_conns(&rt, rt.alloc(), &mut net, &service, &mut gate, 4040, 5, 2);
+    let (end, out, served, highest) = served(&rt, rt.alloc(), &mut net, None, 5, 2);
     assert_eq!(rt; end, ServeEnd::Done(5));
-    assert_eq!(rt; (gate.out, gate.served), (0, 5));
-    assert!(rt; (1..=2).contains(&service.highest.load(Ordering::SeqCst)));
+    assert_eq!(rt; (out, served), (0, 5));
+    assert!(rt; highest == 1 || highest == 2, "{highest} were at hand");
     Ok(())
 }
 
 #[test]
 fn eight_without_a_thread_are_attended_all_the_same(rt: HostRuntime) -> Result<(), Fail> {
-    let service = Counting::new();
-    let mut gate = open_gate(None);
     let mut net = listener(rt.alloc(), 8, None)?;
-    let end = serve_conns(&rt, rt.alloc(), &mut net, &service, &mut gate, 4040, 8, 1);
-    assert_eq!(rt; end, ServeEnd::Done(8));
-    assert_eq!(rt; (gate.out, gate.served), (0, 8));
-    assert_eq!(rt; service.highest.load(Ordering::SeqCst), 1);
+    let end = served(&rt, rt.alloc(), &mut net, None, 8, 1);
+    assert_eq!(rt; end, (ServeEnd::Done(8), 0, 8, 1));
     Ok(())
 }
 
@@ -194,21 +211,10 @@ fn each_end_has_its_cause(rt: HostRuntime) -> Result<(), Fail> {
         (None, Some(1), 3, ServeEnd::NetFault(1)),
     ];
     for (failing_call, failing_admission, count, want) in cases {
-        let mut gate = open_gate(failing_admission);
         let mut net = listener(rt.alloc(), 3, failing_call)?;
-        let service = Counting::new();
-        let end = serve_conns(
-            &rt,
-            rt.alloc(),
-            &mut net,
-            &service,
-            &mut gate,
-            4040,
-            count,
-            64,
-        );
+        let (end, out, _, _) = served(&rt, rt.alloc(), &mut net, failing_admission, count, 64);
         assert_eq!(rt; end, want);
-        assert_eq!(rt; gate.out, 0);
+        assert_eq!(rt; out, 0);
     }
     Ok(())
 }
