@@ -224,11 +224,12 @@ fn place_of_none(alloc: Global) -> Result<Option<usize>, Fail> {
 #[test]
 fn the_first_condition_that_is_no_fact_is_found(rt: HostRuntime) -> Result<(), Fail> {
     let known = [in_root(4), in_root(3), in_root(2), in_root(1)];
+    let known = known.as_slice();
     assert_eq!(rt; place_of_none(rt.alloc())?, None);
     assert_eq!(rt; unlisted_place(rt.alloc(), &known[..0])?, Some(0));
     assert_eq!(rt; unlisted_place(rt.alloc(), &known[..2])?, Some(1));
     assert_eq!(rt; unlisted_place(rt.alloc(), &known[1..3])?, Some(2));
-    assert_eq!(rt; unlisted_place(rt.alloc(), &known)?, None);
+    assert_eq!(rt; unlisted_place(rt.alloc(), known)?, None);
     Ok(())
 }
 
