@@ -1,3 +1,4 @@
 pub mod Moments
 pub mod AreaLemmas
 pub mod RecordLemmas
+pub mod ReadingLemmas

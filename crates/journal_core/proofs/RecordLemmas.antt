@@ -47,7 +47,7 @@ begins_rest front more bytes begins =
 
 -- ---- one record
 
-record_length : (payload : List ℕ) → length (record_bytes payload) ≡ 5 + length payload
+pub record_length : (payload : List ℕ) → length (record_bytes payload) ≡ 5 + length payload
 record_length payload = omega arith
 
 module _ (bytes : List ℕ) (gate : ℕ) where

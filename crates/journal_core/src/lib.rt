@@ -9,6 +9,7 @@ mod contents;
 mod durable;
 mod frames;
 mod generation;
+pub mod laws;
 mod records;
 mod scan;
 

@@ -1,0 +1,23 @@
+//! Laws: bytes have one reading as an area.
+
+ghost use Rattle.std.specs.Prelude.{◌≡◌, ℕ, List};
+ghost use Rattle.journal_core.specs.Area.{IsShut, IsArea, IsBroken};
+
+/// Bytes are at most one area.
+pub fn an_area_has_one_reading()
+    ensures { (bytes : List ℕ) (g h : ℕ) (i j : List ℕ) (ps qs : List (List ℕ)) →
+        IsArea bytes g i ps → IsArea bytes h j qs → (g ≡ h) × (i ≡ j) × (ps ≡ qs) }
+{}
+
+/// An area is not shut, and not broken.
+pub fn an_area_is_open_and_whole()
+    ensures is_open { (bytes : List ℕ) (g : ℕ) (i : List ℕ) (ps : List (List ℕ)) → IsArea bytes g i ps → IsShut bytes → ⊥ }
+    ensures whole { (bytes : List ℕ) (g : ℕ) (i : List ℕ) (ps : List (List ℕ)) (number : ℕ) →
+        IsArea bytes g i ps → IsBroken number bytes → ⊥ }
+{}
+
+/// Bytes that are broken are open, and break at one record.
+pub fn a_break_has_one_number()
+    ensures is_open { (bytes : List ℕ) (number : ℕ) → IsBroken number bytes → IsShut bytes → ⊥ }
+    ensures one { (bytes : List ℕ) (m n : ℕ) → IsBroken m bytes → IsBroken n bytes → m ≡ n }
+{}
