@@ -80,7 +80,8 @@ fn procap_fault(alloc: Global, bytes: &[u8]) -> Option<CodecFault> {
 fn a_procap_has_its_bytes_both_ways(rt: HostRuntime) -> Result<(), Fail> {
     let mut bytes = sealed_bytes(rt.alloc(), KEY)?;
     assert_eq!(rt; bytes.len(), 73);
-    assert_eq!(rt; &bytes.as_slice()[41..], mac(KEY, &GRANT).as_slice());
+    let tag = mac(KEY, &GRANT);
+    assert!(rt; bytes.as_slice().ends_with(tag.as_slice()));
     assert!(rt; is_genuine_under(rt.alloc(), bytes.as_slice(), KEY)?);
     assert!(rt; !is_genuine_under(rt.alloc(), bytes.as_slice(), b"kez")?);
     bytes.push(0)?;
