@@ -239,23 +239,34 @@ mod tests {
     use std::fs;
     use std::test::Fail;
 
+    // Whether a file that is not there reads as empty, and a sync of it does nothing.
+    fn is_absent<D: Disk>(disk: &mut D) -> bool {
+        let mut buf = [7u8; 8];
+        disk.read(0, &mut buf) == Ok(0) && disk.sync() == Ok(())
+    }
+
+    // Whether writes past the end and over it are kept, and read back.
+    fn keeps<D: Disk>(disk: &mut D) -> bool {
+        let mut buf = [7u8; 8];
+        disk.write_at(2, b"cde") == Ok(())
+            && disk.sync() == Ok(())
+            && disk.write_at(4, b"E") == Ok(())
+            && disk.read(1, &mut buf) == Ok(4)
+            && &buf[..4] == b"\0cdE".as_slice()
+    }
+
     #[test]
     fn a_file_is_made_by_the_first_write(rt: HostRuntime) -> Result<(), Fail> {
         let path = "file_disk_of_the_test";
         let _ = fs::remove_file(&rt, path);
         let mut disk = FileDisk::new(&rt, path);
+        let is_absent = is_absent(&mut disk) && !fs::exists(&rt, path)?;
+        let is_kept = keeps(&mut disk);
         let mut buf = [7u8; 8];
-        assert_eq!(rt; disk.read(0, &mut buf), Ok(0));
-        assert_eq!(rt; disk.sync(), Ok(()));
-        assert_eq!(rt; fs::exists(&rt, path)?, false);
-        assert_eq!(rt; disk.write_at(2, b"cde"), Ok(()));
-        assert_eq!(rt; disk.sync(), Ok(()));
-        assert_eq!(rt; disk.write_at(4, b"E"), Ok(()));
-        assert_eq!(rt; disk.read(1, &mut buf), Ok(4));
-        assert_eq!(rt; &buf[..4], b"\0cdE".as_slice());
-        assert_eq!(rt; FileDisk::new(&rt, path).read(3, &mut buf), Ok(2));
-        assert_eq!(rt; FileDisk::new(&rt, "/tmp").sync(), Err(Failed));
+        let is_found = FileDisk::new(&rt, path).read(3, &mut buf) == Ok(2);
+        let is_refused = FileDisk::new(&rt, "/tmp").sync() == Err(Failed);
         fs::remove_file(&rt, path)?;
+        assert!(rt; is_absent && is_kept && is_found && is_refused);
         Ok(())
     }
 }

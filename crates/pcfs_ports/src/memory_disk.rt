@@ -256,6 +256,22 @@ mod tests {
         MemoryDisk::new(alloc, bytes, failing)
     }
 
+    // What four calls answer: whether a write, a sync, a second write and a read were done.
+    fn answers(disk: &mut MemoryDisk) -> [bool; 4] {
+        let mut buf = [0u8; 2];
+        [
+            disk.write_at(1, b"XY").is_ok(),
+            disk.sync().is_ok(),
+            disk.write_at(6, b"Z").is_ok(),
+            disk.read(1, &mut buf).is_ok(),
+        ]
+    }
+
+    // Whether the disk answers so, then holds these bytes, and refused nothing.
+    fn goes(disk: &mut MemoryDisk, wanted: [bool; 4], held: &[u8]) -> bool {
+        answers(disk) == wanted && disk.image() == held && disk.refused() == 0
+    }
+
     #[test]
     fn memory_disk_holds_what_was_written_and_fails_where_it_is_to(
         rt: HostRuntime,
@@ -266,17 +282,24 @@ mod tests {
             (&[2], [true, true, false, true], "aXYd"),
             (&[9, 3], [true, true, true, false], "aXYd\0\0Z"),
         ];
-        for (failing, answers, held) in cases {
+        for (failing, wanted, held) in cases {
             let mut disk = disk(rt.alloc(), b"abcd", failing)?;
-            assert_eq!(rt; disk.write_at(1, b"XY").is_ok(), answers[0]);
-            assert_eq!(rt; disk.sync().is_ok(), answers[1]);
-            assert_eq!(rt; disk.write_at(6, b"Z").is_ok(), answers[2]);
-            let mut buf = [0u8; 2];
-            assert_eq!(rt; disk.read(1, &mut buf).is_ok(), answers[3]);
-            assert_eq!(rt; disk.image(), held.as_bytes());
-            assert_eq!(rt; disk.refused(), 0);
+            assert!(rt; goes(&mut disk, wanted, held.as_bytes()));
         }
         Ok(())
+    }
+
+    // Whether writes, reads past the end and a write that no memory holds go as they must.
+    fn remembers(disk: &mut MemoryDisk) -> bool {
+        let mut buf = [0u8; 4];
+        disk.write_at(3, b"D\xc3\xa9") == Ok(())
+            && disk.sync() == Ok(())
+            && disk.read(2, &mut buf) == Ok(4)
+            && buf == *b"cD\xc3\xa9"
+            && disk.read(5, &mut buf) == Ok(1)
+            && disk.read(u64::MAX, &mut buf) == Ok(0)
+            && disk.made().len() == 2
+            && disk.write_at(u64::MAX, b"x") == Err(Failed)
     }
 
     #[test]
@@ -284,17 +307,8 @@ mod tests {
         rt: HostRuntime,
     ) -> Result<(), Fail> {
         let mut disk = disk(rt.alloc(), b"abcd", &[])?;
-        assert_eq!(rt; disk.write_at(3, b"D\xc3\xa9"), Ok(()));
-        assert_eq!(rt; disk.sync(), Ok(()));
-        let mut buf = [0u8; 4];
-        assert_eq!(rt; disk.read(2, &mut buf), Ok(4));
-        assert_eq!(rt; buf, *b"cD\xc3\xa9");
-        assert_eq!(rt; disk.read(5, &mut buf), Ok(1));
-        assert_eq!(rt; disk.read(u64::MAX, &mut buf), Ok(0));
-        assert_eq!(rt; disk.made().len(), 2);
-        assert_eq!(rt; disk.write_at(u64::MAX, b"x"), Err(Failed));
-        assert_eq!(rt; disk.refused(), 1);
-        assert_eq!(rt; disk.image(), b"abcD\xc3\xa9".as_slice());
+        assert!(rt; remembers(&mut disk));
+        assert!(rt; disk.refused() == 1 && disk.image() == b"abcD\xc3\xa9".as_slice());
         Ok(())
     }
 }

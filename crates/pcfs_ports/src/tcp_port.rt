@@ -137,24 +137,44 @@ mod tests {
         None
     }
 
+    // Whether what a client and a connection's two halves write reaches the other side.
+    fn exchange<I: Source, O: Sink>(
+        client: &mut TcpStream,
+        input: &mut I,
+        output: &mut O,
+    ) -> std::io::Result<bool> {
+        let mut asked = [0u8; 4];
+        let mut told = [0u8; 8];
+        client.write_all(b"ping")?;
+        let is_asked = input.read(&mut asked) == Ok(4) && asked == *b"ping";
+        let is_told = output.write(b"pong") == Ok(4);
+        let count = client.read(&mut told)?;
+        Ok(is_asked && is_told && count == 4 && &told[..4] == b"pong".as_slice())
+    }
+
+    // Whether a client that connects is attended by the port, and its end is the end of the input.
+    fn serves(
+        rt: &HostRuntime,
+        port: &mut TcpPort<'_, HostRuntime>,
+        number: u16,
+    ) -> std::io::Result<bool> {
+        let mut client = TcpStream::connect(rt, (Ipv4Addr::LOCALHOST, number))?;
+        let Accepted::Conn(mut input, mut output) = port.accept(rt.alloc()) else {
+            return Ok(false);
+        };
+        let is_exchanged = exchange(&mut client, &mut input, &mut output)?;
+        drop(client);
+        let mut buf = [0u8; 8];
+        Ok(is_exchanged && input.read(&mut buf) == Ok(0))
+    }
+
     #[test]
     fn tcp_port_gives_both_halves_of_a_connection(rt: HostRuntime) -> Result<(), Fail> {
         let mut port = TcpPort::new(&rt);
         let number = listen_somewhere(&mut port).ok_or("no free port")?;
-        assert_eq!(rt; TcpPort::new(&rt).listen(number), Err(Failed));
-        let mut client = TcpStream::connect(&rt, (Ipv4Addr::LOCALHOST, number))?;
-        client.write_all(b"ping")?;
-        let Accepted::Conn(mut input, mut output) = port.accept(rt.alloc()) else {
-            return Err("no connection".into());
-        };
-        let mut buf = [0u8; 8];
-        assert_eq!(rt; input.read(&mut buf), Ok(4));
-        assert_eq!(rt; &buf[..4], b"ping".as_slice());
-        assert_eq!(rt; output.write(b"pong"), Ok(4));
-        assert_eq!(rt; client.read(&mut buf)?, 4);
-        assert_eq!(rt; &buf[..4], b"pong".as_slice());
-        drop(client);
-        assert_eq!(rt; input.read(&mut buf), Ok(0));
+        let is_taken = TcpPort::new(&rt).listen(number) == Err(Failed);
+        let is_served = serves(&rt, &mut port, number)?;
+        assert!(rt; is_taken && is_served);
         Ok(())
     }
 }
