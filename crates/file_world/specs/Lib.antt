@@ -1,0 +1,10 @@
+pub mod AttributeEffect
+pub mod Attributes
+pub mod Effect
+pub mod Facts
+pub mod FileNames
+pub mod Needs
+pub mod Outcome
+pub mod Tree
+pub mod TreeEffect
+pub mod World
