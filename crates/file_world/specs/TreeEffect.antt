@@ -1,5 +1,5 @@
 -- What each operation does to the file tree: its refusals in their order, its reply, and its change (this project's own).
-use Rattle.std.specs.Prelude.{ℕ, List, [], ◌∷◌, ◌++◌, ◌+◌, ◌-◌, ◌^◌, length, take, drop, replicate, Option, Some, None, is_some, is_none, unwrap_or, Bool, true, false, not, nat_lt, nat_le, nat_eq, ◌&&◌, ◌||◌, ◌==◌, if◌then◌else◌}
+use Rattle.std.specs.Prelude.{ℕ, zero, suc, List, [], ◌∷◌, ◌++◌, ◌+◌, ◌-◌, ◌^◌, length, take, drop, replicate, Option, Some, None, is_some, is_none, unwrap_or, Bool, true, false, not, nat_lt, nat_le, nat_eq, ◌&&◌, ◌||◌, ◌==◌, if◌then◌else◌}
 use Rattle.std.specs.List.{list_any}
 use Rattle.std.specs.Map.{remove_entry}
 use Rattle.std.specs.Ordering.{is_lt, nat_cmp}

@@ -1,0 +1,20 @@
+//! Nodes under their numbers, and the names in each directory.
+
+use crate::name::Name;
+use file_world::Kind;
+use std::collections::BTreeMap;
+
+/// A node. A file has no names, and a directory has no contents.
+#[derive(Drop)]
+pub struct Node {
+    pub kind: Kind,
+    /// The number of its directory, or 0 for the root.
+    pub parent: u64,
+    pub name: Name,
+    pub contents: Vec<u8>,
+    /// The number of the node that each name in the directory stands for, or 0 for a name that is only held.
+    pub names: BTreeMap<Name, u64>,
+}
+
+/// Nodes under their numbers.
+pub type Nodes = BTreeMap<u64, Node>;
