@@ -1,3 +1,4 @@
+pub mod EffectLemmas
 pub mod PlaceLemmas
 pub mod RowLemmas
 pub mod TreeLemmas
