@@ -14,5 +14,5 @@ mod refusals;
 mod tree;
 
 pub use file_world::{Kind, NamedNode, Names, OpFault, Refusal, TreeOp, TreeReply};
-pub use ready::Ready;
-pub use tree::Tree;
+pub use ready::{Ready, Spot};
+

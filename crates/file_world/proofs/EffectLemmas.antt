@@ -1,7 +1,7 @@
 -- What the absence of a refusal says, and that each operation leaves a tree a tree.
 use Rattle.std.proofs.Common.{◌≡◌, ◌≢◌, ℕ, ◌+◌, ◌-◌, ◌<◌, ◌≤◌, ◌^◌, max, min, ◌||◌, ◌==◌, inl, inr, Bool, true, false, cond, not, IsTrue, Option, Some, None, is_some, is_none, unwrap_or, List, [], ◌∷◌, ◌++◌, length, map, take, drop, replicate, refl, sym, ap, ◌∙◌, subst, arith, nat_eq, nat_lt, nat_le, length-append, length-drop, length-take, rules}
 use Rattle.std.specs.List.{list_any}
-use Rattle.std.proofs.lemmas.Bool.{cond-true, cond-false, false≢true, true≢false, eq-eqb, eqb-true, eqb-false, ltb-false, leb-false, not-false, not-true, or_parts}
+use Rattle.std.proofs.lemmas.Bool.{cond-true, cond-false, false≢true, true≢false, eq-eqb, ne_eqb, eqb-true, eqb-false, ltb-false, leb-false, not-false, not-true, or_parts}
 use Rattle.std.proofs.lemmas.List.{length-replicate}
 use Rattle.std.proofs.lemmas.Option.{none-some, same_Some}
 use Rattle.std.specs.Map.{lookup, remove_entry}
@@ -14,7 +14,7 @@ use Rattle.file_world.specs.declared.refusal.Refusal.{Refusal}
 use Rattle.file_world.specs.FileNames.{is_node_name}
 use Rattle.file_world.specs.Outcome.{Tests, first_of}
 use Rattle.file_world.specs.Tree.{Place, Node, Nodes, FileTree, node_at, number_at, contents_sum, root, IsSound, IsTree}
-use Rattle.file_world.specs.TreeEffect.{is_directory_kind, is_directory, at, child_of, contents_of, has_names, is_full, leads_past, is_into_itself, written, resized, revised, with_place, file_tests, directory_tests, name_tests, tests_of, tree_refusal, change_of, tree_after}
+use Rattle.file_world.specs.TreeEffect.{is_directory_kind, is_directory, at, child_of, contents_of, has_names, is_full, leads_past, is_into_itself, length_after, written, resized, revised, with_place, file_tests, directory_tests, name_tests, tests_of, tree_refusal, change_of, tree_after}
 use Rattle.file_world.proofs.RowLemmas.{split, cond_at_true, cond_at_false}
 use Rattle.file_world.proofs.PlaceLemmas.{Stands, stands_at}
 use Rattle.file_world.proofs.TreeLemmas.{CanAdd, CanFill, CanRemove, CanMove, IsTree-add, IsTree-fill, IsTree-remove, IsTree-move}
@@ -92,6 +92,12 @@ length-written old offset byte bytes =
     let e = length-replicate {A = ℕ} (offset - length old) 0 in
     let f : length (take offset old) ≡ min offset (length old) = length-take offset old in
     omega (arith, a, b, c, d, e, f)
+
+-- the length after a write is as the test computes it
+pub length-written_any : (old : List ℕ) (offset : ℕ) (bytes : List ℕ) → length (written old offset bytes) ≡ length_after (length old) offset (length bytes)
+length-written_any old offset [] = sym (cond-true (length {A = ℕ} [] == 0) (length old) (max (length old) (offset + length {A = ℕ} [])) refl)
+length-written_any old offset (byte ∷ bytes) =
+    length-written old offset byte bytes ∙ sym (cond-false (length (byte ∷ bytes) == 0) (length old) (max (length old) (offset + length (byte ∷ bytes))) (ne_eqb (length (byte ∷ bytes)) 0 (λ h. omega (arith, h))))
 
 pub length-resized : (old : List ℕ) (len : ℕ) → length (resized old len) ≡ len
 length-resized old len =
@@ -193,11 +199,13 @@ IsTree-after tree (Read file offset len) is none = is
 IsTree-after tree (Write file offset bytes) is none =
     let h = none_hold (tests_of tree (Write file offset bytes)) none in
     let contents = written (contents_of (node_at tree.rows file.0)) offset bytes in
-    IsTree-fill tree file.0 contents is (can_fill tree file.0 contents h.0 h.1.0 (length-written_le (contents_of (node_at tree.rows file.0)) offset bytes 1048576 (small_before tree file.0 is) (ltb-false 1048576 (offset + length bytes) h.1.1.0)) h.1.1.1.0)
+    IsTree-fill tree file.0 contents is (can_fill tree file.0 contents h.0 h.1.0 (length-written_le (contents_of (node_at tree.rows file.0)) offset bytes 1048576 (small_before tree file.0 is) (ltb-false 1048576 (offset + length bytes) h.1.1.0))
+        (ap (λ (len : ℕ). nat_lt 33554432 (contents_sum tree.rows - length (contents_of (node_at tree.rows file.0)) + len)) (length-written_any (contents_of (node_at tree.rows file.0)) offset bytes) ∙ h.1.1.1.0))
 IsTree-after tree (Truncate file len) is none =
     let h = none_hold (tests_of tree (Truncate file len)) none in
     let old = contents_of (node_at tree.rows file.0) in
-    IsTree-fill tree file.0 (resized old len) is (can_fill tree file.0 (resized old len) h.0 h.1.0 (let e = length-resized old len in let small = ltb-false 1048576 len h.1.1.0 in omega (arith, e, small)) h.1.1.1.0)
+    IsTree-fill tree file.0 (resized old len) is (can_fill tree file.0 (resized old len) h.0 h.1.0 (let e = length-resized old len in let small = ltb-false 1048576 len h.1.1.0 in omega (arith, e, small))
+        (ap (λ (l : ℕ). nat_lt 33554432 (contents_sum tree.rows - length old + l)) (length-resized old len) ∙ h.1.1.1.0))
 IsTree-after tree (ListOf directory) is none = is
 IsTree-after tree (Lookup directory name) is none = is
 IsTree-after tree (Create directory name) is none =

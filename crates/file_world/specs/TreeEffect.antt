@@ -1,5 +1,5 @@
 -- What each operation does to the file tree: its refusals in their order, its reply, and its change (this project's own).
-use Rattle.std.specs.Prelude.{ℕ, zero, suc, List, [], ◌∷◌, ◌++◌, ◌+◌, ◌-◌, ◌^◌, length, take, drop, replicate, Option, Some, None, is_some, is_none, unwrap_or, Bool, true, false, not, nat_lt, nat_le, nat_eq, ◌&&◌, ◌||◌, ◌==◌, if◌then◌else◌}
+use Rattle.std.specs.Prelude.{ℕ, zero, suc, List, [], ◌∷◌, ◌++◌, ◌+◌, ◌-◌, ◌^◌, length, take, drop, replicate, max, Option, Some, None, is_some, is_none, unwrap_or, Bool, true, false, not, nat_lt, nat_le, nat_eq, ◌&&◌, ◌||◌, ◌==◌, if◌then◌else◌}
 use Rattle.std.specs.List.{list_any}
 use Rattle.std.specs.Map.{remove_entry}
 use Rattle.std.specs.Ordering.{is_lt, nat_cmp}
@@ -107,38 +107,55 @@ directory_tests rows number = (is_none (node_at rows number), NoNode) ∷ (not (
 abbrev pub name_tests : Nodes → ℕ → List ℕ → Tests
 name_tests rows directory name = directory_tests rows directory ++ (not (is_node_name name), BadName) ∷ []
 
--- the new length of the file's own bytes, and all contents with the new ones in the place of the old
-abbrev pub size_tests : Nodes → ℕ → ℕ → List ℕ → Tests
-size_tests rows number end contents =
-    (nat_lt 1048576 end, TooBig)
-    ∷ (nat_lt 33554432 (contents_sum rows - length (contents_of (node_at rows number)) + length contents), TreeFull)
-    ∷ []
+-- the length of contents after so many bytes were written at an offset
+abbrev pub length_after : ℕ → ℕ → ℕ → ℕ
+length_after old offset len = if len == 0 then old else max old (offset + len)
+
+-- the end of what the file is to have, and all contents with the new length in the place of the old one
+abbrev pub length_tests : Nodes → ℕ → ℕ → ℕ → Tests
+length_tests rows number end len =
+    (nat_lt 1048576 end, TooBig) ∷ (nat_lt 33554432 (contents_sum rows - length (contents_of (node_at rows number)) + len), TreeFull) ∷ []
+
+abbrev pub write_tests : Nodes → ℕ → ℕ → List ℕ → Tests
+write_tests rows number offset bytes =
+    file_tests rows number
+        ++ length_tests rows number (offset + length bytes) (length_after (length (contents_of (node_at rows number))) offset (length bytes))
+
+abbrev pub truncate_tests : Nodes → ℕ → ℕ → Tests
+truncate_tests rows number len = file_tests rows number ++ length_tests rows number len len
+
+abbrev pub lookup_tests : Nodes → ℕ → List ℕ → Tests
+lookup_tests rows directory name = name_tests rows directory name ++ (is_none (child_of rows directory name), NoEntry) ∷ []
 
 abbrev pub make_tests : FileTree → ℕ → List ℕ → Tests
 make_tests tree directory name =
     name_tests tree.rows directory name ++ (is_some (child_of tree.rows directory name), Exists) ∷ (is_full tree, TreeFull) ∷ []
 
+abbrev pub unlink_tests : Nodes → ℕ → List ℕ → Tests
+unlink_tests rows directory name =
+    let child = child_of rows directory name in
+    name_tests rows directory name ++ (is_none child, NoEntry) ∷ (has_names rows (unwrap_or child 0), NotEmpty) ∷ []
+
+abbrev pub rename_tests : Nodes → ℕ → List ℕ → ℕ → List ℕ → Tests
+rename_tests rows directory name target renamed =
+    let child = child_of rows directory name in
+    name_tests rows directory name ++ name_tests rows target renamed
+        ++ (is_none child, NoEntry)
+        ∷ (is_into_itself rows (unwrap_or child 0) target, IntoItself)
+        ∷ (is_some (child_of rows target renamed), Exists)
+        ∷ []
+
+-- the tests of an operation, in their order
 abbrev pub tests_of : FileTree → TreeOp → Tests
 tests_of tree (Read file offset len) = file_tests tree.rows file.0
-tests_of tree (Write file offset bytes) =
-    file_tests tree.rows file.0 ++ size_tests tree.rows file.0 (offset + length bytes) (written (contents_of (node_at tree.rows file.0)) offset bytes)
-tests_of tree (Truncate file len) =
-    file_tests tree.rows file.0 ++ size_tests tree.rows file.0 len (resized (contents_of (node_at tree.rows file.0)) len)
+tests_of tree (Write file offset bytes) = write_tests tree.rows file.0 offset bytes
+tests_of tree (Truncate file len) = truncate_tests tree.rows file.0 len
 tests_of tree (ListOf directory) = directory_tests tree.rows directory.0
-tests_of tree (Lookup directory name) =
-    name_tests tree.rows directory.0 name ++ (is_none (child_of tree.rows directory.0 name), NoEntry) ∷ []
+tests_of tree (Lookup directory name) = lookup_tests tree.rows directory.0 name
 tests_of tree (Create directory name) = make_tests tree directory.0 name
 tests_of tree (Mkdir directory name) = make_tests tree directory.0 name
-tests_of tree (Unlink directory name) =
-    let child = child_of tree.rows directory.0 name in
-    name_tests tree.rows directory.0 name ++ (is_none child, NoEntry) ∷ (has_names tree.rows (unwrap_or child 0), NotEmpty) ∷ []
-tests_of tree (Rename directory name target renamed) =
-    let child = child_of tree.rows directory.0 name in
-    name_tests tree.rows directory.0 name ++ name_tests tree.rows target.0 renamed
-        ++ (is_none child, NoEntry)
-        ∷ (is_into_itself tree.rows (unwrap_or child 0) target.0, IntoItself)
-        ∷ (is_some (child_of tree.rows target.0 renamed), Exists)
-        ∷ []
+tests_of tree (Unlink directory name) = unlink_tests tree.rows directory.0 name
+tests_of tree (Rename directory name target renamed) = rename_tests tree.rows directory.0 name target.0 renamed
 
 abbrev pub tree_refusal : FileTree → TreeOp → Option Refusal
 tree_refusal tree op = first_of (tests_of tree op)

@@ -1,0 +1,143 @@
+-- How the nodes that the code keeps stand for the rows of a tree, and where the names in its directories are found.
+use Rattle.std.specs.Prelude.{◌≡◌, ◌≤◌, ◌<◌, ◌-◌, ℕ, List, [], ◌∷◌, ◌++◌, length, take, map, Bool, false, Option, Some, None, if◌then◌else◌, vec_capacity}
+use Rattle.std.specs.Map.{lookup}
+use Rattle.std.specs.BTreeMap.{is_at}
+use Rattle.std.specs.Ordering.{nat_cmp}
+use Rattle.std.specs.Cmp.Lexicographic.{slice_cmp}
+use Rattle.file_world.specs.Tree.{Place, Node, Nodes, FileTree, is_place, IsTree}
+use Rattle.file_world.specs.declared.reply.NamedNode.{NamedNode}
+use Rattle.file_world.specs.TreeEffect.{at, child_of, new_node}
+use Rattle.file_tree.specs.declared.node.Node.{Node as Kept}
+use Rattle.file_tree.specs.declared.ready.Spot.{Spot}
+use Rattle.file_tree.specs.declared.ready.Ready.{Ready}
+use Rattle.file_tree.specs.declared.ready.Ready.TheVariants.{Nothing, Contents, Made, Gone, Moved}
+
+-- nodes as they are kept, under their numbers
+abbrev pub Entries : Type 0
+Entries = List (ℕ × Kept)
+
+-- what the tree shows of a node
+abbrev pub shown : Kept → Node
+shown kept = record { kind = kept.kind; place = record { directory = kept.parent; name = kept.name }; contents = kept.contents.items }
+
+abbrev pub rows_of : Entries → Nodes
+rows_of entries = map (λ entry. (entry.0, shown entry.1)) entries
+
+-- the node that is kept under the number
+abbrev pub kept_at : Entries → ℕ → Option Kept
+kept_at entries number = lookup (is_at (nat_cmp number)) entries
+
+-- what a node keeps under the name
+abbrev pub number_in : Option Kept → List ℕ → Option ℕ
+number_in None name = None
+number_in (Some kept) name = lookup (is_at (slice_cmp nat_cmp name)) kept.names.entries
+
+-- what the directory keeps under the name: a node's number, or 0 if the name is only held
+abbrev pub held_at : Entries → ℕ → List ℕ → Option ℕ
+held_at entries directory name = number_in (kept_at entries directory) name
+
+abbrev pub place_of : Spot → Place
+place_of spot = record { directory = spot.directory; name = spot.name }
+
+-- the place whose name is held for what is ready
+abbrev pub held_spot : Option Ready → Option Spot
+held_spot None = None
+held_spot (Some Nothing) = None
+held_spot (Some (Contents number len)) = None
+held_spot (Some (Made kind spot)) = Some spot
+held_spot (Some (Gone number spot)) = None
+held_spot (Some (Moved number from to)) = Some to
+
+-- the nodes without one that is only ready to be made, which is the last
+abbrev pub settled : Option Ready → Entries → Entries
+settled None entries = entries
+settled (Some Nothing) entries = entries
+settled (Some (Contents number len)) entries = entries
+settled (Some (Made kind spot)) entries = take (length entries - 1) entries
+settled (Some (Gone number spot)) entries = entries
+settled (Some (Moved number from to)) entries = entries
+
+-- what the directory is to keep under the name: its child, but 0 for the name that is held
+abbrev pub expected : Option Spot → Nodes → ℕ → List ℕ → Option ℕ
+expected None rows directory name = child_of rows directory name
+expected (Some spot) rows directory name =
+    if is_place (place_of spot) (at directory name) then Some 0 else child_of rows directory name
+
+-- the name that is held stands for no node
+abbrev pub IsHeldFree : Option Spot → Nodes → Type 0
+IsHeldFree None rows = Unit {0}
+IsHeldFree (Some spot) rows = child_of rows spot.directory spot.name ≡ None
+
+-- a node is kept with room for so many bytes
+pub record HasRoom (entries : Entries) (number len : ℕ) : Type 0 where
+  pub kept : Kept
+  pub found : kept_at entries number ≡ Some kept
+  pub room : len ≤ vec_capacity kept.contents
+
+-- the last node is the new one, and a directory without names
+pub record IsLast (entries : Entries) (next : ℕ) (node : Node) : Type 0 where
+  pub before : Entries
+  pub kept : Kept
+  pub last : entries ≡ before ++ (next, kept) ∷ []
+  pub new : shown kept ≡ node
+  pub no_names : kept.names.entries ≡ []
+
+-- the memory for what is ready is there
+abbrev pub IsPrepared : Option Ready → Entries → ℕ → Type 0
+IsPrepared None entries next = Unit {0}
+IsPrepared (Some Nothing) entries next = Unit {0}
+IsPrepared (Some (Contents number len)) entries next = HasRoom entries number len
+IsPrepared (Some (Made kind spot)) entries next = IsLast entries next (new_node kind (place_of spot))
+IsPrepared (Some (Gone number spot)) entries next = Unit {0}
+IsPrepared (Some (Moved number from to)) entries next = Unit {0}
+
+abbrev pub tree_in : Option Ready → Entries → ℕ → FileTree
+tree_in ready entries next = record { rows = rows_of (settled ready entries); next = next }
+
+-- the nodes that are kept are those of a tree, the names in the directories those of its children, and what is ready is prepared
+pub record IsKept (entries : Entries) (next : ℕ) (ready : Option Ready) : Type 0 where
+  pub tree : IsTree (tree_in ready entries next)
+  pub index : (directory : ℕ) (name : List ℕ) → held_at entries directory name ≡ expected (held_spot ready) (rows_of (settled ready entries)) directory name
+  pub free : IsHeldFree (held_spot ready) (rows_of (settled ready entries))
+  pub prepared : IsPrepared ready entries next
+
+-- a directory keeps the number under the name of the place, and all else is as before
+pub record Puts (old new : Entries) (place : Place) (number : Option ℕ) : Type 0 where
+  pub here : held_at new place.directory place.name ≡ number
+  pub elsewhere : (directory : ℕ) (name : List ℕ) → is_place place (at directory name) ≡ false → held_at new directory name ≡ held_at old directory name
+  pub same_rows : rows_of new ≡ rows_of old
+
+-- all is as before, but for room
+pub record Keeps (old new : Entries) : Type 0 where
+  pub same_held : (directory : ℕ) (name : List ℕ) → held_at new directory name ≡ held_at old directory name
+  pub same_rows : rows_of new ≡ rows_of old
+
+-- each number that is kept is below the next one
+abbrev pub IsBelow : Entries → ℕ → Type 0
+IsBelow entries next = (number : ℕ) (kept : Kept) → kept_at entries number ≡ Some kept → number < next
+
+-- one more node is kept at the end, a directory without names
+pub record AddsLast (old new : Entries) (next : ℕ) (node : Node) : Type 0 where
+  pub kept : Kept
+  pub last : new ≡ old ++ (next, kept) ∷ []
+  pub shows : shown kept ≡ node
+  pub no_names : kept.names.entries ≡ []
+
+-- what is ready is prepared, and the rows are as before
+pub record Prepares (old new : Entries) (next : ℕ) (ready : Ready) : Type 0 where
+  pub kept : IsKept new next (Some ready)
+  pub same_rows : rows_of (settled (Some ready) new) ≡ rows_of old
+
+-- nothing is ready, and the rows are as before
+pub record Stays (old new : Entries) (next : ℕ) : Type 0 where
+  pub kept : IsKept new next None
+  pub same_rows : rows_of new ≡ rows_of old
+
+-- a name and its node, as a list of names shows them
+abbrev pub named_node : List ℕ × ℕ → NamedNode
+named_node entry = record { name = entry.0; node = record { 0 = entry.1 } }
+
+-- nothing is ready, and the tree is this one
+pub record Becomes (new : Entries) (tree : FileTree) : Type 0 where
+  pub kept : IsKept new tree.next None
+  pub rows : rows_of new ≡ tree.rows

@@ -1,0 +1,87 @@
+//! What an operation answers.
+
+ghost use Rattle.std.specs.Prelude.{◌≡◌, ◌≤◌, ◌<◌, length, map, None, IfOk, IsTrue};
+ghost use Rattle.file_world.specs.Tree.{node_at};
+ghost use Rattle.file_world.specs.TreeEffect.{contents_of, is_directory, names_in, part_of, tree_refusal, tree_reply};
+ghost use Rattle.file_tree.specs.Index.{rows_of, named_node, tree_in, IsKept};
+
+use crate::name::Name;
+use crate::node::Nodes;
+use crate::refusals::child;
+use bl_syntax::{Bytes, NoMemory, NodeId};
+use file_world::{NamedNode, Names, TreeOp, TreeReply};
+use std::alloc::Global;
+use std::collections::BTreeMap;
+
+fn part(alloc: Global, contents: &[u8], offset: u64, len: u64) -> Result<Bytes, NoMemory>
+    ensures { IfOk result (λ bytes. bytes ≡ part_of contents.now offset len) }
+{
+    let start = (offset as usize).min(contents.len());
+    let end = start + (len as usize).min(contents.len() - start);
+    Ok(Bytes::from_vec(Vec::from_slice(alloc, &contents[start..end])?))
+}
+
+fn bytes_of(
+    nodes: &Nodes,
+    alloc: Global,
+    number: u64,
+    offset: u64,
+    len: u64,
+) -> Result<Bytes, NoMemory>
+    ensures { IfOk result
+        (λ bytes. bytes ≡ part_of (contents_of (node_at (rows_of nodes.now.entries) number)) offset len) }
+{
+    match nodes.get(&number) {
+        None => Ok(Bytes::new(alloc)),
+        Some(node) => part(alloc, node.contents.as_slice(), offset, len),
+    }
+}
+
+fn listed(alloc: Global, kept: &BTreeMap<Name, u64>) -> Result<Names, NoMemory>
+    ensures { IfOk result (λ names. names ≡ map named_node kept.now.entries) }
+{
+    let mut names = Names::new(alloc);
+    for (name, number) in kept {
+        names.push(NamedNode {
+            name: name.short(),
+            node: NodeId(*number),
+        })?;
+    }
+    Ok(names)
+}
+
+fn names_of(nodes: &Nodes, alloc: Global, next: u64, directory: u64) -> Result<Names, NoMemory>
+    requires kept { IsKept nodes.now.entries next None }
+    requires holds { IsTrue (is_directory (node_at (rows_of nodes.now.entries) directory)) }
+    ensures { IfOk result (λ names. names ≡ names_in (rows_of nodes.now.entries) directory) }
+{
+    match nodes.get(&directory) {
+        None => Ok(Names::new(alloc)),
+        Some(node) => listed(alloc, &node.names),
+    }
+}
+
+/// The reply of an operation that is not refused.
+pub fn reply(nodes: &Nodes, alloc: Global, next: u64, op: &TreeOp) -> Result<TreeReply, NoMemory>
+    requires kept { IsKept nodes.now.entries next None }
+    requires free { tree_refusal (tree_in None nodes.now.entries next) op.now ≡ None }
+    ensures { IfOk result (λ reply. reply ≡ tree_reply (tree_in None nodes.now.entries next) op.now) }
+{
+    match op {
+        TreeOp::Read(file, offset, len) => {
+            Ok(TreeReply::Bytes(bytes_of(nodes, alloc, file.0, *offset, *len)?))
+        }
+        TreeOp::List(directory) => {
+            Ok(TreeReply::Names(names_of(nodes, alloc, next, directory.0)?))
+        }
+        TreeOp::Lookup(directory, name) => {
+            let number = child(nodes, next, directory.0, name.as_slice()).unwrap_or(0);
+            Ok(TreeReply::Node(NodeId(number)))
+        }
+        TreeOp::Create(_, _) | TreeOp::Mkdir(_, _) => Ok(TreeReply::Node(NodeId(next))),
+        TreeOp::Write(_, _, _)
+        | TreeOp::Truncate(_, _)
+        | TreeOp::Unlink(_, _)
+        | TreeOp::Rename(_, _, _, _) => Ok(TreeReply::Done),
+    }
+}
