@@ -1,19 +1,22 @@
 -- The nodes that are kept, seen as the rows of a tree.
-use Rattle.std.proofs.Common.{◌≡◌, ◌≢◌, ℕ, ◌+◌, ◌-◌, ◌<◌, ◌≤◌, inl, inr, Bool, true, false, cond, Option, Some, None, option_map, IsSome, List, [], ◌∷◌, ◌++◌, length, map, take, refl, sym, ap, ◌∙◌, subst, arith, nat_eq, nat_lt, nat_cmp, is_eq, Ordering, Less, Equal, Greater}
+use Rattle.std.proofs.Common.{◌≡◌, ◌≢◌, ℕ, ◌+◌, ◌-◌, ◌<◌, ◌≤◌, inl, inr, Bool, true, false, cond, Option, Some, None, option_map, IsSome, List, [], ◌∷◌, ◌++◌, length, map, take, refl, sym, ap, ◌∙◌, subst, arith, nat_eq, nat_lt, nat_cmp, is_eq, Ordering, Less, Equal, Greater, Bor, MutBor, take_all, le_refl, length-append}
 use Rattle.std.specs.Map.{lookup, remove_entry, set_value, keys_of}
-use Rattle.std.specs.BTreeMap.{is_at, insert_entry}
+use Rattle.std.specs.BTreeMap.{BTreeMap, is_at, insert_entry, WritesThrough, Updates, UpdatesBy}
+use Rattle.std.specs.Option.{option_copied, option_copied_mut}
+use Rattle.std.specs.Ordering.{match_ordering}
+use Rattle.std.proofs.lemmas.List.{take-append-le}
 use Rattle.std.specs.Cmp.Lexicographic.{slice_cmp}
 use Rattle.std.specs.List.Sorted.{IsStrictlySortedBy}
 use Rattle.std.specs.Str.{bytes_eq}
-use Rattle.std.proofs.lemmas.Bool.{cond-true, cond-false, false≢true, ltb-true, ltb-false, eq-eqb, ne_eqb, eqb-true, eqb-false, and_cases, and_from, cases_eq}
+use Rattle.std.proofs.lemmas.Bool.{cond-true, cond-false, false≢true, ltb-true, ltb-false, le-ltb, eq-eqb, ne_eqb, eqb-true, eqb-false, and_cases, and_from, cases_eq}
 use Rattle.std.proofs.lemmas.Map.Text.{is_eq-slice_cmp}
 use Rattle.std.proofs.lemmas.Slice.Eq.{bytes_eq-Decides}
 use Rattle.std.proofs.lemmas.Option.{none-some, same_Some}
 use Rattle.file_world.specs.Tree.{Place, Node, Nodes, node_at, is_place}
 use Rattle.file_world.specs.TreeEffect.{at, revised}
-use Rattle.file_world.proofs.RowLemmas.{split, cond_at_true, cond_at_false}
+use Rattle.file_world.proofs.RowLemmas.{split, cond_at_true, cond_at_false, lookup-append_none, above_found, rising_head, rising_tail}
 use Rattle.file_tree.specs.declared.node.Node.{Node as Kept}
-use Rattle.file_tree.specs.Index.{Entries, shown, rows_of, kept_at, number_in, held_at, Puts, Keeps}
+use Rattle.file_tree.specs.Index.{Entries, shown, rows_of, kept_at, number_in, held_at, Puts, Keeps, IsBelow}
 
 -- ---- tests of numbers and names
 
@@ -26,6 +29,13 @@ same_test number other =
         ∙ split (nat_eq number other)
           (λ s. ap is_eq (cond-true (nat_eq number other) Equal Greater s) ∙ sym s)
           (λ s. ap is_eq (cond-false (nat_eq number other) Equal Greater s) ∙ sym s))
+
+-- the two tests find the same
+pub same_found : (entries : Entries) (number : ℕ) → lookup (nat_eq number) entries ≡ kept_at entries number
+same_found [] number = refl
+same_found (entry ∷ entries) number =
+    ap (λ (b : Bool). cond b (Some entry.1) (lookup (nat_eq number) entries)) (sym (same_test number entry.0))
+    ∙ ap (λ (rest : Option Kept). cond (is_at (nat_cmp number) entry.0) (Some entry.1) rest) (same_found entries number)
 
 -- ---- rows
 
@@ -137,3 +147,70 @@ held-set old new number was now there sets same directory name =
         ∙ (same name ∙ (ap (λ (k : Option Kept). number_in k name) (sym there) ∙ ap (λ (d : ℕ). held_at old d name) (sym e))))
     | inr other ↦ ap (λ (k : Option Kept). number_in k name) (kept-unset old new number now sets directory other)
     ]
+
+-- ---- what the maps say
+
+some_from_value : {A : Type 0} (found : Option A) (value : A) → found ≡ Some value → IsSome found
+some_from_value found value e = subst IsSome (sym e) refl
+
+pub SetsValue-from_map : (m n : BTreeMap ℕ Kept) (number : ℕ) (was now : Kept) → kept_at m.entries number ≡ Some was → WritesThrough nat_cmp (nat_cmp number) m now n → SetsValue m.entries n.entries number now
+SetsValue-from_map m n number was now there h =
+    record { entries = h.0; found = (h.3 (some_from_value (kept_at m.entries number) was there)).0 }
+
+-- what is told of a map's value behind a `&mut`
+pub found_behind : {A : Type 0} (result : Option (MutBor A)) (found : Option A) (node : MutBor A) → option_copied_mut result ≡ found → result ≡ Some node → found ≡ Some node.now
+found_behind result found node value is = sym value ∙ ap option_copied_mut is
+
+pub found_at : {A : Type 0} (result : Option (Bor A)) (found : Option A) (node : Bor A) → option_copied result ≡ found → result ≡ Some node → found ≡ Some node.now
+found_at result found node value is = sym value ∙ ap option_copied is
+
+-- a name that is entered
+pub ChangesName-entered : (was now : Kept) (name : List ℕ) (number : Option ℕ) → Updates (slice_cmp nat_cmp) was.names now.names name number → shown now ≡ shown was → ChangesName was now name number
+ChangesName-entered was now name number updates same = record { names = updates.0; same = same }
+
+-- a name that is taken out
+pub ChangesName-removed : (was now : Kept) (name : List ℕ) → UpdatesBy (slice_cmp nat_cmp) (slice_cmp nat_cmp name) was.names now.names None → shown now ≡ shown was → ChangesName was now name None
+ChangesName-removed was now name updates same = record { names = updates.0; same = same }
+
+-- a look-up among names with the same entries
+pub same_names : (was now : Kept) → now.names.entries ≡ was.names.entries → (name : List ℕ) → number_in (Some now) name ≡ number_in (Some was) name
+same_names was now e name = ap (λ (entries : List (List ℕ × ℕ)). lookup (is_at (slice_cmp nat_cmp name)) entries) e
+
+pub Keeps-from_set : (old new : Entries) (number : ℕ) (was now : Kept) → kept_at old number ≡ Some was → SetsValue old new number now → ((name : List ℕ) → number_in (Some now) name ≡ number_in (Some was) name) → shown now ≡ shown was → Keeps old new
+Keeps-from_set old new number was now there sets names same =
+    record { same_held = held-set old new number was now there sets names; same_rows = ap rows_of sets.entries ∙ rows-set_value_same old number was now there same }
+
+-- where the directory is not kept, no name is
+pub Puts-missing : (entries : Entries) (place : Place) → kept_at entries place.directory ≡ None → Puts entries entries place None
+Puts-missing entries place missing =
+    record { here = ap (λ (k : Option Kept). number_in k place.name) missing; elsewhere = λ directory name apart. refl; same_rows = refl }
+
+-- ---- a node at the end
+
+pub kept_at-append : (entries : Entries) (next : ℕ) (kept : Kept) (number : ℕ) → number ≢ next → kept_at (entries ++ (next, kept) ∷ []) number ≡ kept_at entries number
+kept_at-append [] next kept number apart = cond-false (is_at (nat_cmp number) next) _ _ (same_test number next ∙ ne_eqb number next apart)
+kept_at-append (entry ∷ entries) next kept number apart = ap (λ (rest : Option Kept). cond (is_at (nat_cmp number) entry.0) (Some entry.1) rest) (kept_at-append entries next kept number apart)
+
+pub kept_at-last : (entries : Entries) (next : ℕ) (kept : Kept) → kept_at entries next ≡ None → kept_at (entries ++ (next, kept) ∷ []) next ≡ Some kept
+kept_at-last entries next kept missing =
+    lookup-append_none (is_at (nat_cmp next)) entries ((next, kept) ∷ []) missing ∙ cond-true (is_at (nat_cmp next) next) _ _ (same_test next next ∙ eq-eqb next next refl)
+
+pub rows-append : (entries : Entries) (next : ℕ) (kept : Kept) → rows_of (entries ++ (next, kept) ∷ []) ≡ rows_of entries ++ (next, shown kept) ∷ []
+rows-append [] next kept = refl
+rows-append (entry ∷ entries) next kept = ap (λ (rows : Nodes). (entry.0, shown entry.1) ∷ rows) (rows-append entries next kept)
+
+pub take-append_one : (entries : Entries) (entry : ℕ × Kept) → take (length (entries ++ entry ∷ []) - 1) (entries ++ entry ∷ []) ≡ entries
+take-append_one entries entry =
+    let e : length (entries ++ entry ∷ []) - 1 ≡ length entries = (let h = length-append entries (entry ∷ []) in omega (arith, h)) in
+    ap (λ (n : ℕ). take n (entries ++ entry ∷ [])) e ∙ (take-append-le (length entries) entries (entry ∷ []) (le_refl (length entries)) ∙ take_all (length entries) entries (le_refl (length entries)))
+
+-- a key above all others goes to the end
+pub insert-last : (entries : Entries) (next : ℕ) (kept : Kept) → IsStrictlySortedBy nat_cmp (keys_of entries) → IsBelow entries next → insert_entry nat_cmp entries next kept ≡ entries ++ (next, kept) ∷ []
+insert-last [] next kept rising below = refl
+insert-last (entry ∷ entries) next kept rising below =
+    let lt : entry.0 < next = below entry.0 entry.1 (cond-true (is_at (nat_cmp entry.0) entry.0) _ _ (same_test entry.0 entry.0 ∙ eq-eqb entry.0 entry.0 refl)) in
+    let greater : nat_cmp next entry.0 ≡ Greater = cond-false (nat_lt next entry.0) _ _ (le-ltb next entry.0 (omega (arith, lt))) ∙ cond-false (nat_eq next entry.0) _ _ (ne_eqb next entry.0 (λ h. omega (arith, h, lt))) in
+    ap (λ (o : Ordering). match_ordering o ((next, kept) ∷ entry ∷ entries) ((entry.0, kept) ∷ entries) (entry ∷ insert_entry nat_cmp entries next kept)) greater
+    ∙ ap (λ (rest : Entries). entry ∷ rest) (insert-last entries next kept (rising_tail entry entries rising)
+        (λ number value e. let up : entry.0 < number = above_found entry.0 number value entries (rising_head entry entries rising) (same_found entries number ∙ e) in
+            below number value (cond-false (is_at (nat_cmp number) entry.0) _ _ (same_test number entry.0 ∙ ne_eqb number entry.0 (λ h. omega (arith, h, up))) ∙ e)))

@@ -1,1 +1,4 @@
+pub mod ChildLemmas
 pub mod IndexLemmas
+pub mod KeptLemmas
+pub mod PartLemmas

@@ -1,12 +1,13 @@
 -- How the nodes that the code keeps stand for the rows of a tree, and where the names in its directories are found.
-use Rattle.std.specs.Prelude.{◌≡◌, ◌≤◌, ◌<◌, ◌-◌, ℕ, List, [], ◌∷◌, ◌++◌, length, take, map, Bool, false, Option, Some, None, if◌then◌else◌, vec_capacity}
-use Rattle.std.specs.Map.{lookup}
+use Rattle.std.specs.Prelude.{◌≡◌, ◌≢◌, ◌≤◌, ◌<◌, ◌-◌, ℕ, List, [], ◌∷◌, ◌++◌, length, take, map, Bool, false, Option, Some, None, if◌then◌else◌, vec_capacity, nat_eq}
+use Rattle.std.specs.Map.{lookup, remove_entry}
 use Rattle.std.specs.BTreeMap.{is_at}
 use Rattle.std.specs.Ordering.{nat_cmp}
 use Rattle.std.specs.Cmp.Lexicographic.{slice_cmp}
-use Rattle.file_world.specs.Tree.{Place, Node, Nodes, FileTree, is_place, IsTree}
+use Rattle.file_world.specs.Tree.{Place, Node, Nodes, FileTree, is_place, contents_sum, IsTree}
+use Rattle.bl_syntax.specs.declared.terms.NodeId.{NodeId}
 use Rattle.file_world.specs.declared.reply.NamedNode.{NamedNode}
-use Rattle.file_world.specs.TreeEffect.{at, child_of, new_node}
+use Rattle.file_world.specs.TreeEffect.{at, child_of, new_node, revised, with_contents, with_place}
 use Rattle.file_tree.specs.declared.node.Node.{Node as Kept}
 use Rattle.file_tree.specs.declared.ready.Spot.{Spot}
 use Rattle.file_tree.specs.declared.ready.Ready.{Ready}
@@ -133,11 +134,36 @@ pub record Stays (old new : Entries) (next : ℕ) : Type 0 where
   pub kept : IsKept new next None
   pub same_rows : rows_of new ≡ rows_of old
 
+-- the node of that number has those contents, and the sum of all contents is told
+pub record Fills (old new : Entries) (number : ℕ) (contents : List ℕ) (total : ℕ) : Type 0 where
+  pub rows : rows_of new ≡ revised number (with_contents contents) (rows_of old)
+  pub same_held : (directory : ℕ) (name : List ℕ) → held_at new directory name ≡ held_at old directory name
+  pub summed : total ≡ contents_sum (rows_of new)
+
+-- the node of that number is gone, and the name of its place, and the sum of all contents is told
+pub record Removes (old new : Entries) (number : ℕ) (place : Place) (total : ℕ) : Type 0 where
+  pub rows : rows_of new ≡ remove_entry (nat_eq number) (rows_of old)
+  pub here : held_at new place.directory place.name ≡ None
+  pub elsewhere : (directory : ℕ) (name : List ℕ) → is_place place (at directory name) ≡ false → directory ≢ number → held_at new directory name ≡ held_at old directory name
+  pub within : (name : List ℕ) → held_at new number name ≡ None
+  pub summed : total ≡ contents_sum (rows_of new)
+
+-- the node of that number stands at the place, and all names are as before
+pub record Replaces (old new : Entries) (number : ℕ) (place : Place) : Type 0 where
+  pub rows : rows_of new ≡ revised number (with_place place) (rows_of old)
+  pub same_held : (directory : ℕ) (name : List ℕ) → held_at new directory name ≡ held_at old directory name
+
+-- the node of that number stands at the second place, and its name is there and no longer at the first
+pub record Relocates (old new : Entries) (number : ℕ) (from to : Place) : Type 0 where
+  pub rows : rows_of new ≡ revised number (with_place to) (rows_of old)
+  pub here : is_place from to ≡ false → held_at new to.directory to.name ≡ Some number
+  pub there : held_at new from.directory from.name ≡ None
+  pub elsewhere : (directory : ℕ) (name : List ℕ) → is_place from (at directory name) ≡ false → is_place to (at directory name) ≡ false → held_at new directory name ≡ held_at old directory name
+
+abbrev pub option_number : Option ℕ → Option NodeId
+option_number None = None
+option_number (Some number) = Some (record { 0 = number })
+
 -- a name and its node, as a list of names shows them
 abbrev pub named_node : List ℕ × ℕ → NamedNode
 named_node entry = record { name = entry.0; node = record { 0 = entry.1 } }
-
--- nothing is ready, and the tree is this one
-pub record Becomes (new : Entries) (tree : FileTree) : Type 0 where
-  pub kept : IsKept new tree.next None
-  pub rows : rows_of new ≡ tree.rows

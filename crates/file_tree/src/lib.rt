@@ -15,4 +15,8 @@ mod tree;
 
 pub use file_world::{Kind, NamedNode, Names, OpFault, Refusal, TreeOp, TreeReply};
 pub use ready::{Ready, Spot};
+pub use tree::Tree;
 
+
+#[cfg(test)]
+mod tests;

@@ -1,6 +1,6 @@
 //! The first refusal of an operation.
 
-ghost use Rattle.std.specs.Prelude.{◌≡◌, ◌≤◌, ◌+◌, ◌-◌, ◌^◌, ◌<◌, length, None, Some, nat_le, if◌then◌else◌, option_map};
+ghost use Rattle.std.specs.Prelude.{◌≡◌, ◌≤◌, ◌+◌, ◌-◌, ◌^◌, ◌<◌, length, None, Some, nat_le, if◌then◌else◌, option_map, max};
 ghost use Rattle.file_world.specs.Outcome.{first_of};
 ghost use Rattle.file_world.specs.Tree.{node_at, contents_sum};
 ghost use Rattle.file_world.specs.TreeEffect.{file_tests, directory_tests, name_tests, length_tests, write_tests, truncate_tests, lookup_tests, make_tests, unlink_tests, rename_tests, tree_refusal, contents_of, child_of, has_names, is_full, leads_past, length_after};
@@ -135,8 +135,17 @@ pub fn written_length(old: u64, offset: u64, len: u64) -> u64
     if len == 0 { old } else { old.max(offset + len) }
 }
 
-fn size_refusal(nodes: &Nodes, total: u64, number: u64, end: u64, len: u64) -> Option<Refusal>
-    requires { total ≡ contents_sum (rows_of nodes.now.entries) }
+fn size_refusal(
+    nodes: &Nodes,
+    next: u64,
+    total: u64,
+    number: u64,
+    end: u64,
+    len: u64,
+) -> Option<Refusal>
+    requires kept { IsKept nodes.now.entries next None }
+    requires summed { total ≡ contents_sum (rows_of nodes.now.entries) }
+    requires within { len ≤ max end (length (contents_of (node_at (rows_of nodes.now.entries) number))) }
     ensures { result ≡ first_of (length_tests (rows_of nodes.now.entries) number end len) }
 {
     if MOST_BYTES < end {
@@ -148,8 +157,16 @@ fn size_refusal(nodes: &Nodes, total: u64, number: u64, end: u64, len: u64) -> O
     None
 }
 
-fn write_refusal(nodes: &Nodes, total: u64, number: u64, offset: u64, bytes: &[u8]) -> Option<Refusal>
-    requires { total ≡ contents_sum (rows_of nodes.now.entries) }
+fn write_refusal(
+    nodes: &Nodes,
+    next: u64,
+    total: u64,
+    number: u64,
+    offset: u64,
+    bytes: &[u8],
+) -> Option<Refusal>
+    requires kept { IsKept nodes.now.entries next None }
+    requires summed { total ≡ contents_sum (rows_of nodes.now.entries) }
     ensures { result
         ≡ first_of (write_tests (rows_of nodes.now.entries) number offset bytes.now) }
 {
@@ -161,17 +178,18 @@ fn write_refusal(nodes: &Nodes, total: u64, number: u64, offset: u64, bytes: &[u
         return Some(Refusal::TooBig);
     };
     let after = written_length(length_at(nodes, number), offset, len);
-    size_refusal(nodes, total, number, end, after)
+    size_refusal(nodes, next, total, number, end, after)
 }
 
-fn truncate_refusal(nodes: &Nodes, total: u64, number: u64, len: u64) -> Option<Refusal>
-    requires { total ≡ contents_sum (rows_of nodes.now.entries) }
+fn truncate_refusal(nodes: &Nodes, next: u64, total: u64, number: u64, len: u64) -> Option<Refusal>
+    requires kept { IsKept nodes.now.entries next None }
+    requires summed { total ≡ contents_sum (rows_of nodes.now.entries) }
     ensures { result ≡ first_of (truncate_tests (rows_of nodes.now.entries) number len) }
 {
     if let Some(refusal) = file_refusal(nodes, number) {
         return Some(refusal);
     }
-    size_refusal(nodes, total, number, len, len)
+    size_refusal(nodes, next, total, number, len, len)
 }
 
 fn lookup_refusal(nodes: &Nodes, next: u64, directory: u64, name: &[u8]) -> Option<Refusal>
@@ -261,9 +279,9 @@ pub fn refusal(nodes: &Nodes, next: u64, total: u64, op: &TreeOp) -> Option<Refu
     match op {
         TreeOp::Read(file, _, _) => file_refusal(nodes, file.0),
         TreeOp::Write(file, offset, bytes) => {
-            write_refusal(nodes, total, file.0, *offset, bytes.as_slice())
+            write_refusal(nodes, next, total, file.0, *offset, bytes.as_slice())
         }
-        TreeOp::Truncate(file, len) => truncate_refusal(nodes, total, file.0, *len),
+        TreeOp::Truncate(file, len) => truncate_refusal(nodes, next, total, file.0, *len),
         TreeOp::List(directory) => directory_refusal(nodes, directory.0),
         TreeOp::Lookup(directory, name) => lookup_refusal(nodes, next, directory.0, name.as_slice()),
         TreeOp::Create(directory, name) => make_refusal(nodes, next, directory.0, name.as_slice()),

@@ -1,1 +1,123 @@
-//! tree
+//! The tree and its calls.
+
+ghost use Rattle.std.specs.Prelude.{◌≡◌, None, Some, IfOk};
+ghost use Rattle.file_world.specs.TreeEffect.{child_of, fresh_tree, tree_after};
+ghost use Rattle.file_tree.specs.State.{Reserves, IsReady};
+ghost use Rattle.file_tree.specs.Index.{option_number};
+
+use crate::applying::{publish, relocate, truncate, unlink, write};
+use crate::listing::reply;
+use crate::name::Name;
+use crate::node::{Node, Nodes};
+use crate::preparing::{forget, prepare};
+use crate::ready::Ready;
+use crate::refusals::{number_in, refusal};
+use bl_syntax::{NoMemory, NodeId};
+use file_world::{Kind, OpFault, TreeOp, TreeReply};
+use std::alloc::{AllocFailed, Global};
+use std::collections::BTreeMap;
+use std::marker::Model;
+
+/// The file tree: its nodes and the number of the next one, and what an operation is ready to change.
+#[derive(Drop)]
+pub struct Tree {
+    nodes: Nodes,
+    next: u64,
+    /// How many bytes all contents have together.
+    total: u64,
+    ready: Option<Ready>,
+}
+
+impl Model for Tree {
+    ghost use Rattle.std.specs.Prelude.{◌≡◌};
+    ghost use Rattle.file_world.specs.Tree.{contents_sum};
+    ghost use Rattle.file_tree.specs.State.{TreeState};
+    ghost use Rattle.file_tree.specs.Index.{rows_of, settled, tree_in, IsKept};
+
+    ghost Value = { TreeState };
+
+    ghost view = { λ t. record { tree = tree_in t.ready t.nodes.entries t.next; ready = t.ready } };
+
+    ghost invariant = { λ t. IsKept t.nodes.entries t.next t.ready × (t.total ≡ contents_sum (rows_of (settled t.ready t.nodes.entries))) };
+}
+
+impl Tree {
+    /// The tree with the root alone.
+    pub fn new(alloc: Global) -> Result<Tree, NoMemory>
+        ensures { IfOk result (λ tree. tree ≡ record { tree = fresh_tree; ready = None }) }
+    {
+        let root = Node {
+            kind: Kind::Directory,
+            parent: 0,
+            name: Name::new(b""),
+            contents: Vec::new(alloc),
+            names: BTreeMap::new(alloc),
+        };
+        let mut nodes = BTreeMap::new(alloc);
+        let put: Result<Option<Node>, AllocFailed<(u64, Node)>> = nodes.insert(1, root);
+        match put {
+            Ok(_) => Ok(Tree {
+                nodes,
+                next: 2,
+                total: 0,
+                ready: None,
+            }),
+            Err(_) => Err(NoMemory),
+        }
+    }
+
+    /// The child of the directory under the name; none also if the number is no directory's. It takes no memory.
+    pub fn child(&self, d: NodeId, name: &[u8]) -> Option<NodeId>
+        ensures { result ≡ option_number (child_of self.now.tree.rows d.0 name.now) }
+    {
+        match number_in(&self.nodes, d.0, name) {
+            None | Some(0) => None,
+            Some(number) => Some(NodeId(number)),
+        }
+    }
+
+    /// The reply of an operation, with all memory taken for its change, or its first refusal. The rows and the next
+    /// number stay. What was ready before is given up.
+    pub fn reserve(&mut self, alloc: Global, op: &TreeOp) -> Result<TreeReply, OpFault>
+        ensures same { self.new.tree ≡ self.old.tree }
+        ensures answer { Reserves self.old.tree op.now result self.new.ready }
+    {
+        forget(&mut self.nodes, self.next, &self.ready);
+        self.ready = None;
+        if let Some(refusal) = refusal(&self.nodes, self.next, self.total, op) {
+            return Err(OpFault::Refused(refusal));
+        }
+        let reply = reply(&self.nodes, alloc, self.next, op)?;
+        let ready = prepare(&mut self.nodes, alloc, self.next, op)?;
+        self.ready = Some(ready);
+        Ok(reply)
+    }
+
+    /// Makes the change of the operation that is ready. It takes no memory.
+    pub fn apply(&mut self, op: &TreeOp)
+        requires { IsReady self.old op.now }
+        ensures tree { self.new.tree ≡ tree_after self.old.tree op.now }
+        ensures ready { self.new.ready ≡ None }
+    {
+        let ready = self.ready.take();
+        match (ready, op) {
+            (Some(Ready::Contents(_, _)), TreeOp::Write(file, offset, bytes)) => {
+                self.total = write(&mut self.nodes, self.total, file.0, *offset, bytes.as_slice());
+            }
+            (Some(Ready::Contents(_, _)), TreeOp::Truncate(file, len)) => {
+                self.total = truncate(&mut self.nodes, self.total, file.0, *len);
+            }
+            (Some(Ready::Made(_, spot)), _) => {
+                publish(&mut self.nodes, self.next, &spot);
+                self.next += 1;
+            }
+            (Some(Ready::Gone(number, spot)), _) => {
+                self.total = unlink(&mut self.nodes, self.total, number, &spot);
+            }
+            (Some(Ready::Moved(number, from, to)), _) => {
+                relocate(&mut self.nodes, number, &from, &to);
+            }
+            _ => {}
+        }
+    }
+}

@@ -1,0 +1,7 @@
+-- The part that is written lies between what stood before it and what stood after it.
+use Rattle.std.proofs.Common.{◌≡◌, ℕ, ◌+◌, ◌-◌, List, ◌++◌, length, take, drop, refl, sym, ap, ◌∙◌, arith, drop-drop, append_assoc}
+use Rattle.file_tree.proofs.PartLemmas.{part_written}
+use Rattle.file_tree.proofs.applying.overwrite.Goals as goal
+
+pub returns : goal.returns
+returns c = part_written c.args.place.now c.args.start c.args.bytes.now c.copy_from_slice.new.self c.copy_from_slice.ensures.after

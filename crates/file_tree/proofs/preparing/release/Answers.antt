@@ -1,0 +1,14 @@
+-- The directory is the node behind the reference without the name; where there is no node, nothing is kept.
+use Rattle.std.proofs.Common.{◌≡◌, Option, Some, None, refl, sym, subst}
+use Rattle.file_tree.specs.declared.node.Node.{Node as Kept}
+use Rattle.file_tree.specs.Index.{Entries, kept_at, place_of, Puts}
+use Rattle.file_tree.proofs.IndexLemmas.{SetsValue-from_map, found_behind, ChangesName-removed, Puts-from_set, Puts-missing}
+use Rattle.file_tree.proofs.preparing.release.Goals as goal
+
+pub returns-in-Some : goal.returns-in-Some
+returns-in-Some c =
+    let node = c.in-Some.node.now in
+    let now : Kept = record node { names = c.remove.new.self } in
+    let there : kept_at c.args.nodes.now.entries c.args.spot.now.directory ≡ Some node = sym c.in-Some.ensures.value in
+    let sets = SetsValue-from_map c.args.nodes.now (c.get_mut.follows.lender now) c.args.spot.now.directory node now there (c.get_mut.follows.holds now) in
+    Puts-from_set _ _ (place_of c.args.spot.now) None node now there sets (ChangesName-removed node now c.args.spot.now.name c.remove.ensures.updates refl)
