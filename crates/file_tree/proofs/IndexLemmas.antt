@@ -107,7 +107,7 @@ pub record SetsValue (old new : Entries) (number : ℕ) (value : Kept) : Type 0 
   pub entries : new ≡ set_value (is_at (nat_cmp number)) old value
   pub found : (other : ℕ) → kept_at new other ≡ cond (is_at (nat_cmp number) other) (Some value) (kept_at old other)
 
-is_name_itself : (name : List ℕ) → is_at (slice_cmp nat_cmp name) name ≡ true
+pub is_name_itself : (name : List ℕ) → is_at (slice_cmp nat_cmp name) name ≡ true
 is_name_itself name = is_eq-slice_cmp name name ∙ (bytes_eq-Decides name name).1 refl
 
 is_number_itself : (number : ℕ) → is_at (nat_cmp number) number ≡ true
