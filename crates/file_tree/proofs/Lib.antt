@@ -1,5 +1,7 @@
+pub mod ApplyLemmas
 pub mod ChildLemmas
 pub mod IndexLemmas
 pub mod KeptLemmas
+pub mod ListLemmas
 pub mod PartLemmas
 pub mod WalkLemmas

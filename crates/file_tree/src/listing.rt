@@ -1,6 +1,10 @@
 //! What an operation answers.
 
 ghost use Rattle.std.specs.Prelude.{◌≡◌, ◌≤◌, ◌<◌, length, map, None, IfOk, IsTrue};
+ghost use Rattle.std.specs.List.Sorted.{IsStrictlySortedBy};
+ghost use Rattle.std.specs.Map.{keys_of};
+ghost use Rattle.std.specs.Ordering.{nat_cmp};
+ghost use Rattle.std.specs.Cmp.Lexicographic.{slice_cmp};
 ghost use Rattle.file_world.specs.Tree.{node_at};
 ghost use Rattle.file_world.specs.TreeEffect.{contents_of, is_directory, names_in, part_of, tree_refusal, tree_reply};
 ghost use Rattle.file_tree.specs.Index.{rows_of, named_node, tree_in, IsKept};
@@ -38,7 +42,8 @@ fn bytes_of(
 }
 
 fn listed(alloc: Global, kept: &BTreeMap<Name, u64>) -> Result<Names, NoMemory>
-    ensures { IfOk result (λ names. names ≡ map named_node kept.now.entries) }
+    ensures listed { IfOk result (λ names. names ≡ map named_node kept.now.entries) }
+    ensures sorted { IsStrictlySortedBy (slice_cmp nat_cmp) (keys_of kept.now.entries) }
 {
     let mut names = Names::new(alloc);
     for (name, number) in kept {

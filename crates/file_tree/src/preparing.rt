@@ -184,6 +184,9 @@ pub fn forget(nodes: &mut Nodes, next: u64, ready: &Option<Ready>)
             release(nodes, spot);
         }
         Some(Ready::Moved(_, _, to)) => release(nodes, to),
-        _ => {}
+        Some(Ready::Contents(_, _)) => {}
+        Some(Ready::Gone(_, _)) => {}
+        Some(Ready::Nothing) => {}
+        None => {}
     }
 }

@@ -1,4 +1,4 @@
-use Rattle.std.proofs.Common.{Option, length, sym, ap}
+use Rattle.std.proofs.Common.{◌≡◌, Option, length, sym, ap, ◌∙◌, arith}
 use Rattle.file_world.specs.Tree.{Node}
 use Rattle.file_world.specs.TreeEffect.{contents_of}
 use Rattle.file_tree.proofs.IndexLemmas.{node_at-kept, node_at-missing}
@@ -8,4 +8,6 @@ pub returns-in-None : goal.returns-in-None
 returns-in-None c = sym (ap (λ (n : Option Node). length (contents_of n)) (node_at-missing c.args.nodes.now.entries c.args.number (sym c.in-None.ensures.value)))
 
 pub returns-in-Some : goal.returns-in-Some
-returns-in-Some c = sym (ap (λ (n : Option Node). length (contents_of n)) (node_at-kept c.args.nodes.now.entries c.args.number c.in-Some.node.now (sym c.in-Some.ensures.value)))
+returns-in-Some c =
+    let e : c.len.result ≡ length c.in-Some.node.now.contents.items = omega (arith, c.len.ensures, c.in-Some.node.now.contents.ok.0) in
+    e ∙ sym (ap (λ (n : Option Node). length (contents_of n)) (node_at-kept c.args.nodes.now.entries c.args.number c.in-Some.node.now (sym c.in-Some.ensures.value)))

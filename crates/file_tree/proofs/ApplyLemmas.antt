@@ -1,0 +1,70 @@
+-- What is kept after a change, piece by piece.
+use Rattle.std.proofs.Common.{◌≡◌, ◌≢◌, ℕ, ◌+◌, ◌-◌, ◌<◌, ◌≤◌, inl, inr, Bool, true, false, cond, IsSome, is_some, Option, Some, None, List, [], ◌∷◌, length, map, refl, sym, ap, ◌∙◌, subst, arith, nat_eq, nat_cmp}
+use Rattle.std.specs.Map.{lookup, remove_entry}
+use Rattle.std.specs.BTreeMap.{BTreeMap, is_at, UpdatesBy}
+use Rattle.std.proofs.lemmas.Bool.{cond-true, cond-false, false≢true, eq-eqb, ne_eqb, cases_eq}
+use Rattle.std.proofs.lemmas.Option.{none-some, same_Some}
+use Rattle.file_world.specs.Tree.{Place, Node, Nodes, FileTree, node_at, is_place, contents_sum, IsTree}
+use Rattle.file_world.specs.TreeEffect.{at, with_contents, with_place, revised}
+use Rattle.file_world.proofs.RowLemmas.{split, sum_by-revised, sum_by-removed}
+use Rattle.file_world.proofs.PlaceLemmas.{is_place-true}
+use Rattle.file_tree.specs.declared.node.Node.{Node as Kept}
+use Rattle.file_tree.specs.Index.{Entries, shown, rows_of, kept_at, number_in, held_at, Puts, Fills, Removes, Replaces, Relocates}
+use Rattle.file_tree.proofs.IndexLemmas.{same_test, SetsValue, held-set, rows-set_value, rows-remove_entry, node_at-kept, node_at-missing}
+use Rattle.file_tree.proofs.KeptLemmas.{kept_there, some_kept}
+
+pub Fills-from_set : (old new : Entries) (number : ℕ) (was now : Kept) (contents : List ℕ) (total : ℕ) → kept_at old number ≡ Some was → SetsValue old new number now → ((name : List ℕ) → number_in (Some now) name ≡ number_in (Some was) name) → shown now ≡ with_contents contents (shown was) → total + length was.contents.items ≡ contents_sum (rows_of old) + length contents → Fills old new number contents total
+Fills-from_set old new number was now contents total there sets names shows sum =
+    let rows : rows_of new ≡ revised number (with_contents contents) (rows_of old) = ap rows_of sets.entries ∙ rows-set_value old number (with_contents contents) was now there shows in
+    let sums : contents_sum (revised number (with_contents contents) (rows_of old)) + length was.contents.items ≡ contents_sum (rows_of old) + length contents =
+        sum_by-revised (λ row. length row.1.contents) number (with_contents contents) (shown was) (rows_of old) (node_at-kept old number was there) in
+    record {
+      rows = rows;
+      same_held = held-set old new number was now there sets names;
+      summed = (let e : total ≡ contents_sum (revised number (with_contents contents) (rows_of old)) = omega (arith, sum, sums) in e ∙ ap contents_sum (sym rows));
+    }
+
+pub Replaces-from_set : (old new : Entries) (number : ℕ) (was now : Kept) (place : Place) → kept_at old number ≡ Some was → SetsValue old new number now → ((name : List ℕ) → number_in (Some now) name ≡ number_in (Some was) name) → shown now ≡ with_place place (shown was) → Replaces old new number place
+Replaces-from_set old new number was now place there sets names shows =
+    record {
+      rows = ap rows_of sets.entries ∙ rows-set_value old number (with_place place) was now there shows;
+      same_held = held-set old new number was now there sets names;
+    }
+
+pub Removes-from : (old mid new : Entries) (number : ℕ) (place : Place) (was : Kept) (total : ℕ) → kept_at old number ≡ Some was → mid ≡ remove_entry (is_at (nat_cmp number)) old → ((other : ℕ) → kept_at mid other ≡ cond (is_at (nat_cmp number) other) None (kept_at old other)) → Puts mid new place None → total + length was.contents.items ≡ contents_sum (rows_of old) → Removes old new number place total
+Removes-from old mid new number place was total there gone found puts sum =
+    let rows : rows_of new ≡ remove_entry (nat_eq number) (rows_of old) = puts.same_rows ∙ (ap rows_of gone ∙ rows-remove_entry old number) in
+    let sums : contents_sum (remove_entry (nat_eq number) (rows_of old)) + length was.contents.items ≡ contents_sum (rows_of old) =
+        sum_by-removed (λ row. length row.1.contents) number (shown was) (rows_of old) (node_at-kept old number was there) in
+    let none : (name : List ℕ) → held_at mid number name ≡ None =
+        λ name. ap (λ (k : Option Kept). number_in k name) (found number ∙ cond-true (is_at (nat_cmp number) number) _ _ (same_test number number ∙ eq-eqb number number refl)) in
+    record {
+      rows = rows;
+      here = puts.here;
+      elsewhere = λ directory name apart other.
+        puts.elsewhere directory name apart
+        ∙ ap (λ (k : Option Kept). number_in k name) (found directory ∙ cond-false (is_at (nat_cmp number) directory) _ _ (same_test number directory ∙ ne_eqb number directory (λ e. other (sym e))));
+      within = λ name.
+        split (is_place place (at number name))
+        (λ t. ap (λ (p : Place). held_at new p.directory p.name) (sym (is_place-true place (at number name) t)) ∙ puts.here)
+        (λ f. puts.elsewhere number name f ∙ none name);
+      summed = (let e : total ≡ contents_sum (remove_entry (nat_eq number) (rows_of old)) = omega (arith, sum, sums) in e ∙ ap contents_sum (sym rows));
+    }
+
+-- a node that is kept is kept where the rows are the same
+pub still_kept : (old new : Entries) (number : ℕ) → rows_of new ≡ rows_of old → IsSome (kept_at old number) → IsSome (kept_at new number)
+still_kept old new number same some = by (kept_at old number) refl
+  where
+    by : (was : Option Kept) → kept_at old number ≡ was → IsSome (kept_at new number)
+    by None h = absurd (false≢true (sym (ap is_some h) ∙ some))
+    by (Some kept) h = some_kept new number (shown kept) (ap (λ (r : Nodes). node_at r number) same ∙ node_at-kept old number kept h)
+
+pub Relocates-from : (old entered left new : Entries) (number : ℕ) (from to : Place) → Puts old entered to (Some number) → Puts entered left from None → Replaces left new number to → Relocates old new number from to
+Relocates-from old entered left new number from to puts takes replaces =
+    record {
+      rows = replaces.rows ∙ ap (revised number (with_place to)) (takes.same_rows ∙ puts.same_rows);
+      here = λ apart. replaces.same_held to.directory to.name ∙ (takes.elsewhere to.directory to.name apart ∙ puts.here);
+      there = replaces.same_held from.directory from.name ∙ takes.here;
+      elsewhere = λ directory name apart other.
+        replaces.same_held directory name ∙ (takes.elsewhere directory name apart ∙ puts.elsewhere directory name other);
+    }
