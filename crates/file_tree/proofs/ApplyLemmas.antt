@@ -1,15 +1,15 @@
 -- What is kept after a change, piece by piece.
-use Rattle.std.proofs.Common.{◌≡◌, ◌≢◌, ℕ, ◌+◌, ◌-◌, ◌<◌, ◌≤◌, inl, inr, Bool, true, false, cond, IsSome, is_some, Option, Some, None, List, [], ◌∷◌, length, map, refl, sym, ap, ◌∙◌, subst, arith, nat_eq, nat_cmp}
+use Rattle.std.proofs.Common.{◌≡◌, ◌≢◌, ℕ, ◌+◌, ◌-◌, ◌<◌, ◌≤◌, inl, inr, Bool, true, false, cond, IsSome, is_some, Option, Some, None, List, [], ◌∷◌, length, map, refl, sym, ap, ◌∙◌, subst, arith, nat_eq, nat_cmp, vec_capacity}
 use Rattle.std.specs.Map.{lookup, remove_entry}
 use Rattle.std.specs.BTreeMap.{BTreeMap, is_at, UpdatesBy}
 use Rattle.std.proofs.lemmas.Bool.{cond-true, cond-false, false≢true, eq-eqb, ne_eqb, cases_eq}
 use Rattle.std.proofs.lemmas.Option.{none-some, same_Some}
 use Rattle.file_world.specs.Tree.{Place, Node, Nodes, FileTree, node_at, is_place, contents_sum, IsTree}
 use Rattle.file_world.specs.TreeEffect.{at, with_contents, with_place, revised}
-use Rattle.file_world.proofs.RowLemmas.{split, sum_by-revised, sum_by-removed}
+use Rattle.file_world.proofs.RowLemmas.{split, sum_by-revised, sum_by-removed, weight-le-sum_by}
 use Rattle.file_world.proofs.PlaceLemmas.{is_place-true}
 use Rattle.file_tree.specs.declared.node.Node.{Node as Kept}
-use Rattle.file_tree.specs.Index.{Entries, shown, rows_of, kept_at, number_in, held_at, Puts, Fills, Removes, Replaces, Relocates}
+use Rattle.file_tree.specs.Index.{Entries, shown, rows_of, kept_at, number_in, held_at, HasRoom, Puts, Fills, Removes, Replaces, Relocates}
 use Rattle.file_tree.proofs.IndexLemmas.{same_test, SetsValue, held-set, rows-set_value, rows-remove_entry, node_at-kept, node_at-missing}
 use Rattle.file_tree.proofs.KeptLemmas.{kept_there, some_kept}
 
@@ -68,3 +68,18 @@ Relocates-from old entered left new number from to puts takes replaces =
       elsewhere = λ directory name apart other.
         replaces.same_held directory name ∙ (takes.elsewhere directory name apart ∙ puts.elsewhere directory name other);
     }
+
+-- the room of the node that is kept
+pub room_of : (entries : Entries) (number len : ℕ) (kept : Kept) → HasRoom entries number len → kept_at entries number ≡ Some kept → len ≤ vec_capacity kept.contents
+room_of entries number len kept room found = subst (λ (k : Kept). len ≤ vec_capacity k.contents) (same_Some _ _ (sym room.found ∙ found)) room.room
+
+-- what a node has is part of the sum
+pub part_le_sum : (entries : Entries) (number : ℕ) (kept : Kept) → kept_at entries number ≡ Some kept → length kept.contents.items ≤ contents_sum (rows_of entries)
+part_le_sum entries number kept found = weight-le-sum_by (λ row. length row.1.contents) number (shown kept) (rows_of entries) (node_at-kept entries number kept found)
+
+pub kept_from_some : (entries : Entries) (number : ℕ) → IsSome (kept_at entries number) → (kept : Kept) × (kept_at entries number ≡ Some kept)
+kept_from_some entries number some = by (kept_at entries number) refl
+  where
+    by : (was : Option Kept) → kept_at entries number ≡ was → (kept : Kept) × (kept_at entries number ≡ Some kept)
+    by None h = absurd (false≢true (sym (ap is_some h) ∙ some))
+    by (Some kept) h = (kept, h)

@@ -220,3 +220,19 @@ forgets_made old mid new next kind spot kept e puts =
         (ap (λ (es : Entries). child_of (rows_of es) spot.directory spot.name) (sym settled_is) ∙ kept.free)
         (subst (λ (es : Entries). Puts es new (place_of spot) None) mid_is puts) in
     (r.0, r.1 ∙ ap rows_of (sym settled_is))
+
+pub forgets_nothing : (entries : Entries) (next : ℕ) → IsKept entries next (Some Nothing) → IsKept entries next None
+forgets_nothing entries next kept = record { tree = kept.tree; index = kept.index; free = tt; prepared = tt }
+
+pub forgets_contents : (entries : Entries) (next number len : ℕ) → IsKept entries next (Some (Contents number len)) → IsKept entries next None
+forgets_contents entries next number len kept = record { tree = kept.tree; index = kept.index; free = tt; prepared = tt }
+
+pub forgets_gone : (entries : Entries) (next number : ℕ) (spot : Spot) → IsKept entries next (Some (Gone number spot)) → IsKept entries next None
+forgets_gone entries next number spot kept = record { tree = kept.tree; index = kept.index; free = tt; prepared = tt }
+
+-- what is ready without a name or a room of its own
+pub Prepares-nothing : (entries : Entries) (next : ℕ) → IsKept entries next None → Prepares entries entries next Nothing
+Prepares-nothing entries next kept = record { kept = record { tree = kept.tree; index = kept.index; free = tt; prepared = tt }; same_rows = refl }
+
+pub Prepares-gone : (entries : Entries) (next number : ℕ) (spot : Spot) → IsKept entries next None → Prepares entries entries next (Gone number spot)
+Prepares-gone entries next number spot kept = record { kept = record { tree = kept.tree; index = kept.index; free = tt; prepared = tt }; same_rows = refl }

@@ -1,4 +1,5 @@
 pub mod ApplyLemmas
+pub mod ChangeLemmas
 pub mod ChildLemmas
 pub mod IndexLemmas
 pub mod KeptLemmas

@@ -7,7 +7,9 @@ use Rattle.std.specs.Cmp.Lexicographic.{slice_cmp}
 use Rattle.file_world.specs.Tree.{Place, Node, Nodes, FileTree, is_place, contents_sum, IsTree}
 use Rattle.bl_syntax.specs.declared.terms.NodeId.{NodeId}
 use Rattle.file_world.specs.declared.reply.NamedNode.{NamedNode}
-use Rattle.file_world.specs.TreeEffect.{at, child_of, new_node, revised, with_contents, with_place}
+use Rattle.file_world.specs.declared.operation.TreeOp.{TreeOp}
+use Rattle.file_tree.specs.State.{ready_for}
+use Rattle.file_world.specs.TreeEffect.{tree_refusal, at, child_of, new_node, revised, with_contents, with_place}
 use Rattle.file_tree.specs.declared.node.Node.{Node as Kept}
 use Rattle.file_tree.specs.declared.ready.Spot.{Spot}
 use Rattle.file_tree.specs.declared.ready.Ready.{Ready}
@@ -167,3 +169,23 @@ option_number (Some number) = Some (record { 0 = number })
 -- a name and its node, as a list of names shows them
 abbrev pub named_node : List ℕ × ℕ → NamedNode
 named_node entry = record { name = entry.0; node = record { 0 = entry.1 } }
+
+-- the operation is not refused, and its change is ready
+pub record IsChangeable (entries : Entries) (next : ℕ) (ready : Ready) (op : TreeOp) : Type 0 where
+  pub kept : IsKept entries next (Some ready)
+  pub free : tree_refusal (tree_in (Some ready) entries next) op ≡ None
+  pub is : ready ≡ ready_for (tree_in (Some ready) entries next) op
+
+-- nothing is ready, the tree is this one, and the sum of all contents is told
+pub record Changes (new : Entries) (next total : ℕ) (after : FileTree) : Type 0 where
+  pub kept : IsKept new next None
+  pub tree : tree_in None new next ≡ after
+  pub summed : total ≡ contents_sum (rows_of new)
+
+-- the number of the node that is ready to go or to move
+abbrev pub number_ready : Ready → ℕ
+number_ready Nothing = 0
+number_ready (Contents number len) = 0
+number_ready (Made kind spot) = 0
+number_ready (Gone number spot) = number
+number_ready (Moved number from to) = number

@@ -2,13 +2,16 @@
 
 ghost use Rattle.std.specs.Prelude.{◌≡◌, ◌≤◌, ◌<◌, ◌^◌, ◌+◌, ◌-◌, ◌++◌, take, drop, length, None, Some, IsSome, vec_capacity};
 ghost use Rattle.file_world.specs.Tree.{node_at, contents_sum};
-ghost use Rattle.file_world.specs.TreeEffect.{contents_of, written, resized};
-ghost use Rattle.file_tree.specs.Index.{rows_of, kept_at, held_at, place_of, HasRoom, Puts, Fills, Removes, Replaces, Relocates};
+ghost use Rattle.file_world.specs.TreeEffect.{at, contents_of, written, resized, tree_after};
+ghost use Rattle.file_tree.specs.Index.{rows_of, kept_at, held_at, place_of, settled, tree_in, number_ready, HasRoom, Puts, Fills, Removes, Replaces, Relocates, IsChangeable, Changes};
 
+use crate::name::Name;
 use crate::node::Nodes;
 use crate::preparing::{enter, release};
-use crate::ready::Spot;
+use crate::ready::{Ready, Spot};
+use crate::refusals::length_at;
 use bl_syntax::NoMemory;
+use file_world::TreeOp;
 use std::alloc::AllocError;
 
 fn overwrite(place: &mut [u8], start: usize, bytes: &[u8])
@@ -80,10 +83,8 @@ pub fn unlink(nodes: &mut Nodes, total: u64, number: u64, spot: &Spot) -> u64
     requires summed { total ≡ contents_sum (rows_of nodes.old.entries) }
     ensures { Removes nodes.old.entries nodes.new.entries number (place_of spot.now) result }
 {
-    let mut freed: u64 = 0;
-    if let Some(node) = nodes.remove(&number) {
-        freed = node.contents.len() as u64;
-    }
+    let freed = length_at(nodes, number);
+    let _ = nodes.remove(&number);
     release(nodes, spot);
     total - freed
 }
@@ -118,4 +119,109 @@ pub fn publish(nodes: &mut Nodes, next: u64, spot: &Spot)
 {
     let entered: Result<(), NoMemory> = enter(nodes, spot, next);
     entered.unwrap();
+}
+
+fn number_of(ready: &Ready) -> u64
+    ensures { result ≡ number_ready ready.now }
+{
+    match ready {
+        Ready::Gone(number, _) => *number,
+        Ready::Moved(number, _, _) => *number,
+        Ready::Contents(_, _) => 0,
+        Ready::Made(_, _) => 0,
+        Ready::Nothing => 0,
+    }
+}
+
+fn make(nodes: &mut Nodes, next: u64, directory: u64, name: &[u8])
+    requires short { length name.now ≤ 64 }
+    requires holds { IsSome (kept_at nodes.old.entries directory) }
+    requires held { IsSome (held_at nodes.old.entries directory name.now) }
+    ensures { Puts nodes.old.entries nodes.new.entries (at directory name.now) (Some next) }
+{
+    let spot = Spot {
+        directory,
+        name: Name::new(name),
+    };
+    publish(nodes, next, &spot);
+}
+
+fn remove(nodes: &mut Nodes, total: u64, number: u64, directory: u64, name: &[u8]) -> u64
+    requires short { length name.now ≤ 64 }
+    requires there { IsSome (kept_at nodes.old.entries number) }
+    requires summed { total ≡ contents_sum (rows_of nodes.old.entries) }
+    ensures { Removes nodes.old.entries nodes.new.entries number (at directory name.now) result }
+{
+    let spot = Spot {
+        directory,
+        name: Name::new(name),
+    };
+    unlink(nodes, total, number, &spot)
+}
+
+fn rename(
+    nodes: &mut Nodes,
+    number: u64,
+    directory: u64,
+    name: &[u8],
+    target: u64,
+    renamed: &[u8],
+)
+    requires short { length name.now ≤ 64 }
+    requires short_too { length renamed.now ≤ 64 }
+    requires there { IsSome (kept_at nodes.old.entries number) }
+    requires holds { IsSome (kept_at nodes.old.entries target) }
+    requires held { IsSome (held_at nodes.old.entries target renamed.now) }
+    ensures { Relocates nodes.old.entries nodes.new.entries number (at directory name.now) (at target renamed.now) }
+{
+    let from = Spot {
+        directory,
+        name: Name::new(name),
+    };
+    let to = Spot {
+        directory: target,
+        name: Name::new(renamed),
+    };
+    relocate(nodes, number, &from, &to);
+}
+
+/// Makes the change of the operation that is ready.
+pub fn change(nodes: &mut Nodes, next: &mut u64, total: &mut u64, ready: &Ready, op: &TreeOp)
+    requires ready { IsChangeable nodes.old.entries next.old ready.now op.now }
+    requires summed { total.old ≡ contents_sum (rows_of (settled (Some ready.now) nodes.old.entries)) }
+    ensures { Changes nodes.new.entries next.new total.new
+        (tree_after (tree_in (Some ready.now) nodes.old.entries next.old) op.now) }
+{
+    match op {
+        TreeOp::Read(_, _, _) => {}
+        TreeOp::List(_) => {}
+        TreeOp::Lookup(_, _) => {}
+        TreeOp::Write(file, offset, bytes) => {
+            *total = write(nodes, *total, file.0, *offset, bytes.as_slice());
+        }
+        TreeOp::Truncate(file, len) => *total = truncate(nodes, *total, file.0, *len),
+        TreeOp::Create(directory, name) => {
+            make(nodes, *next, directory.0, name.as_slice());
+            *next += 1;
+        }
+        TreeOp::Mkdir(directory, name) => {
+            make(nodes, *next, directory.0, name.as_slice());
+            *next += 1;
+        }
+        TreeOp::Unlink(directory, name) => {
+            let number = number_of(ready);
+            *total = remove(nodes, *total, number, directory.0, name.as_slice());
+        }
+        TreeOp::Rename(directory, name, target, renamed) => {
+            let number = number_of(ready);
+            rename(
+                nodes,
+                number,
+                directory.0,
+                name.as_slice(),
+                target.0,
+                renamed.as_slice(),
+            );
+        }
+    }
 }

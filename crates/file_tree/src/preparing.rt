@@ -172,21 +172,30 @@ pub fn prepare(nodes: &mut Nodes, alloc: Global, next: u64, op: &TreeOp) -> Resu
     }
 }
 
+fn forget_ready(nodes: &mut Nodes, next: u64, ready: &Ready)
+    requires { IsKept nodes.old.entries next (Some ready.now) }
+    ensures kept { IsKept nodes.new.entries next None }
+    ensures same { rows_of nodes.new.entries ≡ rows_of (settled (Some ready.now) nodes.old.entries) }
+{
+    match ready {
+        Ready::Made(_, spot) => {
+            let _ = nodes.remove(&next);
+            release(nodes, spot);
+        }
+        Ready::Moved(_, _, to) => release(nodes, to),
+        Ready::Contents(_, _) => {}
+        Ready::Gone(_, _) => {}
+        Ready::Nothing => {}
+    }
+}
+
 /// Gives up what is ready.
 pub fn forget(nodes: &mut Nodes, next: u64, ready: &Option<Ready>)
     requires { IsKept nodes.old.entries next ready.now }
     ensures kept { IsKept nodes.new.entries next None }
     ensures same { rows_of nodes.new.entries ≡ rows_of (settled ready.now nodes.old.entries) }
 {
-    match ready {
-        Some(Ready::Made(_, spot)) => {
-            let _ = nodes.remove(&next);
-            release(nodes, spot);
-        }
-        Some(Ready::Moved(_, _, to)) => release(nodes, to),
-        Some(Ready::Contents(_, _)) => {}
-        Some(Ready::Gone(_, _)) => {}
-        Some(Ready::Nothing) => {}
-        None => {}
+    if let Some(ready) = ready {
+        forget_ready(nodes, next, ready);
     }
 }

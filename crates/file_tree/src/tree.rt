@@ -5,7 +5,7 @@ ghost use Rattle.file_world.specs.TreeEffect.{child_of, fresh_tree, tree_after};
 ghost use Rattle.file_tree.specs.State.{Reserves, IsReady};
 ghost use Rattle.file_tree.specs.Index.{option_number};
 
-use crate::applying::{publish, relocate, truncate, unlink, write};
+use crate::applying::change;
 use crate::listing::reply;
 use crate::name::Name;
 use crate::node::{Node, Nodes};
@@ -99,25 +99,10 @@ impl Tree {
         ensures tree { self.new.tree ≡ tree_after self.old.tree op.now }
         ensures ready { self.new.ready ≡ None }
     {
-        let ready = self.ready.take();
-        match (ready, op) {
-            (Some(Ready::Contents(_, _)), TreeOp::Write(file, offset, bytes)) => {
-                self.total = write(&mut self.nodes, self.total, file.0, *offset, bytes.as_slice());
-            }
-            (Some(Ready::Contents(_, _)), TreeOp::Truncate(file, len)) => {
-                self.total = truncate(&mut self.nodes, self.total, file.0, *len);
-            }
-            (Some(Ready::Made(_, spot)), _) => {
-                publish(&mut self.nodes, self.next, &spot);
-                self.next += 1;
-            }
-            (Some(Ready::Gone(number, spot)), _) => {
-                self.total = unlink(&mut self.nodes, self.total, number, &spot);
-            }
-            (Some(Ready::Moved(number, from, to)), _) => {
-                relocate(&mut self.nodes, number, &from, &to);
-            }
-            _ => {}
-        }
+        let Some(ready) = self.ready else {
+            return;
+        };
+        self.ready = None;
+        change(&mut self.nodes, &mut self.next, &mut self.total, &ready, op);
     }
 }

@@ -1,20 +1,18 @@
 -- What the absence of a refusal says, and that each operation leaves a tree a tree.
-use Rattle.std.proofs.Common.{◌≡◌, ◌≢◌, ℕ, ◌+◌, ◌-◌, ◌<◌, ◌≤◌, ◌^◌, max, min, ◌||◌, ◌==◌, inl, inr, Bool, true, false, cond, not, IsTrue, Option, Some, None, is_some, is_none, unwrap_or, List, [], ◌∷◌, ◌++◌, length, map, take, drop, replicate, refl, sym, ap, ◌∙◌, subst, arith, nat_eq, nat_lt, nat_le, length-append, length-drop, length-take, rules}
-use Rattle.std.specs.List.{list_any}
-use Rattle.std.proofs.lemmas.Bool.{cond-true, cond-false, false≢true, true≢false, eq-eqb, ne_eqb, eqb-true, eqb-false, ltb-false, leb-false, not-false, not-true, or_parts}
+use Rattle.std.proofs.Common.{◌≡◌, ◌≢◌, ℕ, ◌+◌, ◌-◌, ◌≤◌, ◌^◌, max, min, ◌==◌, true, false, Option, Some, None, is_some, is_none, unwrap_or, List, [], ◌∷◌, ◌++◌, length, take, drop, replicate, refl, sym, ap, ◌∙◌, subst, arith, nat_eq, nat_lt, nat_le, length-append, length-drop, length-take}
+use Rattle.std.proofs.lemmas.Bool.{cond-true, cond-false, false≢true, ne_eqb, eqb-false, ltb-false, leb-false, not-false, or_parts}
 use Rattle.std.proofs.lemmas.List.{length-replicate}
 use Rattle.std.proofs.lemmas.Option.{none-some, same_Some}
-use Rattle.std.specs.Map.{lookup, remove_entry}
+use Rattle.std.specs.Map.{remove_entry}
 use Rattle.bl_syntax.specs.declared.terms.NodeId.{NodeId}
 use Rattle.file_world.specs.declared.operation.Kind.{Kind}
 use Rattle.file_world.specs.declared.operation.Kind.TheVariants.{File, Directory}
 use Rattle.file_world.specs.declared.operation.TreeOp.{TreeOp}
 use Rattle.file_world.specs.declared.operation.TreeOp.TheVariants.{Read, Write, Truncate, List as ListOf, Lookup, Create, Mkdir, Unlink, Rename}
-use Rattle.file_world.specs.declared.refusal.Refusal.{Refusal}
 use Rattle.file_world.specs.FileNames.{is_node_name}
 use Rattle.file_world.specs.Outcome.{Tests, first_of}
-use Rattle.file_world.specs.Tree.{Place, Node, Nodes, FileTree, node_at, number_at, contents_sum, root, IsSound, IsTree}
-use Rattle.file_world.specs.TreeEffect.{is_directory_kind, is_directory, at, child_of, contents_of, has_names, is_full, leads_past, is_into_itself, length_after, written, resized, revised, with_place, file_tests, directory_tests, name_tests, tests_of, tree_refusal, change_of, tree_after}
+use Rattle.file_world.specs.Tree.{Place, Node, Nodes, FileTree, node_at, number_at, contents_sum, root, IsTree}
+use Rattle.file_world.specs.TreeEffect.{is_directory_kind, is_directory, at, child_of, contents_of, has_names, is_full, is_into_itself, length_after, written, resized, revised, with_place, tests_of, tree_refusal, tree_after}
 use Rattle.file_world.proofs.RowLemmas.{split, cond_at_true, cond_at_false}
 use Rattle.file_world.proofs.PlaceLemmas.{Stands, stands_at}
 use Rattle.file_world.proofs.TreeLemmas.{CanAdd, CanFill, CanRemove, CanMove, IsTree-add, IsTree-fill, IsTree-remove, IsTree-move}
@@ -77,7 +75,7 @@ childless_from (row ∷ rows) number none other child e =
     let parts = or_parts (row.1.place.directory == number) (has_names rows number) none in
     split (nat_eq other row.0)
     (λ t. let same : row.1 ≡ child = same_Some _ _ (cond_at_true (nat_eq other row.0) _ _ _ t e) in
-        λ h. eqb-false row.1.place.directory number parts.0 (ap (λ (n : Node). n.place.directory) same ∙ h))
+    λ h. eqb-false row.1.place.directory number parts.0 (ap (λ (n : Node). n.place.directory) same ∙ h))
     (λ f. childless_from rows number parts.1 other child (cond_at_false (nat_eq other row.0) _ _ _ f e))
 
 -- ---- lengths
@@ -194,18 +192,24 @@ small_before tree number is = by (node_at tree.rows number) refl
     by None h = subst (λ (node : Option Node). length (contents_of node) ≤ 1048576) (sym h) (omega arith)
     by (Some node) h = subst (λ (n : Option Node). length (contents_of n) ≤ 1048576) (sym h) (is.sound number node h).small
 
-pub IsTree-after : (tree : FileTree) (op : TreeOp) → IsTree tree → tree_refusal tree op ≡ None → IsTree (tree_after tree op)
-IsTree-after tree (Read file offset len) is none = is
-IsTree-after tree (Write file offset bytes) is none =
+pub can_write : (tree : FileTree) (file : NodeId) (offset : ℕ) (bytes : List ℕ) → IsTree tree → tree_refusal tree (Write file offset bytes) ≡ None → CanFill tree file.0 (written (contents_of (node_at tree.rows file.0)) offset bytes)
+can_write tree file offset bytes is none =
     let h = none_hold (tests_of tree (Write file offset bytes)) none in
     let contents = written (contents_of (node_at tree.rows file.0)) offset bytes in
-    IsTree-fill tree file.0 contents is (can_fill tree file.0 contents h.0 h.1.0 (length-written_le (contents_of (node_at tree.rows file.0)) offset bytes 1048576 (small_before tree file.0 is) (ltb-false 1048576 (offset + length bytes) h.1.1.0))
-        (ap (λ (len : ℕ). nat_lt 33554432 (contents_sum tree.rows - length (contents_of (node_at tree.rows file.0)) + len)) (length-written_any (contents_of (node_at tree.rows file.0)) offset bytes) ∙ h.1.1.1.0))
-IsTree-after tree (Truncate file len) is none =
+    can_fill tree file.0 contents h.0 h.1.0 (length-written_le (contents_of (node_at tree.rows file.0)) offset bytes 1048576 (small_before tree file.0 is) (ltb-false 1048576 (offset + length bytes) h.1.1.0))
+    (ap (λ (len : ℕ). nat_lt 33554432 (contents_sum tree.rows - length (contents_of (node_at tree.rows file.0)) + len)) (length-written_any (contents_of (node_at tree.rows file.0)) offset bytes) ∙ h.1.1.1.0)
+
+pub can_truncate : (tree : FileTree) (file : NodeId) (len : ℕ) → IsTree tree → tree_refusal tree (Truncate file len) ≡ None → CanFill tree file.0 (resized (contents_of (node_at tree.rows file.0)) len)
+can_truncate tree file len is none =
     let h = none_hold (tests_of tree (Truncate file len)) none in
     let old = contents_of (node_at tree.rows file.0) in
-    IsTree-fill tree file.0 (resized old len) is (can_fill tree file.0 (resized old len) h.0 h.1.0 (let e = length-resized old len in let small = ltb-false 1048576 len h.1.1.0 in omega (arith, e, small))
-        (ap (λ (l : ℕ). nat_lt 33554432 (contents_sum tree.rows - length old + l)) (length-resized old len) ∙ h.1.1.1.0))
+    can_fill tree file.0 (resized old len) h.0 h.1.0 (let e = length-resized old len in let small = ltb-false 1048576 len h.1.1.0 in omega (arith, e, small))
+    (ap (λ (l : ℕ). nat_lt 33554432 (contents_sum tree.rows - length old + l)) (length-resized old len) ∙ h.1.1.1.0)
+
+pub IsTree-after : (tree : FileTree) (op : TreeOp) → IsTree tree → tree_refusal tree op ≡ None → IsTree (tree_after tree op)
+IsTree-after tree (Read file offset len) is none = is
+IsTree-after tree (Write file offset bytes) is none = IsTree-fill tree file.0 (written (contents_of (node_at tree.rows file.0)) offset bytes) is (can_write tree file offset bytes is none)
+IsTree-after tree (Truncate file len) is none = IsTree-fill tree file.0 (resized (contents_of (node_at tree.rows file.0)) len) is (can_truncate tree file len is none)
 IsTree-after tree (ListOf directory) is none = is
 IsTree-after tree (Lookup directory name) is none = is
 IsTree-after tree (Create directory name) is none =

@@ -1,4 +1,5 @@
 pub mod EffectLemmas
+pub mod LawLemmas
 pub mod ListingLemmas
 pub mod PlaceLemmas
 pub mod RowLemmas

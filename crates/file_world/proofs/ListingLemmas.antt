@@ -1,5 +1,5 @@
 -- The names in a directory: in the byte order of the names, and each with the child that it stands for.
-use Rattle.std.proofs.Common.{◌≡◌, ◌≢◌, ℕ, Bool, true, false, cond, ◌&&◌, Option, Some, None, List, [], ◌∷◌, map, refl, sym, ap, ◌∙◌, subst, ap₂, nat_eq, nat_cmp, is_eq, is_lt, Ordering, Less, Equal, Greater, bytes_eq}
+use Rattle.std.proofs.Common.{◌≡◌, ℕ, Bool, true, false, cond, ◌&&◌, Option, Some, None, List, [], ◌∷◌, map, refl, sym, ap, ◌∙◌, subst, ap₂, nat_cmp, is_eq, is_lt, Ordering, Less, Equal, Greater, bytes_eq}
 use Rattle.std.specs.Prelude.{◌==◌}
 use Rattle.std.specs.List.{AllByRecursion}
 use Rattle.std.specs.List.Sorted.{IsStrictlySortedBy}
@@ -12,12 +12,11 @@ use Rattle.std.proofs.lemmas.Map.Text.{is_eq-slice_cmp}
 use Rattle.std.proofs.lemmas.Map.Lookups.{exact_bytes}
 use Rattle.std.proofs.lemmas.Option.{none-some, same_Some}
 use Rattle.std.proofs.lemmas.Slice.Eq.{bytes_eq-Decides}
-use Rattle.bl_syntax.specs.declared.terms.NodeId.{NodeId}
 use Rattle.file_world.specs.declared.reply.NamedNode.{NamedNode}
-use Rattle.file_world.specs.Tree.{Place, Node, Nodes, number_at, is_place}
+use Rattle.file_world.specs.Tree.{Place, Nodes, number_at, is_place}
 use Rattle.file_world.specs.TreeEffect.{at, entered, names_in}
 use Rattle.file_world.proofs.RowLemmas.{split, cond_at_true, cond_at_false}
-use Rattle.file_world.proofs.PlaceLemmas.{DoPlacesDiffer, differ_head, differ_tail, none_from_IsFree, is_place-flip}
+use Rattle.file_world.proofs.PlaceLemmas.{DoPlacesDiffer, differ_head, differ_tail, none_from_IsFree}
 
 -- a list of names as pairs
 abbrev pub pair_of : NamedNode → List ℕ × ℕ
@@ -88,7 +87,7 @@ tail_same : (first : List ℕ × ℕ) (xs ys : Pairs) → AreAfter first.0 xs �
 tail_same first xs ys after later same name =
     split (is_at (order name) first.0)
     (λ t. let e = same_name name first.0 t in
-        ap (found_in xs) e ∙ (none_after first.0 xs after ∙ sym (ap (found_in ys) e ∙ none_after first.0 ys later)))
+    ap (found_in xs) e ∙ (none_after first.0 xs after ∙ sym (ap (found_in ys) e ∙ none_after first.0 ys later)))
     (λ f. sym (cond-false (is_at (order name) first.0) (Some first.1) (found_in xs name) f) ∙ (same name ∙ cond-false (is_at (order name) first.0) (Some first.1) (found_in ys name) f))
 
 pub same_pairs : (xs ys : Pairs) → AreSorted xs → AreSorted ys → ((name : List ℕ) → found_in xs name ≡ found_in ys name) → xs ≡ ys
@@ -100,8 +99,10 @@ same_pairs (x ∷ xs) (y ∷ ys) s t same =
   where
     here : found_in (x ∷ xs) x.0 ≡ Some x.1
     here = cond-true (is_at (order x.0) x.0) _ _ (at_itself x.0)
+
     there : found_in (y ∷ ys) y.0 ≡ Some y.1
     there = cond-true (is_at (order y.0) y.0) _ _ (at_itself y.0)
+
     by : (o : Ordering) → order x.0 y.0 ≡ o → (((name : List ℕ) → found_in xs name ≡ found_in ys name) → xs ≡ ys) → (x ∷ xs) ≡ (y ∷ ys)
     by Less e rest = absurd (none-some _ (sym (none_after x.0 (y ∷ ys) (e, after_trans x.0 y.0 ys e (sorted_head y ys t))) ∙ (sym (same x.0) ∙ here)))
     by Greater e rest =
@@ -112,7 +113,7 @@ same_pairs (x ∷ xs) (y ∷ ys) s t same =
         let values : x.1 ≡ y.1 = same_Some _ _ (sym here ∙ (same x.0 ∙ (ap (found_in (y ∷ ys)) names ∙ there))) in
         let first : x ≡ y = ap₂ (λ (a : List ℕ) (b : ℕ). (a, b)) names values in
         let tails = rest (tail_same y xs ys (subst (λ (n : List ℕ). AreAfter n xs) names (sorted_head x xs s)) (sorted_head y ys t)
-            (subst (λ (z : List ℕ × ℕ). (name : List ℕ) → found_in (z ∷ xs) name ≡ found_in (y ∷ ys) name) first same)) in
+        (subst (λ (z : List ℕ × ℕ). (name : List ℕ) → found_in (z ∷ xs) name ≡ found_in (y ∷ ys) name) first same)) in
         ap₂ (λ (a : List ℕ × ℕ) (b : Pairs). a ∷ b) first tails
 
 -- ---- a name that is entered
@@ -146,14 +147,14 @@ entered_sorted new [] s none = sorted_cons (pair_of new) [] tt s
 entered_sorted new (first ∷ others) s none =
     split (is_lt (order new.name first.name))
     (λ t. let less = less_from (order new.name first.name) t in
-        subst (λ (n : List NamedNode). AreSorted (pairs_of n)) (sym (cond-true (is_lt (order new.name first.name)) (new ∷ first ∷ others) (first ∷ entered new others) t))
-        (sorted_cons (pair_of new) (pairs_of (first ∷ others)) (less, after_trans new.name first.name (pairs_of others) less (sorted_head (pair_of first) (pairs_of others) s)) s))
+    subst (λ (n : List NamedNode). AreSorted (pairs_of n)) (sym (cond-true (is_lt (order new.name first.name)) (new ∷ first ∷ others) (first ∷ entered new others) t))
+    (sorted_cons (pair_of new) (pairs_of (first ∷ others)) (less, after_trans new.name first.name (pairs_of others) less (sorted_head (pair_of first) (pairs_of others) s)) s))
     (λ f. let d = differs new.name (pair_of first) (pairs_of others) none in
-        let less = flip_greater new.name first.name (greater_from (order new.name first.name) f d) in
-        subst (λ (n : List NamedNode). AreSorted (pairs_of n)) (sym (cond-false (is_lt (order new.name first.name)) (new ∷ first ∷ others) (first ∷ entered new others) f))
-        (sorted_cons (pair_of first) (pairs_of (entered new others))
-            (entered_after first.name new others less (sorted_head (pair_of first) (pairs_of others) s))
-            (entered_sorted new others (sorted_tail (pair_of first) (pairs_of others) s) (cond_at_false (is_at (order new.name) first.name) _ _ _ d none))))
+    let less = flip_greater new.name first.name (greater_from (order new.name first.name) f d) in
+    subst (λ (n : List NamedNode). AreSorted (pairs_of n)) (sym (cond-false (is_lt (order new.name first.name)) (new ∷ first ∷ others) (first ∷ entered new others) f))
+    (sorted_cons (pair_of first) (pairs_of (entered new others))
+    (entered_after first.name new others less (sorted_head (pair_of first) (pairs_of others) s))
+    (entered_sorted new others (sorted_tail (pair_of first) (pairs_of others) s) (cond_at_false (is_at (order new.name) first.name) _ _ _ d none))))
 
 -- two tests of which at most one holds can change places
 swap_tests : {A : Type 0} (a b : Bool) (x y z : A) → (a ≡ true → b ≡ true → ⊥) → cond a x (cond b y z) ≡ cond b y (cond a x z)
@@ -167,10 +168,10 @@ entered_found new (first ∷ others) none name =
     split (is_lt (order new.name first.name))
     (λ t. ap (λ (n : List NamedNode). found_in (pairs_of n) name) (cond-true (is_lt (order new.name first.name)) (new ∷ first ∷ others) (first ∷ entered new others) t))
     (λ f. let d = differs new.name (pair_of first) (pairs_of others) none in
-        ap (λ (n : List NamedNode). found_in (pairs_of n) name) (cond-false (is_lt (order new.name first.name)) (new ∷ first ∷ others) (first ∷ entered new others) f)
-        ∙ (ap (λ (o : Option ℕ). cond (is_at (order name) first.name) (Some first.node.0) o) (entered_found new others (cond_at_false (is_at (order new.name) first.name) _ _ _ d none) name)
-        ∙ swap_tests (is_at (order name) first.name) (is_at (order name) new.name) (Some first.node.0) (Some new.node.0) (found_in (pairs_of others) name)
-          (λ a b. true≢false (sym (ap (λ (n : List ℕ). is_at (order n) first.name) (sym (same_name name new.name b)) ∙ a) ∙ d))))
+    ap (λ (n : List NamedNode). found_in (pairs_of n) name) (cond-false (is_lt (order new.name first.name)) (new ∷ first ∷ others) (first ∷ entered new others) f)
+    ∙ (ap (λ (o : Option ℕ). cond (is_at (order name) first.name) (Some first.node.0) o) (entered_found new others (cond_at_false (is_at (order new.name) first.name) _ _ _ d none) name)
+    ∙ swap_tests (is_at (order name) first.name) (is_at (order name) new.name) (Some first.node.0) (Some new.node.0) (found_in (pairs_of others) name)
+    (λ a b. true≢false (sym (ap (λ (n : List ℕ). is_at (order n) first.name) (sym (same_name name new.name b)) ∙ a) ∙ d))))
 
 -- ---- the names in a directory
 
@@ -190,26 +191,26 @@ names_found [] directory differ name = refl
 names_found (row ∷ rows) directory differ name =
     split (row.1.place.directory == directory)
     (λ t. let new : NamedNode = record { name = row.1.place.name; node = record { 0 = row.0 } } in
-        let free : number_at rows (at directory row.1.place.name) ≡ None = ap (λ (d : ℕ). number_at rows (at d row.1.place.name)) (sym (eqb-true row.1.place.directory directory t)) ∙ none_from_IsFree row.1.place rows (differ_head row rows differ) in
-        let none : found_in (pairs_of (names_in rows directory)) row.1.place.name ≡ None = names_found rows directory (differ_tail row rows differ) row.1.place.name ∙ free in
-        ap (λ (n : List NamedNode). found_in (pairs_of n) name) (cond-true (row.1.place.directory == directory) (entered new (names_in rows directory)) (names_in rows directory) t)
-        ∙ (entered_found new (names_in rows directory) none name
-        ∙ (ap (λ (o : Option ℕ). cond (is_at (order name) row.1.place.name) (Some row.0) o) (names_found rows directory (differ_tail row rows differ) name)
-        ∙ ap (λ (b : Bool). cond b (Some row.0) (number_at rows (at directory name))) (sym (name_test directory name row.1.place t)))))
+    let free : number_at rows (at directory row.1.place.name) ≡ None = ap (λ (d : ℕ). number_at rows (at d row.1.place.name)) (sym (eqb-true row.1.place.directory directory t)) ∙ none_from_IsFree row.1.place rows (differ_head row rows differ) in
+    let none : found_in (pairs_of (names_in rows directory)) row.1.place.name ≡ None = names_found rows directory (differ_tail row rows differ) row.1.place.name ∙ free in
+    ap (λ (n : List NamedNode). found_in (pairs_of n) name) (cond-true (row.1.place.directory == directory) (entered new (names_in rows directory)) (names_in rows directory) t)
+    ∙ (entered_found new (names_in rows directory) none name
+    ∙ (ap (λ (o : Option ℕ). cond (is_at (order name) row.1.place.name) (Some row.0) o) (names_found rows directory (differ_tail row rows differ) name)
+    ∙ ap (λ (b : Bool). cond b (Some row.0) (number_at rows (at directory name))) (sym (name_test directory name row.1.place t)))))
     (λ f. ap (λ (n : List NamedNode). found_in (pairs_of n) name) (cond-false (row.1.place.directory == directory) (entered (record { name = row.1.place.name; node = record { 0 = row.0 } }) (names_in rows directory)) (names_in rows directory) f)
-        ∙ (names_found rows directory (differ_tail row rows differ) name
-        ∙ sym (cond-false (is_place (at directory name) row.1.place) (Some row.0) (number_at rows (at directory name)) (other_test directory name row.1.place f))))
+    ∙ (names_found rows directory (differ_tail row rows differ) name
+    ∙ sym (cond-false (is_place (at directory name) row.1.place) (Some row.0) (number_at rows (at directory name)) (other_test directory name row.1.place f))))
 
 pub names_sorted : (rows : Nodes) (directory : ℕ) → DoPlacesDiffer rows → AreSorted (pairs_of (names_in rows directory))
 names_sorted [] directory differ = none_sorted
 names_sorted (row ∷ rows) directory differ =
     split (row.1.place.directory == directory)
     (λ t. let new : NamedNode = record { name = row.1.place.name; node = record { 0 = row.0 } } in
-        let free : number_at rows (at directory row.1.place.name) ≡ None = ap (λ (d : ℕ). number_at rows (at d row.1.place.name)) (sym (eqb-true row.1.place.directory directory t)) ∙ none_from_IsFree row.1.place rows (differ_head row rows differ) in
-        subst (λ (n : List NamedNode). AreSorted (pairs_of n)) (sym (cond-true (row.1.place.directory == directory) (entered new (names_in rows directory)) (names_in rows directory) t))
-        (entered_sorted new (names_in rows directory) (names_sorted rows directory (differ_tail row rows differ)) (names_found rows directory (differ_tail row rows differ) row.1.place.name ∙ free)))
+    let free : number_at rows (at directory row.1.place.name) ≡ None = ap (λ (d : ℕ). number_at rows (at d row.1.place.name)) (sym (eqb-true row.1.place.directory directory t)) ∙ none_from_IsFree row.1.place rows (differ_head row rows differ) in
+    subst (λ (n : List NamedNode). AreSorted (pairs_of n)) (sym (cond-true (row.1.place.directory == directory) (entered new (names_in rows directory)) (names_in rows directory) t))
+    (entered_sorted new (names_in rows directory) (names_sorted rows directory (differ_tail row rows differ)) (names_found rows directory (differ_tail row rows differ) row.1.place.name ∙ free)))
     (λ f. subst (λ (n : List NamedNode). AreSorted (pairs_of n)) (sym (cond-false (row.1.place.directory == directory) (entered (record { name = row.1.place.name; node = record { 0 = row.0 } }) (names_in rows directory)) (names_in rows directory) f))
-        (names_sorted rows directory (differ_tail row rows differ)))
+    (names_sorted rows directory (differ_tail row rows differ)))
 
 -- pairs as a list of names again
 pub names_again : (names : List NamedNode) → map (λ (pair : List ℕ × ℕ). record { name = pair.0; node = record { 0 = pair.1 } }) (pairs_of names) ≡ names

@@ -1,8 +1,8 @@
 -- Places of nodes: what stands at one, and that they differ, after a change.
-use Rattle.std.proofs.Common.{◌≡◌, ◌≢◌, ℕ, ◌+◌, ◌<◌, ◌&&◌, Bool, true, false, cond, Option, Some, None, List, [], ◌∷◌, ◌++◌, length, map, refl, sym, ap, ap₂, ◌∙◌, subst, arith, nat_eq}
+use Rattle.std.proofs.Common.{◌≡◌, ℕ, ◌<◌, true, false, Some, None, List, [], ◌∷◌, ◌++◌, refl, sym, ap, ap₂, ◌∙◌, subst, arith, nat_eq}
 use Rattle.std.specs.List.{AllByRecursion, IsDistinct}
-use Rattle.std.specs.Map.{lookup, remove_entry, keys_of}
-use Rattle.std.proofs.lemmas.Bool.{cond-true, cond-false, false≢true, true≢false, eq-eqb, ne_eqb, eqb-true, and_parts, and_from}
+use Rattle.std.specs.Map.{remove_entry, keys_of}
+use Rattle.std.proofs.lemmas.Bool.{cond-true, cond-false, false≢true, eq-eqb, ne_eqb, eqb-true, and_parts, and_from}
 use Rattle.std.proofs.lemmas.Slice.Eq.{bytes_eq-Decides}
 use Rattle.std.proofs.lemmas.Option.{none-some, same_Some}
 use Rattle.file_world.specs.Tree.{Place, Node, Nodes, node_at, number_at, is_place, places_of}
@@ -78,22 +78,22 @@ stands_at place number [] rising e = absurd (none-some _ e)
 stands_at place number (row ∷ rows) rising e =
     split (is_place place row.1.place)
     (λ t. let n : row.0 ≡ number = same_Some _ _ (cond_at_true (is_place place row.1.place) _ _ _ t e) in
-        subst (λ (m : ℕ). Stands (row ∷ rows) m place) n
-        (record { node = row.1; found = lookup_here (nat_eq row.0) row rows (eq-eqb row.0 row.0 refl); there = sym (is_place-true place row.1.place t) }))
+    subst (λ (m : ℕ). Stands (row ∷ rows) m place) n
+    (record { node = row.1; found = lookup_here (nat_eq row.0) row rows (eq-eqb row.0 row.0 refl); there = sym (is_place-true place row.1.place t) }))
     (λ f. let rest = stands_at place number rows (rising_tail row rows rising) (cond_at_false (is_place place row.1.place) _ _ _ f e) in
-        let lt : row.0 < number = above_found row.0 number rest.node rows (rising_head row rows rising) rest.found in
-        record { node = rest.node; found = lookup_later (nat_eq number) row rows (ne_eqb number row.0 (λ h. omega (arith, h, lt))) ∙ rest.found; there = rest.there })
+    let lt : row.0 < number = above_found row.0 number rest.node rows (rising_head row rows rising) rest.found in
+    record { node = rest.node; found = lookup_later (nat_eq number) row rows (ne_eqb number row.0 (λ h. omega (arith, h, lt))) ∙ rest.found; there = rest.there })
 
 pub number_of_place : (number : ℕ) (node : Node) (rows : Nodes) → DoPlacesDiffer rows → node_at rows number ≡ Some node → number_at rows node.place ≡ Some number
 number_of_place number node [] differ e = absurd (none-some _ e)
 number_of_place number node (row ∷ rows) differ e =
     split (nat_eq number row.0)
     (λ t. let same : row.1 ≡ node = same_Some _ _ (cond_at_true (nat_eq number row.0) _ _ _ t e) in
-        cond-true (is_place node.place row.1.place) _ _ (is_place-same node.place row.1.place (ap (λ (n : Node). n.place) (sym same)))
-        ∙ ap (λ (n : ℕ). Some n) (sym (eqb-true number row.0 t)))
+    cond-true (is_place node.place row.1.place) _ _ (is_place-same node.place row.1.place (ap (λ (n : Node). n.place) (sym same)))
+    ∙ ap (λ (n : ℕ). Some n) (sym (eqb-true number row.0 t)))
     (λ f. let rest = cond_at_false (nat_eq number row.0) _ _ _ f e in
-        cond-false (is_place node.place row.1.place) _ _ (is_place-flip row.1.place node.place (free_apart row.1.place number node rows (differ_head row rows differ) rest))
-        ∙ number_of_place number node rows (differ_tail row rows differ) rest)
+    cond-false (is_place node.place row.1.place) _ _ (is_place-flip row.1.place node.place (free_apart row.1.place number node rows (differ_head row rows differ) rest))
+    ∙ number_of_place number node rows (differ_tail row rows differ) rest)
 
 -- ---- one more node
 
@@ -123,7 +123,7 @@ differ-removed number (row ∷ rows) differ =
     split (nat_eq number row.0)
     (λ t. subst DoPlacesDiffer (sym (cond-true (nat_eq number row.0) rows (row ∷ remove_entry (nat_eq number) rows) t)) (differ_tail row rows differ))
     (λ f. subst DoPlacesDiffer (sym (cond-false (nat_eq number row.0) rows (row ∷ remove_entry (nat_eq number) rows) f))
-        (differ_cons row (remove_entry (nat_eq number) rows) (free-removed row.1.place number rows (differ_head row rows differ)) (differ-removed number rows (differ_tail row rows differ))))
+    (differ_cons row (remove_entry (nat_eq number) rows) (free-removed row.1.place number rows (differ_head row rows differ)) (differ-removed number rows (differ_tail row rows differ))))
 
 -- ---- a node that moves
 
@@ -142,8 +142,8 @@ differ-moved target number [] differ free = differ
 differ-moved target number (row ∷ rows) differ free =
     split (nat_eq number row.0)
     (λ t. subst DoPlacesDiffer (sym (cond-true (nat_eq number row.0) (moved_row target row ∷ rows) (row ∷ revised number (with_place target) rows) t))
-        (differ_cons (moved_row target row) rows free.1 (differ_tail row rows differ)))
+    (differ_cons (moved_row target row) rows free.1 (differ_tail row rows differ)))
     (λ f. subst DoPlacesDiffer (sym (cond-false (nat_eq number row.0) (moved_row target row ∷ rows) (row ∷ revised number (with_place target) rows) f))
-        (differ_cons row (revised number (with_place target) rows)
-            (free-moved row.1.place target number rows (differ_head row rows differ) (is_place-flip target row.1.place free.0))
-            (differ-moved target number rows (differ_tail row rows differ) free.1)))
+    (differ_cons row (revised number (with_place target) rows)
+    (free-moved row.1.place target number rows (differ_head row rows differ) (is_place-flip target row.1.place free.0))
+    (differ-moved target number rows (differ_tail row rows differ) free.1)))

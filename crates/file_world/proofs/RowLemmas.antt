@@ -1,10 +1,10 @@
 -- Values under numbers: look-ups after a change, and numbers that rise.
-use Rattle.std.proofs.Common.{◌≡◌, ◌≢◌, ℕ, suc, ◌+◌, ◌-◌, ◌<◌, ◌≤◌, Bool, true, false, cond, Option, Some, None, option_map, IsSome, List, [], ◌∷◌, ◌++◌, length, map, sum_by, refl, sym, ap, ◌∙◌, subst, arith, nat_eq, nat_lt, nat_cmp, Ordering, Less, Equal, Greater, length-append}
+use Rattle.std.proofs.Common.{◌≡◌, ◌≢◌, ℕ, suc, ◌+◌, ◌<◌, ◌≤◌, Bool, true, false, cond, Option, Some, None, List, [], ◌∷◌, ◌++◌, length, map, sum_by, refl, sym, ap, ◌∙◌, subst, arith, nat_eq, nat_lt, nat_cmp, Less, Equal, Greater}
 use Rattle.std.specs.List.{AllByRecursion}
 use Rattle.std.specs.List.Sorted.{IsStrictlySortedBy}
-use Rattle.std.specs.Map.{lookup, remove_entry, set_value, keys_of}
-use Rattle.std.proofs.lemmas.Bool.{cond-true, cond-false, false≢true, lt-ltb, ltb-false, ltb-true, eq-eqb, ne_eqb, eqb-true, eqb-false}
-use Rattle.std.proofs.lemmas.List.Sums.{sum_by-cons, sum_by-append}
+use Rattle.std.specs.Map.{lookup, remove_entry, keys_of}
+use Rattle.std.proofs.lemmas.Bool.{cond-true, cond-false, lt-ltb, ltb-true, eq-eqb, ne_eqb, eqb-true}
+use Rattle.std.proofs.lemmas.List.Sums.{sum_by-cons}
 use Rattle.std.proofs.lemmas.Option.{none-some, same_Some}
 use Rattle.file_world.specs.TreeEffect.{revised}
 
@@ -24,11 +24,12 @@ pub lt_from_less : (a b : ℕ) → nat_cmp a b ≡ Less → a < b
 lt_from_less a b e =
     split (nat_lt a b) (λ t. ltb-true a b t)
     (λ t. split (nat_eq a b)
-        (λ s. absurd (not_equal (sym (cond-true (nat_eq a b) Equal Greater s) ∙ (sym (cond-false (nat_lt a b) Less (cond (nat_eq a b) Equal Greater) t) ∙ e))))
-        (λ s. absurd (not_greater (sym (cond-false (nat_eq a b) Equal Greater s) ∙ (sym (cond-false (nat_lt a b) Less (cond (nat_eq a b) Equal Greater) t) ∙ e)))))
+    (λ s. absurd (not_equal (sym (cond-true (nat_eq a b) Equal Greater s) ∙ (sym (cond-false (nat_lt a b) Less (cond (nat_eq a b) Equal Greater) t) ∙ e))))
+    (λ s. absurd (not_greater (sym (cond-false (nat_eq a b) Equal Greater s) ∙ (sym (cond-false (nat_lt a b) Less (cond (nat_eq a b) Equal Greater) t) ∙ e)))))
   where
     not_equal : Equal ≡ Less → ⊥
     not_equal h = cc
+
     not_greater : Greater ≡ Less → ⊥
     not_greater h = cc
 
@@ -66,20 +67,20 @@ module _ {V : Type 0} where
   lookup-revised_same number revision (row ∷ rows) value e =
       split (nat_eq number row.0)
       (λ t. ap (lookup (nat_eq number)) (cond-true (nat_eq number row.0) _ _ t)
-          ∙ (lookup_here (nat_eq number) (row.0, revision row.1) rows t ∙ ap (λ (v : V). Some (revision v)) (same_Some _ _ (cond_at_true (nat_eq number row.0) _ _ _ t e))))
+      ∙ (lookup_here (nat_eq number) (row.0, revision row.1) rows t ∙ ap (λ (v : V). Some (revision v)) (same_Some _ _ (cond_at_true (nat_eq number row.0) _ _ _ t e))))
       (λ t. ap (lookup (nat_eq number)) (cond-false (nat_eq number row.0) _ _ t)
-          ∙ (lookup_later (nat_eq number) row (revised number revision rows) t ∙ lookup-revised_same number revision rows value (cond_at_false (nat_eq number row.0) _ _ _ t e)))
+      ∙ (lookup_later (nat_eq number) row (revised number revision rows) t ∙ lookup-revised_same number revision rows value (cond_at_false (nat_eq number row.0) _ _ _ t e)))
 
   pub lookup-revised_other : (number other : ℕ) (revision : V → V) (rows : List (ℕ × V)) → other ≢ number → lookup (nat_eq other) (revised number revision rows) ≡ lookup (nat_eq other) rows
   lookup-revised_other number other revision [] apart = refl
   lookup-revised_other number other revision (row ∷ rows) apart =
       split (nat_eq number row.0)
       (λ t. let e : number ≡ row.0 = eqb-true number row.0 t in
-          let f : nat_eq other row.0 ≡ false = ne_eqb other row.0 (λ h. apart (h ∙ sym e)) in
-          ap (lookup (nat_eq other)) (cond-true (nat_eq number row.0) _ _ t)
-          ∙ (lookup_later (nat_eq other) (row.0, revision row.1) rows f ∙ sym (lookup_later (nat_eq other) row rows f)))
+      let f : nat_eq other row.0 ≡ false = ne_eqb other row.0 (λ h. apart (h ∙ sym e)) in
+      ap (lookup (nat_eq other)) (cond-true (nat_eq number row.0) _ _ t)
+      ∙ (lookup_later (nat_eq other) (row.0, revision row.1) rows f ∙ sym (lookup_later (nat_eq other) row rows f)))
       (λ t. ap (lookup (nat_eq other)) (cond-false (nat_eq number row.0) _ _ t)
-          ∙ ap (λ (rest : Option V). cond (nat_eq other row.0) (Some row.1) rest) (lookup-revised_other number other revision rows apart))
+      ∙ ap (λ (rest : Option V). cond (nat_eq other row.0) (Some row.1) rest) (lookup-revised_other number other revision rows apart))
 
   -- a list read from each row is the same if the revision leaves it
   pub map-revised : {Y : Type 0} (read : ℕ × V → Y) (number : ℕ) (revision : V → V) → ((n : ℕ) (v : V) → read (n, revision v) ≡ read (n, v)) → (rows : List (ℕ × V)) → map read (revised number revision rows) ≡ map read rows
@@ -104,16 +105,16 @@ module _ {V : Type 0} where
   sum_by-revised weight number revision value (row ∷ rows) e =
       split (nat_eq number row.0)
       (λ t. let n : number ≡ row.0 = eqb-true number row.0 t in
-          let v : row.1 ≡ value = same_Some _ _ (cond_at_true (nat_eq number row.0) _ _ _ t e) in
-          let left : sum_by weight (revised number revision (row ∷ rows)) ≡ weight (row.0, revision row.1) + sum_by weight rows = ap (sum_by weight) (cond-true (nat_eq number row.0) _ _ t) ∙ sum_by-cons weight (row.0, revision row.1) rows in
-          let right : sum_by weight (row ∷ rows) ≡ weight (row.0, row.1) + sum_by weight rows = sum_by-cons weight row rows in
-          let a : weight (row.0, revision row.1) ≡ weight (number, revision value) = ap (λ (m : ℕ). weight (m, revision row.1)) (sym n) ∙ ap (λ (w : V). weight (number, revision w)) v in
-          let b : weight (row.0, row.1) ≡ weight (number, value) = ap (λ (m : ℕ). weight (m, row.1)) (sym n) ∙ ap (λ (w : V). weight (number, w)) v in
-          omega (arith, left, right, a, b))
+      let v : row.1 ≡ value = same_Some _ _ (cond_at_true (nat_eq number row.0) _ _ _ t e) in
+      let left : sum_by weight (revised number revision (row ∷ rows)) ≡ weight (row.0, revision row.1) + sum_by weight rows = ap (sum_by weight) (cond-true (nat_eq number row.0) _ _ t) ∙ sum_by-cons weight (row.0, revision row.1) rows in
+      let right : sum_by weight (row ∷ rows) ≡ weight (row.0, row.1) + sum_by weight rows = sum_by-cons weight row rows in
+      let a : weight (row.0, revision row.1) ≡ weight (number, revision value) = ap (λ (m : ℕ). weight (m, revision row.1)) (sym n) ∙ ap (λ (w : V). weight (number, revision w)) v in
+      let b : weight (row.0, row.1) ≡ weight (number, value) = ap (λ (m : ℕ). weight (m, row.1)) (sym n) ∙ ap (λ (w : V). weight (number, w)) v in
+      omega (arith, left, right, a, b))
       (λ t. let left : sum_by weight (revised number revision (row ∷ rows)) ≡ weight row + sum_by weight (revised number revision rows) = ap (sum_by weight) (cond-false (nat_eq number row.0) _ _ t) ∙ sum_by-cons weight row (revised number revision rows) in
-          let right : sum_by weight (row ∷ rows) ≡ weight row + sum_by weight rows = sum_by-cons weight row rows in
-          let rest = sum_by-revised weight number revision value rows (cond_at_false (nat_eq number row.0) _ _ _ t e) in
-          omega (arith, left, right, rest))
+      let right : sum_by weight (row ∷ rows) ≡ weight row + sum_by weight rows = sum_by-cons weight row rows in
+      let rest = sum_by-revised weight number revision value rows (cond_at_false (nat_eq number row.0) _ _ _ t e) in
+      omega (arith, left, right, rest))
 
   -- what one value weighs is part of the sum
   pub weight-le-sum_by : (weight : ℕ × V → ℕ) (number : ℕ) (value : V) (rows : List (ℕ × V)) → lookup (nat_eq number) rows ≡ Some value → weight (number, value) ≤ sum_by weight rows
@@ -121,13 +122,13 @@ module _ {V : Type 0} where
   weight-le-sum_by weight number value (row ∷ rows) e =
       split (nat_eq number row.0)
       (λ t. let n : number ≡ row.0 = eqb-true number row.0 t in
-          let v : row.1 ≡ value = same_Some _ _ (cond_at_true (nat_eq number row.0) _ _ _ t e) in
-          let right : sum_by weight (row ∷ rows) ≡ weight (row.0, row.1) + sum_by weight rows = sum_by-cons weight row rows in
-          let b : weight (row.0, row.1) ≡ weight (number, value) = ap (λ (m : ℕ). weight (m, row.1)) (sym n) ∙ ap (λ (w : V). weight (number, w)) v in
-          omega (arith, right, b))
+      let v : row.1 ≡ value = same_Some _ _ (cond_at_true (nat_eq number row.0) _ _ _ t e) in
+      let right : sum_by weight (row ∷ rows) ≡ weight (row.0, row.1) + sum_by weight rows = sum_by-cons weight row rows in
+      let b : weight (row.0, row.1) ≡ weight (number, value) = ap (λ (m : ℕ). weight (m, row.1)) (sym n) ∙ ap (λ (w : V). weight (number, w)) v in
+      omega (arith, right, b))
       (λ t. let right : sum_by weight (row ∷ rows) ≡ weight row + sum_by weight rows = sum_by-cons weight row rows in
-          let rest = weight-le-sum_by weight number value rows (cond_at_false (nat_eq number row.0) _ _ _ t e) in
-          omega (arith, right, rest))
+      let rest = weight-le-sum_by weight number value rows (cond_at_false (nat_eq number row.0) _ _ _ t e) in
+      omega (arith, right, rest))
 
   -- ---- a row that goes
 
@@ -136,15 +137,15 @@ module _ {V : Type 0} where
   sum_by-removed weight number value (row ∷ rows) e =
       split (nat_eq number row.0)
       (λ t. let n : number ≡ row.0 = eqb-true number row.0 t in
-          let v : row.1 ≡ value = same_Some _ _ (cond_at_true (nat_eq number row.0) _ _ _ t e) in
-          let left : sum_by weight (remove_entry (nat_eq number) (row ∷ rows)) ≡ sum_by weight rows = ap (sum_by weight) (cond-true (nat_eq number row.0) _ _ t) in
-          let right : sum_by weight (row ∷ rows) ≡ weight (row.0, row.1) + sum_by weight rows = sum_by-cons weight row rows in
-          let b : weight (row.0, row.1) ≡ weight (number, value) = ap (λ (m : ℕ). weight (m, row.1)) (sym n) ∙ ap (λ (w : V). weight (number, w)) v in
-          omega (arith, left, right, b))
+      let v : row.1 ≡ value = same_Some _ _ (cond_at_true (nat_eq number row.0) _ _ _ t e) in
+      let left : sum_by weight (remove_entry (nat_eq number) (row ∷ rows)) ≡ sum_by weight rows = ap (sum_by weight) (cond-true (nat_eq number row.0) _ _ t) in
+      let right : sum_by weight (row ∷ rows) ≡ weight (row.0, row.1) + sum_by weight rows = sum_by-cons weight row rows in
+      let b : weight (row.0, row.1) ≡ weight (number, value) = ap (λ (m : ℕ). weight (m, row.1)) (sym n) ∙ ap (λ (w : V). weight (number, w)) v in
+      omega (arith, left, right, b))
       (λ t. let left : sum_by weight (remove_entry (nat_eq number) (row ∷ rows)) ≡ weight row + sum_by weight (remove_entry (nat_eq number) rows) = ap (sum_by weight) (cond-false (nat_eq number row.0) _ _ t) ∙ sum_by-cons weight row (remove_entry (nat_eq number) rows) in
-          let right : sum_by weight (row ∷ rows) ≡ weight row + sum_by weight rows = sum_by-cons weight row rows in
-          let rest = sum_by-removed weight number value rows (cond_at_false (nat_eq number row.0) _ _ _ t e) in
-          omega (arith, left, right, rest))
+      let right : sum_by weight (row ∷ rows) ≡ weight row + sum_by weight rows = sum_by-cons weight row rows in
+      let rest = sum_by-removed weight number value rows (cond_at_false (nat_eq number row.0) _ _ _ t e) in
+      omega (arith, left, right, rest))
 
   pub length-removed_le : (number : ℕ) (rows : List (ℕ × V)) → length (remove_entry (nat_eq number) rows) ≤ length rows
   length-removed_le number [] = omega arith
@@ -158,10 +159,10 @@ module _ {V : Type 0} where
   lookup-removed_other number other (row ∷ rows) apart =
       split (nat_eq number row.0)
       (λ t. let e : number ≡ row.0 = eqb-true number row.0 t in
-          let f : nat_eq other row.0 ≡ false = ne_eqb other row.0 (λ h. apart (h ∙ sym e)) in
-          ap (lookup (nat_eq other)) (cond-true (nat_eq number row.0) _ _ t) ∙ sym (lookup_later (nat_eq other) row rows f))
+      let f : nat_eq other row.0 ≡ false = ne_eqb other row.0 (λ h. apart (h ∙ sym e)) in
+      ap (lookup (nat_eq other)) (cond-true (nat_eq number row.0) _ _ t) ∙ sym (lookup_later (nat_eq other) row rows f))
       (λ t. ap (lookup (nat_eq other)) (cond-false (nat_eq number row.0) _ _ t)
-          ∙ ap (λ (rest : Option V). cond (nat_eq other row.0) (Some row.1) rest) (lookup-removed_other number other rows apart))
+      ∙ ap (λ (rest : Option V). cond (nat_eq other row.0) (Some row.1) rest) (lookup-removed_other number other rows apart))
 
   -- ---- numbers that rise
 
@@ -204,7 +205,7 @@ module _ {V : Type 0} where
       split (nat_eq number row.0)
       (λ t. subst AreRising (sym (cond-true (nat_eq number row.0) rows (row ∷ remove_entry (nat_eq number) rows) t)) (rising_tail row rows rising))
       (λ t. subst AreRising (sym (cond-false (nat_eq number row.0) rows (row ∷ remove_entry (nat_eq number) rows) t))
-          (rising_cons row (remove_entry (nat_eq number) rows) (above-removed row.0 number rows (rising_head row rows rising)) (rising-removed number rows (rising_tail row rows rising))))
+      (rising_cons row (remove_entry (nat_eq number) rows) (above-removed row.0 number rows (rising_head row rows rising)) (rising-removed number rows (rising_tail row rows rising))))
 
   -- nothing is found where all numbers are above
   pub none_below : (number : ℕ) (rows : List (ℕ × V)) → AreAbove number rows → lookup (nat_eq number) rows ≡ None
@@ -218,9 +219,9 @@ module _ {V : Type 0} where
   lookup-removed_same number (row ∷ rows) rising =
       split (nat_eq number row.0)
       (λ t. let e : number ≡ row.0 = eqb-true number row.0 t in
-          ap (lookup (nat_eq number)) (cond-true (nat_eq number row.0) _ _ t) ∙ none_below number rows (subst (λ (n : ℕ). AreAbove n rows) (sym e) (rising_head row rows rising)))
+      ap (lookup (nat_eq number)) (cond-true (nat_eq number row.0) _ _ t) ∙ none_below number rows (subst (λ (n : ℕ). AreAbove n rows) (sym e) (rising_head row rows rising)))
       (λ t. ap (lookup (nat_eq number)) (cond-false (nat_eq number row.0) _ _ t)
-          ∙ (lookup_later (nat_eq number) row (remove_entry (nat_eq number) rows) t ∙ lookup-removed_same number rows (rising_tail row rows rising)))
+      ∙ (lookup_later (nat_eq number) row (remove_entry (nat_eq number) rows) t ∙ lookup-removed_same number rows (rising_tail row rows rising)))
 
   -- a bound above all numbers, as a test of each
   abbrev pub AreBelow : ℕ → List (ℕ × V) → Type 0

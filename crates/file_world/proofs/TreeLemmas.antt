@@ -1,19 +1,18 @@
 -- A tree stays a tree after each change that fits it.
-use Rattle.std.proofs.Common.{◌≡◌, ◌≢◌, ℕ, zero, suc, ◌+◌, ◌-◌, ◌<◌, ◌≤◌, ◌^◌, ◌⊎◌, inl, inr, Bool, true, false, cond, not, IsTrue, Option, Some, None, List, [], ◌∷◌, ◌++◌, length, map, refl, sym, ap, ◌∙◌, subst, arith, nat_eq, nat_cmp, length-append}
+use Rattle.std.proofs.Common.{◌≡◌, ◌≢◌, ℕ, zero, suc, ◌+◌, ◌-◌, ◌<◌, ◌≤◌, ◌^◌, ◌⊎◌, inl, inr, true, IsTrue, Option, Some, None, List, [], ◌∷◌, ◌++◌, length, refl, sym, ap, ◌∙◌, subst, arith, nat_eq, nat_cmp, length-append}
 use Rattle.std.specs.Map.{lookup, remove_entry, keys_of}
 use Rattle.std.specs.List.{IsDistinct}
 use Rattle.std.specs.List.Sorted.{IsStrictlySortedBy}
-use Rattle.std.proofs.lemmas.Bool.{cond-true, cond-false, false≢true, true≢false, eq-eqb, ne_eqb, eqb-true, eqb-false, cases_eq}
-use Rattle.std.proofs.lemmas.List.{map-append}
+use Rattle.std.proofs.lemmas.Bool.{false≢true, eq-eqb, eqb-true, eqb-false, cases_eq}
 use Rattle.std.proofs.lemmas.List.Sums.{sum_by_push}
 use Rattle.std.proofs.lemmas.Option.{none-some, same_Some}
 use Rattle.file_world.specs.declared.operation.Kind.{Kind}
 use Rattle.file_world.specs.declared.operation.Kind.TheVariants.{File, Directory}
 use Rattle.file_world.specs.FileNames.{is_node_name}
-use Rattle.file_world.specs.Tree.{Place, Node, Nodes, FileTree, node_at, number_at, is_place, places_of, contents_sum, IsReached, at_root, below, root, IsSound, IsTree}
-use Rattle.file_world.specs.TreeEffect.{new_node, with_contents, with_place, revised, leads_past, leads_on, Change, changed_tree, add, fill, remove, move}
-use Rattle.file_world.proofs.RowLemmas.{split, cond_at_true, cond_at_false, lookup_here, lookup_later, lookup-append_found, lookup-append_none, lookup-revised_same, lookup-revised_other, map-revised, length-revised, keys-revised, sum_by-revised, weight-le-sum_by, sum_by-removed, length-removed_le, lookup-removed_same, lookup-removed_other, rising-removed, rising-push}
-use Rattle.file_world.proofs.PlaceLemmas.{IsFree, IsFree-from_none, DoPlacesDiffer, differ-push, differ-removed, differ-moved}
+use Rattle.file_world.specs.Tree.{Place, Node, Nodes, FileTree, node_at, number_at, is_place, contents_sum, IsReached, at_root, below, root, IsSound, IsTree}
+use Rattle.file_world.specs.TreeEffect.{new_node, with_contents, with_place, revised, leads_past, leads_on, changed_tree, add, fill, remove, move}
+use Rattle.file_world.proofs.RowLemmas.{split, cond_at_true, cond_at_false, lookup_here, lookup-append_found, lookup-append_none, lookup-revised_same, lookup-revised_other, map-revised, length-revised, keys-revised, sum_by-revised, weight-le-sum_by, sum_by-removed, length-removed_le, lookup-removed_same, lookup-removed_other, rising-removed, rising-push}
+use Rattle.file_world.proofs.PlaceLemmas.{IsFree-from_none, differ-push, differ-removed, differ-moved}
 
 -- ---- what leads to the root
 
@@ -56,6 +55,7 @@ found-push rows next value number found e = by (lookup (nat_eq number) rows) ref
         split (nat_eq number next)
         (λ t. (eqb-true number next t, same_Some _ _ (cond_at_true (nat_eq number next) _ _ _ t h)))
         (λ f. absurd (none-some _ (cond_at_false (nat_eq number next) _ _ _ f h)))
+
     by : (was : Option _) → lookup (nat_eq number) rows ≡ was → (lookup (nat_eq number) rows ≡ Some found) ⊎ ((number ≡ next) × (value ≡ found))
     by None h = inr (at_next (sym (lookup-append_none (nat_eq number) rows ((next, value) ∷ []) h) ∙ e))
     by (Some w) h = inl (h ∙ (sym (lookup-append_found (nat_eq number) rows ((next, value) ∷ []) w h) ∙ e))
@@ -64,35 +64,35 @@ pub IsTree-add : (tree : FileTree) (kind : Kind) (place : Place) → IsTree tree
 IsTree-add tree kind place is can =
     let more : Nodes = (tree.next, new_node kind place) ∷ [] in
     let remains : (number : ℕ) (node : Node) → node_at tree.rows number ≡ Some node → Remains tree.rows (tree.rows ++ more) number node =
-        λ number node e. record { now = node; found = lookup-append_found (nat_eq number) tree.rows more node e; same_directory = refl; same_kind = refl } in
+    λ number node e. record { now = node; found = lookup-append_found (nat_eq number) tree.rows more node e; same_directory = refl; same_kind = refl } in
     let reached = IsReached-remains tree.rows (tree.rows ++ more) remains in
     let fresh : node_at tree.rows tree.next ≡ None = none_at_next tree is in
     let new_found : node_at (tree.rows ++ more) tree.next ≡ Some (new_node kind place) =
-        lookup-append_none (nat_eq tree.next) tree.rows more fresh ∙ lookup_here (nat_eq tree.next) (tree.next, new_node kind place) [] (eq-eqb tree.next tree.next refl) in
+    lookup-append_none (nat_eq tree.next) tree.rows more fresh ∙ lookup_here (nat_eq tree.next) (tree.next, new_node kind place) [] (eq-eqb tree.next tree.next refl) in
     let new_reached : IsReached (tree.rows ++ more) tree.next =
-        below tree.next (new_node kind place) new_found can.directory (lookup-append_found (nat_eq place.directory) tree.rows more can.directory can.held) can.is_directory
-        (reached place.directory (is.sound place.directory can.directory can.held).reached) in
+    below tree.next (new_node kind place) new_found can.directory (lookup-append_found (nat_eq place.directory) tree.rows more can.directory can.held) can.is_directory
+    (reached place.directory (is.sound place.directory can.directory can.held).reached) in
     let root_sound = is.sound 1 root is.has_root in
     record {
       has_root = lookup-append_found (nat_eq 1) tree.rows more root is.has_root;
       sound = λ number node e. elim (found-push tree.rows tree.next (new_node kind place) number node e) [
-          inl old ↦ let was = is.sound number node old in record {
-            reached = reached number was.reached;
-            named = was.named;
-            above_zero = was.above_zero;
-            below_next = (let lt = was.below_next in omega (arith, lt));
-            empty = was.empty;
-            small = was.small;
-          }
+        | inl old ↦ let was = is.sound number node old in record {
+          reached = reached number was.reached;
+          named = was.named;
+          above_zero = was.above_zero;
+          below_next = (let lt = was.below_next in omega (arith, lt));
+          empty = was.empty;
+          small = was.small;
+        }
         | inr new ↦ subst (IsSound (changed_tree (add kind place) tree) number) new.1 (subst (λ (n : ℕ). IsSound (changed_tree (add kind place) tree) n (new_node kind place)) (sym new.0) (record {
-            reached = new_reached;
-            named = λ _. can.named;
-            above_zero = (let lt = root_sound.below_next in omega (arith, lt));
-            below_next = omega arith;
-            empty = λ _. refl;
-            small = omega arith;
-          }))
-        ];
+          reached = new_reached;
+          named = λ _. can.named;
+          above_zero = (let lt = root_sound.below_next in omega (arith, lt));
+          below_next = omega arith;
+          empty = λ _. refl;
+          small = omega arith;
+        }))
+      ];
       rising = rising-push tree.next (new_node kind place) tree.rows is.rising (λ number value e. (is.sound number value e).below_next);
       places_differ = differ-push tree.next (new_node kind place) tree.rows is.places_differ (IsFree-from_none place tree.rows can.free);
       few = (let e = length-append tree.rows more in let few = can.few in omega (arith, e, few));
@@ -120,20 +120,20 @@ pub record CanFill (tree : FileTree) (number : ℕ) (contents : List ℕ) : Type
 pub found-revised : {V : Type 0} (number : ℕ) (revision : V → V) (rows : List (ℕ × V)) (old : V) → lookup (nat_eq number) rows ≡ Some old → (other : ℕ) (found : V) → lookup (nat_eq other) (revised number revision rows) ≡ Some found → ((other ≢ number) × (lookup (nat_eq other) rows ≡ Some found)) ⊎ ((other ≡ number) × (revision old ≡ found))
 found-revised number revision rows old there other found e =
     elim (cases_eq other number) [
-      inl same ↦ inr (same, same_Some _ _ (sym (lookup-revised_same number revision rows old there) ∙ (ap (λ (n : ℕ). lookup (nat_eq n) (revised number revision rows)) (sym same) ∙ e)))
-    | inr apart ↦ inl (apart, sym (lookup-revised_other number other revision rows apart) ∙ e)
+      | inl same ↦ inr (same, same_Some _ _ (sym (lookup-revised_same number revision rows old there) ∙ (ap (λ (n : ℕ). lookup (nat_eq n) (revised number revision rows)) (sym same) ∙ e)))
+      | inr apart ↦ inl (apart, sym (lookup-revised_other number other revision rows apart) ∙ e)
     ]
 
 pub remains-revised : (number : ℕ) (revision : Node → Node) (rows : Nodes) → ((node : Node) → (revision node).kind ≡ node.kind) → ((node : Node) → (revision node).place ≡ node.place) → (other : ℕ) (node : Node) → node_at rows other ≡ Some node → Remains rows (revised number revision rows) other node
 remains-revised number revision rows kind place other node e =
     elim (cases_eq other number) [
-      inl same ↦ record {
+      | inl same ↦ record {
         now = revision node;
         found = ap (λ (n : ℕ). node_at (revised number revision rows) n) same ∙ lookup-revised_same number revision rows node (ap (λ (n : ℕ). node_at rows n) (sym same) ∙ e);
         same_directory = ap (λ (p : Place). p.directory) (place node);
         same_kind = kind node;
       }
-    | inr apart ↦ record { now = node; found = lookup-revised_other number other revision rows apart ∙ e; same_directory = refl; same_kind = refl }
+      | inr apart ↦ record { now = node; found = lookup-revised_other number other revision rows apart ∙ e; same_directory = refl; same_kind = refl }
     ]
 
 file_is_no_directory : File ≡ Directory → ⊥
@@ -152,17 +152,17 @@ IsTree-fill tree number contents is can =
     record {
       has_root = lookup-revised_other number 1 (with_contents contents) tree.rows (λ e. apart (sym e)) ∙ is.has_root;
       sound = λ other node e. elim (found-revised number (with_contents contents) tree.rows can.node can.found other node e) [
-          inl old ↦ let was = is.sound other node old.1 in record { reached = reached other was.reached; named = was.named; above_zero = was.above_zero; below_next = was.below_next; empty = was.empty; small = was.small }
+        | inl old ↦ let was = is.sound other node old.1 in record { reached = reached other was.reached; named = was.named; above_zero = was.above_zero; below_next = was.below_next; empty = was.empty; small = was.small }
         | inr new ↦ let was = is.sound number can.node can.found in
-          subst (IsSound (changed_tree (fill number contents) tree) other) new.1 (subst (λ (n : ℕ). IsSound (changed_tree (fill number contents) tree) n (with_contents contents can.node)) (sym new.0) (record {
-            reached = reached number was.reached;
-            named = was.named;
-            above_zero = was.above_zero;
-            below_next = was.below_next;
-            empty = λ h. absurd (file_is_no_directory (sym can.is_file ∙ h));
-            small = can.small;
-          }))
-        ];
+            subst (IsSound (changed_tree (fill number contents) tree) other) new.1 (subst (λ (n : ℕ). IsSound (changed_tree (fill number contents) tree) n (with_contents contents can.node)) (sym new.0) (record {
+              reached = reached number was.reached;
+              named = was.named;
+              above_zero = was.above_zero;
+              below_next = was.below_next;
+              empty = λ h. absurd (file_is_no_directory (sym can.is_file ∙ h));
+              small = can.small;
+            }))
+      ];
       rising = subst (IsStrictlySortedBy nat_cmp) (sym (keys-revised number (with_contents contents) tree.rows)) is.rising;
       places_differ = subst (IsDistinct is_place) (sym (ap keys_of (map-revised {Y = Place × ℕ} (λ row. (row.1.place, row.0)) number (with_contents contents) (λ _ _. refl) tree.rows))) is.places_differ;
       few = (let e = length-revised number (with_contents contents) tree.rows in let few = is.few in omega (arith, e, few));
@@ -192,10 +192,10 @@ pub IsTree-remove : (tree : FileTree) (number : ℕ) → IsTree tree → CanRemo
 IsTree-remove tree number is can =
     let after : Nodes = remove_entry (nat_eq number) tree.rows in
     let kept : (other : ℕ) (node : Node) → node_at after other ≡ Some node → (other ≢ number) × (node_at tree.rows other ≡ Some node) =
-        λ other node e. elim (cases_eq other number) [
-          inl same ↦ absurd (none-some _ (sym (lookup-removed_same number tree.rows is.rising) ∙ (ap (node_at after) (sym same) ∙ e)))
-        | inr apart ↦ (apart, sym (lookup-removed_other number other tree.rows apart) ∙ e)
-        ] in
+    λ other node e. elim (cases_eq other number) [
+      | inl same ↦ absurd (none-some _ (sym (lookup-removed_same number tree.rows is.rising) ∙ (ap (node_at after) (sym same) ∙ e)))
+      | inr apart ↦ (apart, sym (lookup-removed_other number other tree.rows apart) ∙ e)
+    ] in
     record {
       has_root = lookup-removed_other number 1 tree.rows (λ e. can.not_root (sym e)) ∙ is.has_root;
       sound = λ other node e. let was = kept other node e in let sound = is.sound other node was.1 in record {
@@ -231,8 +231,8 @@ pub record CanMove (tree : FileTree) (number : ℕ) (place : Place) : Type 0 whe
 kind-moved : (number : ℕ) (place : Place) (rows : Nodes) (other : ℕ) (node : Node) → node_at rows other ≡ Some node → (now : Node) × (node_at (revised number (with_place place) rows) other ≡ Some now) × (now.kind ≡ node.kind)
 kind-moved number place rows other node e =
     elim (cases_eq other number) [
-      inl same ↦ (with_place place node, ap (λ (n : ℕ). node_at (revised number (with_place place) rows) n) same ∙ lookup-revised_same number (with_place place) rows node (ap (λ (n : ℕ). node_at rows n) (sym same) ∙ e), refl)
-    | inr apart ↦ (node, lookup-revised_other number other (with_place place) rows apart ∙ e, refl)
+      | inl same ↦ (with_place place node, ap (λ (n : ℕ). node_at (revised number (with_place place) rows) n) same ∙ lookup-revised_same number (with_place place) rows node (ap (λ (n : ℕ). node_at rows n) (sym same) ∙ e), refl)
+      | inr apart ↦ (node, lookup-revised_other number other (with_place place) rows apart ∙ e, refl)
     ]
 
 -- a walk that meets no moved node can be made after the move
@@ -244,13 +244,13 @@ IsReached-past number place rows (suc steps) other past (below _ node found dire
     split (nat_eq other number)
     (λ t. absurd (false≢true (cond_at_true (nat_eq other number) _ _ _ t past)))
     (λ f. let apart : other ≢ number = eqb-false other number f in
-        let further = cond_at_false (nat_eq other number) _ _ _ f past in
-        split (nat_eq other 1)
-        (λ t. subst (IsReached after) (sym (eqb-true other 1 t)) at_root)
-        (λ g. let on : leads_past steps rows number node.place.directory ≡ true = ap (λ (n : Option Node). leads_on n (leads_past steps rows number)) (sym found) ∙ cond_at_false (nat_eq other 1) _ _ _ g further in
-            let there = kind-moved number place rows node.place.directory directory held in
-            below other node (lookup-revised_other number other (with_place place) rows apart ∙ found) there.0 there.1 (there.2 ∙ kind)
-            (IsReached-past number place rows steps node.place.directory on up)))
+    let further = cond_at_false (nat_eq other number) _ _ _ f past in
+    split (nat_eq other 1)
+    (λ t. subst (IsReached after) (sym (eqb-true other 1 t)) at_root)
+    (λ g. let on : leads_past steps rows number node.place.directory ≡ true = ap (λ (n : Option Node). leads_on n (leads_past steps rows number)) (sym found) ∙ cond_at_false (nat_eq other 1) _ _ _ g further in
+    let there = kind-moved number place rows node.place.directory directory held in
+    below other node (lookup-revised_other number other (with_place place) rows apart ∙ found) there.0 there.1 (there.2 ∙ kind)
+    (IsReached-past number place rows steps node.place.directory on up)))
 
 -- each node is reached after the move, if the moved one is
 IsReached-moved : (number : ℕ) (place : Place) (rows : Nodes) → IsReached (revised number (with_place place) rows) number → (other : ℕ) → IsReached rows other → IsReached (revised number (with_place place) rows) other
@@ -259,8 +259,8 @@ IsReached-moved number place rows moved other (below _ node found directory held
     let there = kind-moved number place rows node.place.directory directory held in
     let rest = IsReached-moved number place rows moved node.place.directory up in
     elim (cases_eq other number) [
-      inl same ↦ subst (IsReached (revised number (with_place place) rows)) (sym same) moved
-    | inr apart ↦ below other node (lookup-revised_other number other (with_place place) rows apart ∙ found) there.0 there.1 (there.2 ∙ kind) rest
+      | inl same ↦ subst (IsReached (revised number (with_place place) rows)) (sym same) moved
+      | inr apart ↦ below other node (lookup-revised_other number other (with_place place) rows apart ∙ found) there.0 there.1 (there.2 ∙ kind) rest
     ]
 
 pub IsTree-move : (tree : FileTree) (number : ℕ) (place : Place) → IsTree tree → CanMove tree number place → IsTree (changed_tree (move number place) tree)
@@ -268,23 +268,23 @@ IsTree-move tree number place is can =
     let after : Nodes = revised number (with_place place) tree.rows in
     let there = kind-moved number place tree.rows place.directory can.directory can.held in
     let moved : IsReached after number =
-        below number (with_place place can.node) (lookup-revised_same number (with_place place) tree.rows can.node can.found) there.0 there.1 (there.2 ∙ can.is_directory)
-        (IsReached-past number place tree.rows can.steps place.directory can.past (is.sound place.directory can.directory can.held).reached) in
+    below number (with_place place can.node) (lookup-revised_same number (with_place place) tree.rows can.node can.found) there.0 there.1 (there.2 ∙ can.is_directory)
+    (IsReached-past number place tree.rows can.steps place.directory can.past (is.sound place.directory can.directory can.held).reached) in
     let reached = IsReached-moved number place tree.rows moved in
     record {
       has_root = lookup-revised_other number 1 (with_place place) tree.rows (λ e. can.not_root (sym e)) ∙ is.has_root;
       sound = λ other node e. elim (found-revised number (with_place place) tree.rows can.node can.found other node e) [
-          inl old ↦ let was = is.sound other node old.1 in record { reached = reached other was.reached; named = was.named; above_zero = was.above_zero; below_next = was.below_next; empty = was.empty; small = was.small }
+        | inl old ↦ let was = is.sound other node old.1 in record { reached = reached other was.reached; named = was.named; above_zero = was.above_zero; below_next = was.below_next; empty = was.empty; small = was.small }
         | inr new ↦ let was = is.sound number can.node can.found in
-          subst (IsSound (changed_tree (move number place) tree) other) new.1 (subst (λ (n : ℕ). IsSound (changed_tree (move number place) tree) n (with_place place can.node)) (sym new.0) (record {
-            reached = moved;
-            named = λ _. can.named;
-            above_zero = was.above_zero;
-            below_next = was.below_next;
-            empty = was.empty;
-            small = was.small;
-          }))
-        ];
+            subst (IsSound (changed_tree (move number place) tree) other) new.1 (subst (λ (n : ℕ). IsSound (changed_tree (move number place) tree) n (with_place place can.node)) (sym new.0) (record {
+              reached = moved;
+              named = λ _. can.named;
+              above_zero = was.above_zero;
+              below_next = was.below_next;
+              empty = was.empty;
+              small = was.small;
+            }))
+      ];
       rising = subst (IsStrictlySortedBy nat_cmp) (sym (keys-revised number (with_place place) tree.rows)) is.rising;
       places_differ = differ-moved place number tree.rows is.places_differ (IsFree-from_none place tree.rows can.free);
       few = (let e = length-revised number (with_place place) tree.rows in let few = is.few in omega (arith, e, few));

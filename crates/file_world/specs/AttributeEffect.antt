@@ -1,5 +1,5 @@
 -- What each operation does to owners and attributes: its refusals in their order, its reply, and the marks after it (this project's own).
-use Rattle.std.specs.Prelude.{◌≡◌, ℕ, List, [], ◌∷◌, ◌++◌, length, Option, Some, None, is_some, is_none, unwrap_or, IsSome, Bool, not, nat_le, nat_eq, ◌&&◌, codes}
+use Rattle.std.specs.Prelude.{◌≡◌, ℕ, List, [], ◌∷◌, ◌++◌, length, Option, Some, None, is_none, unwrap_or, IsSome, not, nat_le, nat_eq, ◌&&◌, codes}
 use Rattle.std.specs.Map.{remove_entry}
 use Rattle.std.specs.BTreeMap.{insert_entry}
 use Rattle.std.specs.Ordering.{nat_cmp}
@@ -40,8 +40,8 @@ abbrev pub meta_tests : Marks → MetaOp → Tests
 meta_tests marks (Get node name) = attribute_tests marks node.0 name ++ (is_none (value_of marks node.0 name), NoAttribute) ∷ []
 meta_tests marks (Set node name value) =
     attribute_tests marks node.0 name
-        ++ (is_none (value_of marks node.0 name) && nat_le 32 (length (attributes_of (mark_at marks node.0))), AttrFull)
-        ∷ []
+    ++ (is_none (value_of marks node.0 name) && nat_le 32 (length (attributes_of (mark_at marks node.0))), AttrFull)
+    ∷ []
 meta_tests marks (Remove node name) = attribute_tests marks node.0 name ++ (is_none (value_of marks node.0 name), NoAttribute) ∷ []
 meta_tests marks (Chown node owner) = (is_none (mark_at marks node.0), NoNode) ∷ []
 meta_tests marks (Add node owner parent) = []

@@ -1,5 +1,5 @@
 -- What each operation does to the world: its first refusal, or its reply and the world after it (this project's own).
-use Rattle.std.specs.Prelude.{ℕ, List, [], ◌∷◌, ◌++◌, ◌+◌, Option, Some, None, unwrap_or, nat_eq}
+use Rattle.std.specs.Prelude.{ℕ, List, [], ◌∷◌, ◌++◌, ◌+◌, Option, nat_eq}
 use Rattle.std.specs.Map.{remove_entry}
 use Rattle.file_world.specs.declared.operation.Kind.{Kind}
 use Rattle.file_world.specs.declared.operation.TreeOp.{TreeOp}

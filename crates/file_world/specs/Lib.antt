@@ -3,6 +3,7 @@ pub mod Attributes
 pub mod Effect
 pub mod Facts
 pub mod FileNames
+pub mod Laws
 pub mod Needs
 pub mod Outcome
 pub mod Tree

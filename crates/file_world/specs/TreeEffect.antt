@@ -1,10 +1,9 @@
 -- What each operation does to the file tree: its refusals in their order, its reply, and its change (this project's own).
-use Rattle.std.specs.Prelude.{ℕ, zero, suc, List, [], ◌∷◌, ◌++◌, ◌+◌, ◌-◌, ◌^◌, length, take, drop, replicate, max, Option, Some, None, is_some, is_none, unwrap_or, Bool, true, false, not, nat_lt, nat_le, nat_eq, ◌&&◌, ◌||◌, ◌==◌, if◌then◌else◌}
+use Rattle.std.specs.Prelude.{ℕ, zero, suc, List, [], ◌∷◌, ◌++◌, ◌+◌, ◌-◌, ◌^◌, length, take, drop, replicate, max, Option, Some, None, is_some, is_none, unwrap_or, Bool, true, false, not, nat_lt, nat_le, nat_eq, ◌||◌, ◌==◌, if◌then◌else◌}
 use Rattle.std.specs.List.{list_any}
 use Rattle.std.specs.Map.{remove_entry}
 use Rattle.std.specs.Ordering.{is_lt, nat_cmp}
 use Rattle.std.specs.Cmp.Lexicographic.{slice_cmp}
-use Rattle.bl_syntax.specs.declared.terms.NodeId.{NodeId}
 use Rattle.file_world.specs.declared.operation.Kind.{Kind}
 use Rattle.file_world.specs.declared.operation.Kind.TheVariants.{File, Directory}
 use Rattle.file_world.specs.declared.operation.TreeOp.{TreeOp}
@@ -119,7 +118,7 @@ length_tests rows number end len =
 abbrev pub write_tests : Nodes → ℕ → ℕ → List ℕ → Tests
 write_tests rows number offset bytes =
     file_tests rows number
-        ++ length_tests rows number (offset + length bytes) (length_after (length (contents_of (node_at rows number))) offset (length bytes))
+    ++ length_tests rows number (offset + length bytes) (length_after (length (contents_of (node_at rows number))) offset (length bytes))
 
 abbrev pub truncate_tests : Nodes → ℕ → ℕ → Tests
 truncate_tests rows number len = file_tests rows number ++ length_tests rows number len len
@@ -140,10 +139,10 @@ abbrev pub rename_tests : Nodes → ℕ → List ℕ → ℕ → List ℕ → Te
 rename_tests rows directory name target renamed =
     let child = child_of rows directory name in
     name_tests rows directory name ++ name_tests rows target renamed
-        ++ (is_none child, NoEntry)
-        ∷ (is_into_itself rows (unwrap_or child 0) target, IntoItself)
-        ∷ (is_some (child_of rows target renamed), Exists)
-        ∷ []
+    ++ (is_none child, NoEntry)
+    ∷ (is_into_itself rows (unwrap_or child 0) target, IntoItself)
+    ∷ (is_some (child_of rows target renamed), Exists)
+    ∷ []
 
 -- the tests of an operation, in their order
 abbrev pub tests_of : FileTree → TreeOp → Tests

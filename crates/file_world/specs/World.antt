@@ -1,8 +1,8 @@
 -- The world of the server: its nodes with all that is kept of them, and the number of the next one (this project's own).
-use Rattle.std.specs.Prelude.{◌≡◌, ℕ, List, [], ◌∷◌, map, codes}
+use Rattle.std.specs.Prelude.{ℕ, List, [], ◌∷◌, map, codes}
 use Rattle.file_world.specs.declared.operation.Kind.{Kind}
 use Rattle.file_world.specs.declared.operation.Kind.TheVariants.{Directory}
-use Rattle.file_world.specs.Tree.{Place, Node, Nodes, FileTree, IsTree}
+use Rattle.file_world.specs.Tree.{Place, Node, FileTree, IsTree}
 use Rattle.file_world.specs.Attributes.{Attributes, Mark, Marks, AreMarks}
 
 -- all that is kept of a node

@@ -4,6 +4,7 @@
 //! the contract of an operation is written once. Laws say what the definitions are worth.
 #![tactic(auto)]
 
+pub mod laws;
 mod operation;
 mod refusal;
 mod reply;
