@@ -1,5 +1,5 @@
 -- What is kept after a change, piece by piece.
-use Rattle.std.proofs.Common.{◌≡◌, ◌≢◌, ℕ, ◌+◌, ◌-◌, ◌<◌, ◌≤◌, inl, inr, Bool, true, false, cond, IsSome, is_some, Option, Some, None, List, [], ◌∷◌, length, map, refl, sym, ap, ◌∙◌, subst, arith, nat_eq, nat_cmp, vec_capacity}
+use Rattle.std.proofs.Common.{◌≡◌, ◌≢◌, ℕ, ◌+◌, ◌-◌, ◌<◌, ◌≤◌, inl, inr, Bool, true, false, cond, IsSome, is_some, Option, Some, None, List, [], ◌∷◌, length, map, refl, sym, ap, ◌∙◌, subst, arith, nat_eq, nat_cmp, vec_capacity, Result, Ok, OnOk}
 use Rattle.std.specs.Map.{lookup, remove_entry}
 use Rattle.std.specs.BTreeMap.{BTreeMap, is_at, UpdatesBy}
 use Rattle.std.proofs.lemmas.Bool.{cond-true, cond-false, false≢true, eq-eqb, ne_eqb, cases_eq}
@@ -83,3 +83,7 @@ kept_from_some entries number some = by (kept_at entries number) refl
     by : (was : Option Kept) → kept_at entries number ≡ was → (kept : Kept) × (kept_at entries number ≡ Some kept)
     by None h = absurd (false≢true (sym (ap is_some h) ∙ some))
     by (Some kept) h = (kept, h)
+
+-- what is ensured of an answer that is Ok
+pub entered_ok : {A E : Type 0} (result : Result A E) (value : A) (P : Type 0) → result ≡ Ok value → OnOk result P → P
+entered_ok {A} {E} result value P e h = let Q : Result A E → Type 0 = λ r. OnOk r P in subst Q e h

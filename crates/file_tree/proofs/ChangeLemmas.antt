@@ -1,7 +1,7 @@
 -- What the tree is after each operation's change, from what was ready.
 use Rattle.std.proofs.Common.{◌≡◌, ◌≢◌, ℕ, ◌+◌, ◌-◌, ◌<◌, ◌≤◌, inl, inr, Bool, true, false, cond, IsSome, is_some, IsTrue, Option, Some, None, unwrap_or, List, [], ◌∷◌, ◌++◌, length, map, take, refl, sym, ap, ◌∙◌, subst, arith, nat_eq}
 use Rattle.std.specs.Map.{lookup, remove_entry}
-use Rattle.std.proofs.lemmas.Bool.{cond-true, cond-false, false≢true, true≢false, not-false, ltb-false, cases_eq}
+use Rattle.std.proofs.lemmas.Bool.{cond-true, cond-false, false≢true, true≢false, not-false, ltb-false, cases_eq, false_from_ne_true}
 use Rattle.std.proofs.lemmas.Option.{none-some, same_Some}
 use Rattle.std.proofs.lemmas.List.Sums.{sum_by_push}
 use Rattle.bl_syntax.specs.declared.terms.NodeId.{NodeId}
@@ -21,7 +21,7 @@ use Rattle.file_tree.specs.declared.ready.Spot.{Spot}
 use Rattle.file_tree.specs.declared.ready.Ready.{Ready}
 use Rattle.file_tree.specs.declared.ready.Ready.TheVariants.{Nothing, Contents, Made, Gone, Moved}
 use Rattle.file_tree.specs.State.{spot, ready_for, child_or_none}
-use Rattle.file_tree.specs.Index.{Entries, shown, rows_of, kept_at, number_in, held_at, place_of, held_spot, settled, expected, tree_in, HasRoom, IsKept, Puts, Fills, Removes, Relocates, IsChangeable, Changes}
+use Rattle.file_tree.specs.Index.{Entries, shown, rows_of, kept_at, number_in, held_at, place_of, held_spot, settled, expected, tree_in, HasRoom, IsKept, Puts, Fills, Removes, Relocates, IsChangeable, Changes, number_ready}
 use Rattle.file_tree.proofs.IndexLemmas.{rows-append, take-append_one}
 use Rattle.file_tree.proofs.KeptLemmas.{some_kept, IsKept-from, short_name}
 use Rattle.file_tree.proofs.ChildLemmas.{child-added_here, child-added_elsewhere, child-filled, child-removed_within, child-removed_here, child-removed_elsewhere, child-moved_here, child-moved_from, child-moved_elsewhere}
@@ -133,6 +133,10 @@ Changes-filled old new next total number contents is fills =
 
 -- ---- a node that goes
 
+-- a node found twice has one place
+same_place : (rows : Nodes) (number : ℕ) (first second : Node) (place : Place) → node_at rows number ≡ Some first → node_at rows number ≡ Some second → second.place ≡ place → first.place ≡ place
+same_place rows number first second place e f there = ap (λ (n : Node). n.place) (same_Some _ _ (sym e ∙ f)) ∙ there
+
 pub record IsRemovable (old : Entries) (next number directory : ℕ) (name : List ℕ) : Type 0 where
   pub tree : IsTree (tree_in None old next)
   pub index : (d : ℕ) (x : List ℕ) → held_at old d x ≡ child_of (rows_of old) d x
@@ -151,7 +155,7 @@ removable old next directory name is =
       tree = is.kept.tree;
       index = is.kept.index;
       can = can_remove tree directory.0 name child h.1.1.1.1.0;
-      there = child.stands.there;
+      there = same_place tree.rows child.child _ child.stands.node (at directory.0 name) (can_remove tree directory.0 name child h.1.1.1.1.0).found child.stands.found child.stands.there;
       short = short_name name (not-false _ h.1.1.0);
       holds = some_kept old child.child child.stands.node child.stands.found;
     })
@@ -197,8 +201,8 @@ movable old next directory name target renamed is =
       tree = is.kept.tree;
       index = is.kept.index;
       can = can_move tree directory.0 name child target.0 renamed (not-false _ h.1.1.1.1.0) (not-false _ h.1.1.1.1.1.0) h.1.1.1.1.1.1.1.0 h.1.1.1.1.1.1.1.1.0;
-      there = child.stands.there;
-      apart = other_place (is_place (at directory.0 name) (at target.0 renamed)) refl
+      there = same_place tree.rows child.child _ child.stands.node (at directory.0 name) (can_move tree directory.0 name child target.0 renamed (not-false _ h.1.1.1.1.0) (not-false _ h.1.1.1.1.1.0) h.1.1.1.1.1.1.1.0 h.1.1.1.1.1.1.1.1.0).found child.stands.found child.stands.there;
+      apart = false_from_ne_true (is_place (at directory.0 name) (at target.0 renamed))
           (λ t. let e = is_place-true (at directory.0 name) (at target.0 renamed) t in
               false≢true (sym h.1.1.1.1.1.1.1.1.0 ∙ ap is_some (ap (λ (p : Place). child_of tree.rows p.directory p.name) (sym e) ∙ child.is_child)));
       short = short_name name (not-false _ h.1.1.0);
@@ -207,10 +211,6 @@ movable old next directory name target renamed is =
       holds = some_kept old target.0 holds.node holds.found;
       held = ap is_some (is.kept.index target.0 renamed ∙ cond-true (is_place (place_of (spot target.0 renamed)) (at target.0 renamed)) _ _ (is_place-refl (at target.0 renamed)));
     })
-  where
-    other_place : (b : Bool) → (test : Bool) → (b ≡ true → ⊥) → b ≡ false
-    other_place true test no = absurd (no refl)
-    other_place false test no = refl
 
 pub Changes-moved : (old new : Entries) (next total number directory target : ℕ) (name renamed : List ℕ) → IsMovable old next number directory target name renamed → Relocates old new number (at directory name) (at target renamed) → total ≡ contents_sum (rows_of old) → Changes new next total (changed_tree (move number (at target renamed)) (tree_in None old next))
 Changes-moved old new next total number directory target name renamed is relocates sum =
@@ -237,3 +237,118 @@ Changes-moved old new next total number directory target name renamed is relocat
     same_sum : (rs : Nodes) (n : ℕ) (p : Place) (node : Node) → node_at rs n ≡ Some node → contents_sum rs ≡ contents_sum (revised n (with_place p) rs)
     same_sum rs n p node e =
         let s : contents_sum (revised n (with_place p) rs) + length node.contents ≡ contents_sum rs + length node.contents = sum_by-revised (λ row. length row.1.contents) n (with_place p) node rs e in omega (arith, s)
+
+-- ---- each operation, by what is ready for it
+
+-- the facts at one form of the operation, and at what is ready for that form
+at_form : (old : Entries) (next : ℕ) (ready : Ready) (op form : TreeOp) → op ≡ form → IsChangeable old next ready op → IsChangeable old next ready form
+at_form old next ready op form e is = subst (IsChangeable old next ready) e is
+
+as_ready : (old : Entries) (next : ℕ) (ready other : Ready) (op : TreeOp) → ready ≡ other → IsChangeable old next ready op → IsChangeable old next other op
+as_ready old next ready other op e is = subst (λ (r : Ready). IsChangeable old next r op) e is
+
+-- what the change comes to, at the operation's own form and what is ready for it
+changes_as : (old new : Entries) (next after total : ℕ) (ready other : Ready) (op form : TreeOp) → ready ≡ other → op ≡ form → Changes new after total (tree_after (tree_in (Some other) old next) form) → Changes new after total (tree_after (tree_in (Some ready) old next) op)
+changes_as old new next after total ready other op form e f changes =
+    subst (λ (o : TreeOp). Changes new after total (tree_after (tree_in (Some ready) old next) o)) (sym f)
+    (subst (λ (r : Ready). Changes new after total (tree_after (tree_in (Some r) old next) form)) (sym e) changes)
+
+sum_as : (old : Entries) (total : ℕ) (ready other : Ready) → ready ≡ other → total ≡ contents_sum (rows_of (settled (Some ready) old)) → total ≡ contents_sum (rows_of (settled (Some other) old))
+sum_as old total ready other e sum = sum ∙ ap (λ (r : Ready). contents_sum (rows_of (settled (Some r) old))) e
+
+pub at_create : (old : Entries) (next : ℕ) (ready : Ready) (op : TreeOp) (directory : NodeId) (name : List ℕ) → op ≡ Create directory name → IsChangeable old next ready op → IsMakable old next File directory.0 name
+at_create old next ready op directory name e is =
+    let here = at_form old next ready op (Create directory name) e is in
+    made_file old next directory name (as_ready old next ready _ (Create directory name) here.is here)
+
+pub changes_create : (old new : Entries) (next total : ℕ) (ready : Ready) (op : TreeOp) (directory : NodeId) (name bytes : List ℕ) → op ≡ Create directory name → bytes ≡ name → IsChangeable old next ready op → total ≡ contents_sum (rows_of (settled (Some ready) old)) → Puts old new (at directory.0 bytes) (Some next) → Changes new (next + 1) total (tree_after (tree_in (Some ready) old next) op)
+changes_create old new next total ready op directory name bytes e same is sum puts =
+    let here = at_form old next ready op (Create directory name) e is in
+    changes_as old new next (next + 1) total ready (Made File (spot directory.0 name)) op (Create directory name) here.is e
+    (Changes-made old new next total File directory.0 name (at_create old next ready op directory name e is) (subst (λ (n : List ℕ). Puts old new (at directory.0 n) (Some next)) same puts) (sum_as old total ready _ here.is sum))
+
+pub at_mkdir : (old : Entries) (next : ℕ) (ready : Ready) (op : TreeOp) (directory : NodeId) (name : List ℕ) → op ≡ Mkdir directory name → IsChangeable old next ready op → IsMakable old next Directory directory.0 name
+at_mkdir old next ready op directory name e is =
+    let here = at_form old next ready op (Mkdir directory name) e is in
+    made_directory old next directory name (as_ready old next ready _ (Mkdir directory name) here.is here)
+
+pub changes_mkdir : (old new : Entries) (next total : ℕ) (ready : Ready) (op : TreeOp) (directory : NodeId) (name bytes : List ℕ) → op ≡ Mkdir directory name → bytes ≡ name → IsChangeable old next ready op → total ≡ contents_sum (rows_of (settled (Some ready) old)) → Puts old new (at directory.0 bytes) (Some next) → Changes new (next + 1) total (tree_after (tree_in (Some ready) old next) op)
+changes_mkdir old new next total ready op directory name bytes e same is sum puts =
+    let here = at_form old next ready op (Mkdir directory name) e is in
+    changes_as old new next (next + 1) total ready (Made Directory (spot directory.0 name)) op (Mkdir directory name) here.is e
+    (Changes-made old new next total Directory directory.0 name (at_mkdir old next ready op directory name e is) (subst (λ (n : List ℕ). Puts old new (at directory.0 n) (Some next)) same puts) (sum_as old total ready _ here.is sum))
+
+-- what is written is as long as what is ready
+pub at_write : (old : Entries) (next : ℕ) (ready : Ready) (op : TreeOp) (file : NodeId) (offset : ℕ) (bytes : List ℕ) → op ≡ Write file offset bytes → IsChangeable old next ready op → IsFillable old next file.0 (written (contents_of (node_at (rows_of old) file.0)) offset bytes) × (rows_of (settled (Some ready) old) ≡ rows_of old) × (offset + length bytes ≤ 1048576)
+at_write old next ready op file offset bytes e is =
+    let here = at_form old next ready op (Write file offset bytes) e is in
+    let len : ℕ = length (written (contents_of (node_at (rows_of (settled (Some ready) old)) file.0)) offset bytes) in
+    let settled_is : rows_of (settled (Some ready) old) ≡ rows_of old = ap (λ (r : Ready). rows_of (settled (Some r) old)) here.is in
+    let same : len ≡ length (written (contents_of (node_at (rows_of old) file.0)) offset bytes) = ap (λ (r : Nodes). length (written (contents_of (node_at r file.0)) offset bytes)) settled_is in
+    let there = as_ready old next ready (Contents file.0 len) (Write file offset bytes) here.is here in
+    let h = none_hold (tests_of (tree_in None old next) (Write file offset bytes)) there.free in
+    (writable old next file offset bytes len same there, settled_is, ltb-false 1048576 (offset + length bytes) h.1.1.0)
+
+pub changes_write : (old new : Entries) (next total : ℕ) (ready : Ready) (op : TreeOp) (file : NodeId) (offset : ℕ) (bytes slice : List ℕ) → op ≡ Write file offset bytes → slice ≡ bytes → IsChangeable old next ready op → Fills old new file.0 (written (contents_of (node_at (rows_of old) file.0)) offset slice) total → Changes new next total (tree_after (tree_in (Some ready) old next) op)
+changes_write old new next total ready op file offset bytes slice e same is fills =
+    let here = at_form old next ready op (Write file offset bytes) e is in
+    changes_as old new next next total ready _ op (Write file offset bytes) here.is e
+    (Changes-filled old new next total file.0 (written (contents_of (node_at (rows_of old) file.0)) offset bytes) (at_write old next ready op file offset bytes e is).0
+        (subst (λ (b : List ℕ). Fills old new file.0 (written (contents_of (node_at (rows_of old) file.0)) offset b) total) same fills))
+
+pub at_truncate : (old : Entries) (next : ℕ) (ready : Ready) (op : TreeOp) (file : NodeId) (len : ℕ) → op ≡ Truncate file len → IsChangeable old next ready op → IsFillable old next file.0 (resized (contents_of (node_at (rows_of old) file.0)) len) × (rows_of (settled (Some ready) old) ≡ rows_of old) × HasRoom old file.0 len × (len ≤ 1048576)
+at_truncate old next ready op file len e is =
+    let here = at_form old next ready op (Truncate file len) e is in
+    let there = as_ready old next ready (Contents file.0 len) (Truncate file len) here.is here in
+    let h = none_hold (tests_of (tree_in None old next) (Truncate file len)) there.free in
+    (truncatable old next file len there, ap (λ (r : Ready). rows_of (settled (Some r) old)) here.is, there.kept.prepared, ltb-false 1048576 len h.1.1.0)
+
+pub changes_truncate : (old new : Entries) (next total : ℕ) (ready : Ready) (op : TreeOp) (file : NodeId) (len : ℕ) → op ≡ Truncate file len → IsChangeable old next ready op → Fills old new file.0 (resized (contents_of (node_at (rows_of old) file.0)) len) total → Changes new next total (tree_after (tree_in (Some ready) old next) op)
+changes_truncate old new next total ready op file len e is fills =
+    let here = at_form old next ready op (Truncate file len) e is in
+    changes_as old new next next total ready (Contents file.0 len) op (Truncate file len) here.is e
+    (Changes-filled old new next total file.0 (resized (contents_of (node_at (rows_of old) file.0)) len) (at_truncate old next ready op file len e is).0 fills)
+
+-- the sum is small while the tree is one
+pub little_sum : (old : Entries) (next total : ℕ) (ready : Ready) → IsKept old next (Some ready) → rows_of (settled (Some ready) old) ≡ rows_of old → total ≡ contents_sum (rows_of (settled (Some ready) old)) → (total ≡ contents_sum (rows_of old)) × (total ≤ 33554432)
+little_sum old next total ready kept same sum = (sum ∙ ap contents_sum same, (let fits = kept.tree.fits in omega (arith, fits, sum)))
+
+pub at_unlink : (old : Entries) (next : ℕ) (ready : Ready) (op : TreeOp) (directory : NodeId) (name : List ℕ) → op ≡ Unlink directory name → IsChangeable old next ready op → IsRemovable old next (number_ready ready) directory.0 name × (rows_of (settled (Some ready) old) ≡ rows_of old)
+at_unlink old next ready op directory name e is =
+    let here = at_form old next ready op (Unlink directory name) e is in
+    let settled_is : rows_of (settled (Some ready) old) ≡ rows_of old = ap (λ (r : Ready). rows_of (settled (Some r) old)) here.is in
+    let number : number_ready ready ≡ child_or_none (tree_in (Some ready) old next) directory.0 name = ap number_ready here.is in
+    let same : child_or_none (tree_in (Some ready) old next) directory.0 name ≡ child_or_none (tree_in None old next) directory.0 name = ap (λ (r : Nodes). unwrap_or (child_of r directory.0 name) 0) settled_is in
+    let ready_is : ready ≡ Gone (child_or_none (tree_in None old next) directory.0 name) (spot directory.0 name) = here.is ∙ ap (λ (n : ℕ). Gone n (spot directory.0 name)) same in
+    (subst (λ (n : ℕ). IsRemovable old next n directory.0 name) (sym (number ∙ same)) (removable old next directory name (as_ready old next ready _ (Unlink directory name) ready_is here)), settled_is)
+
+pub changes_unlink : (old new : Entries) (next total : ℕ) (ready : Ready) (op : TreeOp) (directory : NodeId) (name bytes : List ℕ) → op ≡ Unlink directory name → bytes ≡ name → IsChangeable old next ready op → Removes old new (number_ready ready) (at directory.0 bytes) total → Changes new next total (tree_after (tree_in (Some ready) old next) op)
+changes_unlink old new next total ready op directory name bytes e same is removes =
+    let facts = at_unlink old next ready op directory name e is in
+    let here = at_form old next ready op (Unlink directory name) e is in
+    let number : number_ready ready ≡ child_or_none (tree_in None old next) directory.0 name = ap number_ready here.is ∙ ap (λ (r : Nodes). unwrap_or (child_of r directory.0 name) 0) facts.1 in
+    changes_as old new next next total ready (Gone (child_or_none (tree_in None old next) directory.0 name) (spot directory.0 name)) op (Unlink directory name)
+      (here.is ∙ ap (λ (r : Nodes). Gone (unwrap_or (child_of r directory.0 name) 0) (spot directory.0 name)) facts.1) e
+    (subst (λ (n : ℕ). Changes new next total (changed_tree (remove n) (tree_in None old next))) number
+      (Changes-removed old new next total (number_ready ready) directory.0 name facts.0 (subst (λ (b : List ℕ). Removes old new (number_ready ready) (at directory.0 b) total) same removes)))
+
+pub at_rename : (old : Entries) (next : ℕ) (ready : Ready) (op : TreeOp) (directory : NodeId) (name : List ℕ) (target : NodeId) (renamed : List ℕ) → op ≡ Rename directory name target renamed → IsChangeable old next ready op → IsMovable old next (number_ready ready) directory.0 target.0 name renamed × (rows_of (settled (Some ready) old) ≡ rows_of old)
+at_rename old next ready op directory name target renamed e is =
+    let here = at_form old next ready op (Rename directory name target renamed) e is in
+    let settled_is : rows_of (settled (Some ready) old) ≡ rows_of old = ap (λ (r : Ready). rows_of (settled (Some r) old)) here.is in
+    let number : number_ready ready ≡ child_or_none (tree_in (Some ready) old next) directory.0 name = ap number_ready here.is in
+    let same : child_or_none (tree_in (Some ready) old next) directory.0 name ≡ child_or_none (tree_in None old next) directory.0 name = ap (λ (r : Nodes). unwrap_or (child_of r directory.0 name) 0) settled_is in
+    let ready_is : ready ≡ Moved (child_or_none (tree_in None old next) directory.0 name) (spot directory.0 name) (spot target.0 renamed) = here.is ∙ ap (λ (n : ℕ). Moved n (spot directory.0 name) (spot target.0 renamed)) same in
+    (subst (λ (n : ℕ). IsMovable old next n directory.0 target.0 name renamed) (sym (number ∙ same)) (movable old next directory name target renamed (as_ready old next ready _ (Rename directory name target renamed) ready_is here)), settled_is)
+
+pub changes_rename : (old new : Entries) (next total : ℕ) (ready : Ready) (op : TreeOp) (directory : NodeId) (name : List ℕ) (target : NodeId) (renamed bytes others : List ℕ) → op ≡ Rename directory name target renamed → bytes ≡ name → others ≡ renamed → IsChangeable old next ready op → total ≡ contents_sum (rows_of (settled (Some ready) old)) → Relocates old new (number_ready ready) (at directory.0 bytes) (at target.0 others) → Changes new next total (tree_after (tree_in (Some ready) old next) op)
+changes_rename old new next total ready op directory name target renamed bytes others e same other is sum relocates =
+    let facts = at_rename old next ready op directory name target renamed e is in
+    let here = at_form old next ready op (Rename directory name target renamed) e is in
+    let number : number_ready ready ≡ child_or_none (tree_in None old next) directory.0 name = ap number_ready here.is ∙ ap (λ (r : Nodes). unwrap_or (child_of r directory.0 name) 0) facts.1 in
+    changes_as old new next next total ready (Moved (child_or_none (tree_in None old next) directory.0 name) (spot directory.0 name) (spot target.0 renamed)) op (Rename directory name target renamed)
+      (here.is ∙ ap (λ (r : Nodes). Moved (unwrap_or (child_of r directory.0 name) 0) (spot directory.0 name) (spot target.0 renamed)) facts.1) e
+    (subst (λ (n : ℕ). Changes new next total (changed_tree (move n (at target.0 renamed)) (tree_in None old next))) number
+      (Changes-moved old new next total (number_ready ready) directory.0 target.0 name renamed facts.0
+        (subst (λ (o : List ℕ). Relocates old new (number_ready ready) (at directory.0 name) (at target.0 o)) other (subst (λ (b : List ℕ). Relocates old new (number_ready ready) (at directory.0 b) (at target.0 others)) same relocates))
+        (sum ∙ ap contents_sum facts.1)))

@@ -1,5 +1,5 @@
 -- How the nodes that the code keeps stand for the rows of a tree, and where the names in its directories are found.
-use Rattle.std.specs.Prelude.{◌≡◌, ◌≢◌, ◌≤◌, ◌<◌, ◌-◌, ℕ, List, [], ◌∷◌, ◌++◌, length, take, map, Bool, false, Option, Some, None, if◌then◌else◌, vec_capacity, nat_eq}
+use Rattle.std.specs.Prelude.{◌≡◌, ◌≢◌, ◌≤◌, ◌<◌, ◌-◌, ℕ, List, [], ◌∷◌, ◌++◌, length, take, map, Bool, false, Option, Some, None, if◌then◌else◌, vec_capacity, nat_eq, ◌==◌}
 use Rattle.std.specs.Map.{lookup, remove_entry}
 use Rattle.std.specs.BTreeMap.{is_at}
 use Rattle.std.specs.Ordering.{nat_cmp}
@@ -189,3 +189,8 @@ number_ready (Contents number len) = 0
 number_ready (Made kind spot) = 0
 number_ready (Gone number spot) = number
 number_ready (Moved number from to) = number
+
+-- a number that is not 0
+abbrev pub above_zero : Option ℕ → Option ℕ
+above_zero None = None
+above_zero (Some number) = if number == 0 then None else Some number

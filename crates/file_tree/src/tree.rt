@@ -3,7 +3,7 @@
 ghost use Rattle.std.specs.Prelude.{◌≡◌, None, Some, IfOk};
 ghost use Rattle.file_world.specs.TreeEffect.{child_of, fresh_tree, tree_after};
 ghost use Rattle.file_tree.specs.State.{Reserves, IsReady};
-ghost use Rattle.file_tree.specs.Index.{option_number};
+ghost use Rattle.file_tree.specs.Index.{option_number, above_zero};
 
 use crate::applying::change;
 use crate::listing::reply;
@@ -70,10 +70,8 @@ impl Tree {
     pub fn child(&self, d: NodeId, name: &[u8]) -> Option<NodeId>
         ensures { result ≡ option_number (child_of self.now.tree.rows d.0 name.now) }
     {
-        match number_in(&self.nodes, d.0, name) {
-            None | Some(0) => None,
-            Some(number) => Some(NodeId(number)),
-        }
+        let kept = number_in(&self.nodes, d.0, name);
+        node_of(kept)
     }
 
     /// The reply of an operation, with all memory taken for its change, or its first refusal. The rows and the next
@@ -104,5 +102,20 @@ impl Tree {
         };
         self.ready = None;
         change(&mut self.nodes, &mut self.next, &mut self.total, &ready, op);
+    }
+}
+
+fn node_of(kept: Option<u64>) -> Option<NodeId>
+    ensures { result ≡ option_number (above_zero kept) }
+{
+    match kept {
+        None => None,
+        Some(number) => {
+            if number == 0 {
+                None
+            } else {
+                Some(NodeId(number))
+            }
+        }
     }
 }
