@@ -17,7 +17,7 @@ pub Fills-from_set : (old new : Entries) (number : ℕ) (was now : Kept) (conten
 Fills-from_set old new number was now contents total there sets names shows sum =
     let rows : rows_of new ≡ revised number (with_contents contents) (rows_of old) = ap rows_of sets.entries ∙ rows-set_value old number (with_contents contents) was now there shows in
     let sums : contents_sum (revised number (with_contents contents) (rows_of old)) + length was.contents.items ≡ contents_sum (rows_of old) + length contents =
-        sum_by-revised (λ row. length row.1.contents) number (with_contents contents) (shown was) (rows_of old) (node_at-kept old number was there) in
+    sum_by-revised (λ row. length row.1.contents) number (with_contents contents) (shown was) (rows_of old) (node_at-kept old number was there) in
     record {
       rows = rows;
       same_held = held-set old new number was now there sets names;
@@ -35,19 +35,19 @@ pub Removes-from : (old mid new : Entries) (number : ℕ) (place : Place) (was :
 Removes-from old mid new number place was total there gone found puts sum =
     let rows : rows_of new ≡ remove_entry (nat_eq number) (rows_of old) = puts.same_rows ∙ (ap rows_of gone ∙ rows-remove_entry old number) in
     let sums : contents_sum (remove_entry (nat_eq number) (rows_of old)) + length was.contents.items ≡ contents_sum (rows_of old) =
-        sum_by-removed (λ row. length row.1.contents) number (shown was) (rows_of old) (node_at-kept old number was there) in
+    sum_by-removed (λ row. length row.1.contents) number (shown was) (rows_of old) (node_at-kept old number was there) in
     let none : (name : List ℕ) → held_at mid number name ≡ None =
-        λ name. ap (λ (k : Option Kept). number_in k name) (found number ∙ cond-true (is_at (nat_cmp number) number) _ _ (same_test number number ∙ eq-eqb number number refl)) in
+    λ name. ap (λ (k : Option Kept). number_in k name) (found number ∙ cond-true (is_at (nat_cmp number) number) _ _ (same_test number number ∙ eq-eqb number number refl)) in
     record {
       rows = rows;
       here = puts.here;
       elsewhere = λ directory name apart other.
-        puts.elsewhere directory name apart
-        ∙ ap (λ (k : Option Kept). number_in k name) (found directory ∙ cond-false (is_at (nat_cmp number) directory) _ _ (same_test number directory ∙ ne_eqb number directory (λ e. other (sym e))));
+          puts.elsewhere directory name apart
+          ∙ ap (λ (k : Option Kept). number_in k name) (found directory ∙ cond-false (is_at (nat_cmp number) directory) _ _ (same_test number directory ∙ ne_eqb number directory (λ e. other (sym e))));
       within = λ name.
-        split (is_place place (at number name))
-        (λ t. ap (λ (p : Place). held_at new p.directory p.name) (sym (is_place-true place (at number name) t)) ∙ puts.here)
-        (λ f. puts.elsewhere number name f ∙ none name);
+          split (is_place place (at number name))
+          (λ t. ap (λ (p : Place). held_at new p.directory p.name) (sym (is_place-true place (at number name) t)) ∙ puts.here)
+          (λ f. puts.elsewhere number name f ∙ none name);
       summed = (let e : total ≡ contents_sum (remove_entry (nat_eq number) (rows_of old)) = omega (arith, sum, sums) in e ∙ ap contents_sum (sym rows));
     }
 
@@ -66,7 +66,7 @@ Relocates-from old entered left new number from to puts takes replaces =
       here = λ apart. replaces.same_held to.directory to.name ∙ (takes.elsewhere to.directory to.name apart ∙ puts.here);
       there = replaces.same_held from.directory from.name ∙ takes.here;
       elsewhere = λ directory name apart other.
-        replaces.same_held directory name ∙ (takes.elsewhere directory name apart ∙ puts.elsewhere directory name other);
+          replaces.same_held directory name ∙ (takes.elsewhere directory name apart ∙ puts.elsewhere directory name other);
     }
 
 -- the room of the node that is kept

@@ -42,9 +42,9 @@ makable old next kind directory name kept can =
     let settled_is : take (length old - 1) old ≡ last.before = ap (λ (es : Entries). take (length es - 1) es) last.last ∙ take-append_one last.before (next, last.kept) in
     let more : Nodes = (next, shown last.kept) ∷ [] in
     let found : node_at (rows_of old) directory ≡ Some can.directory =
-        ap (λ (es : Entries). node_at (rows_of es) directory) last.last
-        ∙ (ap (λ (r : Nodes). node_at r directory) (rows-append last.before next last.kept)
-        ∙ lookup-append_found (nat_eq directory) (rows_of last.before) more can.directory (ap (λ (es : Entries). node_at (rows_of es) directory) (sym settled_is) ∙ can.held)) in
+    ap (λ (es : Entries). node_at (rows_of es) directory) last.last
+    ∙ (ap (λ (r : Nodes). node_at r directory) (rows-append last.before next last.kept)
+    ∙ lookup-append_found (nat_eq directory) (rows_of last.before) more can.directory (ap (λ (es : Entries). node_at (rows_of es) directory) (sym settled_is) ∙ can.held)) in
     record {
       kept = kept;
       can = can;
@@ -77,22 +77,22 @@ Changes-made old new next total kind directory name is puts sum =
     let last = is.kept.prepared in
     let settled_is : take (length old - 1) old ≡ last.before = ap (λ (es : Entries). take (length es - 1) es) last.last ∙ take-append_one last.before (next, last.kept) in
     let rows : rows_of new ≡ tree.rows ++ (next, new_node kind place) ∷ [] =
-        puts.same_rows
-        ∙ (ap rows_of last.last
-        ∙ (rows-append last.before next last.kept
-        ∙ (ap (λ (n : Node). rows_of last.before ++ (next, n) ∷ []) last.new
-        ∙ ap (λ (es : Entries). rows_of es ++ (next, new_node kind place) ∷ []) (sym settled_is)))) in
+    puts.same_rows
+    ∙ (ap rows_of last.last
+    ∙ (rows-append last.before next last.kept
+    ∙ (ap (λ (n : Node). rows_of last.before ++ (next, n) ∷ []) last.new
+    ∙ ap (λ (es : Entries). rows_of es ++ (next, new_node kind place) ∷ []) (sym settled_is)))) in
     changes-from new (changed_tree (add kind place) tree) total (IsTree-add tree kind place is.kept.tree is.can) rows
-      (λ d x.
-        split (is_place place (at d x))
-        (λ t. let e = is_place-true place (at d x) t in
-            ap (λ (p : Place). held_at new p.directory p.name) (sym e)
-            ∙ (puts.here ∙ (sym (child-added_here tree kind place is.kept.tree is.can) ∙ ap (λ (p : Place). child_of (changed_tree (add kind place) tree).rows p.directory p.name) e)))
-        (λ f. puts.elsewhere d x f
-            ∙ (is.kept.index d x
-            ∙ (cond-false (is_place (place_of (spot directory name)) (at d x)) _ _ f
-            ∙ sym (child-added_elsewhere tree kind place is.kept.tree is.can d x f)))))
-      (sum ∙ (sym (sum_with_new tree.rows next kind place) ∙ ap contents_sum (sym rows)))
+    (λ d x.
+    split (is_place place (at d x))
+    (λ t. let e = is_place-true place (at d x) t in
+    ap (λ (p : Place). held_at new p.directory p.name) (sym e)
+    ∙ (puts.here ∙ (sym (child-added_here tree kind place is.kept.tree is.can) ∙ ap (λ (p : Place). child_of (changed_tree (add kind place) tree).rows p.directory p.name) e)))
+    (λ f. puts.elsewhere d x f
+    ∙ (is.kept.index d x
+    ∙ (cond-false (is_place (place_of (spot directory name)) (at d x)) _ _ f
+    ∙ sym (child-added_elsewhere tree kind place is.kept.tree is.can d x f)))))
+    (sum ∙ (sym (sum_with_new tree.rows next kind place) ∙ ap contents_sum (sym rows)))
   where
     sum_with_new : (rs : Nodes) (n : ℕ) (k : Kind) (p : Place) → contents_sum (rs ++ (n, new_node k p) ∷ []) ≡ contents_sum rs
     sum_with_new rs n k p = let e : contents_sum (rs ++ (n, new_node k p) ∷ []) ≡ contents_sum rs + 0 = sum_by_push (λ row. length row.1.contents) rs (n, new_node k p) in omega (arith, e)
@@ -128,8 +128,8 @@ truncatable old next file len is =
 pub Changes-filled : (old new : Entries) (next total number : ℕ) (contents : List ℕ) → IsFillable old next number contents → Fills old new number contents total → Changes new next total (changed_tree (fill number contents) (tree_in None old next))
 Changes-filled old new next total number contents is fills =
     changes-from new (changed_tree (fill number contents) (tree_in None old next)) total (IsTree-fill (tree_in None old next) number contents is.kept is.can) fills.rows
-      (λ d x. fills.same_held d x ∙ (is.index d x ∙ sym (child-filled (rows_of old) number contents d x)))
-      fills.summed
+    (λ d x. fills.same_held d x ∙ (is.index d x ∙ sym (child-filled (rows_of old) number contents d x)))
+    fills.summed
 
 -- ---- a node that goes
 
@@ -165,16 +165,16 @@ Changes-removed old new next total number directory name is removes =
     let place : Place = at directory name in
     let tree = tree_in None old next in
     changes-from new (changed_tree (remove number) tree) total (IsTree-remove tree number is.tree is.can) removes.rows
-      (λ d x.
-        split (is_place place (at d x))
-        (λ t. let e = is_place-true place (at d x) t in
-            ap (λ (p : Place). held_at new p.directory p.name) (sym e)
-            ∙ (removes.here ∙ (sym (child-removed_here tree number place is.tree is.can is.there) ∙ ap (λ (p : Place). child_of (changed_tree (remove number) tree).rows p.directory p.name) e)))
-        (λ f. elim (cases_eq d number) [
-            inl same ↦ ap (λ (n : ℕ). held_at new n x) same ∙ (removes.within x ∙ (sym (child-removed_within tree number x is.tree) ∙ ap (λ (n : ℕ). child_of (changed_tree (remove number) tree).rows n x) (sym same)))
-          | inr other ↦ removes.elsewhere d x f other ∙ (is.index d x ∙ sym (child-removed_elsewhere tree number place is.tree is.can is.there d x f other))
-          ]))
-      removes.summed
+    (λ d x.
+    split (is_place place (at d x))
+    (λ t. let e = is_place-true place (at d x) t in
+    ap (λ (p : Place). held_at new p.directory p.name) (sym e)
+    ∙ (removes.here ∙ (sym (child-removed_here tree number place is.tree is.can is.there) ∙ ap (λ (p : Place). child_of (changed_tree (remove number) tree).rows p.directory p.name) e)))
+    (λ f. elim (cases_eq d number) [
+      | inl same ↦ ap (λ (n : ℕ). held_at new n x) same ∙ (removes.within x ∙ (sym (child-removed_within tree number x is.tree) ∙ ap (λ (n : ℕ). child_of (changed_tree (remove number) tree).rows n x) (sym same)))
+      | inr other ↦ removes.elsewhere d x f other ∙ (is.index d x ∙ sym (child-removed_elsewhere tree number place is.tree is.can is.there d x f other))
+    ]))
+    removes.summed
 
 -- ---- a node that moves
 
@@ -204,7 +204,7 @@ movable old next directory name target renamed is =
       there = same_place tree.rows child.child _ child.stands.node (at directory.0 name) (can_move tree directory.0 name child target.0 renamed (not-false _ h.1.1.1.1.0) (not-false _ h.1.1.1.1.1.0) h.1.1.1.1.1.1.1.0 h.1.1.1.1.1.1.1.1.0).found child.stands.found child.stands.there;
       apart = false_from_ne_true (is_place (at directory.0 name) (at target.0 renamed))
           (λ t. let e = is_place-true (at directory.0 name) (at target.0 renamed) t in
-              false≢true (sym h.1.1.1.1.1.1.1.1.0 ∙ ap is_some (ap (λ (p : Place). child_of tree.rows p.directory p.name) (sym e) ∙ child.is_child)));
+          false≢true (sym h.1.1.1.1.1.1.1.1.0 ∙ ap is_some (ap (λ (p : Place). child_of tree.rows p.directory p.name) (sym e) ∙ child.is_child)));
       short = short_name name (not-false _ h.1.1.0);
       short_too = short_name renamed (not-false _ h.1.1.1.1.1.0);
       kept = some_kept old child.child child.stands.node child.stands.found;
@@ -219,20 +219,20 @@ Changes-moved old new next total number directory target name renamed is relocat
     let tree = tree_in None old next in
     let after : Nodes = revised number (with_place to) (rows_of old) in
     changes-from new (changed_tree (move number to) tree) total (IsTree-move tree number to is.tree is.can) relocates.rows
-      (λ d x.
-        split (is_place to (at d x))
-        (λ t. let e = is_place-true to (at d x) t in
-            ap (λ (p : Place). held_at new p.directory p.name) (sym e)
-            ∙ (relocates.here is.apart ∙ (sym (child-moved_here tree number to is.tree is.can) ∙ ap (λ (p : Place). child_of after p.directory p.name) e)))
-        (λ f. split (is_place from (at d x))
-          (λ t. let e = is_place-true from (at d x) t in
-              ap (λ (p : Place). held_at new p.directory p.name) (sym e)
-              ∙ (relocates.there ∙ (sym (child-moved_from tree number from to is.tree is.can is.there is.apart) ∙ ap (λ (p : Place). child_of after p.directory p.name) e)))
-          (λ g. relocates.elsewhere d x g f
-              ∙ (is.index d x
-              ∙ (cond-false (is_place (place_of (spot target renamed)) (at d x)) _ _ f
-              ∙ sym (child-moved_elsewhere tree number from to is.tree is.can is.there d x g f))))))
-      (sum ∙ (same_sum (rows_of old) number to is.can.node is.can.found ∙ ap contents_sum (sym relocates.rows)))
+    (λ d x.
+    split (is_place to (at d x))
+    (λ t. let e = is_place-true to (at d x) t in
+    ap (λ (p : Place). held_at new p.directory p.name) (sym e)
+    ∙ (relocates.here is.apart ∙ (sym (child-moved_here tree number to is.tree is.can) ∙ ap (λ (p : Place). child_of after p.directory p.name) e)))
+    (λ f. split (is_place from (at d x))
+    (λ t. let e = is_place-true from (at d x) t in
+    ap (λ (p : Place). held_at new p.directory p.name) (sym e)
+    ∙ (relocates.there ∙ (sym (child-moved_from tree number from to is.tree is.can is.there is.apart) ∙ ap (λ (p : Place). child_of after p.directory p.name) e)))
+    (λ g. relocates.elsewhere d x g f
+    ∙ (is.index d x
+    ∙ (cond-false (is_place (place_of (spot target renamed)) (at d x)) _ _ f
+    ∙ sym (child-moved_elsewhere tree number from to is.tree is.can is.there d x g f))))))
+    (sum ∙ (same_sum (rows_of old) number to is.can.node is.can.found ∙ ap contents_sum (sym relocates.rows)))
   where
     same_sum : (rs : Nodes) (n : ℕ) (p : Place) (node : Node) → node_at rs n ≡ Some node → contents_sum rs ≡ contents_sum (revised n (with_place p) rs)
     same_sum rs n p node e =
@@ -294,7 +294,7 @@ changes_write old new next total ready op file offset bytes slice e same is fill
     let here = at_form old next ready op (Write file offset bytes) e is in
     changes_as old new next next total ready _ op (Write file offset bytes) here.is e
     (Changes-filled old new next total file.0 (written (contents_of (node_at (rows_of old) file.0)) offset bytes) (at_write old next ready op file offset bytes e is).0
-        (subst (λ (b : List ℕ). Fills old new file.0 (written (contents_of (node_at (rows_of old) file.0)) offset b) total) same fills))
+    (subst (λ (b : List ℕ). Fills old new file.0 (written (contents_of (node_at (rows_of old) file.0)) offset b) total) same fills))
 
 pub at_truncate : (old : Entries) (next : ℕ) (ready : Ready) (op : TreeOp) (file : NodeId) (len : ℕ) → op ≡ Truncate file len → IsChangeable old next ready op → IsFillable old next file.0 (resized (contents_of (node_at (rows_of old) file.0)) len) × (rows_of (settled (Some ready) old) ≡ rows_of old) × HasRoom old file.0 len × (len ≤ 1048576)
 at_truncate old next ready op file len e is =
@@ -328,9 +328,9 @@ changes_unlink old new next total ready op directory name bytes e same is remove
     let here = at_form old next ready op (Unlink directory name) e is in
     let number : number_ready ready ≡ child_or_none (tree_in None old next) directory.0 name = ap number_ready here.is ∙ ap (λ (r : Nodes). unwrap_or (child_of r directory.0 name) 0) facts.1 in
     changes_as old new next next total ready (Gone (child_or_none (tree_in None old next) directory.0 name) (spot directory.0 name)) op (Unlink directory name)
-      (here.is ∙ ap (λ (r : Nodes). Gone (unwrap_or (child_of r directory.0 name) 0) (spot directory.0 name)) facts.1) e
+    (here.is ∙ ap (λ (r : Nodes). Gone (unwrap_or (child_of r directory.0 name) 0) (spot directory.0 name)) facts.1) e
     (subst (λ (n : ℕ). Changes new next total (changed_tree (remove n) (tree_in None old next))) number
-      (Changes-removed old new next total (number_ready ready) directory.0 name facts.0 (subst (λ (b : List ℕ). Removes old new (number_ready ready) (at directory.0 b) total) same removes)))
+    (Changes-removed old new next total (number_ready ready) directory.0 name facts.0 (subst (λ (b : List ℕ). Removes old new (number_ready ready) (at directory.0 b) total) same removes)))
 
 pub at_rename : (old : Entries) (next : ℕ) (ready : Ready) (op : TreeOp) (directory : NodeId) (name : List ℕ) (target : NodeId) (renamed : List ℕ) → op ≡ Rename directory name target renamed → IsChangeable old next ready op → IsMovable old next (number_ready ready) directory.0 target.0 name renamed × (rows_of (settled (Some ready) old) ≡ rows_of old)
 at_rename old next ready op directory name target renamed e is =
@@ -347,8 +347,8 @@ changes_rename old new next total ready op directory name target renamed bytes o
     let here = at_form old next ready op (Rename directory name target renamed) e is in
     let number : number_ready ready ≡ child_or_none (tree_in None old next) directory.0 name = ap number_ready here.is ∙ ap (λ (r : Nodes). unwrap_or (child_of r directory.0 name) 0) facts.1 in
     changes_as old new next next total ready (Moved (child_or_none (tree_in None old next) directory.0 name) (spot directory.0 name) (spot target.0 renamed)) op (Rename directory name target renamed)
-      (here.is ∙ ap (λ (r : Nodes). Moved (unwrap_or (child_of r directory.0 name) 0) (spot directory.0 name) (spot target.0 renamed)) facts.1) e
+    (here.is ∙ ap (λ (r : Nodes). Moved (unwrap_or (child_of r directory.0 name) 0) (spot directory.0 name) (spot target.0 renamed)) facts.1) e
     (subst (λ (n : ℕ). Changes new next total (changed_tree (move n (at target.0 renamed)) (tree_in None old next))) number
-      (Changes-moved old new next total (number_ready ready) directory.0 target.0 name renamed facts.0
-        (subst (λ (o : List ℕ). Relocates old new (number_ready ready) (at directory.0 name) (at target.0 o)) other (subst (λ (b : List ℕ). Relocates old new (number_ready ready) (at directory.0 b) (at target.0 others)) same relocates))
-        (sum ∙ ap contents_sum facts.1)))
+    (Changes-moved old new next total (number_ready ready) directory.0 target.0 name renamed facts.0
+    (subst (λ (o : List ℕ). Relocates old new (number_ready ready) (at directory.0 name) (at target.0 o)) other (subst (λ (b : List ℕ). Relocates old new (number_ready ready) (at directory.0 b) (at target.0 others)) same relocates))
+    (sum ∙ ap contents_sum facts.1)))

@@ -57,7 +57,7 @@ no_child_at_next tree name is =
     let above : 1 ≤ tree.next = (let lt = (is.sound 1 root is.has_root).below_next in omega (arith, lt)) in
     option_none (number_at tree.rows (at tree.next name))
     (λ m e. let holder = holder_of tree tree.next m name is above (stands_in tree (at tree.next name) m is e) in
-        let lt : tree.next < tree.next = (is.sound tree.next holder.0 holder.1).below_next in omega (arith, lt))
+    let lt : tree.next < tree.next = (is.sound tree.next holder.0 holder.1).below_next in omega (arith, lt))
 
 pub none_at_next : (tree : FileTree) → IsTree tree → node_at tree.rows tree.next ≡ None
 none_at_next tree is = by (node_at tree.rows tree.next) refl
@@ -79,23 +79,24 @@ child-added_elsewhere tree kind place is can directory name apart =
     let then = IsTree-add tree kind place is can in
     let more : Nodes = (tree.next, new_node kind place) ∷ [] in
     let same : number_at (tree.rows ++ more) (at directory name) ≡ number_at tree.rows (at directory name) =
-        number_same tree (changed_tree (add kind place) tree) (at directory name) is then
-        (λ m s. elim (found-push tree.rows tree.next (new_node kind place) m s.node s.found) [
-            inl old ↦ record { node = s.node; found = old; there = s.there }
-          | inr new ↦ absurd (true≢false (sym (is_place-same place (at directory name) (ap (λ (n : Node). n.place) new.1 ∙ s.there)) ∙ apart))
-          ])
-        (λ m s. record { node = s.node; found = lookup-append_found (nat_eq m) tree.rows more s.node s.found; there = s.there }) in
+    number_same tree (changed_tree (add kind place) tree) (at directory name) is then
+    (λ m s. elim (found-push tree.rows tree.next (new_node kind place) m s.node s.found) [
+      | inl old ↦ record { node = s.node; found = old; there = s.there }
+      | inr new ↦ absurd (true≢false (sym (is_place-same place (at directory name) (ap (λ (n : Node). n.place) new.1 ∙ s.there)) ∙ apart))
+    ])
+    (λ m s. record { node = s.node; found = lookup-append_found (nat_eq m) tree.rows more s.node s.found; there = s.there }) in
     elim (cases_eq directory tree.next) [
-      inl e ↦ let none : number_at (tree.rows ++ more) (at directory name) ≡ None = same ∙ (ap (λ (d : ℕ). number_at tree.rows (at d name)) e ∙ no_child_at_next tree name is) in
-        both_none (is_directory (node_at (tree.rows ++ more) directory)) (number_at (tree.rows ++ more) (at directory name)) none
-        ∙ sym (cond-false (is_directory (node_at tree.rows directory)) _ _ (ap is_directory (ap (node_at tree.rows) e ∙ none_at_next tree is)))
-    | inr other ↦ ap (λ (b : Bool). cond b (number_at (tree.rows ++ more) (at directory name)) None) (ap is_directory (found_same directory other))
-        ∙ ap (λ (o : Option ℕ). cond (is_directory (node_at tree.rows directory)) o None) same
+      | inl e ↦ let none : number_at (tree.rows ++ more) (at directory name) ≡ None = same ∙ (ap (λ (d : ℕ). number_at tree.rows (at d name)) e ∙ no_child_at_next tree name is) in
+          both_none (is_directory (node_at (tree.rows ++ more) directory)) (number_at (tree.rows ++ more) (at directory name)) none
+          ∙ sym (cond-false (is_directory (node_at tree.rows directory)) _ _ (ap is_directory (ap (node_at tree.rows) e ∙ none_at_next tree is)))
+      | inr other ↦ ap (λ (b : Bool). cond b (number_at (tree.rows ++ more) (at directory name)) None) (ap is_directory (found_same directory other))
+          ∙ ap (λ (o : Option ℕ). cond (is_directory (node_at tree.rows directory)) o None) same
     ]
   where
     both_none : (b : Bool) (o : Option ℕ) → o ≡ None → cond b o None ≡ None
     both_none true o e = e
     both_none false o e = refl
+
     found_same : (d : ℕ) → d ≢ tree.next → node_at (tree.rows ++ (tree.next, new_node kind place) ∷ []) d ≡ node_at tree.rows d
     found_same d other = by (node_at tree.rows d) refl
       where
@@ -110,31 +111,31 @@ kind-revised number revision same [] directory = refl
 kind-revised number revision same (row ∷ rows) directory =
     split (nat_eq number row.0)
     (λ t. ap (λ (r : Nodes). is_directory (node_at r directory)) (cond-true (nat_eq number row.0) ((row.0, revision row.1) ∷ rows) (row ∷ revised number revision rows) t)
-        ∙ split (nat_eq directory row.0)
-          (λ s. ap is_directory (cond-true (nat_eq directory row.0) (Some (revision row.1)) (node_at rows directory) s)
-              ∙ (ap is_directory_kind (same row.1) ∙ sym (ap is_directory (cond-true (nat_eq directory row.0) (Some row.1) (node_at rows directory) s))))
-          (λ s. ap is_directory (cond-false (nat_eq directory row.0) (Some (revision row.1)) (node_at rows directory) s)
-              ∙ sym (ap is_directory (cond-false (nat_eq directory row.0) (Some row.1) (node_at rows directory) s))))
+    ∙ split (nat_eq directory row.0)
+    (λ s. ap is_directory (cond-true (nat_eq directory row.0) (Some (revision row.1)) (node_at rows directory) s)
+    ∙ (ap is_directory_kind (same row.1) ∙ sym (ap is_directory (cond-true (nat_eq directory row.0) (Some row.1) (node_at rows directory) s))))
+    (λ s. ap is_directory (cond-false (nat_eq directory row.0) (Some (revision row.1)) (node_at rows directory) s)
+    ∙ sym (ap is_directory (cond-false (nat_eq directory row.0) (Some row.1) (node_at rows directory) s))))
     (λ f. ap (λ (r : Nodes). is_directory (node_at r directory)) (cond-false (nat_eq number row.0) ((row.0, revision row.1) ∷ rows) (row ∷ revised number revision rows) f)
-        ∙ split (nat_eq directory row.0)
-          (λ s. ap is_directory (cond-true (nat_eq directory row.0) (Some row.1) (node_at (revised number revision rows) directory) s)
-              ∙ sym (ap is_directory (cond-true (nat_eq directory row.0) (Some row.1) (node_at rows directory) s)))
-          (λ s. ap is_directory (cond-false (nat_eq directory row.0) (Some row.1) (node_at (revised number revision rows) directory) s)
-              ∙ (kind-revised number revision same rows directory ∙ sym (ap is_directory (cond-false (nat_eq directory row.0) (Some row.1) (node_at rows directory) s)))))
+    ∙ split (nat_eq directory row.0)
+    (λ s. ap is_directory (cond-true (nat_eq directory row.0) (Some row.1) (node_at (revised number revision rows) directory) s)
+    ∙ sym (ap is_directory (cond-true (nat_eq directory row.0) (Some row.1) (node_at rows directory) s)))
+    (λ s. ap is_directory (cond-false (nat_eq directory row.0) (Some row.1) (node_at (revised number revision rows) directory) s)
+    ∙ (kind-revised number revision same rows directory ∙ sym (ap is_directory (cond-false (nat_eq directory row.0) (Some row.1) (node_at rows directory) s)))))
 
 pub child-filled : (rows : Nodes) (number : ℕ) (contents : List ℕ) (directory : ℕ) (name : List ℕ) → child_of (revised number (with_contents contents) rows) directory name ≡ child_of rows directory name
 child-filled rows number contents directory name =
     ap (λ (b : Bool). cond b (number_at (revised number (with_contents contents) rows) (at directory name)) None) (kind-revised number (with_contents contents) (λ _. refl) rows directory)
     ∙ ap (λ (places : List (Place × ℕ)). cond (is_directory (node_at rows directory)) (lookup (is_place (at directory name)) places) None)
-      (map-revised {Y = Place × ℕ} (λ row. (row.1.place, row.0)) number (with_contents contents) (λ _ _. refl) rows)
+    (map-revised {Y = Place × ℕ} (λ row. (row.1.place, row.0)) number (with_contents contents) (λ _ _. refl) rows)
 
 -- ---- a node that goes
 
 kept_after : (tree : FileTree) (number m : ℕ) (node : Node) → IsTree tree → node_at (remove_entry (nat_eq number) tree.rows) m ≡ Some node → (m ≢ number) × (node_at tree.rows m ≡ Some node)
 kept_after tree number m node is e =
     elim (cases_eq m number) [
-      inl same ↦ absurd (none-some _ (sym (lookup-removed_same number tree.rows is.rising) ∙ (ap (node_at (remove_entry (nat_eq number) tree.rows)) (sym same) ∙ e)))
-    | inr apart ↦ (apart, sym (lookup-removed_other number m tree.rows apart) ∙ e)
+      | inl same ↦ absurd (none-some _ (sym (lookup-removed_same number tree.rows is.rising) ∙ (ap (node_at (remove_entry (nat_eq number) tree.rows)) (sym same) ∙ e)))
+      | inr apart ↦ (apart, sym (lookup-removed_other number m tree.rows apart) ∙ e)
     ]
 
 pub child-removed_within : (tree : FileTree) (number : ℕ) (name : List ℕ) → IsTree tree → child_of (changed_tree (remove number) tree).rows number name ≡ None
@@ -145,10 +146,10 @@ pub child-removed_here : (tree : FileTree) (number : ℕ) (place : Place) → Is
 child-removed_here tree number place is can there =
     let then = IsTree-remove tree number is can in
     let none : number_at (remove_entry (nat_eq number) tree.rows) place ≡ None =
-        option_none (number_at (remove_entry (nat_eq number) tree.rows) place)
-        (λ m e. let s = stands_in (changed_tree (remove number) tree) place m then e in
-            let was = kept_after tree number m s.node is s.found in
-            was.0 (same_Some _ _ (sym (number_from tree place m is (record { node = s.node; found = was.1; there = s.there })) ∙ number_from tree place number is (record { node = can.node; found = can.found; there = there })))) in
+    option_none (number_at (remove_entry (nat_eq number) tree.rows) place)
+    (λ m e. let s = stands_in (changed_tree (remove number) tree) place m then e in
+    let was = kept_after tree number m s.node is s.found in
+    was.0 (same_Some _ _ (sym (number_from tree place m is (record { node = s.node; found = was.1; there = s.there })) ∙ number_from tree place number is (record { node = can.node; found = can.found; there = there })))) in
     both_none (is_directory (node_at (remove_entry (nat_eq number) tree.rows) place.directory)) (number_at (remove_entry (nat_eq number) tree.rows) place) none
   where
     both_none : (b : Bool) (o : Option ℕ) → o ≡ None → cond b o None ≡ None
@@ -159,13 +160,13 @@ pub child-removed_elsewhere : (tree : FileTree) (number : ℕ) (place : Place) �
 child-removed_elsewhere tree number place is can there directory name apart other =
     let then = IsTree-remove tree number is can in
     let same : number_at (remove_entry (nat_eq number) tree.rows) (at directory name) ≡ number_at tree.rows (at directory name) =
-        number_same tree (changed_tree (remove number) tree) (at directory name) is then
-        (λ m s. let was = kept_after tree number m s.node is s.found in record { node = s.node; found = was.1; there = s.there })
-        (λ m s. record {
-          node = s.node;
-          found = lookup-removed_other number m tree.rows (λ e. true≢false (sym (is_place-same place (at directory name) (sym there ∙ (ap (λ (n : Node). n.place) (same_Some _ _ (sym can.found ∙ (ap (node_at tree.rows) (sym e) ∙ s.found))) ∙ s.there))) ∙ apart)) ∙ s.found;
-          there = s.there;
-        }) in
+    number_same tree (changed_tree (remove number) tree) (at directory name) is then
+    (λ m s. let was = kept_after tree number m s.node is s.found in record { node = s.node; found = was.1; there = s.there })
+    (λ m s. record {
+      node = s.node;
+      found = lookup-removed_other number m tree.rows (λ e. true≢false (sym (is_place-same place (at directory name) (sym there ∙ (ap (λ (n : Node). n.place) (same_Some _ _ (sym can.found ∙ (ap (node_at tree.rows) (sym e) ∙ s.found))) ∙ s.there))) ∙ apart)) ∙ s.found;
+      there = s.there;
+    }) in
     ap (λ (b : Bool). cond b (number_at (remove_entry (nat_eq number) tree.rows) (at directory name)) None) (ap is_directory (lookup-removed_other number directory tree.rows other))
     ∙ ap (λ (o : Option ℕ). cond (is_directory (node_at tree.rows directory)) o None) same
 
@@ -176,19 +177,19 @@ child-moved_here tree number place is can =
     let after : Nodes = revised number (with_place place) tree.rows in
     cond-true (is_directory (node_at after place.directory)) _ _ (kind-revised number (with_place place) (λ _. refl) tree.rows place.directory ∙ (ap is_directory can.held ∙ ap is_directory_kind can.is_directory))
     ∙ number_from (changed_tree (move number place) tree) place number (IsTree-move tree number place is can)
-      (record { node = with_place place can.node; found = lookup-revised_same number (with_place place) tree.rows can.node can.found; there = refl })
+    (record { node = with_place place can.node; found = lookup-revised_same number (with_place place) tree.rows can.node can.found; there = refl })
 
 pub child-moved_from : (tree : FileTree) (number : ℕ) (from place : Place) → IsTree tree → (can : CanMove tree number place) → can.node.place ≡ from → is_place from place ≡ false → child_of (changed_tree (move number place) tree).rows from.directory from.name ≡ None
 child-moved_from tree number from place is can there apart =
     let after : Nodes = revised number (with_place place) tree.rows in
     let then = IsTree-move tree number place is can in
     let none : number_at after from ≡ None =
-        option_none (number_at after from)
-        (λ m e. let s = stands_in (changed_tree (move number place) tree) from m then e in
-            elim (found-revised number (with_place place) tree.rows can.node can.found m s.node s.found) [
-              inl old ↦ old.0 (same_Some _ _ (sym (number_from tree from m is (record { node = s.node; found = old.1; there = s.there })) ∙ number_from tree from number is (record { node = can.node; found = can.found; there = there })))
-            | inr new ↦ true≢false (sym (is_place-same from place (sym s.there ∙ ap (λ (n : Node). n.place) (sym new.1))) ∙ apart)
-            ]) in
+    option_none (number_at after from)
+    (λ m e. let s = stands_in (changed_tree (move number place) tree) from m then e in
+    elim (found-revised number (with_place place) tree.rows can.node can.found m s.node s.found) [
+      | inl old ↦ old.0 (same_Some _ _ (sym (number_from tree from m is (record { node = s.node; found = old.1; there = s.there })) ∙ number_from tree from number is (record { node = can.node; found = can.found; there = there })))
+      | inr new ↦ true≢false (sym (is_place-same from place (sym s.there ∙ ap (λ (n : Node). n.place) (sym new.1))) ∙ apart)
+    ]) in
     both_none (is_directory (node_at after from.directory)) (number_at after from) none
   where
     both_none : (b : Bool) (o : Option ℕ) → o ≡ None → cond b o None ≡ None
@@ -200,15 +201,15 @@ child-moved_elsewhere tree number from place is can there directory name apart o
     let after : Nodes = revised number (with_place place) tree.rows in
     let then = IsTree-move tree number place is can in
     let same : number_at after (at directory name) ≡ number_at tree.rows (at directory name) =
-        number_same tree (changed_tree (move number place) tree) (at directory name) is then
-        (λ m s. elim (found-revised number (with_place place) tree.rows can.node can.found m s.node s.found) [
-            inl old ↦ record { node = s.node; found = old.1; there = s.there }
-          | inr new ↦ absurd (true≢false (sym (is_place-same place (at directory name) (ap (λ (n : Node). n.place) new.1 ∙ s.there)) ∙ other))
-          ])
-        (λ m s. record {
-          node = s.node;
-          found = lookup-revised_other number m (with_place place) tree.rows (λ e. true≢false (sym (is_place-same from (at directory name) (sym there ∙ (ap (λ (n : Node). n.place) (same_Some _ _ (sym can.found ∙ (ap (node_at tree.rows) (sym e) ∙ s.found))) ∙ s.there))) ∙ apart)) ∙ s.found;
-          there = s.there;
-        }) in
+    number_same tree (changed_tree (move number place) tree) (at directory name) is then
+    (λ m s. elim (found-revised number (with_place place) tree.rows can.node can.found m s.node s.found) [
+      | inl old ↦ record { node = s.node; found = old.1; there = s.there }
+      | inr new ↦ absurd (true≢false (sym (is_place-same place (at directory name) (ap (λ (n : Node). n.place) new.1 ∙ s.there)) ∙ other))
+    ])
+    (λ m s. record {
+      node = s.node;
+      found = lookup-revised_other number m (with_place place) tree.rows (λ e. true≢false (sym (is_place-same from (at directory name) (sym there ∙ (ap (λ (n : Node). n.place) (same_Some _ _ (sym can.found ∙ (ap (node_at tree.rows) (sym e) ∙ s.found))) ∙ s.there))) ∙ apart)) ∙ s.found;
+      there = s.there;
+    }) in
     ap (λ (b : Bool). cond b (number_at after (at directory name)) None) (kind-revised number (with_place place) (λ _. refl) tree.rows directory)
     ∙ ap (λ (o : Option ℕ). cond (is_directory (node_at tree.rows directory)) o None) same

@@ -64,15 +64,16 @@ none_held : (kept : Kept) → kept.names.entries ≡ [] → (directory : ℕ) (n
 none_held kept none directory name =
     split (is_at (nat_cmp directory) 1)
     (λ t. ap (λ (k : Option Kept). number_in k name) (cond-true (is_at (nat_cmp directory) 1) (Some kept) None t)
-        ∙ ap (λ (es : List (List ℕ × ℕ)). lookup (is_at (slice_cmp nat_cmp name)) es) none)
+    ∙ ap (λ (es : List (List ℕ × ℕ)). lookup (is_at (slice_cmp nat_cmp name)) es) none)
     (λ f. ap (λ (k : Option Kept). number_in k name) (cond-false (is_at (nat_cmp directory) 1) (Some kept) None f))
 
 pub fresh_kept : (entries : Entries) (kept : Kept) → entries ≡ (1, kept) ∷ [] → shown kept ≡ root → kept.names.entries ≡ [] → IsKept entries 2 None × (0 ≡ contents_sum (rows_of entries))
 fresh_kept entries kept e shows none =
-    let rows : rows_of entries ≡ fresh_tree.rows = ap rows_of e ∙ ap (λ (n : Node). (1, n) ∷ []) shows in
-    (IsKept-from entries fresh_tree IsTree-fresh rows
-      (λ directory name. ap (λ (es : Entries). held_at es directory name) e ∙ (none_held kept none directory name ∙ sym (no_child directory name))),
-     ap contents_sum (sym rows))
+    let rows : rows_of entries ≡ fresh_tree.rows = ap rows_of e ∙ ap (λ (n : Node). (1, n) ∷ []) shows in (
+      IsKept-from entries fresh_tree IsTree-fresh rows
+          (λ directory name. ap (λ (es : Entries). held_at es directory name) e ∙ (none_held kept none directory name ∙ sym (no_child directory name))),
+      ap contents_sum (sym rows),
+    )
 
 -- ---- the children of any tree
 
@@ -86,19 +87,20 @@ child_any entries next ready directory name kept =
     let tree : FileTree = tree_in ready entries next in
     let same : above_zero (child_of tree.rows directory name) ≡ child_of tree.rows directory name = above_same (child_of tree.rows directory name) (λ number e. child_above_zero tree directory name number kept.tree e) in
     elim (cases_lt 64 (length name)) [
-      inl long ↦ ap above_zero (cond-false (nat_le (length name) 64) (held_at entries directory name) None (lt-leb (length name) 64 long))
-        ∙ none_for_long (child_of tree.rows directory name) refl long
-    | inr short ↦ ap above_zero (cond-true (nat_le (length name) 64) (held_at entries directory name) None (le-leb (length name) 64 short) ∙ kept.index directory name)
-        ∙ by (held_spot ready) kept.free same
+      | inl long ↦ ap above_zero (cond-false (nat_le (length name) 64) (held_at entries directory name) None (lt-leb (length name) 64 long))
+          ∙ none_for_long (child_of tree.rows directory name) refl long
+      | inr short ↦ ap above_zero (cond-true (nat_le (length name) 64) (held_at entries directory name) None (le-leb (length name) 64 short) ∙ kept.index directory name)
+          ∙ by (held_spot ready) kept.free same
     ]
   where
     none_for_long : (found : Option ℕ) → child_of (rows_of (settled ready entries)) directory name ≡ found → 64 < length name → None ≡ child_of (rows_of (settled ready entries)) directory name
     none_for_long None h long = sym h
     none_for_long (Some number) h long = absurd (let short = child_short (tree_in ready entries next) directory name number kept.tree h in omega (arith, short, long))
+
     by : (held : Option Spot) → IsHeldFree held (rows_of (settled ready entries)) → above_zero (child_of (rows_of (settled ready entries)) directory name) ≡ child_of (rows_of (settled ready entries)) directory name → above_zero (expected held (rows_of (settled ready entries)) directory name) ≡ child_of (rows_of (settled ready entries)) directory name
     by None free s = s
     by (Some spot) free s =
         split (is_place (place_of spot) (at directory name))
         (λ t. ap above_zero (cond-true (is_place (place_of spot) (at directory name)) (Some 0) (child_of (rows_of (settled ready entries)) directory name) t)
-            ∙ (sym free ∙ ap (λ (p : Place). child_of (rows_of (settled ready entries)) p.directory p.name) (is_place-true (place_of spot) (at directory name) t)))
+        ∙ (sym free ∙ ap (λ (p : Place). child_of (rows_of (settled ready entries)) p.directory p.name) (is_place-true (place_of spot) (at directory name) t)))
         (λ f. ap above_zero (cond-false (is_place (place_of spot) (at directory name)) (Some 0) (child_of (rows_of (settled ready entries)) directory name) f) ∙ s)

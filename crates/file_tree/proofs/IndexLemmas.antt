@@ -24,11 +24,11 @@ pub same_test : (number other : ℕ) → is_at (nat_cmp number) other ≡ nat_eq
 same_test number other =
     split (nat_lt number other)
     (λ t. ap is_eq (cond-true (nat_lt number other) Less (cond (nat_eq number other) Equal Greater) t)
-        ∙ sym (ne_eqb number other (λ h. let lt : number < other = ltb-true number other t in omega (arith, h, lt))))
+    ∙ sym (ne_eqb number other (λ h. let lt : number < other = ltb-true number other t in omega (arith, h, lt))))
     (λ f. ap is_eq (cond-false (nat_lt number other) Less (cond (nat_eq number other) Equal Greater) f)
-        ∙ split (nat_eq number other)
-          (λ s. ap is_eq (cond-true (nat_eq number other) Equal Greater s) ∙ sym s)
-          (λ s. ap is_eq (cond-false (nat_eq number other) Equal Greater s) ∙ sym s))
+    ∙ split (nat_eq number other)
+    (λ s. ap is_eq (cond-true (nat_eq number other) Equal Greater s) ∙ sym s)
+    (λ s. ap is_eq (cond-false (nat_eq number other) Equal Greater s) ∙ sym s))
 
 -- the two tests find the same
 pub same_found : (entries : Entries) (number : ℕ) → lookup (nat_eq number) entries ≡ kept_at entries number
@@ -59,14 +59,14 @@ rows-set_value [] number revision old new e same = refl
 rows-set_value (entry ∷ entries) number revision old new e same =
     split (nat_eq number entry.0)
     (λ t. let s = same_test number entry.0 ∙ t in
-        let was : entry.1 ≡ old = same_Some _ _ (cond_at_true (is_at (nat_cmp number) entry.0) _ _ _ s e) in
-        ap rows_of (cond-true (is_at (nat_cmp number) entry.0) _ _ s)
-        ∙ (ap (λ (n : Node). (entry.0, n) ∷ rows_of entries) (same ∙ ap (λ (k : Kept). revision (shown k)) (sym was))
-        ∙ sym (cond-true (nat_eq number entry.0) ((entry.0, revision (shown entry.1)) ∷ rows_of entries) _ t)))
+    let was : entry.1 ≡ old = same_Some _ _ (cond_at_true (is_at (nat_cmp number) entry.0) _ _ _ s e) in
+    ap rows_of (cond-true (is_at (nat_cmp number) entry.0) _ _ s)
+    ∙ (ap (λ (n : Node). (entry.0, n) ∷ rows_of entries) (same ∙ ap (λ (k : Kept). revision (shown k)) (sym was))
+    ∙ sym (cond-true (nat_eq number entry.0) ((entry.0, revision (shown entry.1)) ∷ rows_of entries) _ t)))
     (λ f. let s = same_test number entry.0 ∙ f in
-        ap rows_of (cond-false (is_at (nat_cmp number) entry.0) _ _ s)
-        ∙ (ap (λ (rows : Nodes). (entry.0, shown entry.1) ∷ rows) (rows-set_value entries number revision old new (cond_at_false (is_at (nat_cmp number) entry.0) _ _ _ s e) same)
-        ∙ sym (cond-false (nat_eq number entry.0) _ _ f)))
+    ap rows_of (cond-false (is_at (nat_cmp number) entry.0) _ _ s)
+    ∙ (ap (λ (rows : Nodes). (entry.0, shown entry.1) ∷ rows) (rows-set_value entries number revision old new (cond_at_false (is_at (nat_cmp number) entry.0) _ _ _ s e) same)
+    ∙ sym (cond-false (nat_eq number entry.0) _ _ f)))
 
 -- one that shows the same leaves the rows
 pub rows-set_value_same : (entries : Entries) (number : ℕ) (old new : Kept) → kept_at entries number ≡ Some old → shown new ≡ shown old → rows_of (set_value (is_at (nat_cmp number)) entries new) ≡ rows_of entries
@@ -74,9 +74,9 @@ rows-set_value_same [] number old new e same = refl
 rows-set_value_same (entry ∷ entries) number old new e same =
     split (is_at (nat_cmp number) entry.0)
     (λ s. let was : entry.1 ≡ old = same_Some _ _ (cond_at_true (is_at (nat_cmp number) entry.0) _ _ _ s e) in
-        ap rows_of (cond-true (is_at (nat_cmp number) entry.0) _ _ s) ∙ ap (λ (n : Node). (entry.0, n) ∷ rows_of entries) (same ∙ ap shown (sym was)))
+    ap rows_of (cond-true (is_at (nat_cmp number) entry.0) _ _ s) ∙ ap (λ (n : Node). (entry.0, n) ∷ rows_of entries) (same ∙ ap shown (sym was)))
     (λ s. ap rows_of (cond-false (is_at (nat_cmp number) entry.0) _ _ s)
-        ∙ ap (λ (rows : Nodes). (entry.0, shown entry.1) ∷ rows) (rows-set_value_same entries number old new (cond_at_false (is_at (nat_cmp number) entry.0) _ _ _ s e) same))
+    ∙ ap (λ (rows : Nodes). (entry.0, shown entry.1) ∷ rows) (rows-set_value_same entries number old new (cond_at_false (is_at (nat_cmp number) entry.0) _ _ _ s e) same))
 
 pub rows-remove_entry : (entries : Entries) (number : ℕ) → rows_of (remove_entry (is_at (nat_cmp number)) entries) ≡ remove_entry (nat_eq number) (rows_of entries)
 rows-remove_entry [] number = refl
@@ -84,7 +84,7 @@ rows-remove_entry (entry ∷ entries) number =
     split (nat_eq number entry.0)
     (λ t. ap rows_of (cond-true (is_at (nat_cmp number) entry.0) _ _ (same_test number entry.0 ∙ t)) ∙ sym (cond-true (nat_eq number entry.0) _ _ t))
     (λ f. ap rows_of (cond-false (is_at (nat_cmp number) entry.0) _ _ (same_test number entry.0 ∙ f))
-        ∙ (ap (λ (rows : Nodes). (entry.0, shown entry.1) ∷ rows) (rows-remove_entry entries number) ∙ sym (cond-false (nat_eq number entry.0) _ _ f)))
+    ∙ (ap (λ (rows : Nodes). (entry.0, shown entry.1) ∷ rows) (rows-remove_entry entries number) ∙ sym (cond-false (nat_eq number entry.0) _ _ f)))
 
 -- ---- names
 
@@ -93,9 +93,9 @@ pub other_name : (place : Place) (name : List ℕ) → is_place place (at place.
 other_name place name e =
     is_eq-slice_cmp place.name name
     ∙ elim (and_cases (nat_eq place.directory place.directory) (bytes_eq place.name name) e) [
-        inl h ↦ absurd (false≢true (sym h ∙ eq-eqb place.directory place.directory refl))
+      | inl h ↦ absurd (false≢true (sym h ∙ eq-eqb place.directory place.directory refl))
       | inr h ↦ h
-      ]
+    ]
 
 -- a directory's names with one changed
 pub record ChangesName (old new : Kept) (name : List ℕ) (number : Option ℕ) : Type 0 where
@@ -126,7 +126,7 @@ Puts-from_set old new place number was now there sets changes =
       here = ap (λ (k : Option Kept). number_in k place.name) (kept-set old new place.directory now sets)
           ∙ (changes.names place.name ∙ cond-true (is_at (slice_cmp nat_cmp place.name) place.name) _ _ (is_name_itself place.name));
       elsewhere = λ directory name apart. elim (cases_eq directory place.directory) [
-          inl same ↦ let e : is_place place (at place.directory name) ≡ false = ap (λ (d : ℕ). is_place place (at d name)) (sym same) ∙ apart in
+        | inl same ↦ let e : is_place place (at place.directory name) ≡ false = ap (λ (d : ℕ). is_place place (at d name)) (sym same) ∙ apart in
             ap (λ (d : ℕ). held_at new d name) same
             ∙ (ap (λ (k : Option Kept). number_in k name) (kept-set old new place.directory now sets)
             ∙ (changes.names name
@@ -134,7 +134,7 @@ Puts-from_set old new place number was now there sets changes =
             ∙ (ap (λ (k : Option Kept). number_in k name) (sym there)
             ∙ ap (λ (d : ℕ). held_at old d name) (sym same)))))
         | inr other ↦ ap (λ (k : Option Kept). number_in k name) (kept-unset old new place.directory now sets directory other)
-        ];
+      ];
       same_rows = ap rows_of sets.entries ∙ rows-set_value_same old place.directory was now there changes.same;
     }
 
@@ -142,10 +142,10 @@ Puts-from_set old new place number was now there sets changes =
 pub held-set : (old new : Entries) (number : ℕ) (was now : Kept) → kept_at old number ≡ Some was → SetsValue old new number now → ((name : List ℕ) → number_in (Some now) name ≡ number_in (Some was) name) → (directory : ℕ) (name : List ℕ) → held_at new directory name ≡ held_at old directory name
 held-set old new number was now there sets same directory name =
     elim (cases_eq directory number) [
-      inl e ↦ ap (λ (d : ℕ). held_at new d name) e
-        ∙ (ap (λ (k : Option Kept). number_in k name) (kept-set old new number now sets)
-        ∙ (same name ∙ (ap (λ (k : Option Kept). number_in k name) (sym there) ∙ ap (λ (d : ℕ). held_at old d name) (sym e))))
-    | inr other ↦ ap (λ (k : Option Kept). number_in k name) (kept-unset old new number now sets directory other)
+      | inl e ↦ ap (λ (d : ℕ). held_at new d name) e
+          ∙ (ap (λ (k : Option Kept). number_in k name) (kept-set old new number now sets)
+          ∙ (same name ∙ (ap (λ (k : Option Kept). number_in k name) (sym there) ∙ ap (λ (d : ℕ). held_at old d name) (sym e))))
+      | inr other ↦ ap (λ (k : Option Kept). number_in k name) (kept-unset old new number now sets directory other)
     ]
 
 -- ---- what the maps say
@@ -212,5 +212,5 @@ insert-last (entry ∷ entries) next kept rising below =
     let greater : nat_cmp next entry.0 ≡ Greater = cond-false (nat_lt next entry.0) _ _ (le-ltb next entry.0 (omega (arith, lt))) ∙ cond-false (nat_eq next entry.0) _ _ (ne_eqb next entry.0 (λ h. omega (arith, h, lt))) in
     ap (λ (o : Ordering). match_ordering o ((next, kept) ∷ entry ∷ entries) ((entry.0, kept) ∷ entries) (entry ∷ insert_entry nat_cmp entries next kept)) greater
     ∙ ap (λ (rest : Entries). entry ∷ rest) (insert-last entries next kept (rising_tail entry entries rising)
-        (λ number value e. let up : entry.0 < number = above_found entry.0 number value entries (rising_head entry entries rising) (same_found entries number ∙ e) in
-            below number value (cond-false (is_at (nat_cmp number) entry.0) _ _ (same_test number entry.0 ∙ ne_eqb number entry.0 (λ h. omega (arith, h, up))) ∙ e)))
+    (λ number value e. let up : entry.0 < number = above_found entry.0 number value entries (rising_head entry entries rising) (same_found entries number ∙ e) in
+    below number value (cond-false (is_at (nat_cmp number) entry.0) _ _ (same_test number entry.0 ∙ ne_eqb number entry.0 (λ h. omega (arith, h, up))) ∙ e)))

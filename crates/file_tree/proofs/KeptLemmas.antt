@@ -65,20 +65,20 @@ pub child_short : (tree : FileTree) (directory : ℕ) (name : List ℕ) (number 
 child_short tree directory name number is e =
     split (is_directory (node_at tree.rows directory))
     (λ t. let s = stands_in tree (at directory name) number is (cond_at_true (is_directory (node_at tree.rows directory)) _ _ _ t e) in
-        let same : s.node.place.name ≡ name = ap (λ (p : Place). p.name) s.there in
-        elim (cases_eq number 1) [
-          inl one ↦ let root_is : root ≡ s.node = same_Some _ _ (sym is.has_root ∙ (ap (node_at tree.rows) (sym one) ∙ s.found)) in
-            let none : [] ≡ name = ap (λ (n : Node). n.place.name) root_is ∙ same in
-            let len : 0 ≡ length name = ap length none in omega (arith, len)
-        | inr other ↦ short_name name (subst (λ (n : List ℕ). is_node_name n ≡ true) same ((is.sound number s.node s.found).named other))
-        ])
+    let same : s.node.place.name ≡ name = ap (λ (p : Place). p.name) s.there in
+    elim (cases_eq number 1) [
+      | inl one ↦ let root_is : root ≡ s.node = same_Some _ _ (sym is.has_root ∙ (ap (node_at tree.rows) (sym one) ∙ s.found)) in
+          let none : [] ≡ name = ap (λ (n : Node). n.place.name) root_is ∙ same in
+          let len : 0 ≡ length name = ap length none in omega (arith, len)
+      | inr other ↦ short_name name (subst (λ (n : List ℕ). is_node_name n ≡ true) same ((is.sound number s.node s.found).named other))
+    ])
     (λ f. absurd (none-some _ (cond_at_false (is_directory (node_at tree.rows directory)) _ _ _ f e)))
 
 pub child_found : (entries : Entries) (next directory : ℕ) (name : List ℕ) → IsKept entries next None → cond (nat_le (length name) 64) (held_at entries directory name) None ≡ child_of (rows_of entries) directory name
 child_found entries next directory name kept =
     elim (cases_lt 64 (length name)) [
-      inl long ↦ cond-false (nat_le (length name) 64) _ _ (lt-leb (length name) 64 long) ∙ none_for_long (child_of (rows_of entries) directory name) refl long
-    | inr short ↦ cond-true (nat_le (length name) 64) _ _ (le-leb (length name) 64 short) ∙ kept.index directory name
+      | inl long ↦ cond-false (nat_le (length name) 64) _ _ (lt-leb (length name) 64 long) ∙ none_for_long (child_of (rows_of entries) directory name) refl long
+      | inr short ↦ cond-true (nat_le (length name) 64) _ _ (le-leb (length name) 64 short) ∙ kept.index directory name
     ]
   where
     none_for_long : (found : Option ℕ) → child_of (rows_of entries) directory name ≡ found → 64 < length name → None ≡ child_of (rows_of entries) directory name
@@ -123,7 +123,7 @@ expected-put : (old new : Entries) (next : ℕ) (spot : Spot) → IsKept old nex
 expected-put old new next spot kept puts directory name =
     split (is_place (place_of spot) (at directory name))
     (λ t. let same = is_place-true (place_of spot) (at directory name) t in
-        ap (λ (p : Place). held_at new p.directory p.name) (sym same) ∙ (puts.here ∙ sym (cond-true (is_place (place_of spot) (at directory name)) _ _ t)))
+    ap (λ (p : Place). held_at new p.directory p.name) (sym same) ∙ (puts.here ∙ sym (cond-true (is_place (place_of spot) (at directory name)) _ _ t)))
     (λ f. puts.elsewhere directory name f ∙ (kept.index directory name ∙ sym (cond-false (is_place (place_of spot) (at directory name)) _ _ f)))
 
 pub Prepares-moved : (old new : Entries) (next number : ℕ) (from to : Spot) → IsKept old next None → Puts old new (place_of to) (Some 0) → child_of (rows_of old) to.directory to.name ≡ None → Prepares old new next (Moved number from to)
@@ -142,11 +142,11 @@ Prepares-moved old new next number from to kept puts free =
 held-append : (entries : Entries) (next : ℕ) (kept : Kept) → kept_at entries next ≡ None → kept.names.entries ≡ [] → (directory : ℕ) (name : List ℕ) → held_at (entries ++ (next, kept) ∷ []) directory name ≡ held_at entries directory name
 held-append entries next kept missing none directory name =
     elim (cases_eq directory next) [
-      inl e ↦ ap (λ (d : ℕ). held_at (entries ++ (next, kept) ∷ []) d name) e
-        ∙ (ap (λ (k : Option Kept). number_in k name) (kept_at-last entries next kept missing)
-        ∙ (ap (λ (es : List (List ℕ × ℕ)). lookup (is_at (slice_cmp nat_cmp name)) es) none
-        ∙ (sym (ap (λ (k : Option Kept). number_in k name) missing) ∙ ap (λ (d : ℕ). held_at entries d name) (sym e))))
-    | inr other ↦ ap (λ (k : Option Kept). number_in k name) (kept_at-append entries next kept directory other)
+      | inl e ↦ ap (λ (d : ℕ). held_at (entries ++ (next, kept) ∷ []) d name) e
+          ∙ (ap (λ (k : Option Kept). number_in k name) (kept_at-last entries next kept missing)
+          ∙ (ap (λ (es : List (List ℕ × ℕ)). lookup (is_at (slice_cmp nat_cmp name)) es) none
+          ∙ (sym (ap (λ (k : Option Kept). number_in k name) missing) ∙ ap (λ (d : ℕ). held_at entries d name) (sym e))))
+      | inr other ↦ ap (λ (k : Option Kept). number_in k name) (kept_at-append entries next kept directory other)
     ]
 
 missing_next : (entries : Entries) (next : ℕ) → IsBelow entries next → kept_at entries next ≡ None
@@ -169,9 +169,9 @@ Prepares-made old mid new next kind spot kept puts adds free =
       kept = record {
         tree = subst (λ (r : Nodes). IsTree (record { rows = r; next = next })) (sym rows) kept.tree;
         index = λ directory name.
-          ap (λ (es : Entries). held_at es directory name) adds.last
-          ∙ (held-append mid next adds.kept (missing_next mid next below) adds.no_names directory name
-          ∙ (expected-put old mid next spot kept puts directory name ∙ ap (λ (r : Nodes). expected (Some spot) r directory name) (sym rows)));
+            ap (λ (es : Entries). held_at es directory name) adds.last
+            ∙ (held-append mid next adds.kept (missing_next mid next below) adds.no_names directory name
+            ∙ (expected-put old mid next spot kept puts directory name ∙ ap (λ (r : Nodes). expected (Some spot) r directory name) (sym rows)));
         free = ap (λ (r : Nodes). child_of r spot.directory spot.name) rows ∙ free;
         prepared = record { before = mid; kept = adds.kept; last = adds.last; new = adds.shows; no_names = adds.no_names };
       };
@@ -181,14 +181,15 @@ Prepares-made old mid new next kind spot kept puts adds free =
 -- a name that was held is given up
 released : (mid new : Entries) (tree : FileTree) (spot : Spot) → IsTree tree → rows_of mid ≡ tree.rows → ((directory : ℕ) (name : List ℕ) → held_at mid directory name ≡ expected (Some spot) tree.rows directory name) → child_of tree.rows spot.directory spot.name ≡ None → Puts mid new (place_of spot) None → IsKept new tree.next None × (rows_of new ≡ tree.rows)
 released mid new tree spot is rows held free puts =
-    let same : rows_of new ≡ tree.rows = puts.same_rows ∙ rows in
-    (IsKept-from new tree is same
-      (λ directory name.
-        split (is_place (place_of spot) (at directory name))
-        (λ t. let e = is_place-true (place_of spot) (at directory name) t in
-            ap (λ (p : Place). held_at new p.directory p.name) (sym e) ∙ (puts.here ∙ (sym free ∙ ap (λ (p : Place). child_of tree.rows p.directory p.name) e)))
-        (λ f. puts.elsewhere directory name f ∙ (held directory name ∙ cond-false (is_place (place_of spot) (at directory name)) _ _ f))),
-     same)
+    let same : rows_of new ≡ tree.rows = puts.same_rows ∙ rows in (
+      IsKept-from new tree is same
+          (λ directory name.
+          split (is_place (place_of spot) (at directory name))
+          (λ t. let e = is_place-true (place_of spot) (at directory name) t in
+          ap (λ (p : Place). held_at new p.directory p.name) (sym e) ∙ (puts.here ∙ (sym free ∙ ap (λ (p : Place). child_of tree.rows p.directory p.name) e)))
+          (λ f. puts.elsewhere directory name f ∙ (held directory name ∙ cond-false (is_place (place_of spot) (at directory name)) _ _ f))),
+      same,
+    )
 
 pub Stays-released : (old mid same new : Entries) (next : ℕ) (spot : Spot) → IsKept old next None → Puts old mid (place_of spot) (Some 0) → same ≡ mid → Puts same new (place_of spot) None → child_of (rows_of old) spot.directory spot.name ≡ None → Stays old new next
 Stays-released old mid same new next spot kept puts e gone free =
@@ -213,12 +214,12 @@ forgets_made old mid new next kind spot kept e puts =
     let missing = missing_next last.before next (below_next_kept last.before next is) in
     let mid_is : mid ≡ last.before = e ∙ (ap (remove_entry (is_at (nat_cmp next))) last.last ∙ removed_last last.before next last.kept missing) in
     let r = released last.before new (tree_in None last.before next) spot is refl
-        (λ directory name.
-          sym (held-append last.before next last.kept missing last.no_names directory name)
-          ∙ (ap (λ (es : Entries). held_at es directory name) (sym last.last)
-          ∙ (kept.index directory name ∙ ap (λ (es : Entries). expected (Some spot) (rows_of es) directory name) settled_is)))
-        (ap (λ (es : Entries). child_of (rows_of es) spot.directory spot.name) (sym settled_is) ∙ kept.free)
-        (subst (λ (es : Entries). Puts es new (place_of spot) None) mid_is puts) in
+    (λ directory name.
+    sym (held-append last.before next last.kept missing last.no_names directory name)
+    ∙ (ap (λ (es : Entries). held_at es directory name) (sym last.last)
+    ∙ (kept.index directory name ∙ ap (λ (es : Entries). expected (Some spot) (rows_of es) directory name) settled_is)))
+    (ap (λ (es : Entries). child_of (rows_of es) spot.directory spot.name) (sym settled_is) ∙ kept.free)
+    (subst (λ (es : Entries). Puts es new (place_of spot) None) mid_is puts) in
     (r.0, r.1 ∙ ap rows_of (sym settled_is))
 
 pub forgets_nothing : (entries : Entries) (next : ℕ) → IsKept entries next (Some Nothing) → IsKept entries next None

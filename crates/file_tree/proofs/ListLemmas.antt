@@ -17,11 +17,11 @@ pub listed_names : (entries : Entries) (next directory : ℕ) (node : Kept) → 
 listed_names entries next directory node kept holds found sorted =
     let rows : Nodes = rows_of entries in
     let same : node.names.entries ≡ pairs_of (names_in rows directory) =
-        same_pairs node.names.entries (pairs_of (names_in rows directory)) sorted (names_sorted rows directory kept.tree.places_differ)
-        (λ name. sym (ap (λ (k : Option Kept). number_in k name) found)
-            ∙ (kept.index directory name
-            ∙ (cond-true (is_directory (node_at rows directory)) (number_at rows (at directory name)) None holds
-            ∙ sym (names_found rows directory kept.tree.places_differ name)))) in
+    same_pairs node.names.entries (pairs_of (names_in rows directory)) sorted (names_sorted rows directory kept.tree.places_differ)
+    (λ name. sym (ap (λ (k : Option Kept). number_in k name) found)
+    ∙ (kept.index directory name
+    ∙ (cond-true (is_directory (node_at rows directory)) (number_at rows (at directory name)) None holds
+    ∙ sym (names_found rows directory kept.tree.places_differ name)))) in
     ap (map named_node) same ∙ names_again (names_in rows directory)
 
 pub no_listed_names : {A : Type 0} (entries : Entries) (directory : ℕ) → is_directory (node_at (rows_of entries) directory) ≡ true → kept_at entries directory ≡ None → A

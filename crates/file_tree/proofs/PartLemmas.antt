@@ -36,14 +36,14 @@ written_over old offset (byte ∷ bytes) some fits =
 front_filled : (old : List ℕ) (offset more : ℕ) → offset - length old ≤ more → take offset (old ++ replicate more 0) ≡ take offset old ++ replicate (offset - length old) 0
 front_filled old offset more fits =
     elim (cases_lt (length old) offset) [
-      inl lt ↦ let e : offset ≡ length old + (offset - length old) = omega (arith, lt) in
-        ap (λ (n : ℕ). take n (old ++ replicate more 0)) e
-        ∙ (take-append-add old (replicate more 0) (offset - length old)
-        ∙ (ap (λ (gap : List ℕ). old ++ gap) (take-replicate (offset - length old) more 0 fits)
-        ∙ ap (λ (front : List ℕ). front ++ replicate (offset - length old) 0) (sym (take_all offset old (omega (arith, lt))))))
-    | inr le ↦ let none : offset - length old ≡ 0 = omega (arith, le) in
-        take-append-le offset old (replicate more 0) le
-        ∙ sym (ap (λ (n : ℕ). take offset old ++ replicate n 0) none ∙ append-nil (take offset old))
+      | inl lt ↦ let e : offset ≡ length old + (offset - length old) = omega (arith, lt) in
+          ap (λ (n : ℕ). take n (old ++ replicate more 0)) e
+          ∙ (take-append-add old (replicate more 0) (offset - length old)
+          ∙ (ap (λ (gap : List ℕ). old ++ gap) (take-replicate (offset - length old) more 0 fits)
+          ∙ ap (λ (front : List ℕ). front ++ replicate (offset - length old) 0) (sym (take_all offset old (omega (arith, lt))))))
+      | inr le ↦ let none : offset - length old ≡ 0 = omega (arith, le) in
+          take-append-le offset old (replicate more 0) le
+          ∙ sym (ap (λ (n : ℕ). take offset old ++ replicate n 0) none ∙ append-nil (take offset old))
     ]
 
 -- what is written at the end of contents that were filled up

@@ -53,36 +53,38 @@ some_child (row ∷ rows) directory rising e =
       stands = record { node = row.1; found = lookup_here (nat_eq row.0) row rows (eq-eqb row.0 row.0 refl); there = ap (λ (d : ℕ). at d row.1.place.name) (eqb-true row.1.place.directory directory t) };
     })
     (λ f. let rest = some_child rows directory (rising_tail row rows rising) (elim (or_cases (row.1.place.directory == directory) (has_names rows directory) e) [ inl h ↦ absurd (false≢true (sym f ∙ h)) | inr h ↦ h ]) in
-        let lt : row.0 < rest.number = above_found row.0 rest.number rest.stands.node rows (rising_head row rows rising) rest.stands.found in
-        record {
-          number = rest.number;
-          name = rest.name;
-          stands = record { node = rest.stands.node; found = lookup_later (nat_eq rest.number) row rows (ne_eqb rest.number row.0 (λ h. omega (arith, h, lt))) ∙ rest.stands.found; there = rest.stands.there };
-        })
+    let lt : row.0 < rest.number = above_found row.0 rest.number rest.stands.node rows (rising_head row rows rising) rest.stands.found in
+    record {
+      number = rest.number;
+      name = rest.name;
+      stands = record { node = rest.stands.node; found = lookup_later (nat_eq rest.number) row rows (ne_eqb rest.number row.0 (λ h. omega (arith, h, lt))) ∙ rest.stands.found; there = rest.stands.there };
+    })
 
 names_from_child : (rows : Nodes) (directory number : ℕ) (node : Node) → node_at rows number ≡ Some node → node.place.directory ≡ directory → has_names rows directory ≡ true
 names_from_child [] directory number node e there = absurd (none-some _ e)
 names_from_child (row ∷ rows) directory number node e there =
     split (nat_eq number row.0)
     (λ t. or_left (row.1.place.directory == directory) (has_names rows directory)
-        (eq-eqb row.1.place.directory directory (ap (λ (n : Node). n.place.directory) (same_Some _ _ (cond_at_true (nat_eq number row.0) _ _ _ t e)) ∙ there)))
+    (eq-eqb row.1.place.directory directory (ap (λ (n : Node). n.place.directory) (same_Some _ _ (cond_at_true (nat_eq number row.0) _ _ _ t e)) ∙ there)))
     (λ f. or_right (row.1.place.directory == directory) (has_names rows directory)
-        (names_from_child rows directory number node (cond_at_false (nat_eq number row.0) _ _ _ f e) there))
+    (names_from_child rows directory number node (cond_at_false (nat_eq number row.0) _ _ _ f e) there))
 
 -- a child in the tree is a name in its directory
 pub names_child : (tree : FileTree) (directory : ℕ) → IsTree tree → 1 ≤ directory → has_names tree.rows directory ≡ true → (name : List ℕ) × (number : ℕ) × (child_of tree.rows directory name ≡ Some number)
 names_child tree directory is above e =
     let child = some_child tree.rows directory is.rising e in
-    let holder = holder_of tree directory child.number child.name is above child.stands in
-    (child.name, child.number,
+    let holder = holder_of tree directory child.number child.name is above child.stands in (
+      child.name,
+      child.number,
       cond-true (is_directory (node_at tree.rows directory)) _ _ (ap is_directory holder.1 ∙ ap is_directory_kind holder.2)
-      ∙ number_from tree (at directory child.name) child.number is child.stands)
+          ∙ number_from tree (at directory child.name) child.number is child.stands,
+    )
 
 pub names_from : (tree : FileTree) (directory : ℕ) (name : List ℕ) (number : ℕ) → IsTree tree → child_of tree.rows directory name ≡ Some number → has_names tree.rows directory ≡ true
 names_from tree directory name number is e =
     split (is_directory (node_at tree.rows directory))
     (λ t. let s = stands_in tree (at directory name) number is (cond_at_true (is_directory (node_at tree.rows directory)) _ _ _ t e) in
-        names_from_child tree.rows directory number s.node s.found (ap (λ (p : Place). p.directory) s.there))
+    names_from_child tree.rows directory number s.node s.found (ap (λ (p : Place). p.directory) s.there))
     (λ f. absurd (none-some _ (cond_at_false (is_directory (node_at tree.rows directory)) _ _ _ f e)))
 
 -- where nothing is kept under any name, there are no names
@@ -90,7 +92,7 @@ pub no_names : (entries : Entries) (next directory : ℕ) → IsKept entries nex
 no_names entries next directory kept above none =
     false_from_ne_true (has_names (rows_of entries) directory)
     (λ t. let child = names_child (tree_in None entries next) directory kept.tree above t in
-        none-some _ (sym (none child.0) ∙ (kept.index directory child.0 ∙ child.2)))
+    none-some _ (sym (none child.0) ∙ (kept.index directory child.0 ∙ child.2)))
 
 pub no_names_missing : (entries : Entries) (next directory : ℕ) → IsKept entries next None → 1 ≤ directory → kept_at entries directory ≡ None → has_names (rows_of entries) directory ≡ false
 no_names_missing entries next directory kept above missing = no_names entries next directory kept above (λ name. ap (λ (k : Option Kept). number_in k name) missing)
@@ -106,7 +108,7 @@ names_kept entries next directory node kept above found empty there back = by no
     by (first ∷ others) h =
         let some : empty ≡ false = false_from_ne_true empty (λ t. let z = sym (there t) ∙ ap length h in omega (arith, z)) in
         let here : held_at entries directory first.0 ≡ Some first.1 =
-            ap (λ (k : Option Kept). number_in k first.0) found
-            ∙ (ap (λ (es : List (List ℕ × ℕ)). lookup (is_at (slice_cmp nat_cmp first.0)) es) h
-            ∙ cond-true (is_at (slice_cmp nat_cmp first.0) first.0) _ _ (is_name_itself first.0)) in
+        ap (λ (k : Option Kept). number_in k first.0) found
+        ∙ (ap (λ (es : List (List ℕ × ℕ)). lookup (is_at (slice_cmp nat_cmp first.0)) es) h
+        ∙ cond-true (is_at (slice_cmp nat_cmp first.0) first.0) _ _ (is_name_itself first.0)) in
         ap not some ∙ sym (names_from (tree_in None entries next) directory first.0 first.1 kept.tree (sym (kept.index directory first.0) ∙ here))

@@ -159,14 +159,7 @@ fn remove(nodes: &mut Nodes, total: u64, number: u64, directory: u64, name: &[u8
     unlink(nodes, total, number, &spot)
 }
 
-fn rename(
-    nodes: &mut Nodes,
-    number: u64,
-    directory: u64,
-    name: &[u8],
-    target: u64,
-    renamed: &[u8],
-)
+fn rename(nodes: &mut Nodes, number: u64, directory: u64, name: &[u8], target: u64, renamed: &[u8])
     requires short { length name.now ≤ 64 }
     requires short_too { length renamed.now ≤ 64 }
     requires there { IsSome (kept_at nodes.old.entries number) }

@@ -16,7 +16,3 @@ mod tree;
 pub use file_world::{Kind, NamedNode, Names, OpFault, Refusal, TreeOp, TreeReply};
 pub use ready::{Ready, Spot};
 pub use tree::Tree;
-
-
-#[cfg(test)]
-mod tests;

@@ -39,13 +39,7 @@ pub fn release(nodes: &mut Nodes, spot: &Spot)
     }
 }
 
-fn add(
-    nodes: &mut Nodes,
-    alloc: Global,
-    next: u64,
-    kind: Kind,
-    spot: &Spot,
-) -> Result<(), NoMemory>
+fn add(nodes: &mut Nodes, alloc: Global, next: u64, kind: Kind, spot: &Spot) -> Result<(), NoMemory>
     requires { IsBelow nodes.old.entries next }
     ensures ok { OnOk result (AddsLast nodes.old.entries nodes.new.entries next (new_node kind (place_of spot.now))) }
     ensures err { OnErr result (nodes.new.entries ≡ nodes.old.entries) }
@@ -147,7 +141,14 @@ pub fn prepare(nodes: &mut Nodes, alloc: Global, next: u64, op: &TreeOp) -> Resu
             prepare_made(nodes, alloc, next, Kind::File, directory.0, name.as_slice())
         }
         TreeOp::Mkdir(directory, name) => {
-            prepare_made(nodes, alloc, next, Kind::Directory, directory.0, name.as_slice())
+            prepare_made(
+                nodes,
+                alloc,
+                next,
+                Kind::Directory,
+                directory.0,
+                name.as_slice(),
+            )
         }
         TreeOp::Unlink(directory, name) => {
             let number = child(nodes, next, directory.0, name.as_slice()).unwrap_or(0);

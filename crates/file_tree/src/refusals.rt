@@ -11,7 +11,9 @@ use crate::node::Nodes;
 use file_world::{Kind, Refusal, TreeOp};
 
 const MOST_NODES: usize = 16384;
+
 const MOST_BYTES: u64 = 1048576;
+
 const MOST_BYTES_TOGETHER: u64 = 33554432;
 
 fn kind_at(nodes: &Nodes, number: u64) -> Option<Kind>
@@ -283,10 +285,20 @@ pub fn refusal(nodes: &Nodes, next: u64, total: u64, op: &TreeOp) -> Option<Refu
         }
         TreeOp::Truncate(file, len) => truncate_refusal(nodes, next, total, file.0, *len),
         TreeOp::List(directory) => directory_refusal(nodes, directory.0),
-        TreeOp::Lookup(directory, name) => lookup_refusal(nodes, next, directory.0, name.as_slice()),
+        TreeOp::Lookup(directory, name) => lookup_refusal(
+            nodes,
+            next,
+            directory.0,
+            name.as_slice(),
+        ),
         TreeOp::Create(directory, name) => make_refusal(nodes, next, directory.0, name.as_slice()),
         TreeOp::Mkdir(directory, name) => make_refusal(nodes, next, directory.0, name.as_slice()),
-        TreeOp::Unlink(directory, name) => unlink_refusal(nodes, next, directory.0, name.as_slice()),
+        TreeOp::Unlink(directory, name) => unlink_refusal(
+            nodes,
+            next,
+            directory.0,
+            name.as_slice(),
+        ),
         TreeOp::Rename(directory, name, target, renamed) => rename_refusal(
             nodes,
             next,

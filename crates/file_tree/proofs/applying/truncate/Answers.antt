@@ -23,8 +23,8 @@ returns c =
     let there : kept_at old c.args.number ≡ Some node = found_behind c.get_mut.result _ c.unwrap-node.result c.get_mut.ensures.value c.unwrap-node.ensures in
     let sets = SetsValue-from_map c.args.nodes.now (c.get_mut.follows.lender now) c.args.number node now there (c.get_mut.follows.holds now) in
     let items : c.cut.new.contents.items ≡ resized (contents_of (node_at (rows_of old) c.args.number)) c.args.len =
-        c.cut.ensures ∙ ap (λ (n : Option Node). resized (contents_of n) c.args.len) (sym (node_at-kept old c.args.number node there)) in
+    c.cut.ensures ∙ ap (λ (n : Option Node). resized (contents_of n) c.args.len) (sym (node_at-kept old c.args.number node there)) in
     let part = part_le_sum old c.args.number node there in
     Fills-from_set old _ c.args.number node now (resized (contents_of (node_at (rows_of old) c.args.number)) c.args.len) _ there sets (same_names node now refl)
-      (ap (λ (contents : List ℕ). with_contents contents (shown node)) items)
-      (let len = length-resized (contents_of (node_at (rows_of old) c.args.number)) c.args.len in omega (arith, part, len, c.len-before.ensures, node.contents.ok.0, c.requires.summed))
+    (ap (λ (contents : List ℕ). with_contents contents (shown node)) items)
+    (let len = length-resized (contents_of (node_at (rows_of old) c.args.number)) c.args.len in omega (arith, part, len, c.len-before.ensures, node.contents.ok.0, c.requires.summed))

@@ -22,8 +22,8 @@ returns c =
     let there : kept_at old c.args.number ≡ Some node = found_behind c.get_mut.result _ c.unwrap-node.result c.get_mut.ensures.value c.unwrap-node.ensures in
     let sets = SetsValue-from_map c.args.nodes.now (c.get_mut.follows.lender now) c.args.number node now there (c.get_mut.follows.holds now) in
     let items : c.put.new.contents.items ≡ written (contents_of (node_at (rows_of old) c.args.number)) c.args.offset c.args.bytes.now =
-        c.put.ensures ∙ ap (λ (n : Option Node). written (contents_of n) c.args.offset c.args.bytes.now) (sym (node_at-kept old c.args.number node there)) in
+    c.put.ensures ∙ ap (λ (n : Option Node). written (contents_of n) c.args.offset c.args.bytes.now) (sym (node_at-kept old c.args.number node there)) in
     let part = part_le_sum old c.args.number node there in
     Fills-from_set old _ c.args.number node now (written (contents_of (node_at (rows_of old) c.args.number)) c.args.offset c.args.bytes.now) _ there sets (same_names node now refl)
-      (ap (λ (contents : List ℕ). with_contents contents (shown node)) items)
-      (let len = ap length items in omega (arith, part, len, c.len-before.ensures, c.len-after.ensures, node.contents.ok.0, c.put.new.contents.ok.0, c.requires.summed))
+    (ap (λ (contents : List ℕ). with_contents contents (shown node)) items)
+    (let len = ap length items in omega (arith, part, len, c.len-before.ensures, c.len-after.ensures, node.contents.ok.0, c.put.new.contents.ok.0, c.requires.summed))

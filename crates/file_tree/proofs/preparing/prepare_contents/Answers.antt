@@ -6,7 +6,6 @@ use Rattle.file_tree.proofs.IndexLemmas.{SetsValue-from_map, found_behind, kept-
 use Rattle.file_tree.proofs.KeptLemmas.{Prepares-contents, Stays-from_Keeps}
 use Rattle.file_tree.proofs.preparing.prepare_contents.Goals as goal
 
-
 pub returns-in-Ok-clause-ok : goal.returns-in-Ok-clause-ok
 returns-in-Ok-clause-ok c =
     let node = c.unwrap-node.result.now in

@@ -20,9 +20,10 @@ add-requires c =
 pub returns-in-Ok-clause-ok : goal.returns-in-Ok-clause-ok
 returns-in-Ok-clause-ok c =
     let spot : Spot = record { directory = c.args.directory; name = c.new.result } in
-    let free : child_of (rows_of c.args.nodes.now.entries) c.args.directory c.new.result ≡ None = ap (λ (n : List ℕ). child_of (rows_of c.args.nodes.now.entries) c.args.directory n) c.new.ensures ∙ c.requires.free in
-    (ap (λ (n : List ℕ). Made c.args.kind (record { directory = c.args.directory; name = n })) c.new.ensures,
-     Prepares-made c.args.nodes.now.entries c.enter.new.nodes.entries c.add.new.nodes.entries c.args.next c.args.kind spot c.requires.kept c.in_ok-enter.ensures.ok c.in-Ok.ensures.ok free)
+    let free : child_of (rows_of c.args.nodes.now.entries) c.args.directory c.new.result ≡ None = ap (λ (n : List ℕ). child_of (rows_of c.args.nodes.now.entries) c.args.directory n) c.new.ensures ∙ c.requires.free in (
+      ap (λ (n : List ℕ). Made c.args.kind (record { directory = c.args.directory; name = n })) c.new.ensures,
+      Prepares-made c.args.nodes.now.entries c.enter.new.nodes.entries c.add.new.nodes.entries c.args.next c.args.kind spot c.requires.kept c.in_ok-enter.ensures.ok c.in-Ok.ensures.ok free,
+    )
 
 pub returns-in-Err-clause-err : goal.returns-in-Err-clause-err
 returns-in-Err-clause-err c =

@@ -11,5 +11,5 @@ returns c =
     let inside = c.self.inside in
     c.node_of.ensures
     ∙ ap option_number (ap above_zero c.number_in-kept.ensures
-      ∙ (child_any inside.nodes.entries inside.next inside.ready c.args.d.0 c.args.name.now c.self.invariant.0
-      ∙ ap (λ (s : TreeState). child_of s.tree.rows c.args.d.0 c.args.name.now) c.self.view_is))
+    ∙ (child_any inside.nodes.entries inside.next inside.ready c.args.d.0 c.args.name.now c.self.invariant.0
+    ∙ ap (λ (s : TreeState). child_of s.tree.rows c.args.d.0 c.args.name.now) c.self.view_is))
