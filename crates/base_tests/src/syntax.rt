@@ -238,9 +238,14 @@ fn conditional(alloc: Global) -> Result<Grant, Fail> {
         file: NodeId(1),
         perm: Perm::Write,
     };
+    let from = Constraint {
+        low: Term::Time(TimePoint::NegInf),
+        high: Term::Ctime,
+    };
+    let owner = StatePred::Owner(ONE, ONE);
     let mut grant = Grant::new(alloc, goal);
-    grant.push_time(between(Term::Time(TimePoint::NegInf), Term::Ctime))?;
-    grant.push_state(StatePred::Owner(ONE, ONE))?;
+    grant.push_time(from)?;
+    grant.push_state(owner)?;
     Ok(grant)
 }
 
