@@ -294,6 +294,7 @@ def show_procap(word, path=None):
 
 
 def main():
+    sys.setrecursionlimit(10_000)  # a text may have 512 parentheses within one another, each of several calls
     match sys.argv[1:]:
         case ["statement", path, text]:
             who = text.split()[0]
