@@ -10,14 +10,16 @@ trap 'rm -rf "$work"' EXIT
 cp "$here/pcfs.secrets" "$work/"
 cd "$work"
 
-differs=0
+agree=0
+differ=0
 for script in "$here"/*.pcfs; do
     name=$(basename "$script" .pcfs)
     if "$program" script < "$script" > replies && cmp -s replies "$here/$name.replies"; then
         echo "agrees $name"
+        agree=$((agree + 1))
     else
         echo "differs $name"
-        differs=1
+        differ=$((differ + 1))
     fi
 done
 
@@ -30,8 +32,10 @@ hr says forall K:principal. (exists F:file. owner(F,K) & in_dir(F,#1)) | p @ [0,
 END
 if "$program" script < signed.pcfs | cmp -s - <(printf 'ok statement 1\nok statement 2\n'); then
     echo "agrees signed statements"
+    agree=$((agree + 1))
 else
     echo "differs signed statements"
-    differs=1
+    differ=$((differ + 1))
 fi
-exit "$differs"
+echo "$agree passed, $differ failed"
+[ "$differ" -eq 0 ]
