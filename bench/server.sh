@@ -336,9 +336,9 @@ for what in ours:
 
 server, port = started(lambda port: [program, port, "8", "4"])
 try:
-    print(client(port, "bad"))
     other = subprocess.run([program, port, "1", "1"], stdout=subprocess.PIPE, text=True, timeout=20).stdout.strip()
     print(f"a second server on the same port: {other}")
+    print(client(port, "bad"))
     print(f"the server ended: {server.communicate(timeout=20)[0].strip()}")
 finally:
     server.kill()

@@ -200,7 +200,7 @@ where
 /// it waits until all have ended, so each token has left: as many are out as before, and the number in the end is what the
 /// door's count of tokens that were attended and left rose by.
 ///
-/// `Done` comes exactly if `count` were attended or the listener is over. `NetFault` comes only if the listener's count of
+/// `Done` comes only if `count` were attended or the listener is over; at every other end fewer were. `NetFault` comes only if the listener's count of
 /// faults or the door's rose. `NoMemory` may come at any time before that. Memory that is refused for a thread is no end:
 /// the caller then attends the connection itself. A connection that was accepted and not admitted is dropped. With a
 /// `count` of 0 it does not listen.

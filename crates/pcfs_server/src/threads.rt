@@ -164,8 +164,9 @@ where
     ensures kept { H.kept (F.door front.new) ≡ H.kept (F.door front.old) }
 {
     let key = table.vacant_key();
-    let threads = table.len().saturating_add(1);
-    let starts = most > 1 && ended.reserve(rt, threads).is_ok() && table.reserve(1).is_ok();
+    // for the keys of all threads with the new one, and for that of the loop, which may have to attend a later connection itself
+    let keys = table.len().saturating_add(2);
+    let starts = most > 1 && ended.reserve(rt, keys).is_ok() && table.reserve(1).is_ok();
     let work = move || -> H::Token
         requires { H.is_token service.now token × (H.attended token ≡ false) }
         ensures { H.is_token service.entry.now result × (H.attended result ≡ true) }
