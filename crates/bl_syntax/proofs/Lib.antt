@@ -11,6 +11,7 @@ pub mod GrantLemmas
 pub mod InstanceLemmas
 pub mod PaddingLemmas
 pub mod StatementLemmas
+pub mod StopsWithLemmas
 pub mod TermLemmas
 pub mod Undoing
 pub mod WordLemmas

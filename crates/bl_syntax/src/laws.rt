@@ -1,8 +1,15 @@
 //! Laws of the definitions. A law is the contract of an empty function, which nothing calls.
 
-ghost use Rattle.std.specs.Prelude.{◌≡◌, ◌↔◌, List, [], ◌∷◌, None, IsTrue};
+ghost use Rattle.std.specs.Prelude.{◌≡◌, ◌↔◌, ℕ, List, [], ◌∷◌, None, true, IsTrue};
+ghost use Rattle.bl_syntax.specs.declared.terms.NodeId.{NodeId};
+ghost use Rattle.bl_syntax.specs.declared.terms.Perm.{Perm};
 ghost use Rattle.bl_syntax.specs.declared.terms.Sort.{Sort};
+ghost use Rattle.bl_syntax.specs.declared.terms.TimePoint.{TimePoint};
 ghost use Rattle.bl_syntax.specs.declared.terms.Term.{Term};
+ghost use Rattle.bl_syntax.specs.declared.terms.Constraint.{Constraint};
+ghost use Rattle.bl_syntax.specs.declared.terms.StatePred.{StatePred};
+ghost use Rattle.bl_syntax.specs.declared.grant.Goal.{Goal};
+ghost use Rattle.bl_syntax.specs.Equality.{principal_eq, word_eq, text_eq, node_eq, perm_eq, sort_eq, time_point_eq, term_eq, constraint_eq, state_eq, goal_eq};
 ghost use Rattle.bl_syntax.specs.Formula.{Form};
 ghost use Rattle.bl_syntax.specs.WellSorted.{HasSort, IsWellSorted, IsFormula, size, widest_atom};
 ghost use Rattle.bl_syntax.specs.Substitution.{instance_at};
@@ -14,6 +21,21 @@ ghost use Rattle.bl_syntax.specs.Names.{is_principal_name, is_predicate_name, is
 ghost use Rattle.bl_syntax.specs.Spelling.{IsSpellable, counted, time_spelling, term_spelling};
 ghost use Rattle.bl_syntax.specs.Reading.{name_at, predicate_at, text_at, time_at, term_at};
 ghost use Rattle.bl_syntax.specs.Codec.{IsCodec};
+
+/// Each test of equality is true exactly if the two values are equal.
+pub fn equality_is_decided()
+    ensures principals { (a b : List ℕ) → (principal_eq a b ≡ true) ↔ (a ≡ b) }
+    ensures words { (a b : List ℕ) → (word_eq a b ≡ true) ↔ (a ≡ b) }
+    ensures texts { (a b : List ℕ) → (text_eq a b ≡ true) ↔ (a ≡ b) }
+    ensures nodes { (a b : NodeId) → (node_eq a b ≡ true) ↔ (a ≡ b) }
+    ensures permissions { (a b : Perm) → (perm_eq a b ≡ true) ↔ (a ≡ b) }
+    ensures sorts { (a b : Sort) → (sort_eq a b ≡ true) ↔ (a ≡ b) }
+    ensures times { (a b : TimePoint) → (time_point_eq a b ≡ true) ↔ (a ≡ b) }
+    ensures terms { (a b : Term) → (term_eq a b ≡ true) ↔ (a ≡ b) }
+    ensures constraints { (a b : Constraint) → (constraint_eq a b ≡ true) ↔ (a ≡ b) }
+    ensures states { (a b : StatePred) → (state_eq a b ≡ true) ↔ (a ≡ b) }
+    ensures goals { (a b : Goal) → (goal_eq a b ≡ true) ↔ (a ≡ b) }
+{}
 
 /// A formula is closed and well sorted within the limits exactly where it has no first fault.
 pub fn no_fault_of_a_formula()

@@ -9,6 +9,7 @@ pub mod byte_classes;
 mod check;
 mod codec_fault;
 mod conditions;
+pub mod decimal;
 pub mod fields;
 mod formula;
 mod grant;
