@@ -1,5 +1,5 @@
 #!/usr/bin/env bash
-# Times `check` on the proof of the first file, and on proofs that are as large and as deep as proofs can be: 4,096 nodes,
+# Times `verify` on the proof of the first file, and on proofs that are as large and as deep as proofs can be: 4,096 nodes,
 # most of them conjunctions over 64 conditions on the state, of over 256 bytes each; 196 implications within one another, each of
 # which adds two parameters and two constraints, where the innermost node asks what all of them entail; and 200 instances of
 # a formula of 512 nodes. Beyond these, two that a stranger could hand in: 1,950 nodes that each ask what 370 constraints
@@ -18,13 +18,13 @@ for name in bl_codec bl_constraints bl_rules bl_syntax condition_set proof_term 
 done
 echo 'bench_verifier: bl_codec bl_syntax proof_term proof_verifier' >> "$work/crates.txt"
 cat > "$work/crates/bench_verifier/src/main.rt" << 'END'
-//! Times `check`.
+//! Times `verify`.
 #![tactic(auto)]
 
 use bl_codec::read_statement;
 use bl_syntax::{Goal, NodeId, Perm, Principal};
 use proof_term::{ProofTree, read_proof};
-use proof_verifier::{Cite, Cites, check};
+use proof_verifier::{Cite, Cites, verify};
 use std::alloc::Global;
 use std::io::{self, Read};
 use std::rt::Clock;
@@ -70,7 +70,7 @@ fn least(rt: &impl Clock, alloc: Global, case: &Case<'_>) -> io::Result<(u128, O
         let Ok(cites) = case.cites.copy(alloc) else { continue };
         let Ok(proof) = case.proof.copy(alloc) else { continue };
         let start = Instant::now(rt)?;
-        let answer = check(alloc, cites, case.goal, proof);
+        let answer = verify(alloc, cites, case.goal, proof);
         least = least.min(start.elapsed(rt)?.as_nanos());
         conditions = match &answer {
             Ok(checked) => Some(checked.grant().times().len().wrapping_add(checked.grant().states().len())),

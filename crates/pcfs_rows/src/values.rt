@@ -12,7 +12,7 @@ use line_text::read_hex;
 use line_wire::{unproved, write_reply};
 use proof_term::{ProofTree, read_proof};
 use proof_text::{parse_proof, print_proof};
-use proof_verifier::{CheckFault, Checked, Cite, Cites, check, verify};
+use proof_verifier::{CheckFault, Checked, Cite, Cites, check, verdict};
 use std::alloc::Global;
 
 // The same outcome, as that of a row.
@@ -125,7 +125,7 @@ fn add_verified(
     proof: &ProofTree,
     out: &mut Bytes,
 ) -> Result<(), RowFault> {
-    match verify(alloc, cites, goal, proof) {
+    match verdict(alloc, cites, goal, proof) {
         Ok(grant) => ended(write_reply(alloc, out, &Reply::Checked(grant))),
         Err(fault) => add_refused(alloc, fault, out),
     }
@@ -154,32 +154,29 @@ fn add_copied(alloc: Global, checked: &Checked, out: &mut Bytes) -> Result<(), R
     }
 }
 
-// Adds what the check of copies of the statements comes to.
+// Adds what the check of the proof comes to.
 fn add_checked(
     alloc: Global,
     cites: &Cites,
-    goal: Goal,
-    proof: ProofTree,
+    goal: &Goal,
+    proof: &ProofTree,
     out: &mut Bytes,
 ) -> Result<(), RowFault> {
-    match cites.copy(alloc) {
-        Ok(copied) => match check(alloc, copied, goal, proof) {
-            Ok(checked) => add_copied(alloc, &checked, out),
-            Err(fault) => add_refused(alloc, fault, out),
-        },
-        Err(_) => Err(RowFault::NoMemory),
+    match check(alloc, cites, goal, proof) {
+        Ok(checked) => add_copied(alloc, &checked, out),
+        Err(fault) => add_refused(alloc, fault, out),
     }
 }
 
-// Adds what `verify` and what `check` say of the proof.
+// Adds what `verdict` and what `check` say of the proof.
 fn add_both(
     alloc: Global,
     cites: &Cites,
-    goal: Goal,
-    proof: ProofTree,
+    goal: &Goal,
+    proof: &ProofTree,
     out: &mut Bytes,
 ) -> Result<(), RowFault> {
-    match add_verified(alloc, cites, &goal, &proof, out) {
+    match add_verified(alloc, cites, goal, proof, out) {
         Ok(()) => add_checked(alloc, cites, goal, proof, out),
         Err(fault) => Err(fault),
     }
@@ -214,7 +211,7 @@ fn add_judged(alloc: Global, text: &str, out: &mut Bytes) -> Result<(), RowFault
     };
     match proof_of(alloc, proof) {
         Ok(proof) => match cites_of(alloc, statement) {
-            Ok(cites) => add_both(alloc, &cites, goal, proof, out),
+            Ok(cites) => add_both(alloc, &cites, &goal, &proof, out),
             Err(fault) => Err(fault),
         },
         Err(fault) => Err(fault),

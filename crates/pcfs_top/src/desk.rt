@@ -10,7 +10,7 @@ use line_wire::{Command, Line, ProcapWords, read_line, unproved};
 use op_gate::{Citation, Decision, Gate};
 use pcfs_secrets::Secrets;
 use proof_term::ProofTree;
-use proof_verifier::{check, verify};
+use proof_verifier::{verdict, verify};
 use std::alloc::Global;
 use std::marker::Model;
 
@@ -98,7 +98,7 @@ impl Desk {
     {
         match self.gate.cite(alloc, numbers.as_slice())? {
             Citation::Absent(number) => Ok(Reply::Absent(number as u64)),
-            Citation::Cited(cites) => match check(alloc, cites, goal, proof) {
+            Citation::Cited(cites) => match verify(alloc, cites, goal, proof) {
                 Ok(checked) => self.ask(alloc, &StepRequest::Issue(checked)),
                 Err(fault) => unproved(fault),
             },
@@ -118,7 +118,7 @@ impl Desk {
     {
         match self.gate.cite(alloc, numbers.as_slice())? {
             Citation::Absent(number) => Ok(Reply::Absent(number as u64)),
-            Citation::Cited(cites) => match verify(alloc, &cites, goal, proof) {
+            Citation::Cited(cites) => match verdict(alloc, &cites, goal, proof) {
                 Ok(grant) => Ok(Reply::Checked(grant)),
                 Err(fault) => unproved(fault),
             },

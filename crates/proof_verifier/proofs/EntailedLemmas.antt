@@ -16,8 +16,8 @@ use Rattle.bl_syntax.specs.Terms.{AreInOrder, in_order}
 use Rattle.bl_syntax.specs.Entailment.{IsLink, same, constants, from_the_start, to_the_end, constrained, IsChain, link, longer, IsContradictory, Entails, chained, contradicted}
 use Rattle.bl_syntax.proofs.EntailmentLemmas.{IsUpTo-itself, IsUpTo-PosInf, IsUpTo-transitive, IsChain-joined}
 use Rattle.bl_syntax.proofs.EqualityLemmas.{Decides-term_eq}
-use Rattle.proof_verifier.specs.Tests.{is_up_to}
-use Rattle.proof_verifier.proofs.SoundnessTests.{Decides-is_up_to, both_true, either_true}
+use Rattle.bl_syntax.specs.ConditionTests.{is_up_to}
+use Rattle.bl_syntax.proofs.ConditionTestLemmas.{Decides-is_up_to, both_true, either_true}
 use Rattle.proof_verifier.specs.Entailed.{are_in_order, are_out_of_order, is_plain_link, leads, is_contradictory, is_entailed}
 
 in_order_told : {u v : TimePoint} → AreInOrder (Time u) (Time v) → IsUpTo u v

@@ -10,7 +10,7 @@ use Rattle.proof_verifier.specs.declared.fault.CheckFault.{CheckFault}
 use Rattle.proof_verifier.specs.declared.fault.CheckFault.TheVariants.{TooManyConditions}
 use Rattle.proof_verifier.specs.Tests.{has_constraint, has_state}
 use Rattle.proof_verifier.specs.Conditions.{is_full, keep_time, keep_state}
-use Rattle.proof_verifier.proofs.SoundnessTests.{Decides-has_constraint, Decides-has_state}
+use Rattle.proof_verifier.proofs.TestLemmas.{Decides-has_constraint, Decides-has_state}
 
 abbrev passed : Granted → Result Granted CheckFault
 passed g = Ok g

@@ -1,3 +1,4 @@
+pub mod AgreementLemmas
 pub mod EntailedLemmas
 pub mod GrantedLemmas
 pub mod KeepLemmas
@@ -6,7 +7,7 @@ pub mod RoomLemmas
 pub mod SoundnessRules
 pub mod SoundnessShapes
 pub mod SoundnessSteps
-pub mod SoundnessTests
 pub mod SoundnessVerdict
 pub mod StandingLemmas
 pub mod TestLemmas
+pub mod WellFormedLemmas

@@ -22,9 +22,10 @@ use Rattle.proof_verifier.specs.declared.fault.CheckFault.{CheckFault}
 use Rattle.proof_verifier.specs.declared.fault.CheckFault.TheVariants.{NoHypothesis, WrongShape, NotEntailed, NotInState, ViewTooWeak, BadTerm, TooManyConditions, NoMemory}
 use Rattle.proof_verifier.specs.Sequent.{Sequent, aim, aim_at, learn, bound, observe, declare, new_parameter, new_start, new_end, suppose, speak}
 use Rattle.proof_verifier.specs.Shapes.{and_then, cited, as_truth, as_claim, truth_at, claim_at, as_atom, as_same_atom, as_constraint, as_state, as_both, as_either, as_implies, as_true, as_false, as_forall, as_exists, as_says, as_on}
-use Rattle.proof_verifier.specs.Tests.{are_same, has_constraint, has_state, is_as_strong, may_stay_open, state_may_stay_open}
+use Rattle.proof_verifier.specs.Tests.{are_same, has_constraint, has_state, is_as_strong}
 use Rattle.proof_verifier.specs.Entailed.{is_entailed}
 use Rattle.proof_verifier.specs.Conditions.{is_full, keep_time, keep_state, time_condition, state_condition, of_sort, term_condition, strength_condition}
+use Rattle.proof_verifier.specs.LeftOver.{LeftOver, by_rule}
 use Rattle.proof_verifier.specs.Rules.{Answer, by_init, by_cons_r, by_inter_r, by_and_r, by_or_r1, by_or_r2, by_true_r, by_imp_r, by_forall_r, by_exists_r, by_says_r, by_at_r, by_cons_l, by_inter_l, by_and_l, by_or_l, by_false_l, by_imp_l, by_forall_l, by_exists_l, by_says_l, by_claim, by_at_l}
 use Rattle.proof_verifier.specs.Verdict.{answer, root, verdict}
 
@@ -183,41 +184,41 @@ told_keep_state : (node : ℕ) (s : StatePred) (g : Granted) → Told (keep_stat
 told_keep_state node s g =
     either_way (has_state g.states s) _ _ (given g) (either_way (is_full g) _ _ (told (Err (TooManyConditions node)) tt) (told (Ok _) tt))
 
-told_time : (node : ℕ) (constraints : List Constraint) (u v : Term) (g : Granted) → Told (time_condition node constraints u v g)
-told_time node constraints u v g =
+told_time : (left_over : LeftOver) (node : ℕ) (constraints : List Constraint) (u v : Term) (g : Granted) → Told (time_condition left_over node constraints u v g)
+told_time left_over node constraints u v g =
     either_way (is_entailed constraints u v) _ _ (given g)
-    (either_way (may_stay_open (record { low = u; high = v })) _ _ (told_keep_time node (record { low = u; high = v }) g) (told (Err (NotEntailed node)) tt))
+    (either_way (left_over.time (record { low = u; high = v })) _ _ (told_keep_time node (record { low = u; high = v }) g) (told (Err (NotEntailed node)) tt))
 
-told_fact : (node : ℕ) (facts : List StatePred) (s : StatePred) (g : Granted) → Told (state_condition node facts s g)
-told_fact node facts s g =
+told_fact : (left_over : LeftOver) (node : ℕ) (facts : List StatePred) (s : StatePred) (g : Granted) → Told (state_condition left_over node facts s g)
+told_fact left_over node facts s g =
     either_way (has_state facts s) _ _ (given g)
-    (either_way (state_may_stay_open s) _ _ (told_keep_state node s g) (told (Err (NotInState node)) tt))
+    (either_way (left_over.state s) _ _ (told_keep_state node s g) (told (Err (NotInState node)) tt))
 
 -- whatever the proof answers at a node
 record Tells (p : Answer) : Type 0 where
   pub step : (node : ℕ) (s : Sequent) (g : Granted) → Told (p node s g)
 
-by_init-told : (h : ℕ) → Tells (by_init h)
-by_init-told h = record {
+by_init-told : (left_over : LeftOver) (h : ℕ) → Tells (by_init left_over h)
+by_init-told left_over h = record {
   step = λ node s g.
       chain (truth_told node s h) λ t.
       chain (told_same_atom node t.0 s.goal) λ _.
-      chain (told_time node s.constraints t.1 s.from g) λ g1.
-      told_time node s.constraints s.to t.2 g1;
+      chain (told_time left_over node s.constraints t.1 s.from g) λ g1.
+      told_time left_over node s.constraints s.to t.2 g1;
 }
 
-by_cons_r-told : Tells by_cons_r
-by_cons_r-told = record {
+by_cons_r-told : (left_over : LeftOver) → Tells (by_cons_r left_over)
+by_cons_r-told left_over = record {
   step = λ node s g.
       chain (told_constraint node s.goal) λ d.
-      told_time node s.constraints d.low d.high g;
+      told_time left_over node s.constraints d.low d.high g;
 }
 
-by_inter_r-told : Tells by_inter_r
-by_inter_r-told = record {
+by_inter_r-told : (left_over : LeftOver) → Tells (by_inter_r left_over)
+by_inter_r-told left_over = record {
   step = λ node s g.
       chain (told_state node s.goal) λ fact.
-      told_fact node s.facts fact g;
+      told_fact left_over node s.facts fact g;
 }
 
 by_and_r-told : (p : Answer) (nodes : ℕ) (q : Answer) → Tells p → Tells q → Tells (by_and_r p nodes q)
@@ -326,15 +327,15 @@ by_false_l-told h = record {
       given g;
 }
 
-by_imp_l-told : (h : ℕ) (t1 : Term) (t2 : Term) (p : Answer) (nodes : ℕ) (q : Answer) → Tells p → Tells q → Tells (by_imp_l h t1 t2 p nodes q)
-by_imp_l-told h t1 t2 p nodes q p_told q_told = record {
+by_imp_l-told : (left_over : LeftOver) (h : ℕ) (t1 : Term) (t2 : Term) (p : Answer) (nodes : ℕ) (q : Answer) → Tells p → Tells q → Tells (by_imp_l left_over h t1 t2 p nodes q)
+by_imp_l-told left_over h t1 t2 p nodes q p_told q_told = record {
   step = λ node s g.
       chain (truth_told node s h) λ t.
       chain (told_implies node t.0) λ x.
       chain (told_term node s.sorts Time t1) λ _.
       chain (told_term node s.sorts Time t2) λ _.
-      chain (told_time node s.constraints t.1 t1 g) λ g1.
-      chain (told_time node s.constraints t2 t.2 g1) λ g2.
+      chain (told_time left_over node s.constraints t.1 t1 g) λ g1.
+      chain (told_time left_over node s.constraints t2 t.2 g1) λ g2.
       chain (p_told.step (1 + node) (aim_at x.0 t1 t2 s) g2) λ g3.
       q_told.step (1 + node + nodes) (learn (holds x.1 t1 t2) s) g3;
 }
@@ -364,13 +365,13 @@ by_says_l-told h p p_told = record {
       p_told.step (1 + node) (learn (claims x.0 x.1 t.1 t.2) s) g;
 }
 
-by_claim-told : (h : ℕ) (p : Answer) → Tells p → Tells (by_claim h p)
-by_claim-told h p p_told = record {
+by_claim-told : (left_over : LeftOver) (h : ℕ) (p : Answer) → Tells p → Tells (by_claim left_over h p)
+by_claim-told left_over h p p_told = record {
   step = λ node s g.
       chain (claim_told node s h) λ t.
       chain (told_strength node t.0 s.view.who) λ _.
-      chain (told_time node s.constraints t.2 s.view.from g) λ g1.
-      chain (told_time node s.constraints s.view.to t.3 g1) λ g2.
+      chain (told_time left_over node s.constraints t.2 s.view.from g) λ g1.
+      chain (told_time left_over node s.constraints s.view.to t.3 g1) λ g2.
       p_told.step (1 + node) (learn (holds t.1 t.2 t.3) s) g2;
 }
 
@@ -382,34 +383,34 @@ by_at_l-told h p p_told = record {
       p_told.step (1 + node) (learn (holds x.0 x.1 x.2) s) g;
 }
 
-answer-told : (d : Deduction) → Tells (answer d)
+answer-told : (left_over : LeftOver) (d : Deduction) → Tells (answer left_over d)
 unfolding answer
-answer-told (init h) = by_init-told h
-answer-told cons_r = by_cons_r-told
-answer-told inter_r = by_inter_r-told
-answer-told (and_r p q) = by_and_r-told (answer p) (size p) (answer q) (answer-told p) (answer-told q)
-answer-told (or_r1 p) = by_or_r1-told (answer p) (answer-told p)
-answer-told (or_r2 p) = by_or_r2-told (answer p) (answer-told p)
-answer-told true_r = by_true_r-told
-answer-told (imp_r p) = by_imp_r-told (answer p) (answer-told p)
-answer-told (forall_r p) = by_forall_r-told (answer p) (answer-told p)
-answer-told (exists_r t p) = by_exists_r-told t (answer p) (answer-told p)
-answer-told (says_r p) = by_says_r-told (answer p) (answer-told p)
-answer-told (at_r p) = by_at_r-told (answer p) (answer-told p)
-answer-told (cons_l h p) = by_cons_l-told h (answer p) (answer-told p)
-answer-told (inter_l h p) = by_inter_l-told h (answer p) (answer-told p)
-answer-told (and_l h p) = by_and_l-told h (answer p) (answer-told p)
-answer-told (or_l h p q) = by_or_l-told h (answer p) (size p) (answer q) (answer-told p) (answer-told q)
-answer-told (false_l h) = by_false_l-told h
-answer-told (imp_l h t1 t2 p q) = by_imp_l-told h t1 t2 (answer p) (size p) (answer q) (answer-told p) (answer-told q)
-answer-told (forall_l h t p) = by_forall_l-told h t (answer p) (answer-told p)
-answer-told (exists_l h p) = by_exists_l-told h (answer p) (answer-told p)
-answer-told (says_l h p) = by_says_l-told h (answer p) (answer-told p)
-answer-told (claim h p) = by_claim-told h (answer p) (answer-told p)
-answer-told (at_l h p) = by_at_l-told h (answer p) (answer-told p)
+answer-told left_over (init h) = by_init-told left_over h
+answer-told left_over cons_r = by_cons_r-told left_over
+answer-told left_over inter_r = by_inter_r-told left_over
+answer-told left_over (and_r p q) = by_and_r-told (answer left_over p) (size p) (answer left_over q) (answer-told left_over p) (answer-told left_over q)
+answer-told left_over (or_r1 p) = by_or_r1-told (answer left_over p) (answer-told left_over p)
+answer-told left_over (or_r2 p) = by_or_r2-told (answer left_over p) (answer-told left_over p)
+answer-told left_over true_r = by_true_r-told
+answer-told left_over (imp_r p) = by_imp_r-told (answer left_over p) (answer-told left_over p)
+answer-told left_over (forall_r p) = by_forall_r-told (answer left_over p) (answer-told left_over p)
+answer-told left_over (exists_r t p) = by_exists_r-told t (answer left_over p) (answer-told left_over p)
+answer-told left_over (says_r p) = by_says_r-told (answer left_over p) (answer-told left_over p)
+answer-told left_over (at_r p) = by_at_r-told (answer left_over p) (answer-told left_over p)
+answer-told left_over (cons_l h p) = by_cons_l-told h (answer left_over p) (answer-told left_over p)
+answer-told left_over (inter_l h p) = by_inter_l-told h (answer left_over p) (answer-told left_over p)
+answer-told left_over (and_l h p) = by_and_l-told h (answer left_over p) (answer-told left_over p)
+answer-told left_over (or_l h p q) = by_or_l-told h (answer left_over p) (size p) (answer left_over q) (answer-told left_over p) (answer-told left_over q)
+answer-told left_over (false_l h) = by_false_l-told h
+answer-told left_over (imp_l h t1 t2 p q) = by_imp_l-told left_over h t1 t2 (answer left_over p) (size p) (answer left_over q) (answer-told left_over p) (answer-told left_over q)
+answer-told left_over (forall_l h t p) = by_forall_l-told h t (answer left_over p) (answer-told left_over p)
+answer-told left_over (exists_l h p) = by_exists_l-told h (answer left_over p) (answer-told left_over p)
+answer-told left_over (says_l h p) = by_says_l-told h (answer left_over p) (answer-told left_over p)
+answer-told left_over (claim h p) = by_claim-told left_over h (answer left_over p) (answer-told left_over p)
+answer-told left_over (at_l h p) = by_at_l-told h (answer left_over p) (answer-told left_over p)
 
 not_of_memory : (step : Result Granted CheckFault) → IfErr step IsNamed → step ≡ Err NoMemory → ⊥
 not_of_memory step named e = subst (λ (r : Result Granted CheckFault). IfErr r IsNamed) e named
 
 pub verdict-memoryless : (statements : List Saying) (goal : Goal) (d : Deduction) → verdict statements goal d ≡ Err NoMemory → ⊥
-verdict-memoryless statements goal d = not_of_memory _ ((answer-told d).step 0 (root statements goal) (without_conditions goal)).fault
+verdict-memoryless statements goal d = not_of_memory _ ((answer-told by_rule d).step 0 (root statements goal) (without_conditions goal)).fault

@@ -11,26 +11,27 @@ use Rattle.bl_syntax.specs.Substitution.{instance_at}
 use Rattle.bl_rules.specs.Sequent.{Hypothesis, holds, claims}
 use Rattle.bl_rules.specs.Derivable.{init, cons_r, inter_r, and_r, or_r1, or_r2, true_r, imp_r, forall_r, exists_r, says_r, at_r, cons_l, inter_l, and_l, or_l, false_l, imp_l, forall_l, exists_l, says_l, claim, at_l}
 use Rattle.proof_verifier.specs.Sequent.{Sequent, aim, aim_at, learn, bound, observe, declare, new_parameter, new_start, new_end, suppose, speak}
+use Rattle.proof_verifier.specs.LeftOver.{LeftOver}
 use Rattle.proof_verifier.specs.Rules.{Answer, by_init, by_cons_r, by_inter_r, by_and_r, by_or_r1, by_or_r2, by_true_r, by_imp_r, by_forall_r, by_exists_r, by_says_r, by_at_r, by_cons_l, by_inter_l, by_and_l, by_or_l, by_false_l, by_imp_l, by_forall_l, by_exists_l, by_says_l, by_claim, by_at_l}
 use Rattle.proof_verifier.proofs.SoundnessShapes.{Gives, gives_here, gives_more, chain, gives_constraint, gives_state, gives_both, gives_either, gives_implies, gives_truth, gives_falsity, gives_forall, gives_exists, gives_says, gives_on, IsTruth, gives_truth_at, gives_claim_at, gives_term, gives_strength, gives_same_atom}
 use Rattle.proof_verifier.proofs.SoundnessSteps.{Grows-not, Grows-twice, Covers, IsStep, gives_time, gives_state_fact, Covers-before, Covers-aim, Covers-declare, Covers-learn, Covers-bound, Covers-observe, Covers-speak}
 
 -- whatever the proof answers at a node, it grants no more than is derivable there
-pub record IsSound (p : Answer) : Type 0 where
-  pub step : (node : ℕ) (s : Sequent) (g : Granted) → Gives (p node s g) (IsStep s g)
+pub record IsSound (left_over : LeftOver) (p : Answer) : Type 0 where
+  pub step : (node : ℕ) (s : Sequent) (g : Granted) → Gives (p node s g) (IsStep left_over s g)
 
 -- what is cited as a truth is known, in the form that the rule asks for
 cited_as : {psi : List Constraint} {facts : List StatePred} {hs : List Hypothesis} {s : Sequent} {g : Granted} {f : Form}
     → (x : Form × Term × Term) → Covers psi facts hs s g → IsTruth s x → x.0 ≡ f → Contains hs (holds f x.1 x.2)
 cited_as {hs = hs} x c among is = subst (λ (form : Form). Contains hs (holds form x.1 x.2)) is (c.hypotheses (holds x.0 x.1 x.2) among)
 
-pub by_init-sound : (h : ℕ) → IsSound (by_init h)
-by_init-sound h = record {
+pub by_init-sound : (left_over : LeftOver) (h : ℕ) → IsSound left_over (by_init left_over h)
+by_init-sound left_over h = record {
   step = λ node s g.
       chain (gives_truth_at node s h) λ t among.
       chain (gives_same_atom node t.0 s.goal) λ _ same.
-      chain (gives_time node s.constraints t.1 s.from g) λ g1 low.
-      gives_more (gives_time node s.constraints s.to t.2 g1) λ new high.
+      chain (gives_time left_over node s.constraints t.1 s.from g) λ g1 low.
+      gives_more (gives_time left_over node s.constraints s.to t.2 g1) λ new high.
       record {
         grows = Grows-twice low.grows high.grows;
         derives = λ psi facts hs c.
@@ -41,24 +42,24 @@ by_init-sound h = record {
       };
 }
 
-pub by_cons_r-sound : IsSound by_cons_r
-by_cons_r-sound = record {
+pub by_cons_r-sound : (left_over : LeftOver) → IsSound left_over (by_cons_r left_over)
+by_cons_r-sound left_over = record {
   step = λ node s g.
       chain (gives_constraint node s.goal) λ d is.
-      gives_more (gives_time node s.constraints d.low d.high g) λ new meets.
+      gives_more (gives_time left_over node s.constraints d.low d.high g) λ new meets.
       record { grows = meets.grows; derives = λ psi facts hs c. rw is (cons_r (meets.entailed psi c.constraints c.times)) };
 }
 
-pub by_inter_r-sound : IsSound by_inter_r
-by_inter_r-sound = record {
+pub by_inter_r-sound : (left_over : LeftOver) → IsSound left_over (by_inter_r left_over)
+by_inter_r-sound left_over = record {
   step = λ node s g.
       chain (gives_state node s.goal) λ fact is.
-      gives_more (gives_state_fact node s.facts fact g) λ new meets.
+      gives_more (gives_state_fact left_over node s.facts fact g) λ new meets.
       record { grows = meets.grows; derives = λ psi facts hs c. rw is (inter_r (meets.known facts c.observed c.states)) };
 }
 
-pub by_and_r-sound : (p : Answer) (nodes : ℕ) (q : Answer) → IsSound p → IsSound q → IsSound (by_and_r p nodes q)
-by_and_r-sound p nodes q p_sound q_sound = record {
+pub by_and_r-sound : (left_over : LeftOver) (p : Answer) (nodes : ℕ) (q : Answer) → IsSound left_over p → IsSound left_over q → IsSound left_over (by_and_r p nodes q)
+by_and_r-sound left_over p nodes q p_sound q_sound = record {
   step = λ node s g.
       chain (gives_both node s.goal) λ x is.
       chain (p_sound.step (1 + node) (aim x.0 s) g) λ g1 left.
@@ -72,31 +73,31 @@ by_and_r-sound p nodes q p_sound q_sound = record {
       };
 }
 
-pub by_or_r1-sound : (p : Answer) → IsSound p → IsSound (by_or_r1 p)
-by_or_r1-sound p p_sound = record {
+pub by_or_r1-sound : (left_over : LeftOver) (p : Answer) → IsSound left_over p → IsSound left_over (by_or_r1 p)
+by_or_r1-sound left_over p p_sound = record {
   step = λ node s g.
       chain (gives_either node s.goal) λ x is.
       gives_more (p_sound.step (1 + node) (aim x.0 s) g) λ new left.
       record { grows = left.grows; derives = λ psi facts hs c. rw is (or_r1 (left.derives psi facts hs (Covers-aim x.0 s.from s.to c))) };
 }
 
-pub by_or_r2-sound : (p : Answer) → IsSound p → IsSound (by_or_r2 p)
-by_or_r2-sound p p_sound = record {
+pub by_or_r2-sound : (left_over : LeftOver) (p : Answer) → IsSound left_over p → IsSound left_over (by_or_r2 p)
+by_or_r2-sound left_over p p_sound = record {
   step = λ node s g.
       chain (gives_either node s.goal) λ x is.
       gives_more (p_sound.step (1 + node) (aim x.1 s) g) λ new right.
       record { grows = right.grows; derives = λ psi facts hs c. rw is (or_r2 (right.derives psi facts hs (Covers-aim x.1 s.from s.to c))) };
 }
 
-pub by_true_r-sound : IsSound by_true_r
-by_true_r-sound = record {
+pub by_true_r-sound : (left_over : LeftOver) → IsSound left_over by_true_r
+by_true_r-sound left_over = record {
   step = λ node s g.
       chain (gives_truth node s.goal) λ _ is.
-      gives_here g (IsStep s g) (record { grows = Grows-not g; derives = λ psi facts hs c. rw is true_r });
+      gives_here g (IsStep left_over s g) (record { grows = Grows-not g; derives = λ psi facts hs c. rw is true_r });
 }
 
-pub by_imp_r-sound : (p : Answer) → IsSound p → IsSound (by_imp_r p)
-by_imp_r-sound p p_sound = record {
+pub by_imp_r-sound : (left_over : LeftOver) (p : Answer) → IsSound left_over p → IsSound left_over (by_imp_r p)
+by_imp_r-sound left_over p p_sound = record {
   step = λ node s g.
       chain (gives_implies node s.goal) λ x is.
       gives_more (p_sound.step (1 + node) (aim_at x.1 (new_start s) (new_end s) (suppose x.0 s)) g) λ new premise.
@@ -111,8 +112,8 @@ by_imp_r-sound p p_sound = record {
       };
 }
 
-pub by_forall_r-sound : (p : Answer) → IsSound p → IsSound (by_forall_r p)
-by_forall_r-sound p p_sound = record {
+pub by_forall_r-sound : (left_over : LeftOver) (p : Answer) → IsSound left_over p → IsSound left_over (by_forall_r p)
+by_forall_r-sound left_over p p_sound = record {
   step = λ node s g.
       chain (gives_forall node s.goal) λ x is.
       gives_more (p_sound.step (1 + node) (aim (instance_at (new_parameter s) x.1) (declare x.0 s)) g) λ new premise.
@@ -123,8 +124,8 @@ by_forall_r-sound p p_sound = record {
       };
 }
 
-pub by_exists_r-sound : (t : Term) (p : Answer) → IsSound p → IsSound (by_exists_r t p)
-by_exists_r-sound t p p_sound = record {
+pub by_exists_r-sound : (left_over : LeftOver) (t : Term) (p : Answer) → IsSound left_over p → IsSound left_over (by_exists_r t p)
+by_exists_r-sound left_over t p p_sound = record {
   step = λ node s g.
       chain (gives_exists node s.goal) λ x is.
       chain (gives_term node s.sorts x.0 t) λ _ sorted.
@@ -135,8 +136,8 @@ by_exists_r-sound t p p_sound = record {
       };
 }
 
-pub by_says_r-sound : (p : Answer) → IsSound p → IsSound (by_says_r p)
-by_says_r-sound p p_sound = record {
+pub by_says_r-sound : (left_over : LeftOver) (p : Answer) → IsSound left_over p → IsSound left_over (by_says_r p)
+by_says_r-sound left_over p p_sound = record {
   step = λ node s g.
       chain (gives_says node s.goal) λ x is.
       gives_more (p_sound.step (1 + node) (aim x.1 (speak x.0 s)) g) λ new premise.
@@ -146,16 +147,16 @@ by_says_r-sound p p_sound = record {
       };
 }
 
-pub by_at_r-sound : (p : Answer) → IsSound p → IsSound (by_at_r p)
-by_at_r-sound p p_sound = record {
+pub by_at_r-sound : (left_over : LeftOver) (p : Answer) → IsSound left_over p → IsSound left_over (by_at_r p)
+by_at_r-sound left_over p p_sound = record {
   step = λ node s g.
       chain (gives_on node s.goal) λ x is.
       gives_more (p_sound.step (1 + node) (aim_at x.0 x.1 x.2 s) g) λ new premise.
       record { grows = premise.grows; derives = λ psi facts hs c. rw is (at_r (premise.derives psi facts hs (Covers-aim x.0 x.1 x.2 c))) };
 }
 
-pub by_cons_l-sound : (h : ℕ) (p : Answer) → IsSound p → IsSound (by_cons_l h p)
-by_cons_l-sound h p p_sound = record {
+pub by_cons_l-sound : (left_over : LeftOver) (h : ℕ) (p : Answer) → IsSound left_over p → IsSound left_over (by_cons_l h p)
+by_cons_l-sound left_over h p p_sound = record {
   step = λ node s g.
       chain (gives_truth_at node s h) λ t among.
       chain (gives_constraint node t.0) λ d is.
@@ -166,8 +167,8 @@ by_cons_l-sound h p p_sound = record {
       };
 }
 
-pub by_inter_l-sound : (h : ℕ) (p : Answer) → IsSound p → IsSound (by_inter_l h p)
-by_inter_l-sound h p p_sound = record {
+pub by_inter_l-sound : (left_over : LeftOver) (h : ℕ) (p : Answer) → IsSound left_over p → IsSound left_over (by_inter_l h p)
+by_inter_l-sound left_over h p p_sound = record {
   step = λ node s g.
       chain (gives_truth_at node s h) λ t among.
       chain (gives_state node t.0) λ fact is.
@@ -178,8 +179,8 @@ by_inter_l-sound h p p_sound = record {
       };
 }
 
-pub by_and_l-sound : (h : ℕ) (p : Answer) → IsSound p → IsSound (by_and_l h p)
-by_and_l-sound h p p_sound = record {
+pub by_and_l-sound : (left_over : LeftOver) (h : ℕ) (p : Answer) → IsSound left_over p → IsSound left_over (by_and_l h p)
+by_and_l-sound left_over h p p_sound = record {
   step = λ node s g.
       chain (gives_truth_at node s h) λ t among.
       chain (gives_both node t.0) λ x is.
@@ -192,8 +193,8 @@ by_and_l-sound h p p_sound = record {
       };
 }
 
-pub by_or_l-sound : (h : ℕ) (p : Answer) (nodes : ℕ) (q : Answer) → IsSound p → IsSound q → IsSound (by_or_l h p nodes q)
-by_or_l-sound h p nodes q p_sound q_sound = record {
+pub by_or_l-sound : (left_over : LeftOver) (h : ℕ) (p : Answer) (nodes : ℕ) (q : Answer) → IsSound left_over p → IsSound left_over q → IsSound left_over (by_or_l h p nodes q)
+by_or_l-sound left_over h p nodes q p_sound q_sound = record {
   step = λ node s g.
       chain (gives_truth_at node s h) λ t among.
       chain (gives_either node t.0) λ x is.
@@ -208,23 +209,23 @@ by_or_l-sound h p nodes q p_sound q_sound = record {
       };
 }
 
-pub by_false_l-sound : (h : ℕ) → IsSound (by_false_l h)
-by_false_l-sound h = record {
+pub by_false_l-sound : (left_over : LeftOver) (h : ℕ) → IsSound left_over (by_false_l h)
+by_false_l-sound left_over h = record {
   step = λ node s g.
       chain (gives_truth_at node s h) λ t among.
       chain (gives_falsity node t.0) λ _ is.
-      gives_here g (IsStep s g) (record { grows = Grows-not g; derives = λ psi facts hs c. false_l t.1 t.2 (cited_as t c among is) });
+      gives_here g (IsStep left_over s g) (record { grows = Grows-not g; derives = λ psi facts hs c. false_l t.1 t.2 (cited_as t c among is) });
 }
 
-pub by_imp_l-sound : (h : ℕ) (t1 t2 : Term) (p : Answer) (nodes : ℕ) (q : Answer) → IsSound p → IsSound q → IsSound (by_imp_l h t1 t2 p nodes q)
-by_imp_l-sound h t1 t2 p nodes q p_sound q_sound = record {
+pub by_imp_l-sound : (left_over : LeftOver) (h : ℕ) (t1 t2 : Term) (p : Answer) (nodes : ℕ) (q : Answer) → IsSound left_over p → IsSound left_over q → IsSound left_over (by_imp_l left_over h t1 t2 p nodes q)
+by_imp_l-sound left_over h t1 t2 p nodes q p_sound q_sound = record {
   step = λ node s g.
       chain (gives_truth_at node s h) λ t among.
       chain (gives_implies node t.0) λ x is.
       chain (gives_term node s.sorts Time t1) λ _ first_sorted.
       chain (gives_term node s.sorts Time t2) λ _ second_sorted.
-      chain (gives_time node s.constraints t.1 t1 g) λ g1 low.
-      chain (gives_time node s.constraints t2 t.2 g1) λ g2 high.
+      chain (gives_time left_over node s.constraints t.1 t1 g) λ g1 low.
+      chain (gives_time left_over node s.constraints t2 t.2 g1) λ g2 high.
       chain (p_sound.step (1 + node) (aim_at x.0 t1 t2 s) g2) λ g3 left.
       gives_more (q_sound.step (1 + node + nodes) (learn (holds x.1 t1 t2) s) g3) λ new right.
       record {
@@ -240,8 +241,8 @@ by_imp_l-sound h t1 t2 p nodes q p_sound q_sound = record {
       };
 }
 
-pub by_forall_l-sound : (h : ℕ) (t : Term) (p : Answer) → IsSound p → IsSound (by_forall_l h t p)
-by_forall_l-sound h witness p p_sound = record {
+pub by_forall_l-sound : (left_over : LeftOver) (h : ℕ) (t : Term) (p : Answer) → IsSound left_over p → IsSound left_over (by_forall_l h t p)
+by_forall_l-sound left_over h witness p p_sound = record {
   step = λ node s g.
       chain (gives_truth_at node s h) λ t among.
       chain (gives_forall node t.0) λ x is.
@@ -255,8 +256,8 @@ by_forall_l-sound h witness p p_sound = record {
       };
 }
 
-pub by_exists_l-sound : (h : ℕ) (p : Answer) → IsSound p → IsSound (by_exists_l h p)
-by_exists_l-sound h p p_sound = record {
+pub by_exists_l-sound : (left_over : LeftOver) (h : ℕ) (p : Answer) → IsSound left_over p → IsSound left_over (by_exists_l h p)
+by_exists_l-sound left_over h p p_sound = record {
   step = λ node s g.
       chain (gives_truth_at node s h) λ t among.
       chain (gives_exists node t.0) λ x is.
@@ -269,8 +270,8 @@ by_exists_l-sound h p p_sound = record {
       };
 }
 
-pub by_says_l-sound : (h : ℕ) (p : Answer) → IsSound p → IsSound (by_says_l h p)
-by_says_l-sound h p p_sound = record {
+pub by_says_l-sound : (left_over : LeftOver) (h : ℕ) (p : Answer) → IsSound left_over p → IsSound left_over (by_says_l h p)
+by_says_l-sound left_over h p p_sound = record {
   step = λ node s g.
       chain (gives_truth_at node s h) λ t among.
       chain (gives_says node t.0) λ x is.
@@ -282,13 +283,13 @@ by_says_l-sound h p p_sound = record {
       };
 }
 
-pub by_claim-sound : (h : ℕ) (p : Answer) → IsSound p → IsSound (by_claim h p)
-by_claim-sound h p p_sound = record {
+pub by_claim-sound : (left_over : LeftOver) (h : ℕ) (p : Answer) → IsSound left_over p → IsSound left_over (by_claim left_over h p)
+by_claim-sound left_over h p p_sound = record {
   step = λ node s g.
       chain (gives_claim_at node s h) λ t among.
       chain (gives_strength node t.0 s.view.who) λ _ strong.
-      chain (gives_time node s.constraints t.2 s.view.from g) λ g1 low.
-      chain (gives_time node s.constraints s.view.to t.3 g1) λ g2 high.
+      chain (gives_time left_over node s.constraints t.2 s.view.from g) λ g1 low.
+      chain (gives_time left_over node s.constraints s.view.to t.3 g1) λ g2 high.
       gives_more (p_sound.step (1 + node) (learn (holds t.1 t.2 t.3) s) g2) λ new premise.
       record {
         grows = Grows-twice low.grows (Grows-twice high.grows premise.grows);
@@ -301,8 +302,8 @@ by_claim-sound h p p_sound = record {
       };
 }
 
-pub by_at_l-sound : (h : ℕ) (p : Answer) → IsSound p → IsSound (by_at_l h p)
-by_at_l-sound h p p_sound = record {
+pub by_at_l-sound : (left_over : LeftOver) (h : ℕ) (p : Answer) → IsSound left_over p → IsSound left_over (by_at_l h p)
+by_at_l-sound left_over h p p_sound = record {
   step = λ node s g.
       chain (gives_truth_at node s h) λ t among.
       chain (gives_on node t.0) λ x is.

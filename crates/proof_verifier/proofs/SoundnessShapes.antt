@@ -17,7 +17,8 @@ use Rattle.proof_verifier.specs.Sequent.{Sequent}
 use Rattle.proof_verifier.specs.Shapes.{and_then, cited, as_truth, as_claim, truth_at, claim_at, as_atom, as_same_atom, as_constraint, as_state, as_both, as_either, as_implies, as_true, as_false, as_forall, as_exists, as_says, as_on}
 use Rattle.proof_verifier.specs.Tests.{are_same, is_as_strong}
 use Rattle.proof_verifier.specs.Conditions.{of_sort, term_condition, strength_condition}
-use Rattle.proof_verifier.proofs.SoundnessTests.{both_true, same_terms, of_its_sort, Decides-is_as_strong}
+use Rattle.bl_syntax.proofs.ConditionTestLemmas.{both_true}
+use Rattle.proof_verifier.proofs.TestLemmas.{same_terms, of_its_sort, Decides-is_as_strong}
 
 -- what the step gives, if it gives anything, has the property
 pub record Gives {A : Type 0} (step : Result A CheckFault) (P : A → Type 0) : Type 0 where

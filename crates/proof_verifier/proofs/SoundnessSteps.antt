@@ -1,5 +1,5 @@
 -- What a step of the verdict keeps of the grant, and what its conditions tell.
-use Rattle.std.proofs.Common.{◌≡◌, ◌∙◌, ℕ, ◌+◌, ◌<◌, ◌≤◌, false, List, [], ◌∷◌, ◌++◌, length, Option, Some, None, refl, sym, subst, ⊎_elim, arith}
+use Rattle.std.proofs.Common.{◌≡◌, ◌∙◌, ℕ, ◌+◌, ◌<◌, ◌≤◌, true, false, List, [], ◌∷◌, ◌++◌, length, Option, Some, None, refl, sym, subst, ⊎_elim, arith}
 use Rattle.std.specs.Prelude.{Contains}
 use Rattle.std.proofs.lemmas.Bool.{false≢true}
 use Rattle.std.proofs.lemmas.Bool.Decides.{Decides-eqb}
@@ -20,29 +20,35 @@ use Rattle.bl_rules.specs.Richer.{Includes}
 use Rattle.bl_rules.proofs.Membership.{Includes-push, IsClaim, Contains-claims_among, Contains-map_cases}
 use Rattle.proof_verifier.specs.declared.fault.CheckFault.TheVariants.{NotEntailed, NotInState, TooManyConditions}
 use Rattle.proof_verifier.specs.Sequent.{Sequent, aim_at, learn, bound, observe, declare, speak, unless_truth}
-use Rattle.proof_verifier.specs.Tests.{has_constraint, has_state, may_stay_open, state_may_stay_open}
+use Rattle.proof_verifier.specs.Tests.{has_constraint, has_state}
+use Rattle.proof_verifier.specs.LeftOver.{LeftOver}
 use Rattle.proof_verifier.specs.Entailed.{is_entailed}
 use Rattle.proof_verifier.specs.Conditions.{is_full, keep_time, keep_state, time_condition, state_condition}
-use Rattle.proof_verifier.proofs.SoundnessTests.{Decides-has_constraint, Decides-has_state, time_condition_kept, state_condition_kept}
+use Rattle.proof_verifier.proofs.TestLemmas.{Decides-has_constraint, Decides-has_state}
 use Rattle.proof_verifier.proofs.EntailedLemmas.{Decides-is_entailed}
 use Rattle.proof_verifier.proofs.SoundnessShapes.{Gives, gives_here, gives_more, no_gift, either_way}
 
+-- what is left over, a grant can keep
+pub record AreKept (left_over : LeftOver) : Type 0 where
+  pub time : (c : Constraint) → left_over.time c ≡ true → IsTimeCondition c
+  pub state : (s : StatePred) → left_over.state s ≡ true → IsStateCondition s
+
 -- the grant keeps its goal and its conditions, and may have more of these
-pub record Grows (old new : Granted) : Type 0 where
+pub record Grows (left_over : LeftOver) (old new : Granted) : Type 0 where
   pub same_goal : new.goal ≡ old.goal
   pub times : Includes new.times old.times
   pub states : Includes new.states old.states
-  pub keeps : IsGrant old → IsGrant new
+  pub keeps : AreKept left_over → IsGrant old → IsGrant new
 
-pub Grows-not : (g : Granted) → Grows g g
-Grows-not g = record { same_goal = refl; times = λ c among. among; states = λ s among. among; keeps = λ h. h }
+pub Grows-not : {left_over : LeftOver} → (g : Granted) → Grows left_over g g
+Grows-not g = record { same_goal = refl; times = λ c among. among; states = λ s among. among; keeps = λ are_kept h. h }
 
-pub Grows-twice : {old middle new : Granted} → Grows old middle → Grows middle new → Grows old new
+pub Grows-twice : {left_over : LeftOver} {old middle new : Granted} → Grows left_over old middle → Grows left_over middle new → Grows left_over old new
 Grows-twice first second = record {
   same_goal = second.same_goal ∙ first.same_goal;
   times = λ c among. second.times c (first.times c among);
   states = λ s among. second.states s (first.states s among);
-  keeps = λ h. second.keeps (first.keeps h);
+  keeps = λ are_kept h. second.keeps are_kept (first.keeps are_kept h);
 }
 
 has_room : (g : Granted) → is_full g ≡ false → length g.times + length g.states ≤ 64 → length g.times + length g.states < 64
@@ -51,64 +57,64 @@ has_room g e h =
     omega (arith, not_full)
 
 -- one more condition on time
-record KeepsTime (c : Constraint) (old new : Granted) : Type 0 where
-  grows : Grows old new
+record KeepsTime (left_over : LeftOver) (c : Constraint) (old new : Granted) : Type 0 where
+  grows : Grows left_over old new
   kept : Contains new.times c
 
 with_time : Constraint → Granted → Granted
 with_time c g = record g { times = g.times ++ c ∷ [] }
 
-gives_with_time : (c : Constraint) (g : Granted) → IsTimeCondition c → has_constraint g.times c ≡ false → is_full g ≡ false → KeepsTime c g (with_time c g)
+gives_with_time : (left_over : LeftOver) (c : Constraint) (g : Granted) → left_over.time c ≡ true → has_constraint g.times c ≡ false → is_full g ≡ false → KeepsTime left_over c g (with_time c g)
 unfolding with_time
-gives_with_time c g condition new room = record {
+gives_with_time left_over c g open_ new room = record {
   grows = record {
     same_goal = refl;
     times = λ d among. Contains-append_left g.times (c ∷ []) d among;
     states = λ s among. among;
-    keeps = λ h. IsGrant-push_time g.goal g.times g.states c h condition
+    keeps = λ are_kept h. IsGrant-push_time g.goal g.times g.states c h (are_kept.time c open_)
         (λ among. false≢true (sym new ∙ (Decides-has_constraint g.times c).1 among)) (has_room g room h.count);
   };
   kept = Contains-push g.times c;
 }
 
-gives_keep_time : (node : ℕ) (c : Constraint) (g : Granted) → IsTimeCondition c → Gives (keep_time node c g) (KeepsTime c g)
+gives_keep_time : (left_over : LeftOver) (node : ℕ) (c : Constraint) (g : Granted) → left_over.time c ≡ true → Gives (keep_time node c g) (KeepsTime left_over c g)
 unfolding with_time
-gives_keep_time node c g condition =
-    either_way (has_constraint g.times c) _ _ (KeepsTime c g)
-    (λ there. gives_here g (KeepsTime c g) (record { grows = Grows-not g; kept = (Decides-has_constraint g.times c).0 there }))
-    (λ new. either_way (is_full g) _ _ (KeepsTime c g)
-    (λ full. no_gift (TooManyConditions node) (KeepsTime c g))
-    (λ room. gives_here (with_time c g) (KeepsTime c g) (gives_with_time c g condition new room)))
+gives_keep_time left_over node c g open_ =
+    either_way (has_constraint g.times c) _ _ (KeepsTime left_over c g)
+    (λ there. gives_here g (KeepsTime left_over c g) (record { grows = Grows-not g; kept = (Decides-has_constraint g.times c).0 there }))
+    (λ new. either_way (is_full g) _ _ (KeepsTime left_over c g)
+    (λ full. no_gift (TooManyConditions node) (KeepsTime left_over c g))
+    (λ room. gives_here (with_time c g) (KeepsTime left_over c g) (gives_with_time left_over c g open_ new room)))
 
 -- one more condition on the state
-record KeepsState (s : StatePred) (old new : Granted) : Type 0 where
-  grows : Grows old new
+record KeepsState (left_over : LeftOver) (s : StatePred) (old new : Granted) : Type 0 where
+  grows : Grows left_over old new
   kept : Contains new.states s
 
 with_state : StatePred → Granted → Granted
 with_state s g = record g { states = g.states ++ s ∷ [] }
 
-gives_with_state : (s : StatePred) (g : Granted) → IsStateCondition s → has_state g.states s ≡ false → is_full g ≡ false → KeepsState s g (with_state s g)
+gives_with_state : (left_over : LeftOver) (s : StatePred) (g : Granted) → left_over.state s ≡ true → has_state g.states s ≡ false → is_full g ≡ false → KeepsState left_over s g (with_state s g)
 unfolding with_state
-gives_with_state s g condition new room = record {
+gives_with_state left_over s g open_ new room = record {
   grows = record {
     same_goal = refl;
     times = λ c among. among;
     states = λ t among. Contains-append_left g.states (s ∷ []) t among;
-    keeps = λ h. IsGrant-push_state g.goal g.times g.states s h condition
+    keeps = λ are_kept h. IsGrant-push_state g.goal g.times g.states s h (are_kept.state s open_)
         (λ among. false≢true (sym new ∙ (Decides-has_state g.states s).1 among)) (has_room g room h.count);
   };
   kept = Contains-push g.states s;
 }
 
-gives_keep_state : (node : ℕ) (s : StatePred) (g : Granted) → IsStateCondition s → Gives (keep_state node s g) (KeepsState s g)
+gives_keep_state : (left_over : LeftOver) (node : ℕ) (s : StatePred) (g : Granted) → left_over.state s ≡ true → Gives (keep_state node s g) (KeepsState left_over s g)
 unfolding with_state
-gives_keep_state node s g condition =
-    either_way (has_state g.states s) _ _ (KeepsState s g)
-    (λ there. gives_here g (KeepsState s g) (record { grows = Grows-not g; kept = (Decides-has_state g.states s).0 there }))
-    (λ new. either_way (is_full g) _ _ (KeepsState s g)
-    (λ full. no_gift (TooManyConditions node) (KeepsState s g))
-    (λ room. gives_here (with_state s g) (KeepsState s g) (gives_with_state s g condition new room)))
+gives_keep_state left_over node s g open_ =
+    either_way (has_state g.states s) _ _ (KeepsState left_over s g)
+    (λ there. gives_here g (KeepsState left_over s g) (record { grows = Grows-not g; kept = (Decides-has_state g.states s).0 there }))
+    (λ new. either_way (is_full g) _ _ (KeepsState left_over s g)
+    (λ full. no_gift (TooManyConditions node) (KeepsState left_over s g))
+    (λ room. gives_here (with_state s g) (KeepsState left_over s g) (gives_with_state left_over s g open_ new room)))
 
 -- what is known of a sequent, with these constraints, facts and hypotheses in the place of its own
 abbrev pub known_of : Sequent → List Constraint → List StatePred → List Hypothesis → Known
@@ -123,18 +129,18 @@ pub record Covers (psi : List Constraint) (facts : List StatePred) (hs : List Hy
   pub hypotheses : (h : Hypothesis) → Contains s.hypotheses (Some h) → Contains hs h
 
 -- from old to new the grant keeps what it has, and whatever covers the sequent and the new grant derives the sequent's goal
-pub record IsStep (s : Sequent) (old new : Granted) : Type 0 where
-  pub grows : Grows old new
+pub record IsStep (left_over : LeftOver) (s : Sequent) (old new : Granted) : Type 0 where
+  pub grows : Grows left_over old new
   pub derives : (psi : List Constraint) (facts : List StatePred) (hs : List Hypothesis) → Covers psi facts hs s new → Derivable (known_of s psi facts hs) s.goal s.from s.to
 
 -- the condition on time is entailed wherever the constraints and the new grant's conditions are
-pub record MeetsTime (constraints : List Constraint) (u v : Term) (old new : Granted) : Type 0 where
-  pub grows : Grows old new
+pub record MeetsTime (left_over : LeftOver) (constraints : List Constraint) (u v : Term) (old new : Granted) : Type 0 where
+  pub grows : Grows left_over old new
   pub entailed : (psi : List Constraint) → EntailsAll psi constraints → EntailsAll psi new.times → Entails psi u v
 
 -- the condition on the state is among the facts or the new grant's conditions
-pub record MeetsState (facts : List StatePred) (s : StatePred) (old new : Granted) : Type 0 where
-  pub grows : Grows old new
+pub record MeetsState (left_over : LeftOver) (facts : List StatePred) (s : StatePred) (old new : Granted) : Type 0 where
+  pub grows : Grows left_over old new
   pub known : (more : List StatePred) → Includes more facts → Includes more new.states → Contains more s
 
 EntailsAll-push : (psi old : List Constraint) (c : Constraint) → EntailsAll psi old → EntailsAll (psi ++ c ∷ []) (old ++ c ∷ [])
@@ -148,30 +154,30 @@ EntailsAll-push psi old c all = record {
 between : Term → Term → Constraint
 between u v = record { low = u; high = v }
 
-pub gives_time : (node : ℕ) (constraints : List Constraint) (u v : Term) (g : Granted) → Gives (time_condition node constraints u v g) (MeetsTime constraints u v g)
+pub gives_time : (left_over : LeftOver) (node : ℕ) (constraints : List Constraint) (u v : Term) (g : Granted) → Gives (time_condition left_over node constraints u v g) (MeetsTime left_over constraints u v g)
 unfolding between
-gives_time node constraints u v g =
-    either_way (is_entailed constraints u v) _ _ (MeetsTime constraints u v g)
-    (λ entailed. gives_here g (MeetsTime constraints u v g)
+gives_time left_over node constraints u v g =
+    either_way (is_entailed constraints u v) _ _ (MeetsTime left_over constraints u v g)
+    (λ entailed. gives_here g (MeetsTime left_over constraints u v g)
     (record { grows = Grows-not g; entailed = λ psi all times. Entails-entailed constraints psi u v all ((Decides-is_entailed constraints u v).0 entailed) }))
-    (λ _. either_way (may_stay_open (between u v)) _ _ (MeetsTime constraints u v g)
-    (λ open_. gives_more (gives_keep_time node (between u v) g (time_condition_kept (between u v) open_)) (λ new found.
+    (λ _. either_way (left_over.time (between u v)) _ _ (MeetsTime left_over constraints u v g)
+    (λ open_. gives_more (gives_keep_time left_over node (between u v) g open_) (λ new found.
     record { grows = found.grows; entailed = λ psi all times. times.each (between u v) found.kept }))
-    (λ _. no_gift (NotEntailed node) (MeetsTime constraints u v g)))
+    (λ _. no_gift (NotEntailed node) (MeetsTime left_over constraints u v g)))
 
-pub gives_state_fact : (node : ℕ) (facts : List StatePred) (s : StatePred) (g : Granted) → Gives (state_condition node facts s g) (MeetsState facts s g)
-gives_state_fact node facts s g =
-    either_way (has_state facts s) _ _ (MeetsState facts s g)
-    (λ there. gives_here g (MeetsState facts s g)
+pub gives_state_fact : (left_over : LeftOver) (node : ℕ) (facts : List StatePred) (s : StatePred) (g : Granted) → Gives (state_condition left_over node facts s g) (MeetsState left_over facts s g)
+gives_state_fact left_over node facts s g =
+    either_way (has_state facts s) _ _ (MeetsState left_over facts s g)
+    (λ there. gives_here g (MeetsState left_over facts s g)
     (record { grows = Grows-not g; known = λ more all states. all s ((Decides-has_state facts s).0 there) }))
-    (λ _. either_way (state_may_stay_open s) _ _ (MeetsState facts s g)
-    (λ open_. gives_more (gives_keep_state node s g (state_condition_kept s open_)) (λ new found.
+    (λ _. either_way (left_over.state s) _ _ (MeetsState left_over facts s g)
+    (λ open_. gives_more (gives_keep_state left_over node s g open_) (λ new found.
     record { grows = found.grows; known = λ more all states. states s found.kept }))
-    (λ _. no_gift (NotInState node) (MeetsState facts s g)))
+    (λ _. no_gift (NotInState node) (MeetsState left_over facts s g)))
 
 module _ {psi : List Constraint} {facts : List StatePred} {hs : List Hypothesis} {s : Sequent} {g : Granted} where
   -- what covers a grant covers the earlier one
-  pub Covers-before : {old : Granted} → Grows old g → Covers psi facts hs s g → Covers psi facts hs s old
+  pub Covers-before : {left_over : LeftOver} {old : Granted} → Grows left_over old g → Covers psi facts hs s g → Covers psi facts hs s old
   Covers-before grows c = record {
     constraints = c.constraints;
     times = record { each = λ d among. c.times.each d (grows.times d among) };

@@ -1,4 +1,4 @@
--- What becomes of a rule's condition: it is met, it is left over as a condition of the grant, or it is a fault at the node. What may be left over is this project's own.
+-- What becomes of a rule's condition: it is met, it is left over as a condition of the grant, or it is a fault at the node. `LeftOver` says which are left over.
 use Rattle.std.specs.Prelude.{ℕ, ◌+◌, Bool, false, List, [], ◌∷◌, ◌++◌, length, Result, Ok, Err, ◌==◌, if◌then◌else◌, Option, Some, None}
 use Rattle.bl_syntax.specs.declared.terms.Sort.{Sort}
 use Rattle.bl_syntax.specs.declared.terms.Term.{Term}
@@ -9,7 +9,8 @@ use Rattle.bl_syntax.specs.Grant.{Granted}
 use Rattle.bl_syntax.specs.Equality.{sort_eq}
 use Rattle.proof_verifier.specs.declared.fault.CheckFault.{CheckFault}
 use Rattle.proof_verifier.specs.declared.fault.CheckFault.TheVariants.{NotEntailed, NotInState, BadTerm, ViewTooWeak, TooManyConditions}
-use Rattle.proof_verifier.specs.Tests.{has_constraint, has_state, is_as_strong, may_stay_open, state_may_stay_open}
+use Rattle.proof_verifier.specs.Tests.{has_constraint, has_state, is_as_strong}
+use Rattle.proof_verifier.specs.LeftOver.{LeftOver}
 use Rattle.proof_verifier.specs.Entailed.{is_entailed}
 
 -- the grant has as many conditions as it may
@@ -30,18 +31,18 @@ keep_state node s g =
     if is_full g then Err (TooManyConditions node) else
     Ok (record g { states = g.states ++ s ∷ [] })
 
--- that u is not after v: passed over where the constraints entail it, kept where a grant can keep it, else a fault
-abbrev pub time_condition : ℕ → List Constraint → Term → Term → Granted → Result Granted CheckFault
-time_condition node constraints u v g =
+-- that u is not after v: passed over if the constraints entail it, kept if it is left over, else a fault
+abbrev pub time_condition : LeftOver → ℕ → List Constraint → Term → Term → Granted → Result Granted CheckFault
+time_condition left_over node constraints u v g =
     if is_entailed constraints u v then Ok g else
-    if may_stay_open (record { low = u; high = v }) then keep_time node (record { low = u; high = v }) g else
+    if left_over.time (record { low = u; high = v }) then keep_time node (record { low = u; high = v }) g else
     Err (NotEntailed node)
 
--- that the predicate is true of the state: passed over where it is a fact, kept where a grant can keep it, else a fault
-abbrev pub state_condition : ℕ → List StatePred → StatePred → Granted → Result Granted CheckFault
-state_condition node facts s g =
+-- that the predicate is true of the state: passed over if it is a fact, kept if it is left over, else a fault
+abbrev pub state_condition : LeftOver → ℕ → List StatePred → StatePred → Granted → Result Granted CheckFault
+state_condition left_over node facts s g =
     if has_state facts s then Ok g else
-    if state_may_stay_open s then keep_state node s g else
+    if left_over.state s then keep_state node s g else
     Err (NotInState node)
 
 -- the term is in scope and has the sort; it holds no bound variable

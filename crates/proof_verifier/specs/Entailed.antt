@@ -7,7 +7,7 @@ use Rattle.bl_syntax.specs.declared.terms.Term.TheVariants.{Time}
 use Rattle.bl_syntax.specs.declared.terms.TimePoint.TheVariants.{NegInf, PosInf}
 use Rattle.bl_syntax.specs.declared.terms.Constraint.{Constraint}
 use Rattle.bl_syntax.specs.Equality.{term_eq}
-use Rattle.proof_verifier.specs.Tests.{is_up_to}
+use Rattle.bl_syntax.specs.ConditionTests.{is_up_to}
 
 -- whether they are two constant times, the first not after the second
 abbrev pub are_in_order : Term → Term → Bool

@@ -6,6 +6,7 @@ pub mod Entailed
 pub mod ExampleTable
 pub mod Examples
 pub mod Known
+pub mod LeftOver
 pub mod Rules
 pub mod Run
 pub mod Sequent
@@ -13,3 +14,4 @@ pub mod Shapes
 pub mod Standing
 pub mod Tests
 pub mod Verdict
+pub mod WellFormed

@@ -11,6 +11,7 @@ use Rattle.bl_rules.specs.Sequent.{holds, claims}
 use Rattle.proof_verifier.specs.declared.fault.CheckFault.{CheckFault}
 use Rattle.proof_verifier.specs.Sequent.{Sequent, aim, aim_at, learn, bound, observe, declare, new_parameter, new_start, new_end, suppose, speak}
 use Rattle.proof_verifier.specs.Shapes.{and_then, truth_at, claim_at, as_same_atom, as_constraint, as_state, as_both, as_either, as_implies, as_true, as_false, as_forall, as_exists, as_says, as_on}
+use Rattle.proof_verifier.specs.LeftOver.{LeftOver}
 use Rattle.proof_verifier.specs.Conditions.{time_condition, state_condition, term_condition, strength_condition}
 
 -- what a proof answers at a node of that number, on a sequent, with the grant so far: the grant then, or the first fault
@@ -18,20 +19,20 @@ abbrev pub Answer : Type 0
 Answer = ℕ → Sequent → Granted → Result Granted CheckFault
 
 -- the goal is the atom of a truth whose interval holds the goal's
-abbrev pub by_init : ℕ → Answer
-by_init h node s g =
+abbrev pub by_init : LeftOver → ℕ → Answer
+by_init left_over h node s g =
     and_then (truth_at node s.hypotheses h) (λ (a, from, to).
     and_then (as_same_atom node a s.goal) (λ _.
-    and_then (time_condition node s.constraints from s.from g) (λ g.
-    time_condition node s.constraints s.to to g)))
+    and_then (time_condition left_over node s.constraints from s.from g) (λ g.
+    time_condition left_over node s.constraints s.to to g)))
 
 -- the goal is a constraint
-abbrev pub by_cons_r : Answer
-by_cons_r node s g = and_then (as_constraint node s.goal) (λ c. time_condition node s.constraints c.low c.high g)
+abbrev pub by_cons_r : LeftOver → Answer
+by_cons_r left_over node s g = and_then (as_constraint node s.goal) (λ c. time_condition left_over node s.constraints c.low c.high g)
 
 -- the goal is a predicate on the state
-abbrev pub by_inter_r : Answer
-by_inter_r node s g = and_then (as_state node s.goal) (λ fact. state_condition node s.facts fact g)
+abbrev pub by_inter_r : LeftOver → Answer
+by_inter_r left_over node s g = and_then (as_state node s.goal) (λ fact. state_condition left_over node s.facts fact g)
 
 -- the goal is A & B: p proves A, q proves B; p has that many nodes
 abbrev pub by_and_r : Answer → ℕ → Answer → Answer
@@ -110,14 +111,14 @@ by_false_l h node s g =
     and_then (as_false node a) (λ _. Ok g))
 
 -- a truth is A => B: on an interval within its own, p proves A, and q has B; p has that many nodes
-abbrev pub by_imp_l : ℕ → Term → Term → Answer → ℕ → Answer → Answer
-by_imp_l h t1 t2 p nodes q node s g =
+abbrev pub by_imp_l : LeftOver → ℕ → Term → Term → Answer → ℕ → Answer → Answer
+by_imp_l left_over h t1 t2 p nodes q node s g =
     and_then (truth_at node s.hypotheses h) (λ (ab, from, to).
     and_then (as_implies node ab) (λ (a, b).
     and_then (term_condition node s.sorts Time t1) (λ _.
     and_then (term_condition node s.sorts Time t2) (λ _.
-    and_then (time_condition node s.constraints from t1 g) (λ g.
-    and_then (time_condition node s.constraints t2 to g) (λ g.
+    and_then (time_condition left_over node s.constraints from t1 g) (λ g.
+    and_then (time_condition left_over node s.constraints t2 to g) (λ g.
     and_then (p (1 + node) (aim_at a t1 t2 s) g) (λ g.
     q (1 + node + nodes) (learn (holds b t1 t2) s) g)))))))
 
@@ -144,12 +145,12 @@ by_says_l h p node s g =
     p (1 + node) (learn (claims k a from to) s) g))
 
 -- a claim, of a principal that is strong enough for the view, on an interval that holds the view's: p has the truth
-abbrev pub by_claim : ℕ → Answer → Answer
-by_claim h p node s g =
+abbrev pub by_claim : LeftOver → ℕ → Answer → Answer
+by_claim left_over h p node s g =
     and_then (claim_at node s.hypotheses h) (λ (k, a, from, to).
     and_then (strength_condition node k s.view.who) (λ _.
-    and_then (time_condition node s.constraints from s.view.from g) (λ g.
-    and_then (time_condition node s.constraints s.view.to to g) (λ g.
+    and_then (time_condition left_over node s.constraints from s.view.from g) (λ g.
+    and_then (time_condition left_over node s.constraints s.view.to to g) (λ g.
     p (1 + node) (learn (holds a from to) s) g))))
 
 -- a truth is A @ [u,v]: p has A there

@@ -12,33 +12,34 @@ use Rattle.proof_term.specs.Limits.{size}
 use Rattle.condition_set.specs.Conditions.{without_conditions}
 use Rattle.proof_verifier.specs.declared.fault.CheckFault.{CheckFault}
 use Rattle.proof_verifier.specs.Sequent.{Sequent}
+use Rattle.proof_verifier.specs.LeftOver.{LeftOver, by_rule, by_grant}
 use Rattle.proof_verifier.specs.Rules.{Answer, by_init, by_cons_r, by_inter_r, by_and_r, by_or_r1, by_or_r2, by_true_r, by_imp_r, by_forall_r, by_exists_r, by_says_r, by_at_r, by_cons_l, by_inter_l, by_and_l, by_or_l, by_false_l, by_imp_l, by_forall_l, by_exists_l, by_says_l, by_claim, by_at_l}
 
--- what a proof answers
-unfoldable pub answer : Deduction → Answer
-answer (init h) = by_init h
-answer cons_r = by_cons_r
-answer inter_r = by_inter_r
-answer (and_r p q) = by_and_r (answer p) (size p) (answer q)
-answer (or_r1 p) = by_or_r1 (answer p)
-answer (or_r2 p) = by_or_r2 (answer p)
-answer true_r = by_true_r
-answer (imp_r p) = by_imp_r (answer p)
-answer (forall_r p) = by_forall_r (answer p)
-answer (exists_r t p) = by_exists_r t (answer p)
-answer (says_r p) = by_says_r (answer p)
-answer (at_r p) = by_at_r (answer p)
-answer (cons_l h p) = by_cons_l h (answer p)
-answer (inter_l h p) = by_inter_l h (answer p)
-answer (and_l h p) = by_and_l h (answer p)
-answer (or_l h p q) = by_or_l h (answer p) (size p) (answer q)
-answer (false_l h) = by_false_l h
-answer (imp_l h t1 t2 p q) = by_imp_l h t1 t2 (answer p) (size p) (answer q)
-answer (forall_l h t p) = by_forall_l h t (answer p)
-answer (exists_l h p) = by_exists_l h (answer p)
-answer (says_l h p) = by_says_l h (answer p)
-answer (claim h p) = by_claim h (answer p)
-answer (at_l h p) = by_at_l h (answer p)
+-- what a proof answers, where these conditions are left over
+unfoldable pub answer : LeftOver → Deduction → Answer
+answer left_over (init h) = by_init left_over h
+answer left_over cons_r = by_cons_r left_over
+answer left_over inter_r = by_inter_r left_over
+answer left_over (and_r p q) = by_and_r (answer left_over p) (size p) (answer left_over q)
+answer left_over (or_r1 p) = by_or_r1 (answer left_over p)
+answer left_over (or_r2 p) = by_or_r2 (answer left_over p)
+answer left_over true_r = by_true_r
+answer left_over (imp_r p) = by_imp_r (answer left_over p)
+answer left_over (forall_r p) = by_forall_r (answer left_over p)
+answer left_over (exists_r t p) = by_exists_r t (answer left_over p)
+answer left_over (says_r p) = by_says_r (answer left_over p)
+answer left_over (at_r p) = by_at_r (answer left_over p)
+answer left_over (cons_l h p) = by_cons_l h (answer left_over p)
+answer left_over (inter_l h p) = by_inter_l h (answer left_over p)
+answer left_over (and_l h p) = by_and_l h (answer left_over p)
+answer left_over (or_l h p q) = by_or_l h (answer left_over p) (size p) (answer left_over q)
+answer left_over (false_l h) = by_false_l h
+answer left_over (imp_l h t1 t2 p q) = by_imp_l left_over h t1 t2 (answer left_over p) (size p) (answer left_over q)
+answer left_over (forall_l h t p) = by_forall_l h t (answer left_over p)
+answer left_over (exists_l h p) = by_exists_l h (answer left_over p)
+answer left_over (says_l h p) = by_says_l h (answer left_over p)
+answer left_over (claim h p) = by_claim left_over h (answer left_over p)
+answer left_over (at_l h p) = by_at_l h (answer left_over p)
 
 -- the sequent at the root: the cited statements as claims, no parameters, constraints or facts, the view of `loc` at the current time, and that `admin` says now that the goal's
 -- principal may have the permission on the file
@@ -56,4 +57,9 @@ root statements goal = record {
 
 -- the verdict on a proof of the goal from the cited statements
 abbrev pub verdict : List Saying → Goal → Deduction → Result Granted CheckFault
-verdict statements goal proof = answer proof 0 (root statements goal) (without_conditions goal)
+verdict statements goal proof = answer by_rule proof 0 (root statements goal) (without_conditions goal)
+
+-- the same, where what a grant can keep is left over: the program tests this. It is the verdict, since the formulas at each node are closed and well sorted, with times in the range
+-- of moments
+abbrev pub computed_verdict : List Saying → Goal → Deduction → Result Granted CheckFault
+computed_verdict statements goal proof = answer by_grant proof 0 (root statements goal) (without_conditions goal)

@@ -100,9 +100,47 @@ impl Checked {
     }
 }
 
-/// Checks a proof of the goal from the cited statements. The grant is the verdict on them, and a fault
-/// is the verdict's; but want of memory is answered where a growth was refused.
+/// The verdict on a proof of the goal from the cited statements: a grant, which is sound for them, or the first fault. Out
+/// of memory is reported only if a growth was refused.
+pub fn verdict(
+    alloc: Global,
+    cited: &Cites,
+    goal: &Goal,
+    proof: &ProofTree,
+) -> Result<Grant, CheckFault>
+    ensures granted { IfOk result (λ grant. IsGranted (statements_of cited.now) goal.now proof.now grant) }
+    ensures fault { IfErr result (λ fault. IsFault fault (verdict (statements_of cited.now) goal.now proof.now)) }
+    ensures are_cited { AreCited cited.now }
+{
+    grant_of(alloc, cited.as_slice(), goal, proof)
+}
+
+/// Checks a proof of the goal from the cited statements, and keeps copies of them. The grant is the verdict, and so is a
+/// fault; but out of memory is reported if a growth was refused.
 pub fn check(
+    alloc: Global,
+    cited: &Cites,
+    goal: &Goal,
+    proof: &ProofTree,
+) -> Result<Checked, CheckFault>
+    ensures ok { IfOk result (λ checked. checked ≡ checking cited.now goal.now proof.now checked.grant) }
+    ensures granted { IfOk result (λ checked. IsChecked checked) }
+    ensures are_cited { IfOk result (λ checked. AreCited checked.cited) }
+    ensures fault { IfErr result (λ fault. IsFault fault (verdict (statements_of cited.now) goal.now proof.now)) }
+{
+    let grant = verdict(alloc, cited, goal, proof)?;
+    let cited = cited.copy(alloc)?;
+    let proof = proof.copy(alloc)?;
+    Ok(Checked {
+        cited,
+        goal: *goal,
+        proof,
+        grant,
+    })
+}
+
+/// Checks a proof as `check` does, but keeps the statements and the proof themselves, and copies nothing.
+pub fn verify(
     alloc: Global,
     cited: Cites,
     goal: Goal,
@@ -113,25 +151,11 @@ pub fn check(
     ensures are_cited { IfOk result (λ checked. AreCited checked.cited) }
     ensures fault { IfErr result (λ fault. IsFault fault (verdict (statements_of cited) goal proof)) }
 {
-    let grant = grant_of(alloc, cited.as_slice(), &goal, &proof)?;
+    let grant = verdict(alloc, &cited, &goal, &proof)?;
     Ok(Checked {
         cited,
         goal,
         proof,
         grant,
     })
-}
-
-/// Checks a proof as `check` does, but leaves the cited statements and the proof where they are. The grant is the verdict
-/// on them and sound for them, and a fault is the verdict's; but want of memory is answered where a growth was refused.
-pub fn verify(
-    alloc: Global,
-    cited: &Cites,
-    goal: &Goal,
-    proof: &ProofTree,
-) -> Result<Grant, CheckFault>
-    ensures granted { IfOk result (λ grant. IsGranted (statements_of cited.now) goal.now proof.now grant) }
-    ensures fault { IfErr result (λ fault. IsFault fault (verdict (statements_of cited.now) goal.now proof.now)) }
-{
-    grant_of(alloc, cited.as_slice(), goal, proof)
 }

@@ -1,25 +1,25 @@
 //! What becomes of a rule's conditions.
 
-ghost use Rattle.std.specs.Prelude.{◌≡◌, ◌≤◌, true, length};
+ghost use Rattle.std.specs.Prelude.{◌≡◌, ◌≤◌, length};
+ghost use Rattle.bl_syntax.specs.Grant.{IsTimeCondition, IsStateCondition};
 ghost use Rattle.proof_verifier.specs.Conditions.{keep_time, keep_state, time_condition, state_condition};
 ghost use Rattle.proof_verifier.specs.Entailed.{is_entailed};
 ghost use Rattle.proof_verifier.specs.Known.{known};
+ghost use Rattle.proof_verifier.specs.LeftOver.{by_grant};
 ghost use Rattle.proof_verifier.specs.Run.{Meets};
-ghost use Rattle.proof_verifier.specs.Tests.{may_stay_open, state_may_stay_open};
 
 use crate::desk::Desk;
 use crate::facts::Facts;
 use crate::fault::CheckFault;
-use crate::terms::{may_stay_open, state_may_stay_open};
 use bl_constraints::entails;
-use bl_syntax::{Constraint, StatePred, Term};
+use bl_syntax::{Constraint, StatePred, Term, is_state_condition, is_time_condition};
 use condition_set::{Collect, CollectFault};
 
 impl Desk {
     /// That the first time is not after the second: passed over, kept, or a fault of the node.
     pub fn time_condition(&mut self, low: &Term, high: &Term, node: usize) -> Result<(), CheckFault>
         requires { length self.old.constraints ≤ 512 }
-        ensures { Meets self.old self.new result (time_condition node self.old.constraints low.now high.now self.old.grant) }
+        ensures { Meets self.old self.new result (time_condition by_grant node self.old.constraints low.now high.now self.old.grant) }
     {
         if is_entailed(self.constraints.as_slice(), low, high) {
             return Ok(());
@@ -28,7 +28,7 @@ impl Desk {
             low: *low,
             high: *high,
         };
-        if may_stay_open(&c) {
+        if is_time_condition(&c) {
             self.keep_time(c, node)
         } else {
             Err(CheckFault::NotEntailed(node))
@@ -42,11 +42,11 @@ impl Desk {
         facts: &Facts<'_>,
         node: usize,
     ) -> Result<(), CheckFault>
-        ensures { Meets self.old self.new result (state_condition node (known facts.now) s.now self.old.grant) }
+        ensures { Meets self.old self.new result (state_condition by_grant node (known facts.now) s.now self.old.grant) }
     {
         if facts.has(s) {
             Ok(())
-        } else if state_may_stay_open(s) {
+        } else if is_state_condition(s) {
             self.keep_state(*s, node)
         } else {
             Err(CheckFault::NotInState(node))
@@ -54,7 +54,7 @@ impl Desk {
     }
 
     fn keep_time(&mut self, c: Constraint, node: usize) -> Result<(), CheckFault>
-        requires { may_stay_open c ≡ true }
+        requires { IsTimeCondition c }
         ensures { Meets self.old self.new result (keep_time node c self.old.grant) }
     {
         match self.grant.add_time(c) {
@@ -65,7 +65,7 @@ impl Desk {
     }
 
     fn keep_state(&mut self, s: StatePred, node: usize) -> Result<(), CheckFault>
-        requires { state_may_stay_open s ≡ true }
+        requires { IsStateCondition s }
         ensures { Meets self.old self.new result (keep_state node s self.old.grant) }
     {
         match self.grant.add_state(s) {

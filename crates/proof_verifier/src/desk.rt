@@ -3,6 +3,7 @@
 ghost use Rattle.std.specs.Prelude.{◌≡◌, ◌+◌, ◌<◌, ◌^◌, [], ◌∷◌, ◌++◌, length, IfOk};
 ghost use Rattle.proof_term.specs.Proof.{deduction};
 ghost use Rattle.proof_term.specs.Limits.{size, depth};
+ghost use Rattle.proof_verifier.specs.LeftOver.{by_grant};
 ghost use Rattle.proof_verifier.specs.Verdict.{answer};
 ghost use Rattle.proof_verifier.specs.Run.{sequent, HasRoom, Follows, IsDeclared};
 
@@ -53,7 +54,7 @@ impl Desk {
     ) -> Result<usize, CheckFault>
         requires { HasRoom self.old place.now (size (deduction proof.now)) (depth (deduction proof.now)) }
         ensures { Follows self.old self.new (place.now.node + size (deduction proof.now)) result
-            (answer (deduction proof.now) place.now.node (sequent self.old place.now) self.old.grant) }
+            (answer by_grant (deduction proof.now) place.now.node (sequent self.old place.now) self.old.grant) }
     {
         match proof {
             Proof::Init(h) => self.init(place, *h),

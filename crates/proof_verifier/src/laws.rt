@@ -1,6 +1,6 @@
 //! Laws of the definitions, and verdicts that they compute. A law is the contract of an empty function, which nothing calls.
 
-ghost use Rattle.std.specs.Prelude.{◌≡◌, ◌↔◌, ◌+◌, true, List, [], ◌∷◌, length, Contains, Ok, Err, codes};
+ghost use Rattle.std.specs.Prelude.{◌≡◌, ◌↔◌, ◌+◌, ◌⊎◌, ℕ, true, List, [], ◌∷◌, length, Contains, Ok, Err, codes};
 ghost use Rattle.std.specs.List.{AllByRecursion};
 ghost use Rattle.bl_syntax.specs.declared.terms.Sort.{Sort};
 ghost use Rattle.bl_syntax.specs.declared.terms.StatePred.{StatePred};
@@ -12,21 +12,26 @@ ghost use Rattle.bl_syntax.specs.Statement.{Saying, IsStatement};
 ghost use Rattle.bl_syntax.specs.Entailment.{Entails};
 ghost use Rattle.bl_syntax.specs.Grant.{Granted, IsGrant, IsTimeCondition, IsStateCondition};
 ghost use Rattle.bl_syntax.specs.Terms.{sort_of, IsAtLeastAsStrong};
-ghost use Rattle.bl_syntax.specs.WellSorted.{HasSort};
+ghost use Rattle.bl_syntax.specs.Formula.{state};
+ghost use Rattle.bl_syntax.specs.WellSorted.{HasSort, terms_of_state};
 ghost use Rattle.bl_rules.specs.Allowed.{SoundGrant};
 ghost use Rattle.proof_term.specs.Proof.{Deduction};
+ghost use Rattle.proof_term.specs.Limits.{HasTimesInRange};
 ghost use Rattle.proof_verifier.specs.declared.fault.CheckFault.TheVariants.{WrongShape, NotEntailed, ViewTooWeak, TooManyConditions, NoMemory};
 ghost use Rattle.proof_verifier.specs.Conditions.{of_sort, is_full};
-ghost use Rattle.proof_verifier.specs.Tests.{are_same, has_constraint, has_state, is_as_strong, may_stay_open, state_may_stay_open};
+ghost use Rattle.proof_verifier.specs.Tests.{are_same, has_constraint, has_state, is_as_strong, IsParameter, names_ctime_and_no_parameter, names_no_parameter};
+ghost use Rattle.proof_verifier.specs.LeftOver.{by_rule, by_grant};
+ghost use Rattle.proof_verifier.specs.Sequent.{Sequent};
+ghost use Rattle.proof_verifier.specs.WellFormed.{IsInterval, IsClosed, IsWellFormed};
 ghost use Rattle.proof_verifier.specs.Entailed.{is_entailed};
-ghost use Rattle.proof_verifier.specs.Verdict.{verdict};
+ghost use Rattle.proof_verifier.specs.Verdict.{answer, root, verdict, computed_verdict};
 ghost use Rattle.proof_verifier.specs.ExampleTable.{Computes, accepted, refused};
 ghost use Rattle.proof_verifier.specs.Examples.{second, stated, may_write, writing, by_its_claim, between, employees_may_read, bob_is_employed, reading, by_employment, within_both, bob_may_read_if_employed, by_word, q_of_bob, bob_may_read_if_it_follows, by_new_interval, may_write_if_placed, by_places, within_places};
 
 /// A grant that the verdict gives is sound: wherever its conditions hold, the statements allow what it grants.
 pub fn the_verdict_gives_sound_grants()
     ensures { (statements : List Saying) (goal : Goal) (proof : Deduction) (granted : Granted)
-        → AllByRecursion IsStatement statements
+        → AllByRecursion IsStatement statements → HasTimesInRange proof
         → verdict statements goal proof ≡ Ok granted → SoundGrant statements granted }
 {}
 
@@ -39,7 +44,21 @@ pub fn the_verdict_grants_the_goal()
 /// A grant that the verdict gives keeps the rules of grants: conditions of the right forms, each once, at most 64.
 pub fn the_verdict_gives_grants_within_their_rules()
     ensures { (statements : List Saying) (goal : Goal) (proof : Deduction) (granted : Granted)
+        → AllByRecursion IsStatement statements → HasTimesInRange proof
         → verdict statements goal proof ≡ Ok granted → IsGrant granted }
+{}
+
+/// What the verdict leaves over is what a grant can keep: at each node whose sequent is well formed, and so from the root of
+/// statements on, a proof gets the same answer whichever of the two is tested.
+pub fn what_is_left_over_is_what_a_grant_can_keep()
+    ensures time { (sorts : List Sort) (c : Constraint) → IsInterval sorts c.low c.high → (names_ctime_and_no_parameter c ≡ true) ↔ IsTimeCondition c }
+    ensures state { (sorts : List Sort) (s : StatePred) → IsClosed sorts (state s) → (names_no_parameter s ≡ true) ↔ IsStateCondition s }
+    ensures node { (proof : Deduction) → HasTimesInRange proof → (node : ℕ) (s : Sequent) (so_far : Granted)
+        → IsWellFormed s → answer by_rule proof node s so_far ≡ answer by_grant proof node s so_far }
+    ensures root { (statements : List Saying) (goal : Goal) → AllByRecursion IsStatement statements → IsWellFormed (root statements goal) }
+    ensures verdict { (statements : List Saying) (goal : Goal) (proof : Deduction)
+        → AllByRecursion IsStatement statements → HasTimesInRange proof
+        → verdict statements goal proof ≡ computed_verdict statements goal proof }
 {}
 
 /// The entailment between times that the verdict computes is entailment.
@@ -49,8 +68,9 @@ pub fn the_computed_entailment_is_entailment()
 
 /// Each test that the verdict goes by decides what its name says.
 pub fn each_test_decides()
-    ensures time { (c : Constraint) → (may_stay_open c ≡ true) ↔ IsTimeCondition c }
-    ensures state { (s : StatePred) → (state_may_stay_open s ≡ true) ↔ IsStateCondition s }
+    ensures time { (c : Constraint) → (names_ctime_and_no_parameter c ≡ true)
+        ↔ (((c.low ≡ Ctime) ⊎ (c.high ≡ Ctime)) × ((IsParameter c.low → ⊥) × (IsParameter c.high → ⊥))) }
+    ensures state { (s : StatePred) → (names_no_parameter s ≡ true) ↔ AllByRecursion (λ (t : Term). IsParameter t → ⊥) (terms_of_state s) }
     ensures sort { (sorts : List Sort) (sort : Sort) (t : Term) → (of_sort sort (sort_of sorts [] t) ≡ true) ↔ HasSort sorts [] sort t }
     ensures strength { (k other : Term) → (is_as_strong k other ≡ true) ↔ IsAtLeastAsStrong k other }
     ensures kept_time { (constraints : List Constraint) (c : Constraint) → (has_constraint constraints c ≡ true) ↔ Contains constraints c }

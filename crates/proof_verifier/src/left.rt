@@ -4,6 +4,7 @@ ghost use Rattle.std.specs.Prelude.{◌≡◌, ◌+◌};
 ghost use Rattle.proof_term.specs.Proof.{deduction, init, cons_l, inter_l, and_l, or_l, false_l, imp_l, forall_l, exists_l, says_l, claim, at_l};
 ghost use Rattle.proof_term.specs.Limits.{size, depth};
 ghost use Rattle.proof_verifier.specs.Rules.{by_init, by_cons_l, by_inter_l, by_and_l, by_or_l, by_false_l, by_imp_l, by_forall_l, by_exists_l, by_says_l, by_claim, by_at_l};
+ghost use Rattle.proof_verifier.specs.LeftOver.{by_grant};
 ghost use Rattle.proof_verifier.specs.Verdict.{answer};
 ghost use Rattle.proof_verifier.specs.Run.{sequent, HasRoom, Follows};
 
@@ -27,7 +28,7 @@ impl Desk {
     pub fn init(&mut self, place: &Place<'_>, h: u16) -> Result<usize, CheckFault>
         requires { HasRoom self.old place.now (size (init h)) (depth (init h)) }
         ensures { Follows self.old self.new (place.now.node + size (init h)) result
-            (by_init h place.now.node (sequent self.old place.now) self.old.grant) }
+            (by_init by_grant h place.now.node (sequent self.old place.now) self.old.grant) }
     {
         let (a, from, to) = place.truth_at(h)?;
         test_same(a, place.goal, place.node)?;
@@ -48,7 +49,7 @@ impl Desk {
     ) -> Result<usize, CheckFault>
         requires { HasRoom self.old place.now (size (cons_l h (deduction p.now))) (depth (cons_l h (deduction p.now))) }
         ensures { Follows self.old self.new (place.now.node + size (cons_l h (deduction p.now))) result
-            (by_cons_l h (answer (deduction p.now)) place.now.node (sequent self.old place.now) self.old.grant) }
+            (by_cons_l h (answer by_grant (deduction p.now)) place.now.node (sequent self.old place.now) self.old.grant) }
     {
         let (a, _, _) = place.truth_at(h)?;
         let c = as_constraint(a, place.node)?;
@@ -75,7 +76,7 @@ impl Desk {
     ) -> Result<usize, CheckFault>
         requires { HasRoom self.old place.now (size (inter_l h (deduction p.now))) (depth (inter_l h (deduction p.now))) }
         ensures { Follows self.old self.new (place.now.node + size (inter_l h (deduction p.now))) result
-            (by_inter_l h (answer (deduction p.now)) place.now.node (sequent self.old place.now) self.old.grant) }
+            (by_inter_l h (answer by_grant (deduction p.now)) place.now.node (sequent self.old place.now) self.old.grant) }
     {
         let (a, _, _) = place.truth_at(h)?;
         let fact = as_state(a, place.node)?;
@@ -100,7 +101,7 @@ impl Desk {
     ) -> Result<usize, CheckFault>
         requires { HasRoom self.old place.now (size (and_l h (deduction p.now))) (depth (and_l h (deduction p.now))) }
         ensures { Follows self.old self.new (place.now.node + size (and_l h (deduction p.now))) result
-            (by_and_l h (answer (deduction p.now)) place.now.node (sequent self.old place.now) self.old.grant) }
+            (by_and_l h (answer by_grant (deduction p.now)) place.now.node (sequent self.old place.now) self.old.grant) }
     {
         let (ab, from, to) = place.truth_at(h)?;
         let (a, b) = as_both(ab, place.node)?;
@@ -128,7 +129,7 @@ impl Desk {
     ) -> Result<usize, CheckFault>
         requires { HasRoom self.old place.now (size (or_l h (deduction p.now) (deduction q.now))) (depth (or_l h (deduction p.now) (deduction q.now))) }
         ensures { Follows self.old self.new (place.now.node + size (or_l h (deduction p.now) (deduction q.now))) result
-            (by_or_l h (answer (deduction p.now)) (size (deduction p.now)) (answer (deduction q.now)) place.now.node (sequent self.old place.now) self.old.grant) }
+            (by_or_l h (answer by_grant (deduction p.now)) (size (deduction p.now)) (answer by_grant (deduction q.now)) place.now.node (sequent self.old place.now) self.old.grant) }
     {
         let (ab, from, to) = place.truth_at(h)?;
         let (a, b) = as_either(ab, place.node)?;
@@ -177,7 +178,7 @@ impl Desk {
     ) -> Result<usize, CheckFault>
         requires { HasRoom self.old place.now (size (imp_l h t1.now t2.now (deduction p.now) (deduction q.now))) (depth (imp_l h t1.now t2.now (deduction p.now) (deduction q.now))) }
         ensures { Follows self.old self.new (place.now.node + size (imp_l h t1.now t2.now (deduction p.now) (deduction q.now))) result
-            (by_imp_l h t1.now t2.now (answer (deduction p.now)) (size (deduction p.now)) (answer (deduction q.now)) place.now.node (sequent self.old place.now) self.old.grant) }
+            (by_imp_l by_grant h t1.now t2.now (answer by_grant (deduction p.now)) (size (deduction p.now)) (answer by_grant (deduction q.now)) place.now.node (sequent self.old place.now) self.old.grant) }
     {
         let (ab, from, to) = place.truth_at(h)?;
         let (a, b) = as_implies(ab, place.node)?;
@@ -216,7 +217,7 @@ impl Desk {
     ) -> Result<usize, CheckFault>
         requires { HasRoom self.old place.now (size (forall_l h t.now (deduction p.now))) (depth (forall_l h t.now (deduction p.now))) }
         ensures { Follows self.old self.new (place.now.node + size (forall_l h t.now (deduction p.now))) result
-            (by_forall_l h t.now (answer (deduction p.now)) place.now.node (sequent self.old place.now) self.old.grant) }
+            (by_forall_l h t.now (answer by_grant (deduction p.now)) place.now.node (sequent self.old place.now) self.old.grant) }
     {
         let (every, from, to) = place.truth_at(h)?;
         let (sort, a) = as_forall(every, place.node)?;
@@ -244,7 +245,7 @@ impl Desk {
     ) -> Result<usize, CheckFault>
         requires { HasRoom self.old place.now (size (exists_l h (deduction p.now))) (depth (exists_l h (deduction p.now))) }
         ensures { Follows self.old self.new (place.now.node + size (exists_l h (deduction p.now))) result
-            (by_exists_l h (answer (deduction p.now)) place.now.node (sequent self.old place.now) self.old.grant) }
+            (by_exists_l h (answer by_grant (deduction p.now)) place.now.node (sequent self.old place.now) self.old.grant) }
     {
         let (some, from, to) = place.truth_at(h)?;
         let (sort, a) = as_exists(some, place.node)?;
@@ -275,7 +276,7 @@ impl Desk {
     ) -> Result<usize, CheckFault>
         requires { HasRoom self.old place.now (size (says_l h (deduction p.now))) (depth (says_l h (deduction p.now))) }
         ensures { Follows self.old self.new (place.now.node + size (says_l h (deduction p.now))) result
-            (by_says_l h (answer (deduction p.now)) place.now.node (sequent self.old place.now) self.old.grant) }
+            (by_says_l h (answer by_grant (deduction p.now)) place.now.node (sequent self.old place.now) self.old.grant) }
     {
         let (said, from, to) = place.truth_at(h)?;
         let (who, a) = as_says(said, place.node)?;
@@ -301,7 +302,7 @@ impl Desk {
     ) -> Result<usize, CheckFault>
         requires { HasRoom self.old place.now (size (claim h (deduction p.now))) (depth (claim h (deduction p.now))) }
         ensures { Follows self.old self.new (place.now.node + size (claim h (deduction p.now))) result
-            (by_claim h (answer (deduction p.now)) place.now.node (sequent self.old place.now) self.old.grant) }
+            (by_claim by_grant h (answer by_grant (deduction p.now)) place.now.node (sequent self.old place.now) self.old.grant) }
     {
         let (who, a, from, to) = place.claim_at(h)?;
         test_strength(who, place.who, place.node)?;
@@ -329,7 +330,7 @@ impl Desk {
     ) -> Result<usize, CheckFault>
         requires { HasRoom self.old place.now (size (at_l h (deduction p.now))) (depth (at_l h (deduction p.now))) }
         ensures { Follows self.old self.new (place.now.node + size (at_l h (deduction p.now))) result
-            (by_at_l h (answer (deduction p.now)) place.now.node (sequent self.old place.now) self.old.grant) }
+            (by_at_l h (answer by_grant (deduction p.now)) place.now.node (sequent self.old place.now) self.old.grant) }
     {
         let (placed, _, _) = place.truth_at(h)?;
         let (a, from, to) = as_on(placed, place.node)?;

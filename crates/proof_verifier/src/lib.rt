@@ -18,6 +18,6 @@ mod root;
 mod shapes;
 mod terms;
 
-pub use checked::{Checked, check, verify};
+pub use checked::{Checked, check, verdict, verify};
 pub use cites::{Cite, Cites};
 pub use fault::CheckFault;

@@ -4,6 +4,7 @@ ghost use Rattle.std.specs.Prelude.{◌≡◌, ◌+◌};
 ghost use Rattle.proof_term.specs.Proof.{deduction, cons_r, inter_r, and_r, or_r1, or_r2, true_r, imp_r, forall_r, exists_r, says_r, at_r};
 ghost use Rattle.proof_term.specs.Limits.{size, depth};
 ghost use Rattle.proof_verifier.specs.Rules.{by_cons_r, by_inter_r, by_and_r, by_or_r1, by_or_r2, by_true_r, by_imp_r, by_forall_r, by_exists_r, by_says_r, by_at_r};
+ghost use Rattle.proof_verifier.specs.LeftOver.{by_grant};
 ghost use Rattle.proof_verifier.specs.Verdict.{answer};
 ghost use Rattle.proof_verifier.specs.Run.{sequent, HasRoom, Follows};
 
@@ -26,7 +27,7 @@ impl Desk {
     pub fn cons_r(&mut self, place: &Place<'_>) -> Result<usize, CheckFault>
         requires { HasRoom self.old place.now (size (cons_r)) (depth (cons_r)) }
         ensures { Follows self.old self.new (place.now.node + size (cons_r)) result
-            (by_cons_r place.now.node (sequent self.old place.now) self.old.grant) }
+            (by_cons_r by_grant place.now.node (sequent self.old place.now) self.old.grant) }
     {
         let c = as_constraint(place.goal, place.node)?;
         self.time_condition(&c.low, &c.high, place.node)?;
@@ -38,7 +39,7 @@ impl Desk {
     pub fn inter_r(&mut self, place: &Place<'_>) -> Result<usize, CheckFault>
         requires { HasRoom self.old place.now (size (inter_r)) (depth (inter_r)) }
         ensures { Follows self.old self.new (place.now.node + size (inter_r)) result
-            (by_inter_r place.now.node (sequent self.old place.now) self.old.grant) }
+            (by_inter_r by_grant place.now.node (sequent self.old place.now) self.old.grant) }
     {
         let fact = as_state(place.goal, place.node)?;
         self.state_condition(fact, place.facts, place.node)?;
@@ -57,7 +58,7 @@ impl Desk {
     ) -> Result<usize, CheckFault>
         requires { HasRoom self.old place.now (size (and_r (deduction p.now) (deduction q.now))) (depth (and_r (deduction p.now) (deduction q.now))) }
         ensures { Follows self.old self.new (place.now.node + size (and_r (deduction p.now) (deduction q.now))) result
-            (by_and_r (answer (deduction p.now)) (size (deduction p.now)) (answer (deduction q.now)) place.now.node (sequent self.old place.now) self.old.grant) }
+            (by_and_r (answer by_grant (deduction p.now)) (size (deduction p.now)) (answer by_grant (deduction q.now)) place.now.node (sequent self.old place.now) self.old.grant) }
     {
         let (a, b) = as_both(place.goal, place.node)?;
         let first = Place {
@@ -85,7 +86,7 @@ impl Desk {
     ) -> Result<usize, CheckFault>
         requires { HasRoom self.old place.now (size (or_r1 (deduction p.now))) (depth (or_r1 (deduction p.now))) }
         ensures { Follows self.old self.new (place.now.node + size (or_r1 (deduction p.now))) result
-            (by_or_r1 (answer (deduction p.now)) place.now.node (sequent self.old place.now) self.old.grant) }
+            (by_or_r1 (answer by_grant (deduction p.now)) place.now.node (sequent self.old place.now) self.old.grant) }
     {
         let (a, _) = as_either(place.goal, place.node)?;
         let premise = Place {
@@ -107,7 +108,7 @@ impl Desk {
     ) -> Result<usize, CheckFault>
         requires { HasRoom self.old place.now (size (or_r2 (deduction p.now))) (depth (or_r2 (deduction p.now))) }
         ensures { Follows self.old self.new (place.now.node + size (or_r2 (deduction p.now))) result
-            (by_or_r2 (answer (deduction p.now)) place.now.node (sequent self.old place.now) self.old.grant) }
+            (by_or_r2 (answer by_grant (deduction p.now)) place.now.node (sequent self.old place.now) self.old.grant) }
     {
         let (_, b) = as_either(place.goal, place.node)?;
         let premise = Place {
@@ -140,7 +141,7 @@ impl Desk {
     ) -> Result<usize, CheckFault>
         requires { HasRoom self.old place.now (size (imp_r (deduction p.now))) (depth (imp_r (deduction p.now))) }
         ensures { Follows self.old self.new (place.now.node + size (imp_r (deduction p.now))) result
-            (by_imp_r (answer (deduction p.now)) place.now.node (sequent self.old place.now) self.old.grant) }
+            (by_imp_r (answer by_grant (deduction p.now)) place.now.node (sequent self.old place.now) self.old.grant) }
     {
         let (a, b) = as_implies(place.goal, place.node)?;
         let sorts = self.sorts.len();
@@ -176,7 +177,7 @@ impl Desk {
     ) -> Result<usize, CheckFault>
         requires { HasRoom self.old place.now (size (forall_r (deduction p.now))) (depth (forall_r (deduction p.now))) }
         ensures { Follows self.old self.new (place.now.node + size (forall_r (deduction p.now))) result
-            (by_forall_r (answer (deduction p.now)) place.now.node (sequent self.old place.now) self.old.grant) }
+            (by_forall_r (answer by_grant (deduction p.now)) place.now.node (sequent self.old place.now) self.old.grant) }
     {
         let (sort, a) = as_forall(place.goal, place.node)?;
         let sorts = self.sorts.len();
@@ -204,7 +205,7 @@ impl Desk {
     ) -> Result<usize, CheckFault>
         requires { HasRoom self.old place.now (size (exists_r t.now (deduction p.now))) (depth (exists_r t.now (deduction p.now))) }
         ensures { Follows self.old self.new (place.now.node + size (exists_r t.now (deduction p.now))) result
-            (by_exists_r t.now (answer (deduction p.now)) place.now.node (sequent self.old place.now) self.old.grant) }
+            (by_exists_r t.now (answer by_grant (deduction p.now)) place.now.node (sequent self.old place.now) self.old.grant) }
     {
         let (sort, a) = as_exists(place.goal, place.node)?;
         test_term(t, sort, self.sorts.as_slice(), place.node)?;
@@ -228,7 +229,7 @@ impl Desk {
     ) -> Result<usize, CheckFault>
         requires { HasRoom self.old place.now (size (says_r (deduction p.now))) (depth (says_r (deduction p.now))) }
         ensures { Follows self.old self.new (place.now.node + size (says_r (deduction p.now))) result
-            (by_says_r (answer (deduction p.now)) place.now.node (sequent self.old place.now) self.old.grant) }
+            (by_says_r (answer by_grant (deduction p.now)) place.now.node (sequent self.old place.now) self.old.grant) }
     {
         let (who, a) = as_says(place.goal, place.node)?;
         let hypotheses = Hypotheses::Struck(place.hypotheses);
@@ -250,7 +251,7 @@ impl Desk {
     pub fn at_r(&mut self, alloc: Global, place: &Place<'_>, p: &Proof) -> Result<usize, CheckFault>
         requires { HasRoom self.old place.now (size (at_r (deduction p.now))) (depth (at_r (deduction p.now))) }
         ensures { Follows self.old self.new (place.now.node + size (at_r (deduction p.now))) result
-            (by_at_r (answer (deduction p.now)) place.now.node (sequent self.old place.now) self.old.grant) }
+            (by_at_r (answer by_grant (deduction p.now)) place.now.node (sequent self.old place.now) self.old.grant) }
     {
         let (a, from, to) = as_on(place.goal, place.node)?;
         let premise = Place {

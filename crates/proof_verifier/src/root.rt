@@ -8,10 +8,11 @@ ghost use Rattle.bl_syntax.specs.Statement.{IsStatement};
 ghost use Rattle.bl_syntax.specs.WellSorted.{may};
 ghost use Rattle.bl_rules.specs.Allowed.{admin, access};
 ghost use Rattle.proof_term.specs.Proof.{deduction};
-ghost use Rattle.proof_term.specs.Limits.{size};
+ghost use Rattle.proof_term.specs.Limits.{size, IsKept};
 ghost use Rattle.proof_verifier.specs.Cited.{statements_of};
+ghost use Rattle.proof_verifier.specs.LeftOver.{by_grant};
 ghost use Rattle.proof_verifier.specs.Run.{sequent, with_claims, Follows, HasRoomForClaims, IsFault};
-ghost use Rattle.proof_verifier.specs.Verdict.{answer, verdict};
+ghost use Rattle.proof_verifier.specs.Verdict.{answer, verdict, computed_verdict};
 
 use crate::cites::Cite;
 use crate::desk::Desk;
@@ -35,8 +36,8 @@ impl Desk {
     ) -> Result<usize, CheckFault>
         requires { HasRoomForClaims self.old place.now (length cites.now) (deduction proof.now) }
         ensures followed { Follows self.old self.new (place.now.node + size (deduction proof.now)) result
-            (answer (deduction proof.now) place.now.node (with_claims (statements_of cites.now) (sequent self.old place.now)) self.old.grant) }
-        ensures statements { IfOk result (λ _. AllByRecursion IsStatement (statements_of cites.now)) }
+            (answer by_grant (deduction proof.now) place.now.node (with_claims (statements_of cites.now) (sequent self.old place.now)) self.old.grant) }
+        ensures statements { AllByRecursion IsStatement (statements_of cites.now) }
     {
         match cites {
             [] => self.follow(alloc, place, proof),
@@ -68,8 +69,27 @@ pub fn grant_of(
     ensures verdict { MatchResult result (λ grant. verdict (statements_of cites.now) goal.now proof.now ≡ Ok grant)
         (λ fault. IsFault fault (verdict (statements_of cites.now) goal.now proof.now)) }
     ensures statements { IfOk result (λ _. AllByRecursion IsStatement (statements_of cites.now)) }
+    ensures kept { IfOk result (λ _. IsKept proof.now) }
 {
     let wanted = wanted(alloc, goal)?;
+    follow_from_root(alloc, cites, goal, &wanted, proof)
+}
+
+/// The grant that the proof of what is wanted gives the goal, where what a grant can keep is left over.
+fn follow_from_root(
+    alloc: Global,
+    cites: &[Cite],
+    goal: &Goal,
+    wanted: &Formula,
+    proof: &ProofTree,
+) -> Result<Grant, CheckFault>
+    requires few { length cites.now ≤ 64 }
+    requires wanted { formula wanted.now ≡ says admin (access goal.now.who goal.now.file goal.now.perm) }
+    ensures verdict { MatchResult result (λ grant. computed_verdict (statements_of cites.now) goal.now proof.now ≡ Ok grant)
+        (λ fault. IsFault fault (computed_verdict (statements_of cites.now) goal.now proof.now)) }
+    ensures statements { AllByRecursion IsStatement (statements_of cites.now) }
+    ensures kept { IsKept proof.now }
+{
     let loc = Term::Prin(principal(b"loc"));
     let now = Term::Ctime;
     let place = Place {
@@ -80,7 +100,7 @@ pub fn grant_of(
         who: &loc,
         begins: &now,
         ends: &now,
-        goal: &wanted,
+        goal: wanted,
         from: &now,
         to: &now,
     };

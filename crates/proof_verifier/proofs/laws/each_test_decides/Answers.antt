@@ -1,13 +1,12 @@
-use Rattle.proof_verifier.proofs.SoundnessTests.{Decides-has_constraint, Decides-has_state, Decides-is_as_strong}
-use Rattle.proof_verifier.proofs.TestLemmas.{Decides-may_stay_open, Decides-state_may_stay_open, Decides-of_sort, Decides-are_same, Decides-is_full}
+use Rattle.proof_verifier.proofs.TestLemmas.{Decides-names_ctime, Decides-names_no_parameter, Decides-has_constraint, Decides-has_state, Decides-is_as_strong, Decides-of_sort, Decides-are_same, Decides-is_full}
 use Rattle.std.specs.Prelude.{[]}
 use Rattle.bl_syntax.specs.Terms.{sort_of}
 use Rattle.proof_verifier.proofs.laws.each_test_decides.Goals as goal
 
 pub returns : goal.returns
 returns c = record {
-  time = Decides-may_stay_open;
-  state = Decides-state_may_stay_open;
+  time = Decides-names_ctime;
+  state = Decides-names_no_parameter;
   sort = λ sorts sort t. Decides-of_sort sort (sort_of sorts [] t);
   strength = Decides-is_as_strong;
   kept_time = Decides-has_constraint;

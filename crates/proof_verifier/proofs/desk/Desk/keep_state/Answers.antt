@@ -1,10 +1,6 @@
 use Rattle.std.proofs.Common.{refl, inr}
 use Rattle.proof_verifier.proofs.KeepLemmas.{kept_state, no_place_for_state}
-use Rattle.proof_verifier.proofs.SoundnessTests.{state_condition_kept}
 use Rattle.proof_verifier.proofs.desk.Desk.keep_state.Goals as goal
-
-pub add_state-requires : goal.add_state-requires
-add_state-requires c = state_condition_kept c.args.s c.requires
 
 pub returns-in-Ok : goal.returns-in-Ok
 returns-in-Ok c = record { granted = kept_state c.args.node c.args.self.now.grant c.add_state.new.self c.args.s c.in-Ok.ensures.ok (λ full. let refused = c.in-Ok.ensures.full.1 full in cc); sorts = refl; constraints = refl }
