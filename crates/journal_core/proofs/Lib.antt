@@ -2,3 +2,4 @@ pub mod Moments
 pub mod AreaLemmas
 pub mod RecordLemmas
 pub mod ReadingLemmas
+pub mod TotalLemmas

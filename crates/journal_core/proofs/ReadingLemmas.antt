@@ -58,6 +58,14 @@ compare (p ∷ ps) (q ∷ qs) bytes short_p short_q begins_p begins_q =
 
 -- ---- areas
 
+-- the image is what stands after the header
+pub image_at : (bytes : List ℕ) (generation : ℕ) (image : List ℕ) → Begins (area_bytes generation image []) bytes → take (length image) (drop 24 bytes) ≡ image
+image_at bytes generation image begins =
+    let rest = drop (length (area_bytes generation image [])) bytes in
+    ap (λ (b : List ℕ). take (length image) (drop 24 b)) (begins_split (area_bytes generation image []) bytes begins)
+    ∙ ap (λ (b : List ℕ). take (length image) (b ++ rest)) (append-nil image)
+    ∙ take_at image rest (length image) refl
+
 module _ (bytes : List ℕ) (g h : ℕ) (i j : List ℕ) (generated_g : IsGeneration g) (generated_h : IsGeneration h)
     (fits_g : length (area_bytes g i []) < area_limit) (fits_h : length (area_bytes h j []) < area_limit)
     (begins_g : Begins (area_bytes g i []) bytes) (begins_h : Begins (area_bytes h j []) bytes) where
@@ -69,16 +77,8 @@ module _ (bytes : List ℕ) (g h : ℕ) (i j : List ℕ) (generated_g : IsGenera
       sym (base_length bytes g i begins_g (omega (arith, fits_g, ap length (append-nil i))))
       ∙ base_length bytes h j begins_h (omega (arith, fits_h, ap length (append-nil j)))
 
-  -- the image is what stands behind the header
-  image_at : (k : ℕ) (image : List ℕ) → Begins (area_bytes k image []) bytes → take (length image) (drop 24 bytes) ≡ image
-  image_at k image begins =
-      let rest = drop (length (area_bytes k image [])) bytes in
-      ap (λ (b : List ℕ). take (length image) (drop 24 b)) (begins_split (area_bytes k image []) bytes begins)
-      ∙ ap (λ (b : List ℕ). take (length image) (b ++ rest)) (append-nil image)
-      ∙ take_at image rest (length image) refl
-
   pub image_same : i ≡ j
-  image_same = sym (image_at g i begins_g) ∙ ap (λ (n : ℕ). take n (drop 24 bytes)) length_same ∙ image_at h j begins_h
+  image_same = sym (image_at bytes g i begins_g) ∙ ap (λ (n : ℕ). take n (drop 24 bytes)) length_same ∙ image_at bytes h j begins_h
 
   pub base_same : length (area_bytes g i []) ≡ length (area_bytes h j [])
   base_same = omega (arith, length_same, ap length (append-nil i), ap length (append-nil j))

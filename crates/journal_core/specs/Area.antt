@@ -60,6 +60,11 @@ pub record IsArea (bytes : List ℕ) (generation : ℕ) (image : List ℕ) (payl
   pub fits : length (area_bytes generation image payloads) < area_limit
   pub stands : Stands (area_bytes generation image payloads) bytes
 
+-- Bytes are an area.
+abbrev pub IsSomeArea : List ℕ → Type 0
+IsSomeArea bytes =
+    (generation : ℕ) × (image : List ℕ) × (payloads : List (List ℕ)) × IsArea bytes generation image payloads
+
 -- Bytes are open, and no header and image begin them that leave room for a closed gate.
 pub record HasNoBase (bytes : List ℕ) : Type 0 where
   pub is_open : get_or bytes 0 0 ≡ 1

@@ -168,8 +168,9 @@ impl<D: Disk> Area<D> {
     /// Adds a record, or nothing.
     ///
     /// `AreaFull` is returned by length, before anything is written, and leaves the area as it was.
-    /// `Disk` is returned only if the disk's count of faults rose; the record may be there or not
-    /// then.
+    /// `Disk` is returned only if the disk's count of faults rose. The record may be there or not
+    /// then, and its gate may be open, so nothing may be appended to this value any more: another
+    /// record would be written over one that may count. A scan of the disk tells which it is.
     pub fn append(&mut self, framed: &Framed) -> Result<(), AreaFault>
         ensures full { IsErrOf result AreaFault.AreaFull ↔ area_limit < self.old.end + length framed.now + 6 }
         ensures unchanged { IsErrOf result AreaFault.AreaFull → self.new ≡ self.old }

@@ -1,7 +1,12 @@
-//! Laws: bytes have one reading as an area.
+//! Laws: bytes are exactly one of shut, an area and broken, and have one reading as that.
 
-ghost use Rattle.std.specs.Prelude.{◌≡◌, ℕ, List};
-ghost use Rattle.journal_core.specs.Area.{IsShut, IsArea, IsBroken};
+ghost use Rattle.std.specs.Prelude.{◌≡◌, ◌⊎◌, ℕ, List};
+ghost use Rattle.journal_core.specs.Area.{IsShut, IsArea, IsSomeArea, IsBroken};
+
+/// Bytes are shut, an area, or broken. The laws below say that they are only one of these.
+pub fn bytes_have_a_reading()
+    ensures { (bytes : List ℕ) → IsShut bytes ⊎ (IsSomeArea bytes ⊎ ((number : ℕ) × IsBroken number bytes)) }
+{}
 
 /// Bytes are at most one area.
 pub fn an_area_has_one_reading()

@@ -3,7 +3,7 @@
 ghost use Rattle.std.specs.Prelude.{◌≡◌, ◌≢◌, ◌↔◌, ◌+◌, ◌-◌, ◌<◌, ◌≤◌, ℕ, List, Some, IfOk, IfErr, IfSome, OnOk, OnErr, IsErrOf, IsTrue, MatchResult, length, min, take, drop, is_some};
 ghost use Rattle.pcfs_ports.specs.Faults.{HasRisen};
 ghost use Rattle.pcfs_ports.specs.Disk.{IsPinned, Idles};
-ghost use Rattle.journal_core.specs.Area.{area_limit, area_bytes, IsArea, IsShut, IsBroken};
+ghost use Rattle.journal_core.specs.Area.{area_limit, area_bytes, IsArea, IsShut, IsBroken, IsGeneration};
 ghost use Rattle.journal_core.specs.Faults.{IsReported};
 ghost use Rattle.journal_core.specs.declared.scan.ScanFault.TheVariants.{Disk as DiskFailed, NoMemory as OutOfMemory};
 
@@ -111,6 +111,8 @@ fn read_area<D: Disk>(alloc: Global, disk: &mut D) -> Result<Bytes, ScanFault>
 fn scan_disk<D: Disk>(alloc: Global, disk: &mut D) -> Result<(Scan, usize), ScanFault>
     ensures ok { IfOk result (λ found. IfSome (D.image disk.old) (λ bytes.
         IsArea bytes found.0.generation found.0.image found.0.payloads)) }
+    ensures generated { IfOk result (λ found. IsGeneration found.0.generation) }
+    ensures fits { IfOk result (λ found. length (area_bytes found.0.generation found.0.image found.0.payloads) < area_limit) }
     ensures end { IfOk result (λ found. found.1 ≡ length (area_bytes found.0.generation found.0.image found.0.payloads)) }
     ensures reported { IfErr result (λ fault. fault ≢ ScanFault.Disk → IfSome (D.image disk.old) (IsReported fault)) }
     ensures same { result ≢ Err ScanFault.Disk → D.image disk.new ≡ D.image disk.old }
@@ -135,6 +137,10 @@ impl<D: Disk> Area<D> {
     pub fn scan(alloc: Global, disk: D) -> Result<(Area<D>, Scan), (ScanFault, D)>
         ensures ok { IfOk result (λ found. IfSome (D.image disk) (λ bytes.
             IsArea bytes found.1.generation found.1.image found.1.payloads)) }
+
+        // These hold of a disk that tells nothing, too.
+        ensures generated { IfOk result (λ found. IsGeneration found.1.generation) }
+        ensures fits { IfOk result (λ found. found.0.end < area_limit) }
         ensures end { IfOk result (λ found. found.0.end ≡
             length (area_bytes found.1.generation found.1.image found.1.payloads)) }
         ensures closed { IfErr result (λ e. e.0 ≡ ScanFault.Closed → IfSome (D.image disk) IsShut) }

@@ -19,7 +19,7 @@ enum State {
     Unopened,
     // It is open, or it is not there.
     Opened,
-    // It cannot be opened, or a sync of it failed.
+    // It cannot be opened or made, or a sync of it failed.
     Broken,
 }
 
@@ -28,17 +28,18 @@ enum State {
 struct Handle<F> {
     state: State,
     file: Option<F>,
-    // It was made, and its folder was not synced since.
-    is_new: bool,
+    // Its folder was synced since it was opened or made.
+    is_named: bool,
 }
 
 /// A disk over one file, which is opened at the first call. As a disk it tells nothing of the bytes.
 /// A file that is not there reads as empty, and the first write makes it.
 ///
-/// A sync waits until the file's bytes and its length are on the device, and after the file was made
-/// until its name is in its folder there. Each error of the system is a fault, but for a file that is
-/// not there. If the file cannot be opened for another reason, or after a sync failed, every call
-/// fails: the system may have dropped what it could not write.
+/// A sync waits until the file's bytes and its length are on the device, and the first one of a file
+/// that is there until its name is in its folder there, since an earlier program may have made it.
+/// Each error of the system is a fault, but for a file that is not there. Every call fails if the
+/// file cannot be opened for another reason, after it could not be made, and after a sync failed: the
+/// system may have dropped what it could not write.
 #[derive(Drop)]
 pub struct FileDisk<'a, R: Files> {
     rt: &'a R,
@@ -67,7 +68,7 @@ impl<'a, R: Files> FileDisk<'a, R> {
             handle: Handle {
                 state: State::Unopened,
                 file: None,
-                is_new: false,
+                is_named: false,
             },
             faults: 0,
         }
@@ -100,16 +101,24 @@ fn open_once<R: Files>(rt: &R, path: &str, handle: &mut Handle<R::File>) -> io::
 
 // Makes the file if it is not there.
 fn make_once<R: Files>(rt: &R, path: &str, handle: &mut Handle<R::File>) -> io::Result<()> {
-    if handle.file.is_none() {
-        let file = OpenOptions::new()
-            .read(true)
-            .write(true)
-            .create(true)
-            .open(rt, path)?;
-        handle.file = Some(file);
-        handle.is_new = true;
+    if handle.file.is_some() {
+        return Ok(());
     }
-    Ok(())
+    match OpenOptions::new()
+        .read(true)
+        .write(true)
+        .create(true)
+        .open(rt, path)
+    {
+        Ok(file) => {
+            handle.file = Some(file);
+            Ok(())
+        }
+        Err(error) => {
+            handle.state = State::Broken;
+            Err(error)
+        }
+    }
 }
 
 // Reads until the buffer is full or the file ends.
@@ -146,6 +155,19 @@ fn read_file<R: Files>(
     }
 }
 
+// Writes a piece. An empty one makes the gap before it all the same.
+fn put<F: Write + Seek + OpenFile>(file: &mut F, at: u64, piece: &[u8]) -> io::Result<()> {
+    if piece.is_empty() {
+        if file.seek(SeekFrom::End(0))? < at {
+            file.set_len(at)?;
+        }
+        return Ok(());
+    }
+    file.seek(SeekFrom::Start(at))?;
+    file.write_all(piece)?;
+    Ok(())
+}
+
 fn write_file<R: Files>(
     rt: &R,
     path: &str,
@@ -156,8 +178,7 @@ fn write_file<R: Files>(
     open_once(rt, path, handle)?;
     make_once(rt, path, handle)?;
     if let Some(file) = &mut handle.file {
-        file.seek(SeekFrom::Start(at))?;
-        file.write_all(piece)?;
+        put(file, at, piece)?;
     }
     Ok(())
 }
@@ -180,10 +201,10 @@ fn sync_file<R: Files>(rt: &R, path: &str, handle: &mut Handle<R::File>) -> io::
     open_once(rt, path, handle)?;
     if let Some(file) = &handle.file {
         file.sync_data()?;
-    }
-    if handle.is_new {
-        sync_folder(rt, path)?;
-        handle.is_new = false;
+        if !handle.is_named {
+            sync_folder(rt, path)?;
+            handle.is_named = true;
+        }
     }
     Ok(())
 }
@@ -245,14 +266,15 @@ mod tests {
         disk.read(0, &mut buf) == Ok(0) && disk.sync() == Ok(())
     }
 
-    // Whether writes past the end and over it are kept, and read back.
+    // Whether writes past the end and over it are kept, and read back; an empty one too.
     fn keeps<D: Disk>(disk: &mut D) -> bool {
         let mut buf = [7u8; 8];
         disk.write_at(2, b"cde") == Ok(())
             && disk.sync() == Ok(())
             && disk.write_at(4, b"E") == Ok(())
-            && disk.read(1, &mut buf) == Ok(4)
-            && &buf[..4] == b"\0cdE".as_slice()
+            && disk.write_at(6, b"") == Ok(())
+            && disk.read(1, &mut buf) == Ok(5)
+            && &buf[..5] == b"\0cdE\0".as_slice()
     }
 
     #[test]
@@ -263,10 +285,29 @@ mod tests {
         let is_absent = is_absent(&mut disk) && !fs::exists(&rt, path)?;
         let is_kept = keeps(&mut disk);
         let mut buf = [7u8; 8];
-        let is_found = FileDisk::new(&rt, path).read(3, &mut buf) == Ok(2);
-        let is_refused = FileDisk::new(&rt, "/tmp").sync() == Err(Failed);
+        let is_found = FileDisk::new(&rt, path).read(3, &mut buf) == Ok(3);
         fs::remove_file(&rt, path)?;
-        assert!(rt; is_absent && is_kept && is_found && is_refused);
+        assert!(rt; is_absent && is_kept && is_found);
         Ok(())
+    }
+
+    // Whether each kind of call fails.
+    fn fails<D: Disk>(disk: &mut D) -> bool {
+        let mut buf = [7u8; 8];
+        disk.read(0, &mut buf) == Err(Failed)
+            && disk.write_at(0, b"a") == Err(Failed)
+            && disk.sync() == Err(Failed)
+    }
+
+    #[test]
+    fn a_file_that_cannot_be_opened_or_made_fails_every_call(rt: HostRuntime) {
+        let mut folder = FileDisk::new(&rt, "/tmp");
+        let is_folder_refused = fails(&mut folder) && fails(&mut folder) && folder.faults == 6;
+        let mut lost = FileDisk::new(&rt, "no_folder_of_the_test/file");
+        let is_lost_refused = is_absent(&mut lost)
+            && lost.write_at(0, b"a") == Err(Failed)
+            && fails(&mut lost)
+            && lost.faults == 4;
+        assert!(rt; is_folder_refused && is_lost_refused);
     }
 }

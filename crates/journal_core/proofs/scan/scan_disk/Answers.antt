@@ -1,6 +1,6 @@
-use Rattle.std.proofs.Common.{◌≡◌, ◌≢◌, ℕ, List, take, IfSome, IfOk, IfErr, Result, Ok, Err, ap, subst, ◌∙◌}
+use Rattle.std.proofs.Common.{◌≡◌, ◌≢◌, ◌<◌, ℕ, List, length, take, IfSome, IfOk, IfErr, Result, Ok, Err, ap, subst, ◌∙◌}
 use Rattle.std.proofs.lemmas.Result.{IfOk-weaker, IfErr-weaker}
-use Rattle.journal_core.specs.Area.{area_limit, IsArea}
+use Rattle.journal_core.specs.Area.{area_limit, area_bytes, IsGeneration, IsArea}
 use Rattle.journal_core.specs.Faults.{IsReported}
 use Rattle.journal_core.specs.declared.scan.ScanFault.{ScanFault}
 use Rattle.journal_core.specs.declared.scan.ScanFault.TheVariants.{Disk}
@@ -44,3 +44,21 @@ returns-in-Ok-clause-reported g c =
     let cut : bytes ≡ take area_limit b = at_told (g.D.Disk.image c.sync.new.self) (λ image. bytes ≡ take area_limit image) b (c.in_ok-sync.ensures.same ∙ is) c.in-Ok.ensures.ok in
     reported_past b fault (subst (λ (bs : List ℕ). IsReported fault bs) cut report)))
     c.find_contents.ensures.err
+
+pub returns-in-Ok-clause-generated : goal.returns-in-Ok-clause-generated
+returns-in-Ok-clause-generated g c =
+    let bytes = c.in-Ok.bytes in
+    IfOk-weaker c.find_contents.result
+    (λ found. IsArea bytes found.0.generation found.0.image found.0.payloads)
+    (λ found. IsGeneration found.0.generation)
+    (λ found area. area.generated)
+    c.find_contents.ensures.ok
+
+pub returns-in-Ok-clause-fits : goal.returns-in-Ok-clause-fits
+returns-in-Ok-clause-fits g c =
+    let bytes = c.in-Ok.bytes in
+    IfOk-weaker c.find_contents.result
+    (λ found. IsArea bytes found.0.generation found.0.image found.0.payloads)
+    (λ found. length (area_bytes found.0.generation found.0.image found.0.payloads) < area_limit)
+    (λ found area. area.fits)
+    c.find_contents.ensures.ok
