@@ -1,0 +1,19 @@
+//! What is kept of each node.
+
+use bl_syntax::{Principal, Short, Text};
+use std::collections::BTreeMap;
+
+/// Values under the names of attributes, in the byte order of the names.
+pub type Attributes = Vec<(Short<64>, Text)>;
+
+/// What is kept of a node.
+#[derive(Drop)]
+pub struct Mark {
+    pub owner: Principal,
+    /// The number of its directory, or 0 for the root.
+    pub parent: u64,
+    pub attributes: Attributes,
+}
+
+/// Marks under the numbers of their nodes.
+pub type Marks = BTreeMap<u64, Mark>;

@@ -1,0 +1,117 @@
+//! The owners and attributes of all nodes, and their calls.
+
+ghost use Rattle.std.specs.Prelude.{◌≡◌, None, IfOk, option_map};
+ghost use Rattle.file_world.specs.Attributes.{mark_at};
+ghost use Rattle.file_world.specs.AttributeEffect.{fresh_marks, value_of, marks_after, IsAskable};
+ghost use Rattle.attr_state.specs.State.{Reserves, IsReady};
+
+use crate::applying::change;
+use crate::attributes::value_among;
+use crate::mark::{Mark, Marks};
+use crate::preparing::{forget, prepare};
+use crate::ready::Ready;
+use crate::refusals::{refusal, reply};
+use bl_syntax::{NoMemory, NodeId, Principal, Text};
+use file_world::{MetaOp, MetaReply, OpFault};
+use std::alloc::{AllocFailed, Global};
+use std::collections::BTreeMap;
+use std::marker::Model;
+
+/// Owners and attributes: the mark of each node, and what an operation is ready to change.
+#[derive(Drop)]
+pub struct Meta {
+    marks: Marks,
+    ready: Option<Ready>,
+}
+
+impl Model for Meta {
+    ghost use Rattle.attr_state.specs.State.{MetaState};
+    ghost use Rattle.attr_state.specs.Index.{marks_in, IsKept};
+
+    ghost Value = { MetaState };
+
+    ghost view = { λ m. record { marks = marks_in m.ready m.marks.entries; ready = m.ready } };
+
+    ghost invariant = { λ m. IsKept m.marks.entries m.ready };
+}
+
+impl Meta {
+    /// The mark of the root alone, which `admin` owns.
+    pub fn new(alloc: Global) -> Result<Meta, NoMemory>
+        ensures { IfOk result (λ meta. meta ≡ record { marks = fresh_marks; ready = None }) }
+    {
+        let root = Mark {
+            owner: admin(),
+            parent: 0,
+            attributes: Vec::new(alloc),
+        };
+        let mut marks = BTreeMap::new(alloc);
+        let put: Result<Option<Mark>, AllocFailed<(u64, Mark)>> = marks.insert(1, root);
+        match put {
+            Ok(_) => Ok(Meta { marks, ready: None }),
+            Err(_) => Err(NoMemory),
+        }
+    }
+
+    /// The owner of a node; none if there is no node of that number. It takes no memory.
+    pub fn owner(&self, node: NodeId) -> Option<Principal>
+        ensures { result ≡ option_map (λ mark. mark.owner) (mark_at self.now.marks node.0) }
+    {
+        match settled_mark(&self.marks, &self.ready, node.0) {
+            None => None,
+            Some(mark) => Some(mark.owner),
+        }
+    }
+
+    /// The number of the directory of a node, or 0 for the root; none if there is no node of that number. It takes no
+    /// memory.
+    pub fn parent(&self, node: NodeId) -> Option<u64>
+        ensures { result ≡ option_map (λ mark. mark.parent) (mark_at self.now.marks node.0) }
+    {
+        match settled_mark(&self.marks, &self.ready, node.0) {
+            None => None,
+            Some(mark) => Some(mark.parent),
+        }
+    }
+
+    /// The value of an attribute; none also if there is no node of that number. It takes no memory.
+    pub fn value(&self, node: NodeId, name: &[u8]) -> Option<Text>
+        ensures { result ≡ value_of self.now.marks node.0 name.now }
+    {
+        match settled_mark(&self.marks, &self.ready, node.0) {
+            None => None,
+            Some(mark) => value_among(mark.attributes.as_slice(), name),
+        }
+    }
+
+    /// The reply of an operation, with all memory taken for its change, or its first refusal. The marks stay. What was
+    /// ready before is given up.
+    pub fn reserve(&mut self, alloc: Global, op: &MetaOp) -> Result<MetaReply, OpFault>
+        requires { IsAskable self.old.marks op.now }
+        ensures same { self.new.marks ≡ self.old.marks }
+        ensures answer { Reserves self.old.marks op.now result self.new.ready }
+    {
+        forget(&mut self.marks, &self.ready);
+        self.ready = None;
+        if let Some(refusal) = refusal(&self.marks, op) {
+            return Err(OpFault::Refused(refusal));
+        }
+        let ready = prepare(&mut self.marks, alloc, op)?;
+        let reply = reply(&self.marks, op);
+        self.ready = Some(ready);
+        Ok(reply)
+    }
+
+    /// Makes the change of the operation that is ready. It takes no memory.
+    pub fn apply(&mut self, op: &MetaOp)
+        requires { IsReady self.old op.now }
+        ensures marks { self.new.marks ≡ marks_after self.old.marks op.now }
+        ensures ready { self.new.ready ≡ None }
+    {
+        let Some(ready) = self.ready else {
+            return;
+        };
+        self.ready = None;
+        change(&mut self.marks, &ready, op);
+    }
+}
