@@ -1,13 +1,14 @@
 -- How the marks that the code keeps stand for those of the nodes, and what holds of them.
-use Rattle.std.specs.Prelude.{◌≡◌, ◌≤◌, ℕ, List, length, map, Option, Some, None, vec_capacity, nat_eq}
+use Rattle.std.specs.Prelude.{◌≡◌, ◌≤◌, ℕ, List, [], ◌∷◌, length, map, Bool, false, Option, Some, None, vec_capacity, nat_eq, zero, suc}
+use Rattle.std.specs.List.{AllByRecursion}
 use Rattle.std.specs.List.Sorted.{IsStrictlySortedBy}
 use Rattle.std.specs.Map.{lookup, remove_entry, keys_of}
 use Rattle.std.specs.BTreeMap.{is_at}
-use Rattle.std.specs.Ordering.{nat_cmp}
+use Rattle.std.specs.Ordering.{nat_cmp, Less, Greater}
 use Rattle.std.specs.Cmp.Lexicographic.{slice_cmp}
 use Rattle.file_world.specs.Attributes.{Attributes, Mark, Marks}
 use Rattle.file_world.specs.TreeEffect.{revised}
-use Rattle.file_world.specs.AttributeEffect.{new_mark, meta_refusal, marks_after}
+use Rattle.file_world.specs.AttributeEffect.{new_mark, meta_refusal}
 use Rattle.file_world.specs.declared.operation.MetaOp.{MetaOp}
 use Rattle.attr_state.specs.declared.mark.Mark.{Mark as Kept}
 use Rattle.attr_state.specs.declared.ready.Ready.{Ready}
@@ -32,6 +33,18 @@ kept_at entries number = lookup (is_at (nat_cmp number)) entries
 abbrev pub AreSorted : Attributes → Type 0
 AreSorted attributes = IsStrictlySortedBy (slice_cmp nat_cmp) (keys_of attributes)
 
+-- the attribute of that name stands at that place, after those with lesser names
+abbrev pub IsAt : Attributes → List ℕ → ℕ → Type 0
+IsAt [] name place = ⊥
+IsAt (attribute ∷ attributes) name zero = attribute.0 ≡ name
+IsAt (attribute ∷ attributes) name (suc place) = (slice_cmp nat_cmp attribute.0 name ≡ Less) × IsAt attributes name place
+
+-- an attribute of that name would go to that place: those before it have lesser names, those from it on greater ones
+abbrev pub IsGap : Attributes → List ℕ → ℕ → Type 0
+IsGap attributes name zero = AllByRecursion (λ other. slice_cmp nat_cmp name other ≡ Less) (keys_of attributes)
+IsGap [] name (suc place) = ⊥
+IsGap (attribute ∷ attributes) name (suc place) = (slice_cmp nat_cmp attribute.0 name ≡ Less) × IsGap attributes name place
+
 -- the numbers rise, and so do the names of each node's attributes
 pub record AreOrdered (entries : Entries) : Type 0 where
   pub rising : IsStrictlySortedBy nat_cmp (keys_of entries)
@@ -43,6 +56,17 @@ settled None entries = entries
 settled (Some Nothing) entries = entries
 settled (Some (Room number len)) entries = entries
 settled (Some (Made number owner parent)) entries = remove_entry (is_at (nat_cmp number)) entries
+
+-- whether the mark of the node of that number is only ready to be made
+abbrev pub is_held : Option Ready → ℕ → Bool
+is_held None number = false
+is_held (Some Nothing) number = false
+is_held (Some (Room node len)) number = false
+is_held (Some (Made node owner parent)) number = nat_eq node number
+
+-- the marks as contracts see them
+abbrev pub marks_in : Option Ready → Entries → Marks
+marks_in ready entries = marks_of (settled ready entries)
 
 -- a mark is kept with room for so many attributes
 pub record HasRoom (entries : Entries) (number len : ℕ) : Type 0 where
@@ -68,6 +92,23 @@ pub record IsKept (entries : Entries) (ready : Option Ready) : Type 0 where
   pub ordered : AreOrdered entries
   pub prepared : IsPrepared ready entries
 
--- the marks as contracts see them
-abbrev pub marks_in : Option Ready → Entries → Marks
-marks_in ready entries = marks_of (settled ready entries)
+-- what is ready is prepared, and the marks are as before
+pub record Prepares (old new : Entries) (ready : Ready) : Type 0 where
+  pub kept : IsKept new (Some ready)
+  pub same : marks_in (Some ready) new ≡ marks_of old
+
+-- nothing is ready, and the marks are as before
+pub record Stays (old new : Entries) : Type 0 where
+  pub ordered : AreOrdered new
+  pub same : marks_of new ≡ marks_of old
+
+-- the mark of the node of that number is revised
+pub record Revises (old new : Entries) (number : ℕ) (revision : Mark → Mark) : Type 0 where
+  pub ordered : AreOrdered new
+  pub marks : marks_of new ≡ revised number revision (marks_of old)
+
+-- the operation is not refused, and the memory for it is there
+pub record IsChangeable (entries : Entries) (op : MetaOp) : Type 0 where
+  pub ordered : AreOrdered entries
+  pub free : meta_refusal (marks_of entries) op ≡ None
+  pub prepared : IsPrepared (Some (ready_for (marks_of entries) op)) entries

@@ -14,6 +14,7 @@ mod name;
 mod preparing;
 mod ready;
 mod refusals;
+mod settled;
 
 pub use file_world::{MetaOp, MetaReply, OpFault, Refusal};
 pub use meta::Meta;

@@ -11,6 +11,7 @@ use crate::mark::{Mark, Marks};
 use crate::preparing::{forget, prepare};
 use crate::ready::Ready;
 use crate::refusals::{refusal, reply};
+use crate::settled::settled_mark;
 use bl_syntax::{NoMemory, NodeId, Principal, Text};
 use file_world::{MetaOp, MetaReply, OpFault};
 use std::alloc::{AllocFailed, Global};
@@ -41,7 +42,7 @@ impl Meta {
         ensures { IfOk result (λ meta. meta ≡ record { marks = fresh_marks; ready = None }) }
     {
         let root = Mark {
-            owner: admin(),
+            owner: Principal::new(b"admin").unwrap(),
             parent: 0,
             attributes: Vec::new(alloc),
         };
@@ -96,8 +97,8 @@ impl Meta {
         if let Some(refusal) = refusal(&self.marks, op) {
             return Err(OpFault::Refused(refusal));
         }
-        let ready = prepare(&mut self.marks, alloc, op)?;
         let reply = reply(&self.marks, op);
+        let ready = prepare(&mut self.marks, alloc, op)?;
         self.ready = Some(ready);
         Ok(reply)
     }
@@ -108,10 +109,7 @@ impl Meta {
         ensures marks { self.new.marks ≡ marks_after self.old.marks op.now }
         ensures ready { self.new.ready ≡ None }
     {
-        let Some(ready) = self.ready else {
-            return;
-        };
         self.ready = None;
-        change(&mut self.marks, &ready, op);
+        change(&mut self.marks, op);
     }
 }
