@@ -6,7 +6,9 @@ use Rattle.std.specs.Map.{lookup, remove_entry, keys_of}
 use Rattle.std.specs.BTreeMap.{is_at}
 use Rattle.std.specs.Ordering.{nat_cmp, Less, Greater}
 use Rattle.std.specs.Cmp.Lexicographic.{slice_cmp}
-use Rattle.file_world.specs.Attributes.{Attributes, Mark, Marks}
+use Rattle.bl_syntax.specs.declared.terms.Term.{Term}
+use Rattle.bl_syntax.specs.declared.terms.Term.TheVariants.{Prin, File, Perm, Time, Text, Ctime, Param, Bound}
+use Rattle.file_world.specs.Attributes.{Attributes, Mark, Marks, mark_at}
 use Rattle.file_world.specs.TreeEffect.{revised}
 use Rattle.file_world.specs.AttributeEffect.{new_mark, meta_refusal}
 use Rattle.file_world.specs.declared.operation.MetaOp.{MetaOp}
@@ -112,3 +114,14 @@ pub record IsChangeable (entries : Entries) (op : MetaOp) : Type 0 where
   pub ordered : AreOrdered entries
   pub free : meta_refusal (marks_of entries) op ≡ None
   pub prepared : IsPrepared (Some (ready_for (marks_of entries) op)) entries
+
+-- the mark of the node that a term names
+abbrev pub mark_named : Marks → Term → Option Mark
+mark_named marks (File node) = mark_at marks node.0
+mark_named marks (Prin principal) = None
+mark_named marks (Perm perm) = None
+mark_named marks (Time time) = None
+mark_named marks (Text text) = None
+mark_named marks Ctime = None
+mark_named marks (Param number) = None
+mark_named marks (Bound number) = None

@@ -2,17 +2,20 @@
 
 ghost use Rattle.std.specs.Prelude.{◌≡◌, None, IfOk, option_map};
 ghost use Rattle.file_world.specs.Attributes.{mark_at};
+ghost use Rattle.file_world.specs.Facts.{facts_of_marks};
 ghost use Rattle.file_world.specs.AttributeEffect.{fresh_marks, value_of, marks_after, IsAskable};
 ghost use Rattle.attr_state.specs.State.{Reserves, IsReady};
 
 use crate::applying::change;
 use crate::attributes::value_among;
+use crate::facts::{has_value, is_in, is_owner};
 use crate::mark::{Mark, Marks};
 use crate::preparing::{forget, prepare};
 use crate::ready::Ready;
 use crate::refusals::{refusal, reply};
 use crate::settled::settled_mark;
-use bl_syntax::{NoMemory, NodeId, Principal, Text};
+use bl_syntax::{NoMemory, NodeId, Principal, StatePred, Text};
+use condition_set::Facts;
 use file_world::{MetaOp, MetaReply, OpFault};
 use std::alloc::{AllocFailed, Global};
 use std::collections::BTreeMap;
@@ -111,5 +114,19 @@ impl Meta {
     {
         self.ready = None;
         change(&mut self.marks, op);
+    }
+}
+
+impl Facts for Meta {
+    ghost facts = { λ meta. facts_of_marks meta.marks };
+
+    fn holds(&self, s: &StatePred) -> bool {
+        match s {
+            StatePred::Owner(node, owner) => is_owner(&self.marks, &self.ready, node, owner),
+            StatePred::HasXattr(node, name, value) => {
+                has_value(&self.marks, &self.ready, node, name, value)
+            }
+            StatePred::InDir(node, directory) => is_in(&self.marks, &self.ready, node, directory),
+        }
     }
 }
