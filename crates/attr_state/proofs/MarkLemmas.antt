@@ -1,5 +1,5 @@
 -- The marks that are kept, seen as those of the nodes, and what stays of their order.
-use Rattle.std.proofs.Common.{◌≡◌, ◌≢◌, ℕ, suc, ◌+◌, ◌-◌, ◌<◌, ◌≤◌, inl, inr, Bool, true, false, cond, Option, Some, None, option_map, IsSome, List, [], ◌∷◌, length, map, refl, sym, ap, ◌∙◌, subst, arith, nat_eq, nat_lt, nat_cmp, is_eq, Ordering, Less, Equal, Greater, Bor, MutBor, Vec}
+use Rattle.std.proofs.Common.{◌≡◌, ◌≢◌, ℕ, suc, ◌+◌, ◌-◌, ◌<◌, ◌≤◌, inl, inr, Bool, true, false, cond, Option, Some, None, option_map, IsSome, List, [], ◌∷◌, length, map, refl, sym, ap, ◌∙◌, subst, arith, nat_eq, nat_lt, nat_cmp, is_eq, Ordering, Less, Equal, Greater, Bor, MutBor, vec_capacity}
 use Rattle.std.specs.Map.{lookup, remove_entry, set_value, keys_of}
 use Rattle.std.specs.BTreeMap.{BTreeMap, is_at, insert_entry, WritesThrough, Updates, UpdatesBy}
 use Rattle.std.specs.Option.{option_copied, option_copied_mut}
@@ -13,7 +13,7 @@ use Rattle.file_world.specs.AttributeEffect.{new_mark}
 use Rattle.file_world.proofs.RowLemmas.{split, cond_at_true, cond_at_false, rising_head, rising_tail, none_below, lookup-removed_same, lookup-removed_other, rising-removed, less_from_lt, lt_from_less, above_found, AreAbove}
 use Rattle.attr_state.specs.declared.mark.Mark.{Mark as Kept}
 use Rattle.attr_state.specs.declared.ready.Ready.TheVariants.{Made}
-use Rattle.attr_state.specs.Index.{Entries, shown, marks_of, kept_at, AreSorted, AreOrdered, IsMade, Revises, Stays, Prepares}
+use Rattle.attr_state.specs.Index.{Entries, shown, marks_of, kept_at, AreSorted, AreOrdered, HasRoom, IsMade, Revises, Stays, Prepares}
 
 -- ---- tests of numbers
 
@@ -282,3 +282,10 @@ made entries number mark ordered is =
 pub made_again : (entries : Entries) (number : ℕ) (mark : Mark) → AreOrdered entries → IsMade entries number mark → insert_entry nat_cmp (marks_of entries) number mark ≡ marks_of entries
 made_again entries number mark ordered is =
     inserted-again (marks_of entries) number mark (rising_marks entries ordered.rising) (found_mark entries number mark is)
+
+pub Stays-same : (old new : Entries) → AreOrdered old → new ≡ old → Stays old new
+Stays-same old new ordered same = record { ordered = subst AreOrdered (sym same) ordered; same = ap marks_of same }
+
+-- the room of the mark that is found
+pub room_at : (entries : Entries) (number len : ℕ) (mark : Kept) → HasRoom entries number len → kept_at entries number ≡ Some mark → len ≤ vec_capacity mark.attributes
+room_at entries number len mark room there = subst (λ (k : Kept). len ≤ vec_capacity k.attributes) (same_Some _ _ (sym room.found ∙ there)) room.room

@@ -38,7 +38,7 @@ pub fn put(attributes: &mut Attributes, name: &[u8], value: Text)
     ensures sorted { AreSorted attributes.new.items }
 {
     match search(attributes.as_slice(), name) {
-        Ok(place) => attributes[place].1 = value,
+        Ok(place) => attributes[place] = (Short::new(name), value),
         Err(place) => {
             let attribute = (Short::new(name), value);
             let put: Result<(), AllocFailed<(Short<64>, Text)>> = attributes.insert(place, attribute);

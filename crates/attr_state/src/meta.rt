@@ -1,6 +1,6 @@
 //! The owners and attributes of all nodes, and their calls.
 
-ghost use Rattle.std.specs.Prelude.{◌≡◌, None, IfOk, option_map};
+ghost use Rattle.std.specs.Prelude.{◌≡◌, None, IfOk, is_some, option_map};
 ghost use Rattle.file_world.specs.Attributes.{mark_at};
 ghost use Rattle.file_world.specs.Facts.{facts_of_marks};
 ghost use Rattle.file_world.specs.AttributeEffect.{fresh_marks, value_of, marks_after, IsAskable};
@@ -57,6 +57,13 @@ impl Meta {
         }
     }
 
+    /// Whether there is a node of that number. It takes no memory.
+    pub fn contains(&self, node: NodeId) -> bool
+        ensures { result ≡ is_some (mark_at self.now.marks node.0) }
+    {
+        settled_mark(&self.marks, &self.ready, node.0).is_some()
+    }
+
     /// The owner of a node; none if there is no node of that number. It takes no memory.
     pub fn owner(&self, node: NodeId) -> Option<Principal>
         ensures { result ≡ option_map (λ mark. mark.owner) (mark_at self.now.marks node.0) }
@@ -64,17 +71,6 @@ impl Meta {
         match settled_mark(&self.marks, &self.ready, node.0) {
             None => None,
             Some(mark) => Some(mark.owner),
-        }
-    }
-
-    /// The number of the directory of a node, or 0 for the root; none if there is no node of that number. It takes no
-    /// memory.
-    pub fn parent(&self, node: NodeId) -> Option<u64>
-        ensures { result ≡ option_map (λ mark. mark.parent) (mark_at self.now.marks node.0) }
-    {
-        match settled_mark(&self.marks, &self.ready, node.0) {
-            None => None,
-            Some(mark) => Some(mark.parent),
         }
     }
 

@@ -19,10 +19,9 @@ const MOST_ATTRIBUTES: usize = 32;
 fn node_refusal(marks: &Marks, number: u64) -> Option<Refusal>
     ensures { result ≡ first_of ((is_none (mark_at (marks_of marks.now.entries) number), NoNode) ∷ []) }
 {
-    if marks.contains_key(&number) {
-        None
-    } else {
-        Some(Refusal::NoNode)
+    match marks.get(&number) {
+        None => Some(Refusal::NoNode),
+        Some(_) => None,
     }
 }
 
