@@ -1,3 +1,4 @@
+pub mod ChangeLemmas
 pub mod FactLemmas
 pub mod MarkLemmas
 pub mod NameLemmas

@@ -1,29 +1,33 @@
 //! The memory for what an operation changes, taken before it.
 
-ghost use Rattle.std.specs.Prelude.{◌≡◌, None, Some, IsSome, IfOk, OnErr};
-ghost use Rattle.file_world.specs.AttributeEffect.{meta_refusal, IsAskable};
+ghost use Rattle.std.specs.Prelude.{◌≡◌, ◌+◌, length, None, Some, IsSome, IfOk, OnErr};
+ghost use Rattle.file_world.specs.Attributes.{mark_at};
+ghost use Rattle.file_world.specs.AttributeEffect.{attributes_of, meta_refusal, IsAskable};
 ghost use Rattle.attr_state.specs.Index.{marks_of, marks_in, kept_at, AreOrdered, IsKept, Prepares, Stays};
 ghost use Rattle.attr_state.specs.State.{ready_for};
 
 use crate::mark::{Mark, Marks};
 use crate::ready::Ready;
-use crate::refusals::{count, value_kept};
+use crate::refusals::value_kept;
 use bl_syntax::{NoMemory, Principal};
 use file_world::MetaOp;
 use std::alloc::{AllocError, AllocFailed, Global};
 
-fn prepare_attributes(marks: &mut Marks, number: u64, len: usize) -> Result<Ready, NoMemory>
+fn prepare_attributes(marks: &mut Marks, number: u64, more: usize) -> Result<Ready, NoMemory>
     requires ordered { AreOrdered marks.old.entries }
     requires there { IsSome (kept_at marks.old.entries number) }
-    ensures ok { IfOk result (λ ready. (ready ≡ Ready.Attributes number len)
+    ensures ok { IfOk result (λ ready.
+        (ready ≡ Ready.Attributes number (length (attributes_of (mark_at (marks_of marks.old.entries) number)) + more))
         × Prepares marks.old.entries marks.new.entries ready) }
     ensures err { OnErr result (Stays marks.old.entries marks.new.entries) }
 {
     let mark = marks.get_mut(&number).unwrap();
-    let more = len.saturating_sub(mark.attributes.len());
     let grown: Result<(), AllocError> = mark.attributes.reserve(more);
     match grown {
-        Ok(()) => Ok(Ready::Attributes(number, len as u64)),
+        Ok(()) => {
+            let len = mark.attributes.len() + more;
+            Ok(Ready::Attributes(number, len as u64))
+        }
         Err(_) => Err(NoMemory),
     }
 }
@@ -66,9 +70,8 @@ pub fn prepare(marks: &mut Marks, alloc: Global, op: &MetaOp) -> Result<Ready, N
         MetaOp::Get(_, _) | MetaOp::Remove(_, _) | MetaOp::Chown(_, _) => Ok(Ready::Nothing),
         MetaOp::Drop(_) | MetaOp::Move(_, _) => Ok(Ready::Nothing),
         MetaOp::Set(node, name, _) => {
-            let is_new = value_kept(marks, node.0, name.as_slice()).is_none();
-            let len = count(marks, node.0) + is_new as usize;
-            prepare_attributes(marks, node.0, len)
+            let known = value_kept(marks, node.0, name.as_slice());
+            prepare_attributes(marks, node.0, if known.is_none() { 1 } else { 0 })
         }
         MetaOp::Add(node, owner, parent) => prepare_made(marks, alloc, node.0, *owner, parent.0),
     }

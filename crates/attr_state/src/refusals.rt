@@ -49,8 +49,7 @@ pub fn value_kept(marks: &Marks, number: u64, name: &[u8]) -> Option<Text>
     }
 }
 
-/// How many attributes the node of that number has.
-pub fn count(marks: &Marks, number: u64) -> usize
+fn count(marks: &Marks, number: u64) -> usize
     ensures { result ≡ length (attributes_of (mark_at (marks_of marks.now.entries) number)) }
 {
     match marks.get(&number) {
