@@ -1,6 +1,6 @@
 -- What is true of all nodes is true of the node that it names.
 use Rattle.std.proofs.Common.{◌≡◌, ◌≢◌, ◌⊎◌, inl, inr, ℕ, zero, suc, ◌+◌, ◌-◌, ◌<◌, ◌≤◌, Bool, true, false, cond, Option, Some, None, List, [], ◌∷◌, ◌++◌, length, map, get_or, refl, sym, ap, ◌∙◌, subst, arith, nat_eq, nat_cmp, Less, Ordering}
-use Rattle.std.specs.Prelude.{◌==◌, ◌↔◌, Contains}
+use Rattle.std.specs.Prelude.{◌==◌, ◌↔◌, Contains, IsTrue}
 use Rattle.std.specs.List.{AllByRecursion}
 use Rattle.std.specs.List.Sorted.{IsStrictlySortedBy}
 use Rattle.std.specs.Map.{lookup, keys_of}
@@ -305,3 +305,36 @@ rising_in (Some Nothing) entries kept = rising_marks entries kept.ordered.rising
 rising_in (Some (Room number len)) entries kept = rising_marks entries kept.ordered.rising
 rising_in (Some (Made number owner parent)) entries kept =
     subst AreRising (sym (marks-removed entries number)) (rising-removed number (marks_of entries) (rising_marks entries kept.ordered.rising))
+
+-- ---- answers
+
+pub no_answer : (marks : Marks) (s : StatePred) → AreRising marks → None ≡ mark_named marks (subject s) → IsTrue false ↔ Contains (facts_of_marks marks) s
+no_answer marks s rising none = (λ f. absurd (false≢true f), λ h. absurd (unnamed marks s rising (sym none) h))
+
+pub owner_answer : (marks : Marks) (node owner : Term) (mark : Mark) (answer : Bool) → AreRising marks → Some mark ≡ mark_named marks node → IsTrue answer ↔ (owner ≡ Prin mark.owner) → IsTrue answer ↔ Contains (facts_of_marks marks) (Owner node owner)
+owner_answer marks node owner mark answer rising e is =
+    (λ t. owner_holds marks node owner mark (sym e) (is.0 t), λ h. is.1 (owner_from marks node owner mark rising (sym e) h))
+
+pub value_answer : (marks : Marks) (node value : Term) (name known : List ℕ) (mark : Mark) (answer : Bool) → AreRising marks → AreSorted mark.attributes → Some mark ≡ mark_named marks node → Some known ≡ value_at mark.attributes name → IsTrue answer ↔ (value ≡ Text known) → IsTrue answer ↔ Contains (facts_of_marks marks) (HasXattr node (Text name) value)
+value_answer marks node value name known mark answer rising sorted e found is = (
+  λ t. value_holds marks node (Text name) value mark (sym e) (record { name_bytes = name; value_bytes = known; name_is = refl; value_is = is.0 t; found = sym found }),
+  λ h. let has = value_from marks node (Text name) value mark rising sorted (sym e) h in
+  let same : name ≡ has.name_bytes = (let name_is : Text name ≡ Text has.name_bytes = has.name_is in cc) in
+  let known_is : has.value_bytes ≡ known = same_Some _ _ (sym has.found ∙ (ap (value_at mark.attributes) (sym same) ∙ sym found)) in
+  is.1 (has.value_is ∙ ap Text known_is),
+)
+
+pub value_no_answer : (marks : Marks) (node value : Term) (name : List ℕ) (mark : Mark) → AreRising marks → AreSorted mark.attributes → Some mark ≡ mark_named marks node → None ≡ value_at mark.attributes name → IsTrue false ↔ Contains (facts_of_marks marks) (HasXattr node (Text name) value)
+value_no_answer marks node value name mark rising sorted e none = (
+  λ f. absurd (false≢true f),
+  λ h. let has = value_from marks node (Text name) value mark rising sorted (sym e) h in
+  let same : name ≡ has.name_bytes = (let name_is : Text name ≡ Text has.name_bytes = has.name_is in cc) in
+  absurd (none-some _ (none ∙ (ap (value_at mark.attributes) same ∙ has.found))),
+)
+
+-- no attribute has a name that is no text
+pub name_no_answer : (marks : Marks) (node name value : Term) (mark : Mark) → AreRising marks → AreSorted mark.attributes → Some mark ≡ mark_named marks node → ((bytes : List ℕ) → name ≡ Text bytes → ⊥) → IsTrue false ↔ Contains (facts_of_marks marks) (HasXattr node name value)
+name_no_answer marks node name value mark rising sorted e other = (
+  λ f. absurd (false≢true f),
+  λ h. let has = value_from marks node name value mark rising sorted (sym e) h in absurd (other has.name_bytes has.name_is),
+)
