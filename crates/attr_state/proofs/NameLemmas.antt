@@ -19,10 +19,10 @@ use Rattle.file_world.specs.Attributes.{Attributes, value_at}
 use Rattle.file_world.specs.AttributeEffect.{with_value, without_value}
 use Rattle.attr_state.specs.Index.{AreSorted, IsAt, IsGap}
 
-abbrev Attribute : Type 0
+abbrev pub Attribute : Type 0
 Attribute = List ℕ × List ℕ
 
-abbrev compare : List ℕ → List ℕ → Ordering
+abbrev pub compare : List ℕ → List ℕ → Ordering
 compare one other = slice_cmp nat_cmp one other
 
 -- ---- two names
@@ -47,13 +47,13 @@ itself one other e = (bytes_eq-Decides other one).1 (sym e)
 
 -- ---- names that rise
 
-abbrev AllAfter : List ℕ → Attributes → Type 0
+abbrev pub AllAfter : List ℕ → Attributes → Type 0
 AllAfter name attributes = AllByRecursion (λ other. compare name other ≡ Less) (keys_of attributes)
 
-head_after : (attribute : Attribute) (attributes : Attributes) → AreSorted (attribute ∷ attributes) → AllAfter attribute.0 attributes
+pub head_after : (attribute : Attribute) (attributes : Attributes) → AreSorted (attribute ∷ attributes) → AllAfter attribute.0 attributes
 head_after attribute attributes sorted = sorted_head (slice_cmp nat_cmp) attribute.0 (keys_of attributes) sorted
 
-tail_sorted : (attribute : Attribute) (attributes : Attributes) → AreSorted (attribute ∷ attributes) → AreSorted attributes
+pub tail_sorted : (attribute : Attribute) (attributes : Attributes) → AreSorted (attribute ∷ attributes) → AreSorted attributes
 tail_sorted attribute attributes sorted = sorted_tail (slice_cmp nat_cmp) attribute.0 (keys_of attributes) sorted
 
 cons_sorted : (attribute : Attribute) (attributes : Attributes) → AllAfter attribute.0 attributes → AreSorted attributes → AreSorted (attribute ∷ attributes)
@@ -81,7 +81,7 @@ all_stay_after name (attribute ∷ attributes) after =
 
 -- ---- the place that a search finds
 
-adjacent : (attributes : Attributes) (k : ℕ) (d : Attribute) → AreSorted attributes → k + 1 < length attributes → compare (get_or attributes k d).0 (get_or attributes (k + 1) d).0 ≡ Less
+adjacent : (attributes : Attributes) (k : ℕ) (d : Attribute) → AreSorted attributes → suc k < length attributes → compare (get_or attributes k d).0 (get_or attributes (suc k) d).0 ≡ Less
 adjacent [] k d sorted lt = absurd (omega (arith, lt))
 adjacent (attribute ∷ attributes) zero d sorted lt = after_at attribute.0 attributes 0 d (head_after attribute attributes sorted) (omega (arith, lt))
 adjacent (attribute ∷ attributes) (suc k) d sorted lt = adjacent attributes k d (tail_sorted attribute attributes sorted) (omega (arith, lt))
@@ -89,7 +89,9 @@ adjacent (attribute ∷ attributes) (suc k) d sorted lt = adjacent attributes k 
 comparisons_rise : (attributes : Attributes) (name : List ℕ) → AreSorted attributes → IsNonDecreasingBy (λ attribute. ordering_index (compare attribute.0 name)) attributes
 comparisons_rise attributes name sorted =
     searchable_from_sorted nat_list_cmp_total (λ (attribute : Attribute). attribute.0) attributes name
-    (λ k d low high. ap is_lt (greater_back (get_or attributes k d).0 (get_or attributes (k + 1) d).0 (adjacent attributes k d sorted high)))
+    (λ k d low high. let next : suc k ≡ k + 1 = omega arith in
+    ap is_lt (greater_back (get_or attributes k d).0 (get_or attributes (k + 1) d).0
+    (subst (λ (n : ℕ). compare (get_or attributes k d).0 (get_or attributes n d).0 ≡ Less) next (adjacent attributes k d sorted (omega (arith, high))))))
 
 IsAt-from : (attributes : Attributes) (name : List ℕ) (place : ℕ) → AreSorted attributes → place < length attributes → ((d : Attribute) → compare (get_or attributes place d).0 name ≡ Equal) → IsAt attributes name place
 IsAt-from [] name place sorted lt equal = absurd (omega (arith, lt))

@@ -1,6 +1,9 @@
 //! The attributes of a node: values under names, in the byte order of the names.
 
 ghost use Rattle.std.specs.Prelude.{◌≡◌, ◌≤◌, length, IfOk, IfErr, vec_capacity};
+ghost use Rattle.std.specs.List.Sorted.{IsSearchInRange};
+ghost use Rattle.std.specs.Ordering.{nat_cmp};
+ghost use Rattle.std.specs.Cmp.Lexicographic.{slice_cmp};
 ghost use Rattle.file_world.specs.Attributes.{value_at};
 ghost use Rattle.file_world.specs.AttributeEffect.{with_value, without_value};
 ghost use Rattle.attr_state.specs.Index.{AreSorted, IsAt, IsGap};
@@ -8,14 +11,23 @@ ghost use Rattle.attr_state.specs.Index.{AreSorted, IsAt, IsGap};
 use crate::mark::Attributes;
 use bl_syntax::{Short, Text};
 use std::alloc::AllocFailed;
+use std::cmp::Ordering;
+
+// How the attribute's name compares with another.
+fn compare(attribute: &(Short<64>, Text), name: &[u8]) -> Ordering
+    ensures { result ≡ slice_cmp nat_cmp attribute.now.0 name.now }
+{
+    attribute.0.bytes().cmp(&name)
+}
 
 /// The place of the attribute of that name, or where it would go.
 fn search(attributes: &[(Short<64>, Text)], name: &[u8]) -> Result<usize, usize>
     requires { AreSorted attributes.now }
+    ensures bound { IsSearchInRange result (length attributes.now) }
     ensures found { IfOk result (IsAt attributes.now name.now) }
     ensures absent { IfErr result (IsGap attributes.now name.now) }
 {
-    attributes.binary_search_by(|attribute| attribute.0.bytes().cmp(&name))
+    attributes.binary_search_by(|attribute| compare(attribute, name))
 }
 
 /// The value of the attribute of that name.
