@@ -1,6 +1,5 @@
 -- What the absence of a refusal says of what an operation names.
 use Rattle.std.proofs.Common.{◌≡◌, ◌≤◌, ◌+◌, ℕ, suc, Bool, true, false, cond, Option, Some, None, IsSome, is_none, List, [], ◌∷◌, ◌++◌, length, refl, sym, ap, ◌∙◌, subst, arith, nat_le}
-use Rattle.std.specs.List.Sorted.{IsStrictlySortedBy}
 use Rattle.std.proofs.lemmas.Bool.{false≢true, not-false, and_parts, leb-true}
 use Rattle.std.proofs.lemmas.Option.{none-some, same_Some}
 use Rattle.bl_syntax.specs.declared.terms.NodeId.{NodeId}
@@ -13,7 +12,7 @@ use Rattle.file_world.proofs.EffectLemmas.{none_hold, some_from}
 use Rattle.attr_state.specs.declared.mark.Mark.{Mark as Kept}
 use Rattle.attr_state.specs.Index.{Entries, marks_of, kept_at, HasRoom, AreSorted, AreOrdered, Revises, IsChangeable}
 use Rattle.attr_state.proofs.NameLemmas.{length-with_found, length-with_missing}
-use Rattle.attr_state.proofs.MarkLemmas.{mark_at-kept, mark_at-missing}
+use Rattle.attr_state.proofs.MarkLemmas.{mark_at-kept, mark_at-missing, none_sorted}
 
 pub some_kept : (entries : Entries) (number : ℕ) → is_none (mark_at (marks_of entries) number) ≡ false → IsSome (kept_at entries number)
 some_kept entries number e = by (kept_at entries number) refl
@@ -57,10 +56,6 @@ readable entries node name free =
 pub sorted_attributes : (entries : Entries) (number : ℕ) → AreOrdered entries → AreSorted (attributes_of (mark_at (marks_of entries) number))
 sorted_attributes entries number ordered = by (kept_at entries number) refl
   where
-    none_sorted : AreSorted []
-    unfolding IsStrictlySortedBy
-    none_sorted = tt
-
     by : (found : Option Kept) → kept_at entries number ≡ found → AreSorted (attributes_of (mark_at (marks_of entries) number))
     by None h = subst (λ (m : Option Mark). AreSorted (attributes_of m)) (sym (mark_at-missing entries number h)) none_sorted
     by (Some kept) h = subst (λ (m : Option Mark). AreSorted (attributes_of m)) (sym (mark_at-kept entries number kept h)) (ordered.sorted number kept h)

@@ -117,20 +117,20 @@ revised-missing number revision (mark ∷ marks) e =
 
 -- ---- one mark more
 
+by_numbers : {P : Type 0} (one other : ℕ) → (nat_cmp one other ≡ Less → one < other → P) → (nat_cmp one other ≡ Equal → one ≡ other → P) → (nat_cmp one other ≡ Greater → other < one → P) → P
+by_numbers one other less equal greater =
+    split (nat_lt one other)
+    (λ t. less (cond-true (nat_lt one other) _ _ t) (ltb-true one other t))
+    (λ f. split (nat_eq one other)
+    (λ t. equal (cond-false (nat_lt one other) _ _ f ∙ cond-true (nat_eq one other) _ _ t) (eqb-true one other t))
+    (λ s. greater (cond-false (nat_lt one other) _ _ f ∙ cond-false (nat_eq one other) _ _ s) (greater_from one other f s)))
+  where
+    greater_from : (one other : ℕ) → nat_lt one other ≡ false → nat_eq one other ≡ false → other < one
+    greater_from one other f s = (let le = ltb-false one other f in let differ = eqb-false one other s in omega (arith, le, differ))
+
 module _ {V : Type 0} where
   abbrev place_in : ℕ → V → (ℕ × V) → List (ℕ × V) → Ordering → List (ℕ × V)
   place_in number value row rows o = match_ordering o ((number, value) ∷ row ∷ rows) ((row.0, value) ∷ rows) (row ∷ insert_entry nat_cmp rows number value)
-
-  by_numbers : {P : Type 0} (one other : ℕ) → (nat_cmp one other ≡ Less → one < other → P) → (nat_cmp one other ≡ Equal → one ≡ other → P) → (nat_cmp one other ≡ Greater → other < one → P) → P
-  by_numbers one other less equal greater =
-      split (nat_lt one other)
-      (λ t. less (cond-true (nat_lt one other) _ _ t) (ltb-true one other t))
-      (λ f. split (nat_eq one other)
-      (λ t. equal (cond-false (nat_lt one other) _ _ f ∙ cond-true (nat_eq one other) _ _ t) (eqb-true one other t))
-      (λ s. greater (cond-false (nat_lt one other) _ _ f ∙ cond-false (nat_eq one other) _ _ s) (greater_from one other f s)))
-    where
-      greater_from : (one other : ℕ) → nat_lt one other ≡ false → nat_eq one other ≡ false → other < one
-      greater_from one other f s = (let le = ltb-false one other f in let differ = eqb-false one other s in omega (arith, le, differ))
 
   -- a row that is put in and taken out again
   pub removed-inserted : (rows : List (ℕ × V)) (number : ℕ) (value : V) → lookup (nat_eq number) rows ≡ None → remove_entry (nat_eq number) (insert_entry nat_cmp rows number value) ≡ rows
@@ -256,6 +256,10 @@ kept_set old new number mark sets = sets.found number ∙ cond-true (is_at (nat_
 
 -- ---- a mark that is ready to be made
 
+pub none_sorted : AreSorted []
+unfolding IsStrictlySortedBy
+none_sorted = tt
+
 -- the marks with a new one show what they showed, once it is taken out
 pub Prepares-made : (old new : Entries) (number : ℕ) (owner : List ℕ) (parent : ℕ) (mark : Kept) → AreOrdered old → kept_at old number ≡ None → new ≡ insert_entry nat_cmp old number mark → IsStrictlySortedBy nat_cmp (keys_of new) → ((other : ℕ) → kept_at new other ≡ cond (is_at (nat_cmp number) other) (Some mark) (kept_at old other)) → shown mark ≡ new_mark owner parent → Prepares old new (Made number owner parent)
 Prepares-made old new number owner parent mark ordered missing is rising found shows =
@@ -268,10 +272,6 @@ Prepares-made old new number owner parent mark ordered missing is rising found s
           ∙ (ap marks_of (removed_by_number (insert_entry nat_cmp old number mark) number)
           ∙ ap marks_of (removed-inserted old number mark (sym (kept_by_number old number) ∙ missing)));
     }
-  where
-    none_sorted : AreSorted []
-    unfolding IsStrictlySortedBy
-    none_sorted = tt
 
 -- the mark that is made is the one that was ready
 pub made : (entries : Entries) (number : ℕ) (mark : Mark) → AreOrdered entries → IsMade entries number mark → insert_entry nat_cmp (marks_of (remove_entry (is_at (nat_cmp number)) entries)) number mark ≡ marks_of entries

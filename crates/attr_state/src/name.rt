@@ -30,6 +30,7 @@ fn are_attribute_name_bytes(bytes: &[u8]) -> bool
 }
 
 /// Whether the bytes name an attribute: a lower-case letter, and at most 63 lower-case letters, digits, `_` and `.`.
+#[tactic(auto, unfolding(file_world::specs::FileNames::is_attribute_name))]
 pub fn is_attribute_name(name: &[u8]) -> bool
     ensures { result ≡ is_attribute_name name.now }
 {
