@@ -1,11 +1,14 @@
 -- What the absence of a refusal says of what an operation names.
-use Rattle.std.proofs.Common.{◌≡◌, ◌≤◌, ◌+◌, ℕ, suc, Bool, true, false, cond, Option, Some, None, IsSome, is_none, List, [], ◌∷◌, ◌++◌, length, refl, sym, ap, ◌∙◌, subst, arith, nat_le}
+use Rattle.std.proofs.Common.{◌≡◌, ◌≤◌, ◌+◌, ℕ, suc, Bool, true, false, cond, Option, Some, None, IsSome, is_some, is_none, not, List, [], ◌∷◌, ◌++◌, length, refl, sym, ap, ◌∙◌, subst, arith, nat_le}
+use Rattle.std.specs.Prelude.{◌&&◌}
+use Rattle.std.specs.List.{list_all}
+use Rattle.bl_syntax.specs.Names.{is_lower_case}
 use Rattle.std.proofs.lemmas.Bool.{false≢true, not-false, and_parts, leb-true}
 use Rattle.std.proofs.lemmas.Option.{none-some, same_Some}
 use Rattle.bl_syntax.specs.declared.terms.NodeId.{NodeId}
 use Rattle.file_world.specs.declared.operation.MetaOp.{MetaOp}
 use Rattle.file_world.specs.declared.operation.MetaOp.TheVariants.{Get, Set, Remove, Chown, Add, Drop, Move}
-use Rattle.file_world.specs.FileNames.{is_attribute_name, is_attribute_name_from}
+use Rattle.file_world.specs.FileNames.{is_attribute_name, is_attribute_name_byte, is_attribute_name_from}
 use Rattle.file_world.specs.Attributes.{Attributes, Mark, Marks, mark_at, value_at}
 use Rattle.file_world.specs.AttributeEffect.{attributes_of, value_of, with_value, without_value, with_attributes, with_owner, with_parent, meta_tests, meta_refusal, marks_after}
 use Rattle.file_world.proofs.EffectLemmas.{none_hold, some_from}
@@ -21,9 +24,17 @@ some_kept entries number e = by (kept_at entries number) refl
     by None h = absurd (none-some _ (sym (mark_at-missing entries number h) ∙ (some_from (mark_at (marks_of entries) number) e).1))
     by (Some kept) h = subst IsSome (sym h) refl
 
+-- a node without a mark has none that is kept
+pub not_kept : (entries : Entries) (number : ℕ) → mark_at (marks_of entries) number ≡ None → kept_at entries number ≡ None
+not_kept entries number e = by (kept_at entries number) refl
+  where
+    by : (found : Option Kept) → kept_at entries number ≡ found → kept_at entries number ≡ None
+    by None h = h
+    by (Some kept) h = absurd (none-some _ (sym e ∙ mark_at-kept entries number kept h))
+
 short_from : (name : List ℕ) → is_attribute_name_from name ≡ true → length name ≤ 64
 short_from [] e = absurd (false≢true e)
-short_from (first ∷ others) e = let few = leb-true (length others) 63 (and_parts _ _ (and_parts _ _ e).1).1 in omega (arith, few)
+short_from (first ∷ others) e = let few = leb-true (length others) 63 (and_parts (is_lower_case first && list_all is_attribute_name_byte others) (nat_le (length others) 63) e).1 in omega (arith, few)
 
 pub short_name : (name : List ℕ) → is_attribute_name name ≡ true → length name ≤ 64
 unfolding is_attribute_name
@@ -59,6 +70,12 @@ sorted_attributes entries number ordered = by (kept_at entries number) refl
     by : (found : Option Kept) → kept_at entries number ≡ found → AreSorted (attributes_of (mark_at (marks_of entries) number))
     by None h = subst (λ (m : Option Mark). AreSorted (attributes_of m)) (sym (mark_at-missing entries number h)) none_sorted
     by (Some kept) h = subst (λ (m : Option Mark). AreSorted (attributes_of m)) (sym (mark_at-kept entries number kept h)) (ordered.sorted number kept h)
+
+pub none_tested : {A : Type 0} (known : Option A) (answer : Bool) → is_some known ≡ not answer → is_none known ≡ answer
+none_tested None true e = refl
+none_tested None false e = absurd (false≢true e)
+none_tested (Some value) true e = absurd (false≢true (sym e))
+none_tested (Some value) false e = refl
 
 -- one more if the name is new
 pub length_set : (attributes : Attributes) (name value : List ℕ) (known : Option (List ℕ)) → AreSorted attributes → known ≡ value_at attributes name → length attributes + cond (is_none known) 1 0 ≡ length (with_value attributes name value)

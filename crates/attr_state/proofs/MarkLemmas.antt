@@ -283,9 +283,6 @@ pub made_again : (entries : Entries) (number : ℕ) (mark : Mark) → AreOrdered
 made_again entries number mark ordered is =
     inserted-again (marks_of entries) number mark (rising_marks entries ordered.rising) (found_mark entries number mark is)
 
-pub Stays-same : (old new : Entries) → AreOrdered old → new ≡ old → Stays old new
-Stays-same old new ordered same = record { ordered = subst AreOrdered (sym same) ordered; same = ap marks_of same }
-
 -- the room of the mark that is found
 pub room_at : (entries : Entries) (number len : ℕ) (mark : Kept) → HasRoom entries number len → kept_at entries number ≡ Some mark → len ≤ vec_capacity mark.attributes
 room_at entries number len mark room there = subst (λ (k : Kept). len ≤ vec_capacity k.attributes) (same_Some _ _ (sym room.found ∙ there)) room.room

@@ -3,7 +3,7 @@ use Rattle.std.proofs.Common.{◌≡◌, ℕ, List, refl, ap, ◌∙◌}
 use Rattle.file_world.specs.Attributes.{Attributes, Mark}
 use Rattle.attr_state.specs.declared.mark.Mark.{Mark as Kept}
 use Rattle.attr_state.specs.Index.{marks_of, Entries}
-use Rattle.attr_state.proofs.MarkLemmas.{Prepares-made, Stays-same}
+use Rattle.attr_state.proofs.MarkLemmas.{Prepares-made}
 use Rattle.attr_state.proofs.preparing.prepare_made.Goals as goal
 
 pub returns-in-Ok-clause-ok : goal.returns-in-Ok-clause-ok
@@ -13,6 +13,3 @@ returns-in-Ok-clause-ok c =
       refl,
       Prepares-made c.args.marks.now.entries c.insert-put.new.self.entries c.args.number c.args.owner c.args.parent mark c.requires.ordered c.requires.new c.in-Ok.ensures.entries c.insert-put.ensures.ordered c.in-Ok.ensures.updates.0 (ap shows c.new.ensures.items),
     )
-
-pub returns-in-Err-clause-err : goal.returns-in-Err-clause-err
-returns-in-Err-clause-err c = Stays-same c.args.marks.now.entries c.insert-put.new.self.entries c.requires.ordered c.in-Err.ensures.err

@@ -6,8 +6,8 @@ use Rattle.attr_state.proofs.settled.settled_mark.Goals as goal
 pub returns-then-is_held-clause-shown : goal.returns-then-is_held-clause-shown
 returns-then-is_held-clause-shown c = sym (held_missing c.args.ready.now c.args.marks.now.entries c.args.number c.requires (sym c.is_held.ensures ∙ c.if-is_held.true))
 
-pub returns-else-is_held-clause-shown : goal.returns-else-is_held-clause-shown
-returns-else-is_held-clause-shown c = settled_found c.args.ready.now c.args.marks.now.entries c.args.number c.get.result (sym c.is_held.ensures ∙ c.if-is_held.false) c.get.ensures.value
+pub returns-clause-shown : goal.returns-clause-shown
+returns-clause-shown c = settled_found c.args.ready.now c.args.marks.now.entries c.args.number c.get.result (sym c.is_held.ensures ∙ c.if-is_held.false) c.get.ensures.value
 
-pub returns-else-is_held-clause-sorted : goal.returns-else-is_held-clause-sorted
-returns-else-is_held-clause-sorted c = found_sorted c.args.marks.now.entries c.args.number c.get.result c.requires.ordered c.get.ensures.value
+pub returns-clause-sorted : goal.returns-clause-sorted
+returns-clause-sorted c = found_sorted c.args.marks.now.entries c.args.number c.get.result c.requires.ordered c.get.ensures.value
