@@ -1,5 +1,5 @@
 -- The marks that contracts see and those that are kept, while an operation is ready.
-use Rattle.std.proofs.Common.{◌≡◌, ℕ, Option, Some, None, List, length, refl, sym, ap, ◌∙◌, subst}
+use Rattle.std.proofs.Common.{◌≡◌, ℕ, Option, Some, None, length, refl, sym, ap, ◌∙◌, subst}
 use Rattle.std.proofs.lemmas.Option.{none-some, same_Some}
 use Rattle.file_world.specs.declared.operation.MetaOp.{MetaOp}
 use Rattle.file_world.specs.declared.operation.MetaOp.TheVariants.{Get, Set, Remove, Chown, Add, Drop, Move}
@@ -7,7 +7,7 @@ use Rattle.file_world.specs.Attributes.{Marks, mark_at}
 use Rattle.file_world.specs.AttributeEffect.{attributes_of, with_value, new_mark, meta_refusal, marks_after}
 use Rattle.attr_state.specs.declared.ready.Ready.{Ready}
 use Rattle.attr_state.specs.declared.ready.Ready.TheVariants.{Nothing, Attributes as Room, Made}
-use Rattle.attr_state.specs.State.{MetaState, ready_for, IsReady}
+use Rattle.attr_state.specs.State.{ready_for, IsReady}
 use Rattle.attr_state.specs.Index.{Entries, marks_of, marks_in, HasRoom, IsPrepared, IsKept, IsChangeable}
 use Rattle.attr_state.proofs.MarkLemmas.{made, made_again}
 

@@ -1,19 +1,18 @@
 -- What the absence of a refusal says of what an operation names.
-use Rattle.std.proofs.Common.{◌≡◌, ◌≤◌, ◌+◌, ℕ, suc, Bool, true, false, cond, Option, Some, None, IsSome, is_some, is_none, not, List, [], ◌∷◌, ◌++◌, length, refl, sym, ap, ◌∙◌, subst, arith, nat_le}
+use Rattle.std.proofs.Common.{◌≡◌, ◌≤◌, ◌+◌, ℕ, Bool, true, false, cond, Option, Some, None, IsSome, is_some, is_none, not, List, [], ◌∷◌, length, refl, sym, ◌∙◌, subst, arith, nat_le}
 use Rattle.std.specs.Prelude.{◌&&◌}
 use Rattle.std.specs.List.{list_all}
 use Rattle.bl_syntax.specs.Names.{is_lower_case}
 use Rattle.std.proofs.lemmas.Bool.{false≢true, not-false, and_parts, leb-true}
-use Rattle.std.proofs.lemmas.Option.{none-some, same_Some}
+use Rattle.std.proofs.lemmas.Option.{none-some}
 use Rattle.bl_syntax.specs.declared.terms.NodeId.{NodeId}
-use Rattle.file_world.specs.declared.operation.MetaOp.{MetaOp}
-use Rattle.file_world.specs.declared.operation.MetaOp.TheVariants.{Get, Set, Remove, Chown, Add, Drop, Move}
+use Rattle.file_world.specs.declared.operation.MetaOp.TheVariants.{Get, Set, Remove, Chown}
 use Rattle.file_world.specs.FileNames.{is_attribute_name, is_attribute_name_byte, is_attribute_name_from}
-use Rattle.file_world.specs.Attributes.{Attributes, Mark, Marks, mark_at, value_at}
-use Rattle.file_world.specs.AttributeEffect.{attributes_of, value_of, with_value, without_value, with_attributes, with_owner, with_parent, meta_tests, meta_refusal, marks_after}
+use Rattle.file_world.specs.Attributes.{Attributes, Mark, mark_at, value_at}
+use Rattle.file_world.specs.AttributeEffect.{attributes_of, value_of, with_value, meta_tests, meta_refusal}
 use Rattle.file_world.proofs.EffectLemmas.{none_hold, some_from}
 use Rattle.attr_state.specs.declared.mark.Mark.{Mark as Kept}
-use Rattle.attr_state.specs.Index.{Entries, marks_of, kept_at, HasRoom, AreSorted, AreOrdered, Revises, IsChangeable}
+use Rattle.attr_state.specs.Index.{Entries, marks_of, kept_at, AreSorted, AreOrdered}
 use Rattle.attr_state.proofs.NameLemmas.{length-with_found, length-with_missing}
 use Rattle.attr_state.proofs.MarkLemmas.{mark_at-kept, mark_at-missing, none_sorted}
 

@@ -1,17 +1,11 @@
 -- What is true of all nodes is true of the node that it names.
-use Rattle.std.proofs.Common.{◌≡◌, ◌≢◌, ◌⊎◌, inl, inr, ℕ, zero, suc, ◌+◌, ◌-◌, ◌<◌, ◌≤◌, Bool, true, false, cond, Option, Some, None, List, [], ◌∷◌, ◌++◌, length, map, get_or, refl, sym, ap, ◌∙◌, subst, arith, nat_eq, nat_cmp, Less, Ordering}
+use Rattle.std.proofs.Common.{◌≡◌, ◌≢◌, ◌⊎◌, inl, inr, ℕ, zero, suc, ◌<◌, Bool, true, false, not, Option, Some, None, List, [], ◌∷◌, ◌++◌, map, refl, sym, ap, ◌∙◌, subst, arith, nat_eq, Less}
 use Rattle.std.specs.Prelude.{◌==◌, ◌↔◌, Contains, IsTrue}
-use Rattle.std.specs.List.{AllByRecursion}
-use Rattle.std.specs.List.Sorted.{IsStrictlySortedBy}
-use Rattle.std.specs.Map.{lookup, keys_of}
-use Rattle.std.specs.Cmp.Lexicographic.{slice_cmp}
 use Rattle.std.specs.Str.{bytes_eq}
-use Rattle.std.proofs.lemmas.Bool.{cond-true, cond-false, false≢true, eq-eqb, ne_eqb, eqb-true, eqb-false}
+use Rattle.std.proofs.lemmas.Bool.{cond-true, cond-false, false≢true, not-true, eq-eqb, ne_eqb, eqb-true, eqb-false}
 use Rattle.std.proofs.lemmas.Option.{none-some, same_Some}
 use Rattle.std.proofs.lemmas.List.Elements.{Contains-append_left, Contains-append_right, Contains-append_cases}
-use Rattle.std.proofs.lemmas.Map.Keys.{sorted_head, sorted_tail}
 use Rattle.std.proofs.lemmas.Slice.Eq.{bytes_eq-Decides}
-use Rattle.bl_syntax.specs.declared.terms.NodeId.{NodeId}
 use Rattle.bl_syntax.specs.declared.terms.Term.{Term}
 use Rattle.bl_syntax.specs.declared.terms.Term.TheVariants.{Prin, File, Perm, Time, Text, Ctime, Param, Bound}
 use Rattle.bl_syntax.specs.declared.terms.StatePred.{StatePred}
@@ -22,7 +16,7 @@ use Rattle.file_world.proofs.RowLemmas.{split, cond_at_true, cond_at_false, look
 use Rattle.attr_state.specs.declared.ready.Ready.{Ready}
 use Rattle.attr_state.specs.declared.ready.Ready.TheVariants.{Nothing, Attributes as Room, Made}
 use Rattle.attr_state.specs.Index.{Entries, marks_of, marks_in, mark_named, AreSorted, IsKept}
-use Rattle.attr_state.proofs.NameLemmas.{Attribute, compare, AllAfter, head_after, tail_sorted, apart_from_greater}
+use Rattle.attr_state.proofs.NameLemmas.{compare, AllAfter, head_after, tail_sorted, apart_from_greater}
 use Rattle.attr_state.proofs.MarkLemmas.{rising_marks, marks-removed}
 
 -- ---- members of lists
@@ -235,7 +229,7 @@ after_found bound name value (attribute ∷ attributes) after e =
     (λ f. after_found bound name value attributes after.1 (cond_at_false (bytes_eq name attribute.0) _ _ _ f e))
 
 -- a name and its value
-record IsValue (attributes : Attributes) (name value : Term) : Type 0 where
+pub record IsValue (attributes : Attributes) (name value : Term) : Type 0 where
   pub name_bytes : List ℕ
   pub value_bytes : List ℕ
   pub name_is : name ≡ Text name_bytes
@@ -319,17 +313,17 @@ pub value_answer : (marks : Marks) (node value : Term) (name known : List ℕ) (
 value_answer marks node value name known mark answer rising sorted e found is = (
   λ t. value_holds marks node (Text name) value mark (sym e) (record { name_bytes = name; value_bytes = known; name_is = refl; value_is = is.0 t; found = sym found }),
   λ h. let has = value_from marks node (Text name) value mark rising sorted (sym e) h in
-  let same : name ≡ has.name_bytes = (let name_is : Text name ≡ Text has.name_bytes = has.name_is in cc) in
-  let known_is : has.value_bytes ≡ known = same_Some _ _ (sym has.found ∙ (ap (value_at mark.attributes) (sym same) ∙ sym found)) in
-  is.1 (has.value_is ∙ ap Text known_is),
+      let same : name ≡ has.name_bytes = (let name_is : Text name ≡ Text has.name_bytes = has.name_is in cc) in
+      let known_is : has.value_bytes ≡ known = same_Some _ _ (sym has.found ∙ (ap (value_at mark.attributes) (sym same) ∙ sym found)) in
+      is.1 (has.value_is ∙ ap Text known_is),
 )
 
 pub value_no_answer : (marks : Marks) (node value : Term) (name : List ℕ) (mark : Mark) → AreRising marks → AreSorted mark.attributes → Some mark ≡ mark_named marks node → None ≡ value_at mark.attributes name → IsTrue false ↔ Contains (facts_of_marks marks) (HasXattr node (Text name) value)
 value_no_answer marks node value name mark rising sorted e none = (
   λ f. absurd (false≢true f),
   λ h. let has = value_from marks node (Text name) value mark rising sorted (sym e) h in
-  let same : name ≡ has.name_bytes = (let name_is : Text name ≡ Text has.name_bytes = has.name_is in cc) in
-  absurd (none-some _ (none ∙ (ap (value_at mark.attributes) same ∙ has.found))),
+      let same : name ≡ has.name_bytes = (let name_is : Text name ≡ Text has.name_bytes = has.name_is in cc) in
+      absurd (none-some _ (none ∙ (ap (value_at mark.attributes) same ∙ has.found))),
 )
 
 -- no attribute has a name that is no text
@@ -337,4 +331,17 @@ pub name_no_answer : (marks : Marks) (node name value : Term) (mark : Mark) → 
 name_no_answer marks node name value mark rising sorted e other = (
   λ f. absurd (false≢true f),
   λ h. let has = value_from marks node name value mark rising sorted (sym e) h in absurd (other has.name_bytes has.name_is),
+)
+
+pub directory_answer : (marks : Marks) (node directory : Term) (mark : Mark) (root answer : Bool) → AreRising marks → Some mark ≡ mark_named marks node → IsTrue root ↔ (node ≡ File (record { 0 = 1 })) → root ≡ false → IsTrue answer ↔ (directory ≡ File (record { 0 = mark.parent })) → IsTrue answer ↔ Contains (facts_of_marks marks) (InDir node directory)
+directory_answer marks node directory mark root answer rising e is_root below is = (
+  λ t. directory_holds marks node directory mark (sym e) (λ one. false≢true (sym below ∙ is_root.1 one)) (is.0 t),
+  λ h. is.1 (directory_from marks node directory mark rising (sym e) h).1,
+)
+
+-- the root is in no directory
+pub root_answer : (marks : Marks) (node directory : Term) (mark : Mark) (root : Bool) → AreRising marks → Some mark ≡ mark_named marks node → IsTrue root ↔ (node ≡ File (record { 0 = 1 })) → root ≡ true → IsTrue (not root) ↔ Contains (facts_of_marks marks) (InDir node directory)
+root_answer marks node directory mark root rising e is_root there = (
+  λ t. absurd (false≢true (sym (not-true root t) ∙ there)),
+  λ h. absurd ((directory_from marks node directory mark rising (sym e) h).0 (is_root.0 there)),
 )

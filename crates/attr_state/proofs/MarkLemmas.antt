@@ -1,19 +1,19 @@
 -- The marks that are kept, seen as those of the nodes, and what stays of their order.
-use Rattle.std.proofs.Common.{◌≡◌, ◌≢◌, ℕ, suc, ◌+◌, ◌-◌, ◌<◌, ◌≤◌, inl, inr, Bool, true, false, cond, Option, Some, None, option_map, IsSome, List, [], ◌∷◌, length, map, refl, sym, ap, ◌∙◌, subst, arith, nat_eq, nat_lt, nat_cmp, is_eq, Ordering, Less, Equal, Greater, Bor, MutBor, vec_capacity}
+use Rattle.std.proofs.Common.{◌≡◌, ◌≢◌, ℕ, ◌<◌, ◌≤◌, Bool, true, false, cond, Option, Some, None, option_map, IsSome, List, [], ◌∷◌, refl, sym, ap, ◌∙◌, subst, arith, nat_eq, nat_lt, nat_cmp, is_eq, Ordering, Less, Equal, Greater, MutBor, vec_capacity}
 use Rattle.std.specs.Map.{lookup, remove_entry, set_value, keys_of}
-use Rattle.std.specs.BTreeMap.{BTreeMap, is_at, insert_entry, WritesThrough, Updates, UpdatesBy}
-use Rattle.std.specs.Option.{option_copied, option_copied_mut}
+use Rattle.std.specs.BTreeMap.{BTreeMap, is_at, insert_entry, WritesThrough}
+use Rattle.std.specs.Option.{option_copied_mut}
 use Rattle.std.specs.Ordering.{match_ordering}
 use Rattle.std.specs.List.Sorted.{IsStrictlySortedBy}
 use Rattle.std.proofs.lemmas.Bool.{cond-true, cond-false, ltb-true, ltb-false, le-ltb, eq-eqb, ne_eqb, eqb-true, eqb-false}
 use Rattle.std.proofs.lemmas.Option.{none-some, same_Some}
-use Rattle.file_world.specs.Attributes.{Attributes, Mark, Marks, mark_at}
+use Rattle.file_world.specs.Attributes.{Mark, Marks, mark_at}
 use Rattle.file_world.specs.TreeEffect.{revised}
 use Rattle.file_world.specs.AttributeEffect.{new_mark}
-use Rattle.file_world.proofs.RowLemmas.{split, cond_at_true, cond_at_false, rising_head, rising_tail, none_below, lookup-removed_same, lookup-removed_other, rising-removed, less_from_lt, lt_from_less, above_found, AreAbove}
+use Rattle.file_world.proofs.RowLemmas.{split, cond_at_true, cond_at_false, rising_head, rising_tail, none_below, less_from_lt, lt_from_less, above_found, AreAbove}
 use Rattle.attr_state.specs.declared.mark.Mark.{Mark as Kept}
 use Rattle.attr_state.specs.declared.ready.Ready.TheVariants.{Made}
-use Rattle.attr_state.specs.Index.{Entries, shown, marks_of, kept_at, AreSorted, AreOrdered, HasRoom, IsMade, Revises, Stays, Prepares}
+use Rattle.attr_state.specs.Index.{Entries, shown, marks_of, kept_at, AreSorted, AreOrdered, HasRoom, IsMade, IsKept, Revises, Stays, Prepares}
 
 -- ---- tests of numbers
 
@@ -286,3 +286,13 @@ made_again entries number mark ordered is =
 -- the room of the mark that is found
 pub room_at : (entries : Entries) (number len : ℕ) (mark : Kept) → HasRoom entries number len → kept_at entries number ≡ Some mark → len ≤ vec_capacity mark.attributes
 room_at entries number len mark room there = subst (λ (k : Kept). len ≤ vec_capacity k.attributes) (same_Some _ _ (sym room.found ∙ there)) room.room
+
+-- ---- one mark alone
+
+none_ordered : AreOrdered []
+unfolding IsStrictlySortedBy
+none_ordered = record { rising = tt; sorted = λ number kept e. absurd (none-some _ e) }
+
+pub fresh_kept : (old new : Entries) (mark : Kept) → old ≡ [] → IsStrictlySortedBy nat_cmp (keys_of new) → ((other : ℕ) → kept_at new other ≡ cond (is_at (nat_cmp 1) other) (Some mark) (kept_at old other)) → mark.attributes.items ≡ [] → IsKept new None
+fresh_kept old new mark none rising found items =
+    record { ordered = AreOrdered-with old new 1 mark (subst AreOrdered (sym none) none_ordered) rising found (subst AreSorted (sym items) none_sorted); prepared = tt }

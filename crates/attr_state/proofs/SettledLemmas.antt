@@ -1,10 +1,10 @@
 -- The marks that contracts see, found among those that are kept.
-use Rattle.std.proofs.Common.{◌≡◌, ◌≢◌, ℕ, Bool, true, false, Option, Some, None, option_map, IfSome, List, refl, sym, ap, ◌∙◌, subst, nat_eq, nat_cmp, Bor}
-use Rattle.std.specs.Map.{lookup, remove_entry}
+use Rattle.std.proofs.Common.{◌≡◌, ℕ, true, false, Option, Some, None, option_map, IfSome, refl, sym, ap, ◌∙◌, subst, nat_cmp, Bor}
+use Rattle.std.specs.Map.{remove_entry}
 use Rattle.std.specs.BTreeMap.{is_at}
 use Rattle.std.specs.Option.{option_copied}
 use Rattle.std.proofs.lemmas.Bool.{false≢true, eqb-true, eqb-false}
-use Rattle.file_world.specs.Attributes.{Mark, Marks, mark_at}
+use Rattle.file_world.specs.Attributes.{Marks, mark_at}
 use Rattle.file_world.proofs.RowLemmas.{lookup-removed_same, lookup-removed_other}
 use Rattle.attr_state.specs.declared.mark.Mark.{Mark as Kept}
 use Rattle.attr_state.specs.declared.ready.Ready.{Ready}

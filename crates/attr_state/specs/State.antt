@@ -1,5 +1,5 @@
 -- What contracts see of owners and attributes: the marks of the nodes, and for which change they are ready.
-use Rattle.std.specs.Prelude.{◌≡◌, ℕ, List, length, Option, Some, None, Result, Ok, Err}
+use Rattle.std.specs.Prelude.{◌≡◌, length, Option, Some, None, Result, Ok, Err}
 use Rattle.file_world.specs.declared.operation.MetaOp.{MetaOp}
 use Rattle.file_world.specs.declared.operation.MetaOp.TheVariants.{Get, Set, Remove, Chown, Add, Drop, Move}
 use Rattle.file_world.specs.declared.refusal.OpFault.{OpFault}

@@ -53,7 +53,9 @@ pub fn put(attributes: &mut Attributes, name: &[u8], value: Text)
         Ok(place) => attributes[place] = (Short::new(name), value),
         Err(place) => {
             let attribute = (Short::new(name), value);
-            let put: Result<(), AllocFailed<(Short<64>, Text)>> = attributes.insert(place, attribute);
+            let put: Result<(), AllocFailed<(Short<64>, Text)>> = attributes.insert(
+                place, attribute,
+            );
             put.unwrap();
         }
     }

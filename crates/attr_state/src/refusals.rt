@@ -75,8 +75,11 @@ fn missing_refusal(marks: &Marks, number: u64, name: &[u8]) -> Option<Refusal>
 fn full_refusal(marks: &Marks, number: u64, name: &[u8]) -> Option<Refusal>
     requires { AreOrdered marks.now.entries }
     ensures { result ≡ first_of (attribute_tests (marks_of marks.now.entries) number name.now
-        ++ (is_none (value_of (marks_of marks.now.entries) number name.now)
-            && nat_le 32 (length (attributes_of (mark_at (marks_of marks.now.entries) number))), AttrFull)
+        ++ (
+          is_none (value_of (marks_of marks.now.entries) number name.now)
+              && nat_le 32 (length (attributes_of (mark_at (marks_of marks.now.entries) number))),
+          AttrFull,
+        )
         ∷ []) }
 {
     if let Some(refusal) = attribute_refusal(marks, number, name) {

@@ -130,13 +130,24 @@ fn each_operation_is_made(rt: HostRuntime) -> Result<(), Fail> {
     let alloc = rt.alloc();
     let mut meta = Meta::new(alloc)?;
     assert_eq!(rt; add(&mut meta, alloc, 2, b"alice", 1)?, Answer::Done);
-    assert_eq!(rt; set(&mut meta, alloc, 2, b"pcfs.class", b"secret")?, Answer::Done);
-    assert_eq!(rt; set(&mut meta, alloc, 2, b"pcfs.class", b"public")?, Answer::Done);
-    assert_eq!(rt; get(&mut meta, alloc, 2, b"pcfs.class")?, Answer::Text(text(b"public")?));
+    assert_eq!(rt;
+        set(&mut meta, alloc, 2, b"pcfs.class", b"secret")?,
+        Answer::Done
+    );
+    assert_eq!(rt;
+        set(&mut meta, alloc, 2, b"pcfs.class", b"public")?,
+        Answer::Done
+    );
+    assert_eq!(rt;
+        get(&mut meta, alloc, 2, b"pcfs.class")?,
+        Answer::Text(text(b"public")?)
+    );
     assert_eq!(rt; chown(&mut meta, alloc, 2, b"bob")?, Answer::Done);
     assert_eq!(rt; relocate(&mut meta, alloc, 2, 3)?, Answer::Done);
     assert!(rt; is_owner(&meta, 2, b"bob")? && !is_owner(&meta, 2, b"alice")?);
-    assert!(rt; has(&meta, 2, b"pcfs.class", b"public")? && !has(&meta, 2, b"pcfs.class", b"secret")?);
+    assert!(rt;
+        has(&meta, 2, b"pcfs.class", b"public")? && !has(&meta, 2, b"pcfs.class", b"secret")?
+    );
     assert!(rt; is_in(&meta, 2, 3) && !is_in(&meta, 2, 1));
     assert_eq!(rt; remove(&mut meta, alloc, 2, b"pcfs.class")?, Answer::Done);
     assert_eq!(rt; drop_node(&mut meta, alloc, 2)?, Answer::Done);
@@ -156,16 +167,43 @@ fn the_root_has_an_owner_and_no_directory(rt: HostRuntime) -> Result<(), Fail> {
 fn the_first_refusal_is_reported(rt: HostRuntime) -> Result<(), Fail> {
     let alloc = rt.alloc();
     let mut meta = Meta::new(alloc)?;
-    assert_eq!(rt; get(&mut meta, alloc, 2, b"A")?, Answer::Refused(Refusal::NoNode));
-    assert_eq!(rt; chown(&mut meta, alloc, 2, b"bob")?, Answer::Refused(Refusal::NoNode));
+    assert_eq!(rt;
+        get(&mut meta, alloc, 2, b"A")?,
+        Answer::Refused(Refusal::NoNode)
+    );
+    assert_eq!(rt;
+        chown(&mut meta, alloc, 2, b"bob")?,
+        Answer::Refused(Refusal::NoNode)
+    );
     let long = [b'a'; 65];
-    for name in [b"".as_slice(), b"A".as_slice(), b"1".as_slice(), b"a-b".as_slice(), long.as_slice()] {
-        assert_eq!(rt; get(&mut meta, alloc, 1, name)?, Answer::Refused(Refusal::BadAttrName));
-        assert_eq!(rt; set(&mut meta, alloc, 1, name, b"")?, Answer::Refused(Refusal::BadAttrName));
-        assert_eq!(rt; remove(&mut meta, alloc, 1, name)?, Answer::Refused(Refusal::BadAttrName));
+    for name in [
+        b"".as_slice(),
+        b"A".as_slice(),
+        b"1".as_slice(),
+        b"a-b".as_slice(),
+        long.as_slice(),
+    ] {
+        assert_eq!(rt;
+            get(&mut meta, alloc, 1, name)?,
+            Answer::Refused(Refusal::BadAttrName)
+        );
+        assert_eq!(rt;
+            set(&mut meta, alloc, 1, name, b"")?,
+            Answer::Refused(Refusal::BadAttrName)
+        );
+        assert_eq!(rt;
+            remove(&mut meta, alloc, 1, name)?,
+            Answer::Refused(Refusal::BadAttrName)
+        );
     }
-    assert_eq!(rt; get(&mut meta, alloc, 1, b"a")?, Answer::Refused(Refusal::NoAttribute));
-    assert_eq!(rt; remove(&mut meta, alloc, 1, &long[..64])?, Answer::Refused(Refusal::NoAttribute));
+    assert_eq!(rt;
+        get(&mut meta, alloc, 1, b"a")?,
+        Answer::Refused(Refusal::NoAttribute)
+    );
+    assert_eq!(rt;
+        remove(&mut meta, alloc, 1, &long[..64])?,
+        Answer::Refused(Refusal::NoAttribute)
+    );
     Ok(())
 }
 
@@ -184,10 +222,19 @@ fn a_node_has_at_most_32_attributes(rt: HostRuntime) -> Result<(), Fail> {
     let alloc = rt.alloc();
     let mut meta = Meta::new(alloc)?;
     assert!(rt; fill(&mut meta, alloc)?);
-    assert_eq!(rt; set(&mut meta, alloc, 1, b"x", b"new")?, Answer::Refused(Refusal::AttrFull));
+    assert_eq!(rt;
+        set(&mut meta, alloc, 1, b"x", b"new")?,
+        Answer::Refused(Refusal::AttrFull)
+    );
     assert_eq!(rt; set(&mut meta, alloc, 1, b"x.", b"new")?, Answer::Done);
-    assert_eq!(rt; get(&mut meta, alloc, 1, b"x.")?, Answer::Text(text(b"new")?));
-    assert_eq!(rt; get(&mut meta, alloc, 1, b"x_")?, Answer::Text(text(b"old")?));
+    assert_eq!(rt;
+        get(&mut meta, alloc, 1, b"x.")?,
+        Answer::Text(text(b"new")?)
+    );
+    assert_eq!(rt;
+        get(&mut meta, alloc, 1, b"x_")?,
+        Answer::Text(text(b"old")?)
+    );
     assert_eq!(rt; remove(&mut meta, alloc, 1, b"xz")?, Answer::Done);
     assert_eq!(rt; set(&mut meta, alloc, 1, b"x", b"new")?, Answer::Done);
     Ok(())

@@ -1,5 +1,5 @@
 -- What the absence of a refusal says of the node and the name, and that a mark that is ready to be made is there.
-use Rattle.std.proofs.Common.{◌≡◌, ◌≤◌, ℕ, List, None, IsSome, length, sym, ap, ◌∙◌, subst}
+use Rattle.std.proofs.Common.{◌≡◌, ◌≤◌, ℕ, List, None, length, sym, ap, ◌∙◌, subst}
 use Rattle.file_world.specs.declared.operation.MetaOp.{MetaOp}
 use Rattle.file_world.specs.AttributeEffect.{meta_refusal, new_mark, marks_after}
 use Rattle.attr_state.specs.Index.{marks_of, IsChangeable}

@@ -1,5 +1,5 @@
 -- The mark behind the reference has the value under the name.
-use Rattle.std.proofs.Common.{◌≡◌, ◌≤◌, ℕ, List, Option, Some, refl, sym, ap, ◌∙◌, subst, length, vec_capacity}
+use Rattle.std.proofs.Common.{◌≡◌, ◌≤◌, Option, Some, sym, ap, ◌∙◌, subst, length, vec_capacity}
 use Rattle.file_world.specs.Attributes.{Attributes, Mark, mark_at}
 use Rattle.file_world.specs.AttributeEffect.{attributes_of, with_value, with_attributes}
 use Rattle.attr_state.specs.declared.mark.Mark.{Mark as Kept}

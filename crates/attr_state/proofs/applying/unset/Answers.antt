@@ -1,5 +1,5 @@
 -- The mark behind the reference has no value under the name.
-use Rattle.std.proofs.Common.{◌≡◌, ℕ, List, Option, Some, refl, sym, ap, ◌∙◌}
+use Rattle.std.proofs.Common.{◌≡◌, Option, Some, sym, ap, ◌∙◌}
 use Rattle.file_world.specs.Attributes.{Attributes, Mark, mark_at}
 use Rattle.file_world.specs.AttributeEffect.{attributes_of, without_value, with_attributes}
 use Rattle.attr_state.specs.declared.mark.Mark.{Mark as Kept}

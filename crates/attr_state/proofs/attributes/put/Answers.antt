@@ -1,5 +1,5 @@
 -- The value goes to the place of the name, or to the gap for it.
-use Rattle.std.proofs.Common.{◌≡◌, ◌≤◌, ◌+◌, ◌<◌, Bool, true, cond, List, ℕ, suc, length, get_or, set, is_ok, Some, sym, ap, ◌∙◌, arith, subst}
+use Rattle.std.proofs.Common.{◌≡◌, List, ℕ, set, is_ok, sym, ap, ◌∙◌, arith, subst}
 use Rattle.std.proofs.lemmas.Bool.{cond-true}
 use Rattle.std.specs.List.{insert}
 use Rattle.file_world.specs.Attributes.{Attributes}

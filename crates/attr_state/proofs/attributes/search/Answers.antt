@@ -1,5 +1,5 @@
 -- The closure compares an attribute's name with the one that is sought.
-use Rattle.std.proofs.Common.{rules, List, ℕ}
+use Rattle.std.proofs.Common.{rules}
 use Rattle.std.specs.Ordering.{nat_cmp}
 use Rattle.std.specs.Cmp.Lexicographic.{slice_cmp}
 use Rattle.std.proofs.lemmas.Fn.{always_returns_same}

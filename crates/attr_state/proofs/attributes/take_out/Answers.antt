@@ -1,7 +1,6 @@
 -- The attribute at the place of the name goes.
-use Rattle.std.proofs.Common.{◌≡◌, ◌≤◌, ◌<◌, List, ℕ, length, sym, ap, ◌∙◌, arith, subst}
+use Rattle.std.proofs.Common.{sym, ◌∙◌, subst}
 use Rattle.file_world.specs.Attributes.{Attributes}
-use Rattle.file_world.specs.AttributeEffect.{without_value}
 use Rattle.attr_state.specs.Index.{AreSorted, IsAt, IsGap}
 use Rattle.attr_state.proofs.NameLemmas.{without_value-found, without_value-missing, AreSorted-without}
 use Rattle.attr_state.proofs.attributes.take_out.Goals as goal

@@ -1,9 +1,9 @@
 -- What the absence of a refusal says of the node that an operation names, and how many attributes it is to have.
-use Rattle.std.proofs.Common.{◌≡◌, ◌+◌, ℕ, List, Option, None, Some, IfOk, is_none, cond, length, refl, sym, ap, ◌∙◌, subst}
+use Rattle.std.proofs.Common.{◌≡◌, ◌+◌, ℕ, None, IfOk, is_none, cond, length, sym, ap, ◌∙◌, subst}
 use Rattle.std.proofs.lemmas.Bool.{cond-true, cond-false}
 use Rattle.file_world.specs.declared.operation.MetaOp.{MetaOp}
 use Rattle.file_world.specs.Attributes.{Attributes, mark_at, value_at}
-use Rattle.file_world.specs.AttributeEffect.{attributes_of, with_value, value_of, meta_refusal, IsAskable}
+use Rattle.file_world.specs.AttributeEffect.{attributes_of, meta_refusal, IsAskable}
 use Rattle.attr_state.specs.declared.ready.Ready.{Ready}
 use Rattle.attr_state.specs.declared.ready.Ready.TheVariants.{Attributes as Room}
 use Rattle.attr_state.specs.State.{ready_for}

@@ -1,5 +1,5 @@
 -- The mark behind the reference has room for more attributes, and shows the same.
-use Rattle.std.proofs.Common.{◌≡◌, ◌≤◌, ◌+◌, ℕ, List, Option, Some, length, refl, sym, ap, arith}
+use Rattle.std.proofs.Common.{◌≡◌, ◌+◌, Option, Some, length, sym, ap, arith}
 use Rattle.file_world.specs.Attributes.{Attributes, Mark, mark_at}
 use Rattle.file_world.specs.AttributeEffect.{attributes_of}
 use Rattle.attr_state.specs.declared.ready.Ready.TheVariants.{Attributes as Room}

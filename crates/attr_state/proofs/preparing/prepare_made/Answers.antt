@@ -1,8 +1,7 @@
 -- The new mark is kept, and the marks without it are as before.
-use Rattle.std.proofs.Common.{◌≡◌, ℕ, List, refl, ap, ◌∙◌}
-use Rattle.file_world.specs.Attributes.{Attributes, Mark}
+use Rattle.std.proofs.Common.{ℕ, List, refl, ap}
+use Rattle.file_world.specs.Attributes.{Mark}
 use Rattle.attr_state.specs.declared.mark.Mark.{Mark as Kept}
-use Rattle.attr_state.specs.Index.{marks_of, Entries}
 use Rattle.attr_state.proofs.MarkLemmas.{Prepares-made}
 use Rattle.attr_state.proofs.preparing.prepare_made.Goals as goal
 

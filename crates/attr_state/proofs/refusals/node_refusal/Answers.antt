@@ -1,4 +1,4 @@
-use Rattle.std.proofs.Common.{◌≡◌, Option, List, [], ◌∷◌, is_none, sym, ap}
+use Rattle.std.proofs.Common.{Option, [], ◌∷◌, is_none, sym, ap}
 use Rattle.file_world.specs.declared.refusal.Refusal.TheVariants.{NoNode}
 use Rattle.file_world.specs.Outcome.{first_of}
 use Rattle.file_world.specs.Attributes.{Mark}

@@ -1,4 +1,4 @@
-use Rattle.std.proofs.Common.{◌≡◌, Option, List, ℕ, sym, ap, ◌∙◌, subst}
+use Rattle.std.proofs.Common.{Option, sym, ap, ◌∙◌, subst}
 use Rattle.file_world.specs.Attributes.{Attributes, Mark, value_at}
 use Rattle.file_world.specs.AttributeEffect.{attributes_of}
 use Rattle.attr_state.specs.Index.{AreSorted}
