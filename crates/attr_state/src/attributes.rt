@@ -8,20 +8,20 @@ ghost use Rattle.file_world.specs.Attributes.{value_at};
 ghost use Rattle.file_world.specs.AttributeEffect.{with_value, without_value};
 ghost use Rattle.attr_state.specs.Index.{AreSorted, IsAt, IsGap};
 
-use crate::mark::Attributes;
+use crate::mark::{Attribute, Attributes};
 use bl_syntax::{Short, Text};
 use std::alloc::AllocFailed;
 use std::cmp::Ordering;
 
 // How the attribute's name compares with another.
-fn compare(attribute: &(Short<64>, Text), name: &[u8]) -> Ordering
+fn compare(attribute: &Attribute, name: &[u8]) -> Ordering
     ensures { result ≡ slice_cmp nat_cmp attribute.now.0 name.now }
 {
     attribute.0.bytes().cmp(&name)
 }
 
 /// The place of the attribute of that name, or where it would go.
-fn search(attributes: &[(Short<64>, Text)], name: &[u8]) -> Result<usize, usize>
+fn search(attributes: &[Attribute], name: &[u8]) -> Result<usize, usize>
     requires { AreSorted attributes.now }
     ensures bound { IsSearchInRange result (length attributes.now) }
     ensures found { IfOk result (IsAt attributes.now name.now) }
@@ -31,7 +31,7 @@ fn search(attributes: &[(Short<64>, Text)], name: &[u8]) -> Result<usize, usize>
 }
 
 /// The value of the attribute of that name.
-pub fn value_among(attributes: &[(Short<64>, Text)], name: &[u8]) -> Option<Text>
+pub fn value_among(attributes: &[Attribute], name: &[u8]) -> Option<Text>
     requires { AreSorted attributes.now }
     ensures { result ≡ value_at attributes.now name.now }
 {
@@ -53,9 +53,7 @@ pub fn put(attributes: &mut Attributes, name: &[u8], value: Text)
         Ok(place) => attributes[place] = (Short::new(name), value),
         Err(place) => {
             let attribute = (Short::new(name), value);
-            let put: Result<(), AllocFailed<(Short<64>, Text)>> = attributes.insert(
-                place, attribute,
-            );
+            let put: Result<(), AllocFailed<Attribute>> = attributes.insert(place, attribute);
             put.unwrap();
         }
     }

@@ -3,8 +3,11 @@
 use bl_syntax::{Principal, Short, Text};
 use std::collections::BTreeMap;
 
-/// Values under the names of attributes, in the byte order of the names.
-pub type Attributes = Vec<(Short<64>, Text)>;
+/// The name of an attribute, and its value.
+pub type Attribute = (Short<64>, Text);
+
+/// Attributes in the byte order of their names.
+pub type Attributes = Vec<Attribute>;
 
 /// What is kept of a node.
 #[derive(Drop)]
