@@ -1,0 +1,6 @@
+pub mod ApplyLemmas
+pub mod ChangeLemmas
+pub mod FactLemmas
+pub mod MarkLemmas
+pub mod NameLemmas
+pub mod SettledLemmas

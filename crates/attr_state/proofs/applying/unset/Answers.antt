@@ -1,0 +1,24 @@
+-- The mark behind the reference has no value under the name.
+use Rattle.std.proofs.Common.{◌≡◌, Option, Some, sym, ap, ◌∙◌}
+use Rattle.file_world.specs.Attributes.{Attributes, Mark, mark_at}
+use Rattle.file_world.specs.AttributeEffect.{attributes_of, without_value, with_attributes}
+use Rattle.attr_state.specs.declared.mark.Mark.{Mark as Kept}
+use Rattle.attr_state.specs.Index.{marks_of, kept_at, shown}
+use Rattle.attr_state.proofs.MarkLemmas.{SetsMark-from_map, found_behind, mark_at-kept, Revises-from_set}
+use Rattle.attr_state.proofs.applying.unset.Goals as goal
+
+pub take_out-requires : goal.take_out-requires
+take_out-requires c =
+    let mark = c.unwrap-mark.result.now in
+    c.requires.ordered.sorted c.args.number mark (found_behind c.get_mut.result _ c.unwrap-mark.result c.get_mut.ensures.value c.unwrap-mark.ensures)
+
+pub returns : goal.returns
+returns c =
+    let mark = c.unwrap-mark.result.now in
+    let now : Kept = record mark { attributes = c.take_out.new.attributes } in
+    let there : kept_at c.args.marks.now.entries c.args.number ≡ Some mark = found_behind c.get_mut.result _ c.unwrap-mark.result c.get_mut.ensures.value c.unwrap-mark.ensures in
+    let sets = SetsMark-from_map c.args.marks.now (c.get_mut.follows.lender now) c.args.number mark now there (c.get_mut.follows.holds now) in
+    let items : c.take_out.new.attributes.items ≡ without_value (attributes_of (mark_at (marks_of c.args.marks.now.entries) c.args.number)) c.args.name.now =
+    c.take_out.ensures.taken ∙ ap (λ (m : Option Mark). without_value (attributes_of m) c.args.name.now) (sym (mark_at-kept c.args.marks.now.entries c.args.number mark there)) in
+    Revises-from_set c.args.marks.now.entries _ c.args.number mark now _ c.requires.ordered there sets c.take_out.ensures.sorted
+    (ap (λ (attributes : Attributes). with_attributes attributes (shown mark)) items)

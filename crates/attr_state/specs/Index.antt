@@ -1,0 +1,128 @@
+-- How the marks that the code keeps stand for those of the nodes, and what holds of them.
+use Rattle.std.specs.Prelude.{◌≡◌, ◌≤◌, ℕ, List, [], ◌∷◌, map, Bool, false, Option, Some, None, vec_capacity, nat_eq, zero, suc}
+use Rattle.std.specs.List.{AllByRecursion}
+use Rattle.std.specs.List.Sorted.{IsStrictlySortedBy}
+use Rattle.std.specs.Map.{lookup, remove_entry, keys_of}
+use Rattle.std.specs.BTreeMap.{is_at}
+use Rattle.std.specs.Ordering.{nat_cmp}
+use Rattle.std.specs.declared.cmp.Ordering.TheVariants.{Less}
+use Rattle.std.specs.Cmp.Lexicographic.{slice_cmp}
+use Rattle.bl_syntax.specs.declared.terms.Term.{Term}
+use Rattle.bl_syntax.specs.declared.terms.Term.TheVariants.{Prin, File, Perm, Time, Text, Ctime, Param, Bound}
+use Rattle.file_world.specs.Attributes.{Attributes, Mark, Marks, mark_at}
+use Rattle.file_world.specs.TreeEffect.{revised}
+use Rattle.file_world.specs.AttributeEffect.{new_mark, meta_refusal}
+use Rattle.file_world.specs.declared.operation.MetaOp.{MetaOp}
+use Rattle.attr_state.specs.declared.mark.Mark.{Mark as Kept}
+use Rattle.attr_state.specs.declared.ready.Ready.{Ready}
+use Rattle.attr_state.specs.declared.ready.Ready.TheVariants.{Nothing, Attributes as Room, Made}
+use Rattle.attr_state.specs.State.{ready_for}
+
+-- marks as they are kept, under the numbers of their nodes
+abbrev pub Entries : Type 0
+Entries = List (ℕ × Kept)
+
+abbrev pub shown : Kept → Mark
+shown kept = record { owner = kept.owner; parent = kept.parent; attributes = kept.attributes.items }
+
+abbrev pub marks_of : Entries → Marks
+marks_of entries = map (λ entry. (entry.0, shown entry.1)) entries
+
+-- the mark that is kept under the number
+abbrev pub kept_at : Entries → ℕ → Option Kept
+kept_at entries number = lookup (is_at (nat_cmp number)) entries
+
+-- names in byte order
+abbrev pub AreSorted : Attributes → Type 0
+AreSorted attributes = IsStrictlySortedBy (slice_cmp nat_cmp) (keys_of attributes)
+
+-- the attribute of that name stands at that place, after those with lesser names
+abbrev pub IsAt : Attributes → List ℕ → ℕ → Type 0
+IsAt [] name place = ⊥
+IsAt (attribute ∷ attributes) name zero = attribute.0 ≡ name
+IsAt (attribute ∷ attributes) name (suc place) = (slice_cmp nat_cmp attribute.0 name ≡ Less) × IsAt attributes name place
+
+-- an attribute of that name would go to that place: those before it have lesser names, those from it on greater ones
+abbrev pub IsGap : Attributes → List ℕ → ℕ → Type 0
+IsGap attributes name zero = AllByRecursion (λ other. slice_cmp nat_cmp name other ≡ Less) (keys_of attributes)
+IsGap [] name (suc place) = ⊥
+IsGap (attribute ∷ attributes) name (suc place) = (slice_cmp nat_cmp attribute.0 name ≡ Less) × IsGap attributes name place
+
+-- the numbers rise, and so do the names of each node's attributes
+pub record AreOrdered (entries : Entries) : Type 0 where
+  pub rising : IsStrictlySortedBy nat_cmp (keys_of entries)
+  pub sorted : (number : ℕ) (kept : Kept) → kept_at entries number ≡ Some kept → AreSorted kept.attributes.items
+
+-- the marks without one that is only ready to be made
+abbrev pub settled : Option Ready → Entries → Entries
+settled None entries = entries
+settled (Some Nothing) entries = entries
+settled (Some (Room number len)) entries = entries
+settled (Some (Made number owner parent)) entries = remove_entry (is_at (nat_cmp number)) entries
+
+-- whether the mark of the node of that number is only ready to be made
+abbrev pub is_held : Option Ready → ℕ → Bool
+is_held None number = false
+is_held (Some Nothing) number = false
+is_held (Some (Room node len)) number = false
+is_held (Some (Made node owner parent)) number = nat_eq node number
+
+-- the marks as contracts see them
+abbrev pub marks_in : Option Ready → Entries → Marks
+marks_in ready entries = marks_of (settled ready entries)
+
+-- a mark is kept with room for so many attributes
+pub record HasRoom (entries : Entries) (number len : ℕ) : Type 0 where
+  pub kept : Kept
+  pub found : kept_at entries number ≡ Some kept
+  pub room : len ≤ vec_capacity kept.attributes
+
+-- that mark is kept under the number
+pub record IsMade (entries : Entries) (number : ℕ) (mark : Mark) : Type 0 where
+  pub kept : Kept
+  pub found : kept_at entries number ≡ Some kept
+  pub shows : shown kept ≡ mark
+
+-- the memory for what is ready is there
+abbrev pub IsPrepared : Option Ready → Entries → Type 0
+IsPrepared None entries = Unit {0}
+IsPrepared (Some Nothing) entries = Unit {0}
+IsPrepared (Some (Room number len)) entries = HasRoom entries number len
+IsPrepared (Some (Made number owner parent)) entries = IsMade entries number (new_mark owner parent)
+
+-- the marks are in order, and what is ready is prepared
+pub record IsKept (entries : Entries) (ready : Option Ready) : Type 0 where
+  pub ordered : AreOrdered entries
+  pub prepared : IsPrepared ready entries
+
+-- what is ready is prepared, and the marks are as before
+pub record Prepares (old new : Entries) (ready : Ready) : Type 0 where
+  pub kept : IsKept new (Some ready)
+  pub same : marks_in (Some ready) new ≡ marks_of old
+
+-- nothing is ready, and the marks are as before
+pub record Stays (old new : Entries) : Type 0 where
+  pub ordered : AreOrdered new
+  pub same : marks_of new ≡ marks_of old
+
+-- the mark of the node of that number is revised
+pub record Revises (old new : Entries) (number : ℕ) (revision : Mark → Mark) : Type 0 where
+  pub ordered : AreOrdered new
+  pub marks : marks_of new ≡ revised number revision (marks_of old)
+
+-- the operation is not refused, and the memory for it is there
+pub record IsChangeable (entries : Entries) (op : MetaOp) : Type 0 where
+  pub ordered : AreOrdered entries
+  pub free : meta_refusal (marks_of entries) op ≡ None
+  pub prepared : IsPrepared (Some (ready_for (marks_of entries) op)) entries
+
+-- the mark of the node that a term names
+abbrev pub mark_named : Marks → Term → Option Mark
+mark_named marks (File node) = mark_at marks node.0
+mark_named marks (Prin principal) = None
+mark_named marks (Perm perm) = None
+mark_named marks (Time time) = None
+mark_named marks (Text text) = None
+mark_named marks Ctime = None
+mark_named marks (Param number) = None
+mark_named marks (Bound number) = None

@@ -1,0 +1,37 @@
+-- What contracts see of owners and attributes: the marks of the nodes, and for which change they are ready.
+use Rattle.std.specs.Prelude.{◌≡◌, length, Option, Some, None, Result, Ok, Err}
+use Rattle.file_world.specs.declared.operation.MetaOp.{MetaOp}
+use Rattle.file_world.specs.declared.operation.MetaOp.TheVariants.{Get, Set, Remove, Chown, Add, Drop, Move}
+use Rattle.file_world.specs.declared.refusal.OpFault.{OpFault}
+use Rattle.file_world.specs.declared.refusal.OpFault.TheVariants.{Refused, NoMemory}
+use Rattle.file_world.specs.declared.reply.MetaReply.{MetaReply}
+use Rattle.file_world.specs.Attributes.{Marks, mark_at}
+use Rattle.file_world.specs.AttributeEffect.{attributes_of, with_value, meta_refusal, meta_reply}
+use Rattle.attr_state.specs.declared.ready.Ready.{Ready}
+use Rattle.attr_state.specs.declared.ready.Ready.TheVariants.{Nothing, Attributes, Made}
+
+-- the marks, and the change for which memory was taken
+pub record MetaState : Type 0 where
+  pub marks : Marks
+  pub ready : Option Ready
+
+-- what an operation that is not refused gets ready
+abbrev pub ready_for : Marks → MetaOp → Ready
+ready_for marks (Get node name) = Nothing
+ready_for marks (Set node name value) = Attributes node.0 (length (with_value (attributes_of (mark_at marks node.0)) name value))
+ready_for marks (Remove node name) = Nothing
+ready_for marks (Chown node owner) = Nothing
+ready_for marks (Add node owner parent) = Made node.0 owner parent.0
+ready_for marks (Drop node) = Nothing
+ready_for marks (Move node parent) = Nothing
+
+-- the operation is not refused, and what it changes is ready
+pub record IsReady (state : MetaState) (op : MetaOp) : Type 0 where
+  pub free : meta_refusal state.marks op ≡ None
+  pub ready : state.ready ≡ Some (ready_for state.marks op)
+
+-- the operation got its reply and is ready; or it is refused, and its first refusal is told; or out of memory
+abbrev pub Reserves : Marks → MetaOp → Result MetaReply OpFault → Option Ready → Type 0
+Reserves marks op (Ok reply) ready = (meta_refusal marks op ≡ None) × (reply ≡ meta_reply marks op) × (ready ≡ Some (ready_for marks op))
+Reserves marks op (Err (Refused refusal)) ready = (meta_refusal marks op ≡ Some refusal) × (ready ≡ None)
+Reserves marks op (Err NoMemory) ready = (meta_refusal marks op ≡ None) × (ready ≡ None)

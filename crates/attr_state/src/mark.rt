@@ -1,0 +1,22 @@
+//! What is kept of each node.
+
+use bl_syntax::{Principal, Short, Text};
+use std::collections::BTreeMap;
+
+/// The name of an attribute, and its value.
+pub type Attribute = (Short<64>, Text);
+
+/// Attributes in the byte order of their names.
+pub type Attributes = Vec<Attribute>;
+
+/// What is kept of a node.
+#[derive(Drop)]
+pub struct Mark {
+    pub owner: Principal,
+    /// The number of its directory, or 0 for the root.
+    pub parent: u64,
+    pub attributes: Attributes,
+}
+
+/// Marks under the numbers of their nodes.
+pub type Marks = BTreeMap<u64, Mark>;

@@ -1,0 +1,29 @@
+//! Marks without the one that is only ready to be made.
+
+ghost use Rattle.std.specs.Prelude.{◌≡◌, IfSome, option_map};
+ghost use Rattle.file_world.specs.Attributes.{mark_at};
+ghost use Rattle.attr_state.specs.Index.{shown, marks_in, is_held, AreSorted, IsKept};
+
+use crate::mark::{Mark, Marks};
+use crate::ready::Ready;
+
+fn is_held(ready: &Option<Ready>, number: u64) -> bool
+    ensures { result ≡ is_held ready.now number }
+{
+    match ready {
+        Some(Ready::Made(new, _, _)) => *new == number,
+        _ => false,
+    }
+}
+
+/// The mark of the node of that number; none also of one that is only ready to be made.
+pub fn settled_mark<'a>(marks: &'a Marks, ready: &Option<Ready>, number: u64) -> Option<&'a Mark>
+    requires { IsKept marks.now.entries ready.now }
+    ensures shown { option_map (λ mark. shown mark.now) result ≡ mark_at (marks_in ready.now marks.now.entries) number }
+    ensures sorted { IfSome result (λ mark. AreSorted mark.now.attributes.items) }
+{
+    if is_held(ready, number) {
+        return None;
+    }
+    marks.get(&number)
+}
