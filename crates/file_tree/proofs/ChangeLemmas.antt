@@ -10,6 +10,7 @@ use Rattle.file_world.specs.declared.operation.Kind.TheVariants.{File, Directory
 use Rattle.file_world.specs.declared.operation.TreeOp.{TreeOp}
 use Rattle.file_world.specs.declared.operation.TreeOp.TheVariants.{Read, Write, Truncate, List as ListOf, Lookup, Create, Mkdir, Unlink, Rename}
 use Rattle.file_world.specs.FileNames.{is_node_name}
+use Rattle.file_world.specs.Limits.{most_bytes, most_bytes_together}
 use Rattle.file_world.specs.Tree.{Place, Node, Nodes, FileTree, node_at, number_at, is_place, contents_sum, IsTree}
 use Rattle.file_world.specs.TreeEffect.{at, child_of, contents_of, is_directory, new_node, with_contents, with_place, written, resized, revised, tests_of, tree_refusal, tree_after, Change, changed_tree, add, fill, remove, move}
 use Rattle.file_world.proofs.RowLemmas.{split, lookup-append_found, sum_by-revised}
@@ -279,7 +280,7 @@ changes_mkdir old new next total ready op directory name bytes e same is sum put
     (Changes-made old new next total Directory directory.0 name (at_mkdir old next ready op directory name e is) (subst (λ (n : List ℕ). Puts old new (at directory.0 n) (Some next)) same puts) (sum_as old total ready _ here.is sum))
 
 -- what is written is as long as what is ready
-pub at_write : (old : Entries) (next : ℕ) (ready : Ready) (op : TreeOp) (file : NodeId) (offset : ℕ) (bytes : List ℕ) → op ≡ Write file offset bytes → IsChangeable old next ready op → IsFillable old next file.0 (written (contents_of (node_at (rows_of old) file.0)) offset bytes) × (rows_of (settled (Some ready) old) ≡ rows_of old) × (offset + length bytes ≤ 1048576)
+pub at_write : (old : Entries) (next : ℕ) (ready : Ready) (op : TreeOp) (file : NodeId) (offset : ℕ) (bytes : List ℕ) → op ≡ Write file offset bytes → IsChangeable old next ready op → IsFillable old next file.0 (written (contents_of (node_at (rows_of old) file.0)) offset bytes) × (rows_of (settled (Some ready) old) ≡ rows_of old) × (offset + length bytes ≤ most_bytes)
 at_write old next ready op file offset bytes e is =
     let here = at_form old next ready op (Write file offset bytes) e is in
     let len : ℕ = length (written (contents_of (node_at (rows_of (settled (Some ready) old)) file.0)) offset bytes) in
@@ -287,7 +288,7 @@ at_write old next ready op file offset bytes e is =
     let same : len ≡ length (written (contents_of (node_at (rows_of old) file.0)) offset bytes) = ap (λ (r : Nodes). length (written (contents_of (node_at r file.0)) offset bytes)) settled_is in
     let there = as_ready old next ready (Contents file.0 len) (Write file offset bytes) here.is here in
     let h = none_hold (tests_of (tree_in None old next) (Write file offset bytes)) there.free in
-    (writable old next file offset bytes len same there, settled_is, ltb-false 1048576 (offset + length bytes) h.1.1.0)
+    (writable old next file offset bytes len same there, settled_is, ltb-false most_bytes (offset + length bytes) h.1.1.0)
 
 pub changes_write : (old new : Entries) (next total : ℕ) (ready : Ready) (op : TreeOp) (file : NodeId) (offset : ℕ) (bytes slice : List ℕ) → op ≡ Write file offset bytes → slice ≡ bytes → IsChangeable old next ready op → Fills old new file.0 (written (contents_of (node_at (rows_of old) file.0)) offset slice) total → Changes new next total (tree_after (tree_in (Some ready) old next) op)
 changes_write old new next total ready op file offset bytes slice e same is fills =
@@ -296,12 +297,12 @@ changes_write old new next total ready op file offset bytes slice e same is fill
     (Changes-filled old new next total file.0 (written (contents_of (node_at (rows_of old) file.0)) offset bytes) (at_write old next ready op file offset bytes e is).0
     (subst (λ (b : List ℕ). Fills old new file.0 (written (contents_of (node_at (rows_of old) file.0)) offset b) total) same fills))
 
-pub at_truncate : (old : Entries) (next : ℕ) (ready : Ready) (op : TreeOp) (file : NodeId) (len : ℕ) → op ≡ Truncate file len → IsChangeable old next ready op → IsFillable old next file.0 (resized (contents_of (node_at (rows_of old) file.0)) len) × (rows_of (settled (Some ready) old) ≡ rows_of old) × HasRoom old file.0 len × (len ≤ 1048576)
+pub at_truncate : (old : Entries) (next : ℕ) (ready : Ready) (op : TreeOp) (file : NodeId) (len : ℕ) → op ≡ Truncate file len → IsChangeable old next ready op → IsFillable old next file.0 (resized (contents_of (node_at (rows_of old) file.0)) len) × (rows_of (settled (Some ready) old) ≡ rows_of old) × HasRoom old file.0 len × (len ≤ most_bytes)
 at_truncate old next ready op file len e is =
     let here = at_form old next ready op (Truncate file len) e is in
     let there = as_ready old next ready (Contents file.0 len) (Truncate file len) here.is here in
     let h = none_hold (tests_of (tree_in None old next) (Truncate file len)) there.free in
-    (truncatable old next file len there, ap (λ (r : Ready). rows_of (settled (Some r) old)) here.is, there.kept.prepared, ltb-false 1048576 len h.1.1.0)
+    (truncatable old next file len there, ap (λ (r : Ready). rows_of (settled (Some r) old)) here.is, there.kept.prepared, ltb-false most_bytes len h.1.1.0)
 
 pub changes_truncate : (old new : Entries) (next total : ℕ) (ready : Ready) (op : TreeOp) (file : NodeId) (len : ℕ) → op ≡ Truncate file len → IsChangeable old next ready op → Fills old new file.0 (resized (contents_of (node_at (rows_of old) file.0)) len) total → Changes new next total (tree_after (tree_in (Some ready) old next) op)
 changes_truncate old new next total ready op file len e is fills =
@@ -310,7 +311,7 @@ changes_truncate old new next total ready op file len e is fills =
     (Changes-filled old new next total file.0 (resized (contents_of (node_at (rows_of old) file.0)) len) (at_truncate old next ready op file len e is).0 fills)
 
 -- the sum is small while the tree is one
-pub little_sum : (old : Entries) (next total : ℕ) (ready : Ready) → IsKept old next (Some ready) → rows_of (settled (Some ready) old) ≡ rows_of old → total ≡ contents_sum (rows_of (settled (Some ready) old)) → (total ≡ contents_sum (rows_of old)) × (total ≤ 33554432)
+pub little_sum : (old : Entries) (next total : ℕ) (ready : Ready) → IsKept old next (Some ready) → rows_of (settled (Some ready) old) ≡ rows_of old → total ≡ contents_sum (rows_of (settled (Some ready) old)) → (total ≡ contents_sum (rows_of old)) × (total ≤ most_bytes_together)
 little_sum old next total ready kept same sum = (sum ∙ ap contents_sum same, (let fits = kept.tree.fits in omega (arith, fits, sum)))
 
 pub at_unlink : (old : Entries) (next : ℕ) (ready : Ready) (op : TreeOp) (directory : NodeId) (name : List ℕ) → op ≡ Unlink directory name → IsChangeable old next ready op → IsRemovable old next (number_ready ready) directory.0 name × (rows_of (settled (Some ready) old) ≡ rows_of old)

@@ -1,58 +1,20 @@
 -- The tree of the root alone, and the children of any tree as the code finds them.
 use Rattle.std.proofs.Common.{◌≡◌, ◌≢◌, ℕ, ◌+◌, ◌-◌, ◌<◌, ◌≤◌, ◌^◌, inl, inr, Bool, true, false, cond, Option, Some, None, List, [], ◌∷◌, length, map, refl, sym, ap, ◌∙◌, subst, arith, nat_eq, nat_cmp, nat_le, le-leb}
 use Rattle.std.specs.Prelude.{◌==◌}
-use Rattle.std.specs.List.{IsDistinct}
-use Rattle.std.specs.List.Sorted.{IsStrictlySortedBy}
-use Rattle.std.specs.Map.{lookup, keys_of}
+use Rattle.std.specs.Map.{lookup}
 use Rattle.std.specs.BTreeMap.{is_at}
 use Rattle.std.specs.Cmp.Lexicographic.{slice_cmp}
-use Rattle.std.proofs.lemmas.Bool.{cond-true, cond-false, false≢true, ne_eqb, eqb-true, cases_lt, lt-leb}
-use Rattle.std.proofs.lemmas.Option.{none-some, same_Some}
-use Rattle.file_world.specs.declared.operation.Kind.TheVariants.{Directory}
-use Rattle.file_world.specs.Tree.{Place, Node, Nodes, FileTree, node_at, number_at, is_place, places_of, contents_sum, at_root, root, IsSound, IsTree}
+use Rattle.std.proofs.lemmas.Bool.{cond-true, cond-false, ne_eqb, eqb-true, cases_lt, lt-leb}
+use Rattle.file_world.specs.Tree.{Place, Node, FileTree, node_at, is_place, contents_sum, root}
 use Rattle.file_world.specs.TreeEffect.{is_directory, at, child_of, fresh_tree}
-use Rattle.file_world.proofs.RowLemmas.{split, cond_at_true, cond_at_false}
+use Rattle.file_world.proofs.RowLemmas.{split}
 use Rattle.file_world.proofs.PlaceLemmas.{is_place-true}
+use Rattle.file_world.proofs.TreeLemmas.{IsTree-fresh}
 use Rattle.file_tree.specs.declared.node.Node.{Node as Kept}
 use Rattle.file_tree.specs.declared.ready.Spot.{Spot}
 use Rattle.file_tree.specs.declared.ready.Ready.{Ready}
 use Rattle.file_tree.specs.Index.{Entries, shown, rows_of, kept_at, number_in, held_at, place_of, held_spot, settled, expected, tree_in, IsHeldFree, IsKept, above_zero}
 use Rattle.file_tree.proofs.KeptLemmas.{IsKept-from, child_short, child_above_zero}
-
-one_number : IsStrictlySortedBy nat_cmp (1 ∷ [])
-unfolding IsStrictlySortedBy
-one_number = (tt, tt)
-
-one_place : (place : Place) → IsDistinct is_place (place ∷ [])
-unfolding IsDistinct
-one_place place = (tt, tt)
-
-root_alone : (number : ℕ) (node : Node) → node_at fresh_tree.rows number ≡ Some node → (number ≡ 1) × (root ≡ node)
-root_alone number node e =
-    split (nat_eq number 1)
-    (λ t. (eqb-true number 1 t, same_Some _ _ (cond_at_true (nat_eq number 1) _ _ _ t e)))
-    (λ f. absurd (none-some _ (cond_at_false (nat_eq number 1) _ _ _ f e)))
-
-root_sound : IsSound fresh_tree 1 root
-root_sound = record {
-  reached = at_root;
-  named = λ apart. absurd (apart refl);
-  above_zero = omega arith;
-  below_next = omega arith;
-  empty = λ _. refl;
-  small = omega arith;
-}
-
-IsTree-fresh : IsTree fresh_tree
-IsTree-fresh = record {
-  has_root = refl;
-  sound = λ number node e. let is = root_alone number node e in subst (IsSound fresh_tree number) is.1 (subst (λ (n : ℕ). IsSound fresh_tree n root) (sym is.0) root_sound);
-  rising = one_number;
-  places_differ = one_place root.place;
-  few = omega arith;
-  fits = omega arith;
-  next_fits = omega arith;
-}
 
 no_child : (directory : ℕ) (name : List ℕ) → child_of fresh_tree.rows directory name ≡ None
 no_child directory name =

@@ -1,6 +1,7 @@
 pub mod ApplyLemmas
 pub mod ChangeLemmas
 pub mod ChildLemmas
+pub mod CopyLemmas
 pub mod FreshLemmas
 pub mod IndexLemmas
 pub mod KeptLemmas

@@ -194,3 +194,16 @@ number_ready (Moved number from to) = number
 abbrev pub above_zero : Option ℕ → Option ℕ
 above_zero None = None
 above_zero (Some number) = if number == 0 then None else Some number
+
+-- a node that shows the same, and has the same names
+abbrev pub IsCopy : Kept → Kept → Type 0
+IsCopy kept copy = (shown copy ≡ shown kept) × (copy.names.entries ≡ kept.names.entries)
+
+-- what is ready, but for room in contents, which a copy has not
+abbrev pub unroomed : Option Ready → Option Ready
+unroomed None = None
+unroomed (Some Nothing) = Some Nothing
+unroomed (Some (Contents number len)) = None
+unroomed (Some (Made kind spot)) = Some (Made kind spot)
+unroomed (Some (Gone number spot)) = Some (Gone number spot)
+unroomed (Some (Moved number from to)) = Some (Moved number from to)

@@ -1,6 +1,7 @@
 //! The changes that operations make. None of them takes memory.
 
 ghost use Rattle.std.specs.Prelude.{◌≡◌, ◌≤◌, ◌<◌, ◌^◌, ◌+◌, ◌-◌, ◌++◌, take, drop, length, None, Some, IsSome, vec_capacity};
+ghost use Rattle.file_world.specs.Limits.{longest_name};
 ghost use Rattle.file_world.specs.Tree.{node_at, contents_sum};
 ghost use Rattle.file_world.specs.TreeEffect.{at, contents_of, written, resized, tree_after};
 ghost use Rattle.file_tree.specs.Index.{rows_of, kept_at, held_at, place_of, settled, tree_in, number_ready, HasRoom, Puts, Fills, Removes, Replaces, Relocates, IsChangeable, Changes};
@@ -134,7 +135,7 @@ fn number_of(ready: &Ready) -> u64
 }
 
 fn make(nodes: &mut Nodes, next: u64, directory: u64, name: &[u8])
-    requires short { length name.now ≤ 64 }
+    requires short { length name.now ≤ longest_name }
     requires holds { IsSome (kept_at nodes.old.entries directory) }
     requires held { IsSome (held_at nodes.old.entries directory name.now) }
     ensures { Puts nodes.old.entries nodes.new.entries (at directory name.now) (Some next) }
@@ -147,7 +148,7 @@ fn make(nodes: &mut Nodes, next: u64, directory: u64, name: &[u8])
 }
 
 fn remove(nodes: &mut Nodes, total: u64, number: u64, directory: u64, name: &[u8]) -> u64
-    requires short { length name.now ≤ 64 }
+    requires short { length name.now ≤ longest_name }
     requires there { IsSome (kept_at nodes.old.entries number) }
     requires summed { total ≡ contents_sum (rows_of nodes.old.entries) }
     ensures { Removes nodes.old.entries nodes.new.entries number (at directory name.now) result }
@@ -160,8 +161,8 @@ fn remove(nodes: &mut Nodes, total: u64, number: u64, directory: u64, name: &[u8
 }
 
 fn rename(nodes: &mut Nodes, number: u64, directory: u64, name: &[u8], target: u64, renamed: &[u8])
-    requires short { length name.now ≤ 64 }
-    requires short_too { length renamed.now ≤ 64 }
+    requires short { length name.now ≤ longest_name }
+    requires short_too { length renamed.now ≤ longest_name }
     requires there { IsSome (kept_at nodes.old.entries number) }
     requires holds { IsSome (kept_at nodes.old.entries target) }
     requires held { IsSome (held_at nodes.old.entries target renamed.now) }

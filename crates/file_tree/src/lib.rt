@@ -5,6 +5,7 @@
 #![tactic(auto)]
 
 mod applying;
+mod copying;
 mod listing;
 mod name;
 mod node;

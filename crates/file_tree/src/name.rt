@@ -7,9 +7,11 @@ ghost use Rattle.std.specs.Cmp.Rules.{comparing};
 ghost use Rattle.std.specs.Ordering.{nat_cmp};
 ghost use Rattle.std.proofs.Common.{rules, Some};
 ghost use Rattle.bl_syntax.specs.Names.{is_lower_case, is_digit};
+ghost use Rattle.file_world.specs.Limits.{longest_name};
 ghost use Rattle.file_world.specs.FileNames.{is_upper_case, is_node_name_byte, is_node_name};
 
 use bl_syntax::Short;
+use file_world::LONGEST_NAME;
 use std::cmp::Ordering;
 use std::marker::Model;
 
@@ -54,7 +56,7 @@ pub fn is_node_name(name: &[u8]) -> bool
     ensures { result ≡ is_node_name name.now }
 {
     1 <= name.len()
-        && name.len() <= 64
+        && name.len() <= LONGEST_NAME
         && are_node_name_bytes(name)
         && !(name == b".".as_slice())
         && !(name == b"..".as_slice())
@@ -127,7 +129,7 @@ impl Ord for Name {
 impl Name {
     /// Puts the bytes in their place.
     pub fn new(bytes: &[u8]) -> Name
-        requires { length bytes.now ≤ 64 }
+        requires { length bytes.now ≤ longest_name }
         ensures { result ≡ bytes.now }
     {
         Name {

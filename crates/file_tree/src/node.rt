@@ -2,6 +2,7 @@
 
 use crate::name::Name;
 use file_world::Kind;
+use std::alloc::AllocError;
 use std::collections::BTreeMap;
 
 /// A node. A file has no names, and a directory has no contents.
@@ -18,3 +19,19 @@ pub struct Node {
 
 /// Nodes under their numbers.
 pub type Nodes = BTreeMap<u64, Node>;
+
+impl Clone for Node {
+    ghost use Rattle.file_tree.specs.Index.{IsCopy};
+
+    ghost is_clone = { λ node copy. IsCopy node copy };
+
+    fn clone(&self) -> Result<Self, AllocError> {
+        Ok(Node {
+            kind: self.kind,
+            parent: self.parent,
+            name: self.name,
+            contents: self.contents.clone()?,
+            names: self.names.clone()?,
+        })
+    }
+}

@@ -1,6 +1,7 @@
 //! The memory for what an operation changes, taken before it.
 
 ghost use Rattle.std.specs.Prelude.{◌≡◌, ◌≤◌, ◌<◌, ℕ, length, None, Some, IsSome, IsOk, IsTrue, IfOk, OnOk, OnErr, unwrap_or};
+ghost use Rattle.file_world.specs.Limits.{longest_name};
 ghost use Rattle.file_world.specs.Tree.{node_at};
 ghost use Rattle.file_world.specs.TreeEffect.{child_of, is_directory, new_node, tree_refusal};
 ghost use Rattle.file_tree.specs.Index.{rows_of, kept_at, held_at, place_of, held_spot, settled, tree_in, IsKept, Puts, Keeps, AddsLast, Prepares, Stays, IsBelow};
@@ -67,7 +68,7 @@ fn prepare_made(
     name: &[u8],
 ) -> Result<Ready, NoMemory>
     requires kept { IsKept nodes.old.entries next None }
-    requires short { length name.now ≤ 64 }
+    requires short { length name.now ≤ longest_name }
     requires holds { IsTrue (is_directory (node_at (rows_of nodes.old.entries) directory)) }
     requires free { child_of (rows_of nodes.old.entries) directory name.now ≡ None }
     ensures ok { IfOk result (λ ready. (ready ≡ Ready.Made kind (spot_at directory name.now))

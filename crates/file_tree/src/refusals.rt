@@ -1,6 +1,7 @@
 //! The first refusal of an operation.
 
 ghost use Rattle.std.specs.Prelude.{◌≡◌, ◌≤◌, ◌+◌, ◌-◌, ◌^◌, ◌<◌, length, None, Some, nat_le, if◌then◌else◌, option_map, max};
+ghost use Rattle.file_world.specs.Limits.{longest_name};
 ghost use Rattle.file_world.specs.Outcome.{first_of};
 ghost use Rattle.file_world.specs.Tree.{node_at, contents_sum};
 ghost use Rattle.file_world.specs.TreeEffect.{file_tests, directory_tests, name_tests, length_tests, write_tests, truncate_tests, lookup_tests, make_tests, unlink_tests, rename_tests, tree_refusal, contents_of, child_of, has_names, is_full, leads_past, length_after};
@@ -8,13 +9,10 @@ ghost use Rattle.file_tree.specs.Index.{rows_of, held_at, tree_in, IsKept};
 
 use crate::name::{Name, is_node_name};
 use crate::node::Nodes;
-use file_world::{Kind, Refusal, TreeOp};
-
-const MOST_NODES: usize = 16384;
-
-const MOST_BYTES: u64 = 1048576;
-
-const MOST_BYTES_TOGETHER: u64 = 33554432;
+use file_world::{
+    Kind, LAST_NUMBER, LONGEST_NAME, MOST_BYTES, MOST_BYTES_TOGETHER, MOST_NODES, ROOT_NUMBER,
+    Refusal, TreeOp,
+};
 
 fn kind_at(nodes: &Nodes, number: u64) -> Option<Kind>
     ensures { result ≡ option_map (λ node. node.kind) (node_at (rows_of nodes.now.entries) number) }
@@ -61,9 +59,9 @@ fn name_refusal(nodes: &Nodes, directory: u64, name: &[u8]) -> Option<Refusal>
 /// What the directory keeps under the name.
 pub fn number_in(nodes: &Nodes, directory: u64, name: &[u8]) -> Option<u64>
     ensures { result
-        ≡ (if nat_le (length name.now) 64 then held_at nodes.now.entries directory name.now else None) }
+        ≡ (if nat_le (length name.now) longest_name then held_at nodes.now.entries directory name.now else None) }
 {
-    if 64 < name.len() {
+    if LONGEST_NAME < name.len() {
         return None;
     }
     let name = Name::new(name);
@@ -95,7 +93,7 @@ fn has_names(nodes: &Nodes, next: u64, directory: u64) -> bool
 fn is_full(nodes: &Nodes, next: u64) -> bool
     ensures { result ≡ is_full (tree_in None nodes.now.entries next) }
 {
-    MOST_NODES <= nodes.len() || next == u64::MAX
+    MOST_NODES <= nodes.len() || next == LAST_NUMBER
 }
 
 /// Whether the walk from a node to the root meets no avoided node.
@@ -108,7 +106,7 @@ fn leads_past(nodes: &Nodes, avoided: u64, start: u64) -> bool
         if number == avoided {
             return false;
         }
-        if number == 1 {
+        if number == ROOT_NUMBER {
             return true;
         }
         match nodes.get(&number) {

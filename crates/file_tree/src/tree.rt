@@ -6,6 +6,7 @@ ghost use Rattle.file_tree.specs.State.{Reserves, IsReady};
 ghost use Rattle.file_tree.specs.Index.{option_number, above_zero};
 
 use crate::applying::change;
+use crate::copying::copied;
 use crate::listing::reply;
 use crate::name::Name;
 use crate::node::{Node, Nodes};
@@ -13,7 +14,7 @@ use crate::preparing::{forget, prepare};
 use crate::ready::Ready;
 use crate::refusals::{number_in, refusal};
 use bl_syntax::{NoMemory, NodeId};
-use file_world::{Kind, OpFault, TreeOp, TreeReply};
+use file_world::{Kind, OpFault, ROOT_NUMBER, TreeOp, TreeReply};
 use std::alloc::{AllocFailed, Global};
 use std::collections::BTreeMap;
 use std::marker::Model;
@@ -54,11 +55,11 @@ impl Tree {
             names: BTreeMap::new(alloc),
         };
         let mut nodes = BTreeMap::new(alloc);
-        let put: Result<Option<Node>, AllocFailed<(u64, Node)>> = nodes.insert(1, root);
+        let put: Result<Option<Node>, AllocFailed<(u64, Node)>> = nodes.insert(ROOT_NUMBER, root);
         match put {
             Ok(_) => Ok(Tree {
                 nodes,
-                next: 2,
+                next: ROOT_NUMBER + 1,
                 total: 0,
                 ready: None,
             }),
@@ -72,6 +73,13 @@ impl Tree {
     {
         let kept = number_in(&self.nodes, d.0, name);
         node_of(kept)
+    }
+
+    /// The number of the next node that is made.
+    pub fn next_number(&self) -> u64
+        ensures { result ≡ self.now.tree.next }
+    {
+        self.next
     }
 
     /// The reply of an operation, with all memory taken for its change, or its first refusal. The rows and the next
@@ -102,6 +110,18 @@ impl Tree {
         };
         self.ready = None;
         change(&mut self.nodes, &mut self.next, &mut self.total, &ready, op);
+    }
+
+    /// An equal tree in memory of its own, with nothing ready.
+    pub fn copy(&self) -> Result<Tree, NoMemory>
+        ensures { IfOk result (λ copied. copied ≡ record { tree = self.now.tree; ready = None }) }
+    {
+        Ok(Tree {
+            nodes: copied(&self.nodes, self.next, &self.ready)?,
+            next: self.next,
+            total: self.total,
+            ready: None,
+        })
     }
 }
 

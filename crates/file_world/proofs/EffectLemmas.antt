@@ -1,5 +1,5 @@
 -- What the absence of a refusal says, and that each operation leaves a tree a tree.
-use Rattle.std.proofs.Common.{◌≡◌, ◌≢◌, ℕ, ◌+◌, ◌-◌, ◌≤◌, ◌^◌, max, min, ◌==◌, true, false, Option, Some, None, is_some, is_none, unwrap_or, List, [], ◌∷◌, ◌++◌, length, take, drop, replicate, refl, sym, ap, ◌∙◌, subst, arith, nat_eq, nat_lt, nat_le, length-append, length-drop, length-take}
+use Rattle.std.proofs.Common.{◌≡◌, ◌≢◌, ℕ, ◌+◌, ◌-◌, ◌≤◌, max, min, ◌==◌, true, false, Option, Some, None, is_some, is_none, unwrap_or, List, [], ◌∷◌, ◌++◌, length, take, drop, replicate, refl, sym, ap, ◌∙◌, subst, arith, nat_eq, nat_lt, nat_le, length-append, length-drop, length-take}
 use Rattle.std.proofs.lemmas.Bool.{cond-true, cond-false, false≢true, ne_eqb, eqb-false, ltb-false, leb-false, not-false, or_parts}
 use Rattle.std.proofs.lemmas.List.{length-replicate}
 use Rattle.std.proofs.lemmas.Option.{none-some, same_Some}
@@ -10,7 +10,8 @@ use Rattle.file_world.specs.declared.operation.Kind.TheVariants.{File, Directory
 use Rattle.file_world.specs.declared.operation.TreeOp.{TreeOp}
 use Rattle.file_world.specs.declared.operation.TreeOp.TheVariants.{Read, Write, Truncate, List as ListOf, Lookup, Create, Mkdir, Unlink, Rename}
 use Rattle.file_world.specs.FileNames.{is_node_name}
-use Rattle.file_world.specs.Outcome.{Tests, first_of}
+use Rattle.file_world.specs.Limits.{most_nodes, most_bytes, most_bytes_together, last_number}
+use Rattle.file_world.specs.Outcome.{Tests, first_of, NoneHolds}
 use Rattle.file_world.specs.Tree.{Place, Node, Nodes, FileTree, node_at, number_at, contents_sum, root, IsTree}
 use Rattle.file_world.specs.TreeEffect.{is_directory_kind, is_directory, at, child_of, contents_of, has_names, is_full, is_into_itself, length_after, written, resized, revised, with_place, tests_of, tree_refusal, tree_after}
 use Rattle.file_world.proofs.RowLemmas.{split, cond_at_true, cond_at_false}
@@ -19,11 +20,7 @@ use Rattle.file_world.proofs.TreeLemmas.{CanAdd, CanFill, CanRemove, CanMove, Is
 
 -- ---- no test holds
 
-abbrev pub NoneHold : Tests → Type 0
-NoneHold [] = Unit {0}
-NoneHold (test ∷ tests) = (test.0 ≡ false) × NoneHold tests
-
-pub none_hold : (tests : Tests) → first_of tests ≡ None → NoneHold tests
+pub none_hold : (tests : Tests) → first_of tests ≡ None → NoneHolds tests
 none_hold [] e = tt
 none_hold (test ∷ tests) e =
     split test.0
@@ -121,18 +118,18 @@ not_root_at tree number directory name is holds stands same =
 pub can_add : (tree : FileTree) (directory : ℕ) (name : List ℕ) → IsTree tree → is_directory (node_at tree.rows directory) ≡ true → is_node_name name ≡ true → is_some (child_of tree.rows directory name) ≡ false → is_full tree ≡ false → CanAdd tree (at directory name)
 can_add tree directory name is holds named absent room =
     let found = directory_from tree.rows directory holds in
-    let parts = or_parts (nat_le 16384 (length tree.rows)) (tree.next == 2 ^ 64 - 1) room in
+    let parts = or_parts (nat_le most_nodes (length tree.rows)) (tree.next == last_number) room in
     record {
       directory = found.node;
       held = found.found;
       is_directory = found.kind;
       named = named;
       free = sym (child-in_directory tree.rows directory name holds) ∙ none_from (child_of tree.rows directory name) absent;
-      few = leb-false 16384 (length tree.rows) parts.0;
-      next_left = (let apart = eqb-false tree.next (2 ^ 64 - 1) parts.1 in let fits = is.next_fits in omega (arith, apart, fits));
+      few = leb-false most_nodes (length tree.rows) parts.0;
+      next_left = (let apart = eqb-false tree.next last_number parts.1 in let fits = is.next_fits in omega (arith, apart, fits));
     }
 
-pub can_fill : (tree : FileTree) (number : ℕ) (contents : List ℕ) → is_none (node_at tree.rows number) ≡ false → is_directory (node_at tree.rows number) ≡ false → length contents ≤ 1048576 → nat_lt 33554432 (contents_sum tree.rows - length (contents_of (node_at tree.rows number)) + length contents) ≡ false → CanFill tree number contents
+pub can_fill : (tree : FileTree) (number : ℕ) (contents : List ℕ) → is_none (node_at tree.rows number) ≡ false → is_directory (node_at tree.rows number) ≡ false → length contents ≤ most_bytes → nat_lt most_bytes_together (contents_sum tree.rows - length (contents_of (node_at tree.rows number)) + length contents) ≡ false → CanFill tree number contents
 can_fill tree number contents there other small fits =
     let found = file_from tree.rows number there other in
     record {
@@ -140,7 +137,7 @@ can_fill tree number contents there other small fits =
       found = found.1;
       is_file = found.2;
       small = small;
-      fits = subst (λ (node : Option Node). contents_sum tree.rows - length (contents_of node) + length contents ≤ 33554432) found.1 (ltb-false 33554432 (contents_sum tree.rows - length (contents_of (node_at tree.rows number)) + length contents) fits);
+      fits = subst (λ (node : Option Node). contents_sum tree.rows - length (contents_of node) + length contents ≤ most_bytes_together) found.1 (ltb-false most_bytes_together (contents_sum tree.rows - length (contents_of (node_at tree.rows number)) + length contents) fits);
     }
 
 -- the child that a name stands for
@@ -185,26 +182,26 @@ can_move tree directory name child target renamed holds named apart absent =
 
 -- ---- each operation leaves a tree a tree
 
-small_before : (tree : FileTree) (number : ℕ) → IsTree tree → length (contents_of (node_at tree.rows number)) ≤ 1048576
+small_before : (tree : FileTree) (number : ℕ) → IsTree tree → length (contents_of (node_at tree.rows number)) ≤ most_bytes
 small_before tree number is = by (node_at tree.rows number) refl
   where
-    by : (found : Option Node) → node_at tree.rows number ≡ found → length (contents_of (node_at tree.rows number)) ≤ 1048576
-    by None h = subst (λ (node : Option Node). length (contents_of node) ≤ 1048576) (sym h) (omega arith)
-    by (Some node) h = subst (λ (n : Option Node). length (contents_of n) ≤ 1048576) (sym h) (is.sound number node h).small
+    by : (found : Option Node) → node_at tree.rows number ≡ found → length (contents_of (node_at tree.rows number)) ≤ most_bytes
+    by None h = subst (λ (node : Option Node). length (contents_of node) ≤ most_bytes) (sym h) (omega arith)
+    by (Some node) h = subst (λ (n : Option Node). length (contents_of n) ≤ most_bytes) (sym h) (is.sound number node h).small
 
 pub can_write : (tree : FileTree) (file : NodeId) (offset : ℕ) (bytes : List ℕ) → IsTree tree → tree_refusal tree (Write file offset bytes) ≡ None → CanFill tree file.0 (written (contents_of (node_at tree.rows file.0)) offset bytes)
 can_write tree file offset bytes is none =
     let h = none_hold (tests_of tree (Write file offset bytes)) none in
     let contents = written (contents_of (node_at tree.rows file.0)) offset bytes in
-    can_fill tree file.0 contents h.0 h.1.0 (length-written_le (contents_of (node_at tree.rows file.0)) offset bytes 1048576 (small_before tree file.0 is) (ltb-false 1048576 (offset + length bytes) h.1.1.0))
-    (ap (λ (len : ℕ). nat_lt 33554432 (contents_sum tree.rows - length (contents_of (node_at tree.rows file.0)) + len)) (length-written_any (contents_of (node_at tree.rows file.0)) offset bytes) ∙ h.1.1.1.0)
+    can_fill tree file.0 contents h.0 h.1.0 (length-written_le (contents_of (node_at tree.rows file.0)) offset bytes most_bytes (small_before tree file.0 is) (ltb-false most_bytes (offset + length bytes) h.1.1.0))
+    (ap (λ (len : ℕ). nat_lt most_bytes_together (contents_sum tree.rows - length (contents_of (node_at tree.rows file.0)) + len)) (length-written_any (contents_of (node_at tree.rows file.0)) offset bytes) ∙ h.1.1.1.0)
 
 pub can_truncate : (tree : FileTree) (file : NodeId) (len : ℕ) → IsTree tree → tree_refusal tree (Truncate file len) ≡ None → CanFill tree file.0 (resized (contents_of (node_at tree.rows file.0)) len)
 can_truncate tree file len is none =
     let h = none_hold (tests_of tree (Truncate file len)) none in
     let old = contents_of (node_at tree.rows file.0) in
-    can_fill tree file.0 (resized old len) h.0 h.1.0 (let e = length-resized old len in let small = ltb-false 1048576 len h.1.1.0 in omega (arith, e, small))
-    (ap (λ (l : ℕ). nat_lt 33554432 (contents_sum tree.rows - length old + l)) (length-resized old len) ∙ h.1.1.1.0)
+    can_fill tree file.0 (resized old len) h.0 h.1.0 (let e = length-resized old len in let small = ltb-false most_bytes len h.1.1.0 in omega (arith, e, small))
+    (ap (λ (l : ℕ). nat_lt most_bytes_together (contents_sum tree.rows - length old + l)) (length-resized old len) ∙ h.1.1.1.0)
 
 pub IsTree-after : (tree : FileTree) (op : TreeOp) → IsTree tree → tree_refusal tree op ≡ None → IsTree (tree_after tree op)
 IsTree-after tree (Read file offset len) is none = is

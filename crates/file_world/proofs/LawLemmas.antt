@@ -1,5 +1,5 @@
 -- The laws of the definitions.
-use Rattle.std.proofs.Common.{◌≡◌, ◌≢◌, ℕ, zero, suc, ◌+◌, ◌-◌, ◌≤◌, ◌⊎◌, inl, inr, Bool, true, false, cond, IsSome, is_some, Option, Some, None, option_map, unwrap_or, List, [], ◌∷◌, ◌++◌, length, map, take, drop, replicate, min, refl, sym, ap, ap₂, ◌∙◌, subst, arith, nat_eq, nat_cmp, bytes_eq, append_assoc, length-append, length-take}
+use Rattle.std.proofs.Common.{◌≡◌, ◌≢◌, ℕ, zero, suc, ◌+◌, ◌-◌, ◌≤◌, inl, inr, Bool, true, false, cond, IsSome, is_some, Option, Some, None, unwrap_or, List, [], ◌∷◌, ◌++◌, length, map, take, drop, replicate, min, refl, sym, ap, ap₂, ◌∙◌, subst, arith, nat_eq, nat_cmp, bytes_eq, append_assoc, length-append, length-take}
 use Rattle.std.specs.List.{IsDistinct, list_any, AllByRecursion}
 use Rattle.std.specs.List.Sorted.{IsStrictlySortedBy}
 use Rattle.std.specs.Map.{lookup, keys_of}
@@ -15,14 +15,20 @@ use Rattle.file_world.specs.declared.operation.TreeOp.TheVariants as on_tree
 use Rattle.file_world.specs.declared.operation.Op.TheVariants.{Rename}
 use Rattle.file_world.specs.declared.refusal.Refusal.{Refusal}
 use Rattle.file_world.specs.declared.reply.NamedNode.{NamedNode}
-use Rattle.file_world.specs.Outcome.{Outcome, refused, replied, outcome}
+use Rattle.file_world.specs.Limits.{root_number}
+use Rattle.file_world.specs.Outcome.{Tests, first_of, NoneHolds, IsFirst, Outcome, refused, replied, outcome}
 use Rattle.file_world.specs.Tree.{Place, Node, Nodes, FileTree, node_at, number_at, IsReached, at_root, below, root, IsTree}
 use Rattle.file_world.specs.TreeEffect.{at, names_in, is_directory, leads_past, leads_on, written, tree_refusal, tree_reply, tree_after, tests_of, revised}
-use Rattle.file_world.specs.World.{Item, World, node_of, tree_of}
-use Rattle.file_world.specs.Effect.{effect, refusal, reply, world_after, item_with_place}
-use Rattle.file_world.specs.Laws.{TreesStayTrees, StandsIn, itself, below_it, WalksAreLongEnough, NamesAreChildren, OutcomesAreDecided, item_at, RenamesKeepTheRest, WritesAreReadBack}
-use Rattle.file_world.proofs.RowLemmas.{split, lookup-revised_same, lookup-revised_other}
+use Rattle.file_world.specs.Attributes.{AreMarks}
+use Rattle.file_world.specs.AttributeEffect.{meta_refusal, meta_reply, marks_after}
+use Rattle.file_world.specs.World.{World, tree_of}
+use Rattle.file_world.specs.Effect.{Part, tree_part, meta_part, part_of, tests_in, refusal_in, refusal, reply, world_after, item_with_place}
+use Rattle.file_world.specs.Laws.{TreesStayTrees, StandsIn, itself, below_it, WalksAreLongEnough, NamesAreChildren, RefusalsComeInOrder, NumbersAreUsedOnce, MarksStayMarks, HalvesFollow, MarksChangeAlone, FreshIsWorld, RenamesKeepTheRest, WritesAreReadBack}
+use Rattle.file_world.proofs.RowLemmas.{split, cond_at_true, cond_at_false, lookup-revised_same, lookup-revised_other}
 use Rattle.file_world.proofs.EffectLemmas.{none_hold, named_child, IsTree-after}
+use Rattle.file_world.proofs.MarkLemmas.{AreMarks-after}
+use Rattle.file_world.proofs.NumberLemmas.{KeepsNumbers, numbers-after, stays_gone}
+use Rattle.file_world.proofs.HalvesLemmas.{tree_of-changed, marks_of-changed, tree_of-marked, marks_of-marked, item_from_node, IsWorld-fresh}
 use Rattle.file_world.proofs.ListingLemmas.{pairs_of, names_found, names_sorted, order, found_in}
 
 -- ---- outcomes
@@ -39,24 +45,78 @@ trees_stay_trees tree after op found is e =
     let parts = replied_parts (tree_refusal tree op) (tree_reply tree op) found (tree_after tree op) after e in
     subst IsTree parts.1 (IsTree-after tree op is parts.0)
 
-decided : {A S : Type 0} (refusal : Option Refusal) (reply : A) (state : S) → (((r : Refusal) × (outcome refusal reply state ≡ refused r)) ⊎ ((a : A) × (after : S) × (outcome refusal reply state ≡ replied a after)))
-decided None reply state = inr (reply, state, refl)
-decided (Some r) reply state = inl (r, refl)
+first_from : (tests : Tests) (refusal : Refusal) → first_of tests ≡ Some refusal → IsFirst tests refusal
+first_from [] refusal e = absurd (none-some _ e)
+first_from (test ∷ tests) refusal e =
+    split test.0
+    (λ t. let same : test ≡ (true, refusal) = ap₂ (λ (b : Bool) (r : Refusal). (b, r)) t (same_Some _ _ (cond_at_true test.0 _ _ _ t e)) in
+    record { earlier = []; later = tests; whole = ap (λ (first : Bool × Refusal). first ∷ tests) same; none_earlier = tt })
+    (λ f. let rest = first_from tests refusal (cond_at_false test.0 _ _ _ f e) in
+    record { earlier = test ∷ rest.earlier; later = rest.later; whole = ap (λ (others : Tests). test ∷ others) rest.whole; none_earlier = (f, rest.none_earlier) })
 
-not_both : {A S : Type 0} (out : Outcome A S) (r : Refusal) (a : A) (after : S) → out ≡ refused r → out ≡ replied a after → ⊥
-not_both out r a after e f = no (sym e ∙ f)
-  where
-    no : refused r ≡ replied a after → ⊥
-    no h = cc
+first_after : (earlier later : Tests) (refusal : Refusal) → NoneHolds earlier → first_of (earlier ++ (true, refusal) ∷ later) ≡ Some refusal
+first_after [] later refusal none = refl
+first_after (test ∷ earlier) later refusal none = cond-false test.0 _ _ none.0 ∙ first_after earlier later refusal none.1
 
-pub outcomes_are_decided : OutcomesAreDecided
-outcomes_are_decided caller op world = (decided (refusal world op) (reply world op) (world_after caller world op), λ r a after e f. not_both (effect caller op world) r a after e f)
+none_first : (tests : Tests) → NoneHolds tests → first_of tests ≡ None
+none_first [] none = refl
+none_first (test ∷ tests) none = cond-false test.0 _ _ none.0 ∙ none_first tests none.1
+
+not_refused : {A S : Type 0} (answer : A) (state : S) (found : Refusal) → replied answer state ≡ refused found → ⊥
+not_refused answer state found e = cc
+
+same_refusal : {A S : Type 0} (first found : Refusal) → ◌≡◌ {A = Outcome A S} (refused first) (refused found) → first ≡ found
+same_refusal first found e = cc
+
+refused_part : {A S : Type 0} (first : Option Refusal) (answer : A) (state : S) (found : Refusal) → outcome first answer state ≡ refused found → first ≡ Some found
+refused_part None answer state found e = absurd (not_refused answer state found e)
+refused_part (Some first) answer state found e = ap (λ (r : Refusal). Some r) (same_refusal first found e)
+
+tests_first : (world : World) (part : Part) → refusal_in world part ≡ first_of (tests_in world part)
+tests_first world (tree_part op) = refl
+tests_first world (meta_part op) = refl
+
+pub refusals_come_in_order : RefusalsComeInOrder
+refusals_come_in_order caller op world =
+    let tests = tests_in world (part_of op) in
+    let first = tests_first world (part_of op) in (
+      λ found. (
+        λ e. first_from tests found (sym first ∙ refused_part (refusal world op) (reply world op) (world_after caller world op) found e),
+        λ is. ap (λ (r : Option Refusal). outcome r (reply world op) (world_after caller world op)) (first ∙ (ap first_of is.whole ∙ first_after is.earlier is.later found is.none_earlier)),
+      ),
+      (
+        λ e. none_hold tests (sym first ∙ (replied_parts (refusal world op) (reply world op) (reply world op) (world_after caller world op) (world_after caller world op) e).0),
+        λ none. ap (λ (r : Option Refusal). outcome r (reply world op) (world_after caller world op)) (first ∙ none_first tests none),
+      ),
+    )
+
+-- ---- numbers, marks, and the halves of a world
+
+pub numbers_are_used_once : NumbersAreUsedOnce
+numbers_are_used_once caller op world after found e =
+    let parts = replied_parts (refusal world op) (reply world op) found (world_after caller world op) after e in
+    let keeps : KeepsNumbers world after = subst (KeepsNumbers world) parts.1 (numbers-after caller world (part_of op)) in
+    (keeps.rises, keeps.used, stays_gone world after keeps)
+
+pub marks_stay_marks : MarksStayMarks
+marks_stay_marks marks after op found are fit askable e =
+    let parts = replied_parts (meta_refusal marks op) (meta_reply marks op) found (marks_after marks op) after e in
+    subst AreMarks parts.1 (AreMarks-after marks op are fit askable parts.0)
+
+pub halves_follow : HalvesFollow
+halves_follow caller change world is = (tree_of-changed caller change world, marks_of-changed caller change world is)
+
+pub marks_change_alone : MarksChangeAlone
+marks_change_alone op world direct = (tree_of-marked op world, marks_of-marked op world direct)
+
+pub fresh_is_world : FreshIsWorld
+fresh_is_world = (IsWorld-fresh, refl, refl)
 
 -- ---- the walk to the root
 
 -- the numbers on the way from a node to the root
 data Path (rows : Nodes) : ℕ → List ℕ → Type 0 where
-  ends : Path rows 1 (1 ∷ [])
+  ends : Path rows root_number (root_number ∷ [])
   goes : (number : ℕ) (node : Node) (rest : List ℕ) → node_at rows number ≡ Some node → number ≢ 1 → Path rows node.place.directory rest → Path rows number (number ∷ rest)
 
 path_from : (rows : Nodes) (number : ℕ) → IsReached rows number → (numbers : List ℕ) × Path rows number numbers
@@ -100,7 +160,7 @@ way_on rows number xs (goes _ node rest found apart up) other e =
     ]
 
 -- each number on the way is a node's
-on_the_way : (rows : Nodes) (number : ℕ) (xs : List ℕ) → IsSome (node_at rows 1) → Path rows number xs → (other : ℕ) → list_any (nat_eq other) xs ≡ true → IsSome (node_at rows other)
+on_the_way : (rows : Nodes) (number : ℕ) (xs : List ℕ) → IsSome (node_at rows root_number) → Path rows number xs → (other : ℕ) → list_any (nat_eq other) xs ≡ true → IsSome (node_at rows other)
 on_the_way rows number xs top path other e =
     let w = way_on rows number xs path other e in by w.1
   where
@@ -222,27 +282,13 @@ names_are_children tree directory is holds = (
 
 -- ---- a rename
 
-node_in_world : (rows : List (ℕ × Item)) (number : ℕ) → node_at (map (λ row. (row.0, node_of row.1)) rows) number ≡ option_map node_of (lookup (nat_eq number) rows)
-node_in_world [] number = refl
-node_in_world (row ∷ rows) number =
-    split (nat_eq number row.0)
-    (λ t. cond-true (nat_eq number row.0) _ _ t ∙ sym (ap (option_map node_of) (cond-true (nat_eq number row.0) (Some row.1) (lookup (nat_eq number) rows) t)))
-    (λ f. cond-false (nat_eq number row.0) _ _ f ∙ (node_in_world rows number ∙ sym (ap (option_map node_of) (cond-false (nat_eq number row.0) (Some row.1) (lookup (nat_eq number) rows) f))))
-
-item_from : (world : World) (number : ℕ) (node : Node) → node_at (tree_of world).rows number ≡ Some node → (item : Item) × (item_at world number ≡ Some item)
-item_from world number node e = by (item_at world number) refl
-  where
-    by : (found : Option Item) → item_at world number ≡ found → (item : Item) × (item_at world number ≡ Some item)
-    by None h = absurd (none-some _ (sym (node_in_world world.rows number ∙ ap (option_map node_of) h) ∙ e))
-    by (Some item) h = (item, h)
-
 pub renames_keep_the_rest : RenamesKeepTheRest
 renames_keep_the_rest caller directory target name renamed world after found is e =
     let tree = tree_of world in
     let parts = replied_parts (refusal world (Rename directory name target renamed)) (reply world (Rename directory name target renamed)) found (world_after caller world (Rename directory name target renamed)) after e in
     let h = none_hold (tests_of tree (on_tree.Rename directory name target renamed)) parts.0 in
     let child = named_child tree directory.0 name is.tree (not-false _ h.1.0) h.1.1.1.1.1.1.0 in
-    let item = item_from world child.child child.stands.node child.stands.found in
+    let item = item_from_node world child.child child.stands.node child.stands.found in
     let place : Place = at target.0 renamed in
     let rows : after.rows ≡ revised child.child (item_with_place place) world.rows =
     ap (λ (w : World). w.rows) (sym parts.1) ∙ ap (λ (n : Option ℕ). revised (unwrap_or n 0) (item_with_place place) world.rows) child.is_child in (

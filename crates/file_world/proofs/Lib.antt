@@ -1,6 +1,10 @@
 pub mod EffectLemmas
+pub mod HalvesLemmas
 pub mod LawLemmas
 pub mod ListingLemmas
+pub mod MarkLemmas
+pub mod NumberLemmas
+pub mod OrderLemmas
 pub mod PlaceLemmas
 pub mod RowLemmas
 pub mod TreeLemmas

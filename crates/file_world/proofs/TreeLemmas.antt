@@ -1,5 +1,5 @@
 -- A tree stays a tree after each change that fits it.
-use Rattle.std.proofs.Common.{◌≡◌, ◌≢◌, ℕ, zero, suc, ◌+◌, ◌-◌, ◌<◌, ◌≤◌, ◌^◌, ◌⊎◌, inl, inr, true, IsTrue, Option, Some, None, List, [], ◌∷◌, ◌++◌, length, refl, sym, ap, ◌∙◌, subst, arith, nat_eq, nat_cmp, length-append}
+use Rattle.std.proofs.Common.{◌≡◌, ◌≢◌, ℕ, zero, suc, ◌+◌, ◌-◌, ◌<◌, ◌≤◌, ◌⊎◌, inl, inr, true, IsTrue, Option, Some, None, List, [], ◌∷◌, ◌++◌, length, refl, sym, ap, ◌∙◌, subst, arith, nat_eq, nat_cmp, length-append}
 use Rattle.std.specs.Map.{lookup, remove_entry, keys_of}
 use Rattle.std.specs.List.{IsDistinct}
 use Rattle.std.specs.List.Sorted.{IsStrictlySortedBy}
@@ -9,8 +9,9 @@ use Rattle.std.proofs.lemmas.Option.{none-some, same_Some}
 use Rattle.file_world.specs.declared.operation.Kind.{Kind}
 use Rattle.file_world.specs.declared.operation.Kind.TheVariants.{File, Directory}
 use Rattle.file_world.specs.FileNames.{is_node_name}
+use Rattle.file_world.specs.Limits.{root_number, most_nodes, most_bytes, most_bytes_together, last_number}
 use Rattle.file_world.specs.Tree.{Place, Node, Nodes, FileTree, node_at, number_at, is_place, contents_sum, IsReached, at_root, below, root, IsSound, IsTree}
-use Rattle.file_world.specs.TreeEffect.{new_node, with_contents, with_place, revised, leads_past, leads_on, changed_tree, add, fill, remove, move}
+use Rattle.file_world.specs.TreeEffect.{new_node, with_contents, with_place, revised, leads_past, leads_on, changed_tree, add, fill, remove, move, fresh_tree}
 use Rattle.file_world.proofs.RowLemmas.{split, cond_at_true, cond_at_false, lookup_here, lookup-append_found, lookup-append_none, lookup-revised_same, lookup-revised_other, map-revised, length-revised, keys-revised, sum_by-revised, weight-le-sum_by, sum_by-removed, length-removed_le, lookup-removed_same, lookup-removed_other, rising-removed, rising-push}
 use Rattle.file_world.proofs.PlaceLemmas.{IsFree-from_none, differ-push, differ-removed, differ-moved}
 
@@ -43,8 +44,8 @@ pub record CanAdd (tree : FileTree) (place : Place) : Type 0 where
   pub is_directory : directory.kind ≡ Directory
   pub named : IsTrue (is_node_name place.name)
   pub free : number_at tree.rows place ≡ None
-  pub few : length tree.rows < 16384
-  pub next_left : tree.next < 2 ^ 64 - 1
+  pub few : length tree.rows < most_nodes
+  pub next_left : tree.next < last_number
 
 -- what is found after a push: what was found, or the new row
 pub found-push : {V : Type 0} (rows : List (ℕ × V)) (next : ℕ) (value : V) (number : ℕ) (found : V) → lookup (nat_eq number) (rows ++ (next, value) ∷ []) ≡ Some found → (lookup (nat_eq number) rows ≡ Some found) ⊎ ((number ≡ next) × (value ≡ found))
@@ -113,8 +114,8 @@ pub record CanFill (tree : FileTree) (number : ℕ) (contents : List ℕ) : Type
   pub node : Node
   pub found : node_at tree.rows number ≡ Some node
   pub is_file : node.kind ≡ File
-  pub small : length contents ≤ 1048576
-  pub fits : contents_sum tree.rows - length node.contents + length contents ≤ 33554432
+  pub small : length contents ≤ most_bytes
+  pub fits : contents_sum tree.rows - length node.contents + length contents ≤ most_bytes_together
 
 -- what is found after a revision: what was found at another number, or the revised value
 pub found-revised : {V : Type 0} (number : ℕ) (revision : V → V) (rows : List (ℕ × V)) (old : V) → lookup (nat_eq number) rows ≡ Some old → (other : ℕ) (found : V) → lookup (nat_eq other) (revised number revision rows) ≡ Some found → ((other ≢ number) × (lookup (nat_eq other) rows ≡ Some found)) ⊎ ((other ≡ number) × (revision old ≡ found))
@@ -291,3 +292,40 @@ IsTree-move tree number place is can =
       fits = (let e : contents_sum after + length can.node.contents ≡ contents_sum tree.rows + length can.node.contents = sum_by-revised (λ row. length row.1.contents) number (with_place place) can.node tree.rows can.found in let fits = is.fits in omega (arith, e, fits));
       next_fits = is.next_fits;
     }
+
+-- ---- the tree of the root alone
+
+one_number : IsStrictlySortedBy nat_cmp (root_number ∷ [])
+unfolding IsStrictlySortedBy
+one_number = (tt, tt)
+
+one_place : (place : Place) → IsDistinct is_place (place ∷ [])
+unfolding IsDistinct
+one_place place = (tt, tt)
+
+root_alone : (number : ℕ) (node : Node) → node_at fresh_tree.rows number ≡ Some node → (number ≡ root_number) × (root ≡ node)
+root_alone number node e =
+    split (nat_eq number 1)
+    (λ t. (eqb-true number 1 t, same_Some _ _ (cond_at_true (nat_eq number 1) _ _ _ t e)))
+    (λ f. absurd (none-some _ (cond_at_false (nat_eq number 1) _ _ _ f e)))
+
+root_sound : IsSound fresh_tree root_number root
+root_sound = record {
+  reached = at_root;
+  named = λ apart. absurd (apart refl);
+  above_zero = omega arith;
+  below_next = omega arith;
+  empty = λ _. refl;
+  small = omega arith;
+}
+
+pub IsTree-fresh : IsTree fresh_tree
+IsTree-fresh = record {
+  has_root = refl;
+  sound = λ number node e. let is = root_alone number node e in subst (IsSound fresh_tree number) is.1 (subst (λ (n : ℕ). IsSound fresh_tree n root) (sym is.0) root_sound);
+  rising = one_number;
+  places_differ = one_place root.place;
+  few = omega arith;
+  fits = omega arith;
+  next_fits = omega arith;
+}

@@ -1,10 +1,11 @@
 -- What each operation does to owners and attributes: its refusals in their order, its reply, and the marks after it (this project's own).
-use Rattle.std.specs.Prelude.{◌≡◌, ℕ, List, [], ◌∷◌, ◌++◌, length, Option, Some, None, is_none, unwrap_or, IsSome, not, nat_le, nat_eq, ◌&&◌, codes}
+use Rattle.std.specs.Prelude.{◌≡◌, ℕ, List, [], ◌∷◌, ◌++◌, length, Option, Some, None, is_none, unwrap_or, IsSome, IsTrue, not, nat_le, nat_eq, ◌&&◌, codes}
 use Rattle.std.specs.Map.{remove_entry}
 use Rattle.std.specs.BTreeMap.{insert_entry}
 use Rattle.std.specs.Ordering.{nat_cmp}
 use Rattle.std.specs.Cmp.Lexicographic.{slice_cmp}
 use Rattle.std.specs.Str.{bytes_eq}
+use Rattle.bl_syntax.specs.Names.{is_principal_name, is_text}
 use Rattle.file_world.specs.declared.operation.MetaOp.{MetaOp}
 use Rattle.file_world.specs.declared.operation.MetaOp.TheVariants.{Get, Set, Remove, Chown, Add, Drop, Move}
 use Rattle.file_world.specs.declared.refusal.Refusal.TheVariants.{NoNode, NoAttribute, AttrFull, BadAttrName}
@@ -12,6 +13,7 @@ use Rattle.file_world.specs.declared.refusal.Refusal.{Refusal}
 use Rattle.file_world.specs.declared.reply.MetaReply.{MetaReply}
 use Rattle.file_world.specs.declared.reply.MetaReply.TheVariants.{Done, Text as TextOf}
 use Rattle.file_world.specs.FileNames.{is_attribute_name}
+use Rattle.file_world.specs.Limits.{root_number, most_attributes}
 use Rattle.file_world.specs.Attributes.{Attributes, Mark, Marks, mark_at, value_at}
 use Rattle.file_world.specs.TreeEffect.{revised}
 use Rattle.file_world.specs.Outcome.{Tests, first_of, Outcome, outcome}
@@ -40,7 +42,7 @@ abbrev pub meta_tests : Marks → MetaOp → Tests
 meta_tests marks (Get node name) = attribute_tests marks node.0 name ++ (is_none (value_of marks node.0 name), NoAttribute) ∷ []
 meta_tests marks (Set node name value) =
     attribute_tests marks node.0 name
-    ++ (is_none (value_of marks node.0 name) && nat_le 32 (length (attributes_of (mark_at marks node.0))), AttrFull)
+    ++ (is_none (value_of marks node.0 name) && nat_le most_attributes (length (attributes_of (mark_at marks node.0))), AttrFull)
     ∷ []
 meta_tests marks (Remove node name) = attribute_tests marks node.0 name ++ (is_none (value_of marks node.0 name), NoAttribute) ∷ []
 meta_tests marks (Chown node owner) = (is_none (mark_at marks node.0), NoNode) ∷ []
@@ -50,6 +52,16 @@ meta_tests marks (Move node parent) = []
 
 abbrev pub meta_refusal : Marks → MetaOp → Option Refusal
 meta_refusal marks op = first_of (meta_tests marks op)
+
+-- an operation that brings no owner but a principal's name, and no value but a text
+abbrev pub IsMetaOperation : MetaOp → Type 0
+IsMetaOperation (Get node name) = Unit {0}
+IsMetaOperation (Set node name value) = IsTrue (is_text value)
+IsMetaOperation (Remove node name) = Unit {0}
+IsMetaOperation (Chown node owner) = IsTrue (is_principal_name owner)
+IsMetaOperation (Add node owner parent) = IsTrue (is_principal_name owner)
+IsMetaOperation (Drop node) = Unit {0}
+IsMetaOperation (Move node parent) = Unit {0}
 
 -- what an operation asks of its caller: a node that is added is new, and one that goes or is moved is there
 abbrev pub IsAskable : Marks → MetaOp → Type 0
@@ -105,4 +117,4 @@ meta_effect marks op = outcome (meta_refusal marks op) (meta_reply marks op) (ma
 
 -- the marks with the root alone, which `admin` owns
 abbrev pub fresh_marks : Marks
-fresh_marks = (1, new_mark (codes "admin") 0) ∷ []
+fresh_marks = (root_number, new_mark (codes "admin") 0) ∷ []

@@ -8,6 +8,7 @@ use Rattle.std.specs.Str.{bytes_eq}
 use Rattle.std.specs.Cmp.Lexicographic.{slice_cmp}
 use Rattle.bl_syntax.specs.Names.{is_principal_name, is_text}
 use Rattle.file_world.specs.FileNames.{is_attribute_name}
+use Rattle.file_world.specs.Limits.{most_attributes}
 
 -- values under the names of attributes, in the byte order of the names
 abbrev pub Attributes : Type 0
@@ -37,7 +38,7 @@ pub record IsMark (mark : Mark) : Type 0 where
   pub named : AllByRecursion (λ attribute. IsTrue (is_attribute_name attribute.0)) mark.attributes
   pub texts : AllByRecursion (λ attribute. IsTrue (is_text attribute.1)) mark.attributes
   pub rising : IsStrictlySortedBy (slice_cmp nat_cmp) (keys_of mark.attributes)
-  pub few : length mark.attributes ≤ 32
+  pub few : length mark.attributes ≤ most_attributes
 
 -- marks within the limits
 pub record AreMarks (marks : Marks) : Type 0 where

@@ -1,6 +1,7 @@
 -- What each operation does to the world: its first refusal, or its reply and the world after it (this project's own).
-use Rattle.std.specs.Prelude.{ℕ, List, [], ◌∷◌, ◌++◌, ◌+◌, Option, nat_eq}
+use Rattle.std.specs.Prelude.{ℕ, List, [], ◌∷◌, ◌++◌, ◌+◌, Option, IsTrue, nat_eq}
 use Rattle.std.specs.Map.{remove_entry}
+use Rattle.bl_syntax.specs.Names.{is_principal_name, is_text}
 use Rattle.file_world.specs.declared.operation.Kind.{Kind}
 use Rattle.file_world.specs.declared.operation.TreeOp.{TreeOp}
 use Rattle.file_world.specs.declared.operation.TreeOp.TheVariants as on_tree
@@ -12,11 +13,11 @@ use Rattle.file_world.specs.declared.refusal.Refusal.{Refusal}
 use Rattle.file_world.specs.declared.reply.OpReply.{OpReply}
 use Rattle.file_world.specs.declared.reply.OpReply.TheVariants.{Tree as TreeOf, Meta as MetaOf}
 use Rattle.file_world.specs.Tree.{Place}
-use Rattle.file_world.specs.TreeEffect.{Change, nothing, add, fill, remove, move, change_of, revised, tree_refusal, tree_reply}
+use Rattle.file_world.specs.TreeEffect.{Change, nothing, add, fill, remove, move, change_of, revised, tests_of, tree_refusal, tree_reply}
 use Rattle.file_world.specs.Attributes.{Attributes, mark_at}
-use Rattle.file_world.specs.AttributeEffect.{attributes_of, with_value, without_value, meta_refusal, meta_reply}
+use Rattle.file_world.specs.AttributeEffect.{attributes_of, with_value, without_value, meta_tests, meta_refusal, meta_reply}
 use Rattle.file_world.specs.World.{Item, World, tree_of, marks_of}
-use Rattle.file_world.specs.Outcome.{Outcome, outcome}
+use Rattle.file_world.specs.Outcome.{Tests, Outcome, outcome}
 
 -- whose refusals and reply an operation has: the tree's, or the attributes'
 pub data Part : Type 0 where
@@ -37,6 +38,27 @@ part_of (Getattr node name) = meta_part (on_meta.Get node name)
 part_of (Setattr node name value) = meta_part (on_meta.Set node name value)
 part_of (Delattr node name) = meta_part (on_meta.Remove node name)
 part_of (Chown node owner) = meta_part (on_meta.Chown node owner)
+
+-- an operation that brings no owner but a principal's name, and no value but a text
+abbrev pub IsOperation : Op → Type 0
+IsOperation (Read file offset len) = Unit {0}
+IsOperation (Write file offset bytes) = Unit {0}
+IsOperation (Truncate file len) = Unit {0}
+IsOperation (ListOf directory) = Unit {0}
+IsOperation (Lookup directory name) = Unit {0}
+IsOperation (Create directory name) = Unit {0}
+IsOperation (Mkdir directory name) = Unit {0}
+IsOperation (Unlink directory name) = Unit {0}
+IsOperation (Rename directory name target renamed) = Unit {0}
+IsOperation (Getattr node name) = Unit {0}
+IsOperation (Setattr node name value) = IsTrue (is_text value)
+IsOperation (Delattr node name) = Unit {0}
+IsOperation (Chown node owner) = IsTrue (is_principal_name owner)
+
+-- the tests of an operation, in their order
+abbrev pub tests_in : World → Part → Tests
+tests_in world (tree_part op) = tests_of (tree_of world) op
+tests_in world (meta_part op) = meta_tests (marks_of world) op
 
 abbrev pub refusal_in : World → Part → Option Refusal
 refusal_in world (tree_part op) = tree_refusal (tree_of world) op

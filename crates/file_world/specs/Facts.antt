@@ -4,6 +4,7 @@ use Rattle.bl_syntax.specs.declared.terms.Term.TheVariants.{Prin, File, Text}
 use Rattle.bl_syntax.specs.declared.terms.StatePred.{StatePred}
 use Rattle.bl_syntax.specs.declared.terms.StatePred.TheVariants.{Owner, HasXattr, InDir}
 use Rattle.file_world.specs.Attributes.{Mark, Marks}
+use Rattle.file_world.specs.Limits.{root_number}
 use Rattle.file_world.specs.World.{World, marks_of}
 
 -- who owns a node
@@ -16,7 +17,7 @@ possession number attribute = HasXattr (File (record { 0 = number })) (Text attr
 
 -- which directory holds a node; none holds the root
 abbrev pub containment : ℕ → Mark → List StatePred
-containment number mark = if number == 1 then [] else InDir (File (record { 0 = number })) (File (record { 0 = mark.parent })) ∷ []
+containment number mark = if number == root_number then [] else InDir (File (record { 0 = number })) (File (record { 0 = mark.parent })) ∷ []
 
 -- what is true of a node
 abbrev pub facts_of_node : ℕ → Mark → List StatePred

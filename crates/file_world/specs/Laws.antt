@@ -1,22 +1,28 @@
 -- Laws of the definitions: what a tree stays, what a walk and a list tell, and what an operation leaves alone.
-use Rattle.std.specs.Prelude.{◌≡◌, ◌≢◌, ◌<◌, ◌+◌, ◌-◌, ◌++◌, ◌⊎◌, ◌↔◌, ℕ, List, length, map, take, drop, replicate, IsTrue, IsSome, Option, Some, nat_eq, true}
+use Rattle.std.specs.Prelude.{◌≡◌, ◌≢◌, ◌<◌, ◌≤◌, ◌+◌, ◌-◌, ◌++◌, ◌⊎◌, ◌↔◌, ℕ, List, length, map, take, drop, replicate, IsTrue, IsSome, Option, Some, None, nat_eq, true}
 use Rattle.std.specs.List.Sorted.{IsStrictlySortedBy}
 use Rattle.std.specs.Map.{lookup}
 use Rattle.std.specs.Ordering.{nat_cmp}
 use Rattle.std.specs.Str.{bytes_eq}
 use Rattle.std.specs.Cmp.Lexicographic.{slice_cmp}
+use Rattle.bl_syntax.specs.Names.{is_principal_name}
 use Rattle.bl_syntax.specs.declared.terms.NodeId.{NodeId}
 use Rattle.file_world.specs.declared.operation.TreeOp.{TreeOp}
+use Rattle.file_world.specs.declared.operation.MetaOp.{MetaOp}
 use Rattle.file_world.specs.declared.operation.Op.{Op}
 use Rattle.file_world.specs.declared.operation.Op.TheVariants.{Rename}
 use Rattle.file_world.specs.declared.refusal.Refusal.{Refusal}
 use Rattle.file_world.specs.declared.reply.OpReply.{OpReply}
+use Rattle.file_world.specs.declared.reply.MetaReply.{MetaReply}
 use Rattle.file_world.specs.declared.reply.TreeReply.{TreeReply}
-use Rattle.file_world.specs.Outcome.{refused, replied}
+use Rattle.file_world.specs.Outcome.{NoneHolds, IsFirst, refused, replied}
 use Rattle.file_world.specs.Tree.{Node, Nodes, FileTree, node_at, IsTree}
-use Rattle.file_world.specs.TreeEffect.{at, child_of, names_in, is_directory, is_into_itself, written, part_of, tree_effect}
-use Rattle.file_world.specs.World.{Item, World, tree_of, IsWorld}
-use Rattle.file_world.specs.Effect.{effect, item_with_place}
+use Rattle.file_world.specs.TreeEffect.{at, child_of, names_in, is_directory, is_into_itself, written, part_of as bytes_part, tree_effect, Change, changed_tree, fresh_tree}
+use Rattle.file_world.specs.Attributes.{Marks, AreMarks}
+use Rattle.file_world.specs.AttributeEffect.{IsMetaOperation, IsAskable, marks_after, meta_effect, fresh_marks}
+use Rattle.file_world.specs.World.{Item, World, tree_of, marks_of, IsWorld, fresh_world}
+use Rattle.file_world.specs.Effect.{part_of, tests_in, IsOperation, refusal, reply, world_after, changed_world, marked_world, effect, item_with_place}
+use Rattle.file_world.specs.Halves.{following, marks_followed, IsDirect, meta_op_of, tree_half_after, MayFollow}
 
 -- an operation that is not refused leaves a tree a tree
 abbrev pub TreesStayTrees : Type 0
@@ -37,15 +43,55 @@ NamesAreChildren = (tree : FileTree) (directory : ℕ) → IsTree tree → IsTru
     → IsStrictlySortedBy (slice_cmp nat_cmp) (map (λ named. named.name) (names_in tree.rows directory))
     × ((name : List ℕ) → lookup (bytes_eq name) (map (λ named. (named.name, named.node.0)) (names_in tree.rows directory)) ≡ child_of tree.rows directory name)
 
--- each operation is refused or gets a reply, and not both
-abbrev pub OutcomesAreDecided : Type 0
-OutcomesAreDecided = (caller : List ℕ) (op : Op) (world : World)
-    → (((refusal : Refusal) × (effect caller op world ≡ refused refusal)) ⊎ ((reply : OpReply) × (after : World) × (effect caller op world ≡ replied reply after)))
-    × ((refusal : Refusal) (reply : OpReply) (after : World) → effect caller op world ≡ refused refusal → effect caller op world ≡ replied reply after → ⊥)
+-- an operation is refused exactly if one of its tests holds, and then as the first that holds says; otherwise it gets its reply
+abbrev pub RefusalsComeInOrder : Type 0
+RefusalsComeInOrder = (caller : List ℕ) (op : Op) (world : World)
+    → ((refusal : Refusal) → (effect caller op world ≡ refused refusal) ↔ IsFirst (tests_in world (part_of op)) refusal)
+    × ((effect caller op world ≡ replied (reply world op) (world_after caller world op)) ↔ NoneHolds (tests_in world (part_of op)))
 
 -- the item of that number
 abbrev pub item_at : World → ℕ → Option Item
 item_at world number = lookup (nat_eq number) world.rows
+
+-- no number is used again: the next number never falls, each number in use is an old one or was the next, and what is gone stays gone
+abbrev pub NumbersAreUsedOnce : Type 0
+NumbersAreUsedOnce = (caller : List ℕ) (op : Op) (world after : World) (reply : OpReply) → effect caller op world ≡ replied reply after
+    → (world.next ≤ after.next)
+    × ((number : ℕ) → IsSome (item_at after number) → IsSome (item_at world number) ⊎ ((number ≡ world.next) × (after.next ≡ world.next + 1)))
+    × ((number : ℕ) → number < world.next → item_at world number ≡ None → (number < after.next) × (item_at after number ≡ None))
+
+-- marks stay within the limits after each operation that is not refused
+abbrev pub MarksStayMarks : Type 0
+MarksStayMarks = (marks after : Marks) (op : MetaOp) (reply : MetaReply) → AreMarks marks → IsMetaOperation op → IsAskable marks op → meta_effect marks op ≡ replied reply after → AreMarks after
+
+-- a change of the tree changes that half of the world as it changes the tree alone, and the other half by what follows
+abbrev pub HalvesFollow : Type 0
+HalvesFollow = (caller : List ℕ) (change : Change) (world : World) → IsWorld world
+    → (tree_of (changed_world caller change world) ≡ changed_tree change (tree_of world))
+    × (marks_of (changed_world caller change world) ≡ marks_followed (marks_of world) (following caller world.next change))
+
+-- an operation on owners and attributes changes that half of the world alone
+abbrev pub MarksChangeAlone : Type 0
+MarksChangeAlone = (op : MetaOp) (world : World) → IsDirect op
+    → (tree_of (marked_world op world) ≡ tree_of world) × (marks_of (marked_world op world) ≡ marks_after (marks_of world) op)
+
+-- the halves of the world after an operation, and that the second may be asked for its part of it
+pub record HalvesAfter (caller : List ℕ) (op : Op) (world after : World) : Type 0 where
+  pub tree : tree_of after ≡ tree_half_after (tree_of world) (part_of op)
+  pub marks : marks_of after ≡ marks_followed (marks_of world) (meta_op_of caller (tree_of world) (part_of op))
+  pub may_follow : MayFollow (marks_of world) (meta_op_of caller (tree_of world) (part_of op))
+
+-- each operation that is not refused does to each half what the half's own operation does
+abbrev pub HalvesKeepStep : Type 0
+HalvesKeepStep = (caller : List ℕ) (op : Op) (world : World) → IsWorld world → refusal world op ≡ None → HalvesAfter caller op world (world_after caller world op)
+
+-- an operation of a principal that is not refused leaves a world within its limits
+abbrev pub WorldsStayWorlds : Type 0
+WorldsStayWorlds = (caller : List ℕ) (op : Op) (world : World) → IsWorld world → IsTrue (is_principal_name caller) → IsOperation op → refusal world op ≡ None → IsWorld (world_after caller world op)
+
+-- the world with the root alone is within its limits
+abbrev pub FreshIsWorld : Type 0
+FreshIsWorld = IsWorld fresh_world × (tree_of fresh_world ≡ fresh_tree) × (marks_of fresh_world ≡ fresh_marks)
 
 -- what is renamed keeps all but its place, and all else stays, also what stands below it
 abbrev pub RenamesKeepTheRest : Type 0
@@ -58,6 +104,6 @@ RenamesKeepTheRest = (caller : List ℕ) (directory target : NodeId) (name renam
 -- what is written is read back, the bytes beside it stay, and a gap before it is zero
 abbrev pub WritesAreReadBack : Type 0
 WritesAreReadBack = (old bytes : List ℕ) (offset : ℕ) → 0 < length bytes
-    → (part_of (written old offset bytes) offset (length bytes) ≡ bytes)
+    → (bytes_part (written old offset bytes) offset (length bytes) ≡ bytes)
     × (take offset (written old offset bytes) ≡ take offset old ++ replicate (offset - length old) 0)
     × (drop (offset + length bytes) (written old offset bytes) ≡ drop (offset + length bytes) old)

@@ -3,7 +3,9 @@ pub mod Attributes
 pub mod Effect
 pub mod Facts
 pub mod FileNames
+pub mod Halves
 pub mod Laws
+pub mod Limits
 pub mod Needs
 pub mod Outcome
 pub mod Tree

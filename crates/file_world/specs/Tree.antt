@@ -1,5 +1,5 @@
 -- The file tree as plain data, and what keeps it a tree within its limits (this project's own).
-use Rattle.std.specs.Prelude.{◌≡◌, ◌≢◌, ◌<◌, ◌≤◌, ◌^◌, ◌-◌, ℕ, List, [], length, map, sum_by, Bool, IsTrue, nat_eq, ◌&&◌, ◌==◌, Option, Some}
+use Rattle.std.specs.Prelude.{◌≡◌, ◌≢◌, ◌<◌, ◌≤◌, ℕ, List, [], length, map, sum_by, Bool, IsTrue, nat_eq, ◌&&◌, ◌==◌, Option, Some}
 use Rattle.std.specs.List.{IsDistinct}
 use Rattle.std.specs.List.Sorted.{IsStrictlySortedBy}
 use Rattle.std.specs.Map.{lookup, keys_of}
@@ -8,6 +8,7 @@ use Rattle.std.specs.Str.{bytes_eq}
 use Rattle.file_world.specs.declared.operation.Kind.{Kind}
 use Rattle.file_world.specs.declared.operation.Kind.TheVariants.{Directory}
 use Rattle.file_world.specs.FileNames.{is_node_name}
+use Rattle.file_world.specs.Limits.{root_number, most_nodes, most_bytes, most_bytes_together, last_number}
 
 -- where a node hangs: the number of its directory, and its name there
 pub record Place : Type 0 where
@@ -50,7 +51,7 @@ contents_sum rows = sum_by (λ row. length row.1.contents) rows
 
 -- following directories from the node of that number leads to the root
 pub data IsReached (rows : Nodes) : ℕ → Type 0 where
-  at_root : IsReached rows 1
+  at_root : IsReached rows root_number
   below : (number : ℕ) (node : Node) → node_at rows number ≡ Some node → (directory : Node) → node_at rows node.place.directory ≡ Some directory → directory.kind ≡ Directory → IsReached rows node.place.directory → IsReached rows number
 
 -- the root: a directory without directory and name
@@ -60,18 +61,18 @@ root = record { kind = Directory; place = record { directory = 0; name = [] }; c
 -- what holds of the node of a number
 pub record IsSound (tree : FileTree) (number : ℕ) (node : Node) : Type 0 where
   pub reached : IsReached tree.rows number
-  pub named : number ≢ 1 → IsTrue (is_node_name node.place.name)
+  pub named : number ≢ root_number → IsTrue (is_node_name node.place.name)
   pub above_zero : 1 ≤ number
   pub below_next : number < tree.next
   pub empty : node.kind ≡ Directory → node.contents ≡ []
-  pub small : length node.contents ≤ 1048576
+  pub small : length node.contents ≤ most_bytes
 
 -- a tree within the limits
 pub record IsTree (tree : FileTree) : Type 0 where
-  pub has_root : node_at tree.rows 1 ≡ Some root
+  pub has_root : node_at tree.rows root_number ≡ Some root
   pub sound : (number : ℕ) (node : Node) → node_at tree.rows number ≡ Some node → IsSound tree number node
   pub rising : IsStrictlySortedBy nat_cmp (keys_of tree.rows)
   pub places_differ : IsDistinct is_place (keys_of (places_of tree.rows))
-  pub few : length tree.rows ≤ 16384
-  pub fits : contents_sum tree.rows ≤ 33554432
-  pub next_fits : tree.next ≤ 2 ^ 64 - 1
+  pub few : length tree.rows ≤ most_nodes
+  pub fits : contents_sum tree.rows ≤ most_bytes_together
+  pub next_fits : tree.next ≤ last_number

@@ -1,5 +1,5 @@
 -- What each operation does to the file tree: its refusals in their order, its reply, and its change (this project's own).
-use Rattle.std.specs.Prelude.{ℕ, zero, suc, List, [], ◌∷◌, ◌++◌, ◌+◌, ◌-◌, ◌^◌, length, take, drop, replicate, max, Option, Some, None, is_some, is_none, unwrap_or, Bool, true, false, not, nat_lt, nat_le, nat_eq, ◌||◌, ◌==◌, if◌then◌else◌}
+use Rattle.std.specs.Prelude.{ℕ, zero, suc, List, [], ◌∷◌, ◌++◌, ◌+◌, ◌-◌, length, take, drop, replicate, max, Option, Some, None, is_some, is_none, unwrap_or, Bool, true, false, not, nat_lt, nat_le, nat_eq, ◌||◌, ◌==◌, if◌then◌else◌}
 use Rattle.std.specs.List.{list_any}
 use Rattle.std.specs.Map.{remove_entry}
 use Rattle.std.specs.Ordering.{is_lt, nat_cmp}
@@ -14,7 +14,8 @@ use Rattle.file_world.specs.declared.reply.NamedNode.{NamedNode}
 use Rattle.file_world.specs.declared.reply.TreeReply.{TreeReply}
 use Rattle.file_world.specs.declared.reply.TreeReply.TheVariants.{Done, Bytes as BytesOf, Names as NamesOf, Node as NodeOf}
 use Rattle.file_world.specs.FileNames.{is_node_name}
-use Rattle.file_world.specs.Tree.{Place, Node, Nodes, FileTree, node_at, number_at, contents_sum}
+use Rattle.file_world.specs.Limits.{root_number, most_nodes, most_bytes, most_bytes_together, last_number}
+use Rattle.file_world.specs.Tree.{Place, Node, Nodes, FileTree, node_at, number_at, contents_sum, root}
 use Rattle.file_world.specs.Outcome.{Tests, first_of, Outcome, outcome}
 
 -- ---- what the tests ask
@@ -44,7 +45,7 @@ has_names rows directory = list_any (λ row. row.1.place.directory == directory)
 
 -- no node, or no number, is left for another
 abbrev pub is_full : FileTree → Bool
-is_full tree = nat_le 16384 (length tree.rows) || (tree.next == 2 ^ 64 - 1)
+is_full tree = nat_le most_nodes (length tree.rows) || (tree.next == last_number)
 
 -- the walk goes on to the node's directory; it fails where there is no node
 abbrev pub leads_on : Option Node → (ℕ → Bool) → Bool
@@ -56,7 +57,7 @@ abbrev pub leads_past : ℕ → Nodes → ℕ → ℕ → Bool
 leads_past zero rows avoided number = false
 leads_past (suc steps) rows avoided number =
     if number == avoided then false else
-    if number == 1 then true else
+    if number == root_number then true else
     leads_on (node_at rows number) (leads_past steps rows avoided)
 
 -- the node to be moved is the new directory or stands above it
@@ -113,7 +114,7 @@ length_after old offset len = if len == 0 then old else max old (offset + len)
 -- the end of what the file is to have, and all contents with the new length in the place of the old one
 abbrev pub length_tests : Nodes → ℕ → ℕ → ℕ → Tests
 length_tests rows number end len =
-    (nat_lt 1048576 end, TooBig) ∷ (nat_lt 33554432 (contents_sum rows - length (contents_of (node_at rows number)) + len), TreeFull) ∷ []
+    (nat_lt most_bytes end, TooBig) ∷ (nat_lt most_bytes_together (contents_sum rows - length (contents_of (node_at rows number)) + len), TreeFull) ∷ []
 
 abbrev pub write_tests : Nodes → ℕ → ℕ → List ℕ → Tests
 write_tests rows number offset bytes =
@@ -231,4 +232,4 @@ tree_effect tree op = outcome (tree_refusal tree op) (tree_reply tree op) (tree_
 
 -- the tree with the root alone
 abbrev pub fresh_tree : FileTree
-fresh_tree = record { rows = (1, record { kind = Directory; place = record { directory = 0; name = [] }; contents = [] }) ∷ []; next = 2 }
+fresh_tree = record { rows = (root_number, root) ∷ []; next = root_number + 1 }

@@ -1,7 +1,8 @@
 -- The world of the server: its nodes with all that is kept of them, and the number of the next one (this project's own).
-use Rattle.std.specs.Prelude.{ℕ, List, [], ◌∷◌, map, codes}
+use Rattle.std.specs.Prelude.{ℕ, List, [], ◌∷◌, ◌+◌, map, codes}
 use Rattle.file_world.specs.declared.operation.Kind.{Kind}
 use Rattle.file_world.specs.declared.operation.Kind.TheVariants.{Directory}
+use Rattle.file_world.specs.Limits.{root_number}
 use Rattle.file_world.specs.Tree.{Place, Node, FileTree, IsTree}
 use Rattle.file_world.specs.Attributes.{Attributes, Mark, Marks, AreMarks}
 
@@ -41,4 +42,4 @@ pub record IsWorld (world : World) : Type 0 where
 
 -- the world with the root alone, which `admin` owns
 abbrev pub fresh_world : World
-fresh_world = record { rows = (1, record { kind = Directory; owner = codes "admin"; attributes = []; place = record { directory = 0; name = [] }; contents = [] }) ∷ []; next = 2 }
+fresh_world = record { rows = (root_number, record { kind = Directory; owner = codes "admin"; attributes = []; place = record { directory = 0; name = [] }; contents = [] }) ∷ []; next = root_number + 1 }

@@ -1,6 +1,6 @@
 //! Laws of the definitions. The functions do nothing: each contract is a law.
 
-ghost use Rattle.file_world.specs.Laws.{TreesStayTrees, WalksAreLongEnough, NamesAreChildren, OutcomesAreDecided, RenamesKeepTheRest, WritesAreReadBack};
+ghost use Rattle.file_world.specs.Laws.{TreesStayTrees, WalksAreLongEnough, NamesAreChildren, RefusalsComeInOrder, NumbersAreUsedOnce, MarksStayMarks, HalvesFollow, MarksChangeAlone, HalvesKeepStep, WorldsStayWorlds, FreshIsWorld, RenamesKeepTheRest, WritesAreReadBack};
 
 /// An operation that is not refused leaves a tree a tree.
 pub fn trees_stay_trees()
@@ -17,9 +17,47 @@ pub fn names_are_children()
     ensures { NamesAreChildren }
 {}
 
-/// Each operation is refused or gets a reply, and not both.
-pub fn outcomes_are_decided()
-    ensures { OutcomesAreDecided }
+/// An operation is refused exactly if one of the tests in its table holds, and then as the first that holds says;
+/// otherwise it gets its reply.
+pub fn refusals_come_in_order()
+    ensures { RefusalsComeInOrder }
+{}
+
+/// No number is used again: the next number never falls, each number in use was in use before or was the next, and a
+/// number that is gone stays gone.
+pub fn numbers_are_used_once()
+    ensures { NumbersAreUsedOnce }
+{}
+
+/// An operation on owners and attributes that is not refused leaves them within their limits.
+pub fn marks_stay_marks()
+    ensures { MarksStayMarks }
+{}
+
+/// A change of the tree changes the tree's half of a world as it changes a tree alone, and the other half by the
+/// operation that follows it.
+pub fn halves_follow()
+    ensures { HalvesFollow }
+{}
+
+/// An operation on owners and attributes changes that half of a world as it changes them alone, and leaves the tree.
+pub fn marks_change_alone()
+    ensures { MarksChangeAlone }
+{}
+
+/// Each operation that is not refused does to each half of a world what the half's own operation does.
+pub fn halves_keep_step()
+    ensures { HalvesKeepStep }
+{}
+
+/// An operation of a principal that is not refused leaves a world within its limits.
+pub fn worlds_stay_worlds()
+    ensures { WorldsStayWorlds }
+{}
+
+/// The world with the root alone is within its limits, and its halves are the tree and the marks of the root alone.
+pub fn fresh_is_world()
+    ensures { FreshIsWorld }
 {}
 
 /// A node that is renamed keeps its number, owner, attributes and contents, and every other node stays as it is, also

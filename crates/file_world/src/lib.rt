@@ -5,10 +5,15 @@
 #![tactic(auto)]
 
 pub mod laws;
+mod limits;
 mod operation;
 mod refusal;
 mod reply;
 
+pub use limits::{
+    LAST_NUMBER, LONGEST_NAME, MOST_ATTRIBUTES, MOST_BYTES, MOST_BYTES_TOGETHER, MOST_NODES,
+    ROOT_NUMBER,
+};
 pub use operation::{Kind, MetaOp, Op, TreeOp};
 pub use refusal::{OpFault, Refusal};
 pub use reply::{MetaReply, NamedNode, Names, OpReply, TreeReply};

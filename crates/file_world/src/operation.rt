@@ -1,6 +1,9 @@
 //! Operations on the file system, and what of them falls to the tree and to the attributes.
 
-use bl_syntax::{Bytes, NodeId, Principal, Text};
+ghost use Rattle.std.specs.Prelude.{◌≡◌, IfOk};
+
+use bl_syntax::{Bytes, NoMemory, NodeId, Principal, Text};
+use std::alloc::Global;
 
 /// What a node is.
 #[derive(Clone, Copy, Debug, PartialEq, Eq)]
@@ -80,4 +83,30 @@ pub enum Op {
     Delattr(NodeId, Bytes),
     /// The node, and its new owner.
     Chown(NodeId, Principal),
+}
+
+impl Op {
+    /// An equal operation in memory of its own.
+    pub fn copy(&self, alloc: Global) -> Result<Op, NoMemory>
+        ensures { IfOk result (λ copied. copied ≡ self.now) }
+    {
+        match self {
+            Op::Read(file, offset, len) => Ok(Op::Read(*file, *offset, *len)),
+            Op::Write(file, offset, bytes) => Ok(Op::Write(*file, *offset, bytes.copy(alloc)?)),
+            Op::Truncate(file, len) => Ok(Op::Truncate(*file, *len)),
+            Op::List(directory) => Ok(Op::List(*directory)),
+            Op::Lookup(directory, name) => Ok(Op::Lookup(*directory, name.copy(alloc)?)),
+            Op::Create(directory, name) => Ok(Op::Create(*directory, name.copy(alloc)?)),
+            Op::Mkdir(directory, name) => Ok(Op::Mkdir(*directory, name.copy(alloc)?)),
+            Op::Unlink(directory, name) => Ok(Op::Unlink(*directory, name.copy(alloc)?)),
+            Op::Rename(directory, name, target, renamed) => {
+                let name = name.copy(alloc)?;
+                Ok(Op::Rename(*directory, name, *target, renamed.copy(alloc)?))
+            }
+            Op::Getattr(node, name) => Ok(Op::Getattr(*node, name.copy(alloc)?)),
+            Op::Setattr(node, name, value) => Ok(Op::Setattr(*node, name.copy(alloc)?, *value)),
+            Op::Delattr(node, name) => Ok(Op::Delattr(*node, name.copy(alloc)?)),
+            Op::Chown(node, owner) => Ok(Op::Chown(*node, *owner)),
+        }
+    }
 }

@@ -1,8 +1,8 @@
 -- Each operation's change is what was made ready for it.
-use Rattle.std.proofs.Common.{◌≡◌, ◌≤◌, ◌+◌, ◌^◌, ◌<◌, ℕ, List, Option, Some, None, IsSome, length, sym, ap, ◌∙◌, subst, arith}
+use Rattle.std.proofs.Common.{◌≤◌, ℕ, List, IsSome, length, sym, ap, ◌∙◌, subst, arith}
 use Rattle.file_world.specs.Tree.{node_at, contents_sum}
 use Rattle.file_world.specs.TreeEffect.{contents_of, written, at}
-use Rattle.file_tree.specs.Index.{rows_of, kept_at, held_at, HasRoom, number_ready, Removes, Relocates}
+use Rattle.file_tree.specs.Index.{rows_of, kept_at, held_at, HasRoom, Removes, Relocates}
 use Rattle.file_tree.proofs.ChangeLemmas.{at_create, changes_create, at_mkdir, changes_mkdir, at_write, changes_write, at_truncate, changes_truncate, little_sum, at_unlink, changes_unlink, at_rename, changes_rename}
 use Rattle.file_tree.proofs.applying.change.Goals as goal
 

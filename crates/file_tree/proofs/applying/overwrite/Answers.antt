@@ -1,5 +1,4 @@
 -- The part that is written lies between what stood before it and what stood after it.
-use Rattle.std.proofs.Common.{◌≡◌, ℕ, ◌+◌, ◌-◌, List, ◌++◌, length, take, drop, refl, sym, ap, ◌∙◌, arith, drop-drop, append_assoc}
 use Rattle.file_tree.proofs.PartLemmas.{part_written}
 use Rattle.file_tree.proofs.applying.overwrite.Goals as goal
 

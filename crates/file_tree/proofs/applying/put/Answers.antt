@@ -1,4 +1,4 @@
-use Rattle.std.proofs.Common.{◌≡◌, ◌+◌, ◌-◌, ◌++◌, Bool, true, cond, List, ℕ, take, drop, replicate, length, is_ok, ap, sym, ◌∙◌, arith}
+use Rattle.std.proofs.Common.{◌≡◌, ◌+◌, ◌-◌, ◌++◌, List, ℕ, take, drop, replicate, length, is_ok, ap, sym, ◌∙◌, arith}
 use Rattle.std.proofs.lemmas.Bool.{eqb-false, cond-true}
 use Rattle.file_tree.proofs.PartLemmas.{whole_written, put_over, put_within}
 use Rattle.file_tree.proofs.applying.put.Goals as goal

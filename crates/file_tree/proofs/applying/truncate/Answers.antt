@@ -1,5 +1,5 @@
 -- The file is the node behind the reference, with its contents cut or filled up.
-use Rattle.std.proofs.Common.{◌≡◌, ◌+◌, ◌-◌, ℕ, List, Option, Some, refl, sym, ap, ◌∙◌, length, arith}
+use Rattle.std.proofs.Common.{◌≡◌, ℕ, List, Option, Some, refl, sym, ap, ◌∙◌, arith}
 use Rattle.file_world.specs.Tree.{Node, node_at}
 use Rattle.file_world.specs.TreeEffect.{contents_of, resized, with_contents}
 use Rattle.file_world.proofs.EffectLemmas.{length-resized}

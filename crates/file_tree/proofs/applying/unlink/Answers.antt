@@ -1,5 +1,5 @@
 -- The node's entry goes, and then its name.
-use Rattle.std.proofs.Common.{◌≡◌, ◌+◌, ◌-◌, Option, length, sym, ap, ◌∙◌, arith}
+use Rattle.std.proofs.Common.{◌≡◌, Option, length, ap, ◌∙◌, arith}
 use Rattle.file_world.specs.Tree.{Node}
 use Rattle.file_world.specs.TreeEffect.{contents_of}
 use Rattle.file_tree.specs.Index.{rows_of, place_of}

@@ -1,4 +1,4 @@
-use Rattle.std.proofs.Common.{◌≡◌, Option, Some, List, ℕ, IfOk, sym, ap, ◌∙◌, subst}
+use Rattle.std.proofs.Common.{◌≡◌, Option, List, ℕ, IfOk, sym, ap, ◌∙◌, subst}
 use Rattle.file_world.specs.Tree.{Node}
 use Rattle.file_world.specs.TreeEffect.{contents_of, part_of}
 use Rattle.file_tree.proofs.PartLemmas.{none_of_none}

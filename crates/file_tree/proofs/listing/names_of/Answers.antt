@@ -1,7 +1,6 @@
 -- The names that a directory keeps are those of its children, both in byte order.
-use Rattle.std.proofs.Common.{◌≡◌, ℕ, List, Option, Some, None, IfOk, map, sym, ap, ◌∙◌, subst, refl}
+use Rattle.std.proofs.Common.{◌≡◌, List, IfOk, sym, subst}
 use Rattle.file_world.specs.declared.reply.NamedNode.{NamedNode}
-use Rattle.file_tree.specs.Index.{rows_of, tree_in}
 use Rattle.file_tree.proofs.ListLemmas.{listed_names, no_listed_names}
 use Rattle.file_tree.proofs.listing.names_of.Goals as goal
 

@@ -1,5 +1,5 @@
 -- What is ready decides what is given up.
-use Rattle.std.proofs.Common.{◌≡◌, Option, Some, None, sym, ap, ◌∙◌, subst}
+use Rattle.std.proofs.Common.{Some, sym, ap, ◌∙◌, subst}
 use Rattle.file_tree.specs.declared.ready.Ready.{Ready}
 use Rattle.file_tree.specs.Index.{rows_of, settled, IsKept}
 use Rattle.file_tree.proofs.KeptLemmas.{forgets_moved, forgets_made, forgets_nothing, forgets_contents, forgets_gone}

@@ -1,5 +1,5 @@
 -- What the absence of a refusal says of the nodes and names that an operation names.
-use Rattle.std.proofs.Common.{◌≡◌, ◌≤◌, ℕ, List, Option, Some, None, length, sym, subst}
+use Rattle.std.proofs.Common.{◌≡◌, ◌≤◌, ℕ, List, None, length, sym, subst}
 use Rattle.std.proofs.lemmas.Bool.{not-false}
 use Rattle.file_world.specs.declared.operation.TreeOp.{TreeOp}
 use Rattle.file_world.specs.declared.operation.TreeOp.TheVariants.{Write, Truncate, Create, Mkdir, Unlink, Rename}

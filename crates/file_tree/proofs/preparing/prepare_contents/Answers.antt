@@ -1,7 +1,6 @@
-use Rattle.std.proofs.Common.{◌≡◌, ℕ, List, Some, refl, sym, ap, arith}
-use Rattle.file_world.specs.Tree.{Node}
+use Rattle.std.proofs.Common.{◌≡◌, ℕ, List, Some, refl, ap, arith}
 use Rattle.file_tree.specs.declared.node.Node.{Node as Kept}
-use Rattle.file_tree.specs.Index.{kept_at, shown}
+use Rattle.file_tree.specs.Index.{kept_at}
 use Rattle.file_tree.proofs.IndexLemmas.{SetsValue-from_map, found_behind, kept-set, Keeps-from_set, same_names}
 use Rattle.file_tree.proofs.KeptLemmas.{Prepares-contents, Stays-from_Keeps}
 use Rattle.file_tree.proofs.preparing.prepare_contents.Goals as goal

@@ -1,4 +1,4 @@
-use Rattle.std.proofs.Common.{◌≡◌, ℕ, List, None, Some, refl, ap, ◌∙◌}
+use Rattle.std.proofs.Common.{◌≡◌, ℕ, List, None, Some, ap, ◌∙◌}
 use Rattle.file_world.specs.TreeEffect.{child_of}
 use Rattle.file_tree.specs.declared.ready.Spot.{Spot}
 use Rattle.file_tree.specs.declared.ready.Ready.TheVariants.{Made}

@@ -1,7 +1,6 @@
-use Rattle.std.proofs.Common.{None, refl}
 use Rattle.file_tree.specs.Index.{rows_of}
 use Rattle.file_world.proofs.EffectLemmas.{directory_from}
-use Rattle.file_tree.proofs.KeptLemmas.{some_kept, Prepares-moved, Stays-from_Keeps}
+use Rattle.file_tree.proofs.KeptLemmas.{some_kept}
 use Rattle.file_tree.proofs.preparing.prepare_moved.Goals as goal
 
 pub enter-requires : goal.enter-requires

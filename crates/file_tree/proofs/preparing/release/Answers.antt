@@ -1,8 +1,8 @@
 -- The directory is the node behind the reference without the name; where there is no node, nothing is kept.
-use Rattle.std.proofs.Common.{◌≡◌, Option, Some, None, refl, sym, subst}
+use Rattle.std.proofs.Common.{◌≡◌, Some, None, refl, sym}
 use Rattle.file_tree.specs.declared.node.Node.{Node as Kept}
-use Rattle.file_tree.specs.Index.{Entries, kept_at, place_of, Puts}
-use Rattle.file_tree.proofs.IndexLemmas.{SetsValue-from_map, found_behind, ChangesName-removed, Puts-from_set, Puts-missing}
+use Rattle.file_tree.specs.Index.{kept_at, place_of}
+use Rattle.file_tree.proofs.IndexLemmas.{SetsValue-from_map, ChangesName-removed, Puts-from_set}
 use Rattle.file_tree.proofs.preparing.release.Goals as goal
 
 pub returns-in-Some : goal.returns-in-Some

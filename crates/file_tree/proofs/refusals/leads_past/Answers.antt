@@ -14,7 +14,7 @@ returns-in-None c =
     let rows : Nodes = rows_of entries in
     let all : length rows ≡ length entries = length-map entries _ in
     let some : 0 < length rows - c.loop-step._step = omega (arith, all, c.len-step-end.ensures.len, c.loop-step-test.true) in
-    sym (leads_further (length rows - c.loop-step._step) rows c.args.avoided c.loop-step.number None some c.if-number-avoided.false c.if-number-eq1.false (node_at-missing entries c.loop-step.number (sym c.in-None.ensures.value)))
+    sym (leads_further (length rows - c.loop-step._step) rows c.args.avoided c.loop-step.number None some c.if-number-avoided.false c.if-number-eq-ROOT_NUMBER.false (node_at-missing entries c.loop-step.number (sym c.in-None.ensures.value)))
     ∙ c.loop-step.invariant
 
 pub loop-step-preserved : goal.loop-step-preserved
@@ -26,5 +26,5 @@ loop-step-preserved c =
     let some : 0 < length rows - c.loop-step._step = omega (arith, all, c.len-step-end.ensures.len, c.loop-step-test.true) in
     let next : length rows - (c.loop-step._step + 1) ≡ length rows - c.loop-step._step - 1 = omega arith in
     ap (λ (s : ℕ). leads_past s rows c.args.avoided node.parent) next
-    ∙ (sym (leads_further (length rows - c.loop-step._step) rows c.args.avoided c.loop-step.number (Some (shown node)) some c.if-number-avoided.false c.if-number-eq1.false (node_at-kept entries c.loop-step.number node (sym c.in-Some.ensures.value)))
+    ∙ (sym (leads_further (length rows - c.loop-step._step) rows c.args.avoided c.loop-step.number (Some (shown node)) some c.if-number-avoided.false c.if-number-eq-ROOT_NUMBER.false (node_at-kept entries c.loop-step.number node (sym c.in-Some.ensures.value)))
     ∙ c.loop-step.invariant)

@@ -1,8 +1,7 @@
 -- One node is kept, the root.
-use Rattle.std.proofs.Common.{◌≡◌, ℕ, List, [], ◌∷◌, refl, ap, ◌∙◌, nat_cmp}
+use Rattle.std.proofs.Common.{◌≡◌, ℕ, List, [], ◌∷◌, ap, ◌∙◌, nat_cmp}
 use Rattle.std.specs.BTreeMap.{insert_entry}
 use Rattle.file_world.specs.declared.operation.Kind.TheVariants.{Directory}
-use Rattle.file_world.specs.Tree.{Node}
 use Rattle.file_tree.specs.declared.node.Node.{Node as Kept}
 use Rattle.file_tree.specs.Index.{Entries}
 use Rattle.file_tree.proofs.FreshLemmas.{fresh_kept}
