@@ -1,7 +1,6 @@
 //! Operations on owners and attributes, one after the other.
 
-ghost use Rattle.std.specs.Prelude.{◌≡◌, None, IsSome};
-ghost use Rattle.file_world.specs.Attributes.{mark_at};
+ghost use Rattle.std.specs.Prelude.{IsTrue};
 ghost use Rattle.file_world.specs.AttributeEffect.{IsAskable};
 
 use attr_state::{Meta, MetaOp, MetaReply, OpFault, Refusal};
@@ -10,13 +9,24 @@ use condition_set::Facts;
 use std::alloc::Global;
 use std::test::Fail;
 
-/// What an operation answers, as tests compare it.
-#[derive(Clone, Copy, Debug, PartialEq, Eq)]
-enum Answer {
+/// An operation, by its words.
+#[derive(Clone, Copy)]
+enum Call<'a> {
+    Get(u64, &'a [u8]),
+    Set(u64, &'a [u8], &'a [u8]),
+    Remove(u64, &'a [u8]),
+    Chown(u64, &'a [u8]),
+    Add(u64, &'a [u8], u64),
+    Drop(u64),
+    Move(u64, u64),
+}
+
+/// What an operation is to answer.
+#[derive(Clone, Copy)]
+enum Wanted<'a> {
     Done,
-    Text(Text),
+    Text(&'a [u8]),
     Refused(Refusal),
-    NoMemory,
 }
 
 fn bytes(alloc: Global, name: &[u8]) -> Result<Bytes, NoMemory> {
@@ -33,209 +43,206 @@ fn principal(name: &[u8]) -> Result<Principal, Fail> {
     Ok(Principal::new(name).ok_or("no name")?)
 }
 
-// Reserves the operation and applies it.
-fn perform(meta: &mut Meta, alloc: Global, op: &MetaOp) -> Answer
-    requires { IsAskable meta.old.marks op.now }
-{
-    match meta.reserve(alloc, op) {
-        Ok(reply) => {
-            meta.apply(op);
-            match reply {
-                MetaReply::Done => Answer::Done,
-                MetaReply::Text(text) => Answer::Text(text),
-            }
+fn op_of(alloc: Global, call: &Call) -> Result<MetaOp, Fail> {
+    match call {
+        Call::Get(node, name) => Ok(MetaOp::Get(NodeId(*node), bytes(alloc, name)?)),
+        Call::Set(node, name, value) => {
+            Ok(MetaOp::Set(NodeId(*node), bytes(alloc, name)?, text(value)?))
         }
-        Err(OpFault::Refused(refusal)) => Answer::Refused(refusal),
-        Err(OpFault::NoMemory) => Answer::NoMemory,
+        Call::Remove(node, name) => Ok(MetaOp::Remove(NodeId(*node), bytes(alloc, name)?)),
+        Call::Chown(node, owner) => Ok(MetaOp::Chown(NodeId(*node), principal(owner)?)),
+        Call::Add(node, owner, parent) => {
+            Ok(MetaOp::Add(NodeId(*node), principal(owner)?, NodeId(*parent)))
+        }
+        Call::Drop(node) => Ok(MetaOp::Drop(NodeId(*node))),
+        Call::Move(node, parent) => Ok(MetaOp::Move(NodeId(*node), NodeId(*parent))),
     }
 }
 
-fn get(meta: &mut Meta, alloc: Global, node: u64, name: &[u8]) -> Result<Answer, Fail> {
-    let op = MetaOp::Get(NodeId(node), bytes(alloc, name)?);
-    Ok(perform(meta, alloc, &op))
-}
-
-fn set(
-    meta: &mut Meta,
-    alloc: Global,
-    node: u64,
-    name: &[u8],
-    value: &[u8],
-) -> Result<Answer, Fail> {
-    let op = MetaOp::Set(NodeId(node), bytes(alloc, name)?, text(value)?);
-    Ok(perform(meta, alloc, &op))
-}
-
-fn remove(meta: &mut Meta, alloc: Global, node: u64, name: &[u8]) -> Result<Answer, Fail> {
-    let op = MetaOp::Remove(NodeId(node), bytes(alloc, name)?);
-    Ok(perform(meta, alloc, &op))
-}
-
-fn chown(meta: &mut Meta, alloc: Global, node: u64, owner: &[u8]) -> Result<Answer, Fail> {
-    let op = MetaOp::Chown(NodeId(node), principal(owner)?);
-    Ok(perform(meta, alloc, &op))
-}
-
-fn add(
-    meta: &mut Meta,
-    alloc: Global,
-    node: u64,
-    owner: &[u8],
-    parent: u64,
-) -> Result<Answer, Fail> {
-    if meta.contains(NodeId(node)) {
-        return Err(Fail::from("the node is there"));
+fn is_askable(meta: &Meta, op: &MetaOp) -> bool
+    ensures { IsTrue result → IsAskable meta.now.marks op.now }
+{
+    match op {
+        MetaOp::Add(node, _, _) => !meta.contains(*node),
+        MetaOp::Drop(node) => meta.contains(*node),
+        MetaOp::Move(node, _) => meta.contains(*node),
+        MetaOp::Get(_, _) => true,
+        MetaOp::Set(_, _, _) => true,
+        MetaOp::Remove(_, _) => true,
+        MetaOp::Chown(_, _) => true,
     }
-    let op = MetaOp::Add(NodeId(node), principal(owner)?, NodeId(parent));
-    Ok(perform(meta, alloc, &op))
 }
 
-fn drop_node(meta: &mut Meta, alloc: Global, node: u64) -> Result<Answer, Fail> {
-    if !meta.contains(NodeId(node)) {
-        return Err(Fail::from("the node is not there"));
+fn is_wanted(reply: &MetaReply, wanted: &Wanted) -> bool {
+    match (reply, wanted) {
+        (MetaReply::Done, Wanted::Done) => true,
+        (MetaReply::Text(text), Wanted::Text(value)) => text.bytes() == *value,
+        _ => false,
     }
-    let op = MetaOp::Drop(NodeId(node));
-    Ok(perform(meta, alloc, &op))
 }
 
-fn relocate(meta: &mut Meta, alloc: Global, node: u64, parent: u64) -> Result<Answer, Fail> {
-    if !meta.contains(NodeId(node)) {
-        return Err(Fail::from("the node is not there"));
+// Whether the operation, reserved and applied, answers what is wanted.
+fn answers(meta: &mut Meta, alloc: Global, call: &Call, wanted: &Wanted) -> Result<bool, Fail> {
+    let op = op_of(alloc, call)?;
+    if !is_askable(meta, &op) {
+        return Ok(false);
     }
-    let op = MetaOp::Move(NodeId(node), NodeId(parent));
-    Ok(perform(meta, alloc, &op))
+    match (meta.reserve(alloc, &op), wanted) {
+        (Ok(reply), wanted) => {
+            meta.apply(&op);
+            Ok(is_wanted(&reply, wanted))
+        }
+        (Err(OpFault::Refused(refusal)), Wanted::Refused(reason)) => Ok(refusal == *reason),
+        _ => Ok(false),
+    }
 }
 
-fn is_owner(meta: &Meta, node: u64, owner: &[u8]) -> Result<bool, Fail> {
-    let s = StatePred::Owner(Term::File(NodeId(node)), Term::Prin(principal(owner)?));
-    Ok(meta.holds(&s))
+// Whether each operation in turn answers what is wanted.
+fn all_answer(meta: &mut Meta, alloc: Global, calls: &[(Call, Wanted)]) -> Result<bool, Fail> {
+    for (call, wanted) in calls {
+        if !answers(meta, alloc, call, wanted)? {
+            return Ok(false);
+        }
+    }
+    Ok(true)
 }
 
-fn has(meta: &Meta, node: u64, name: &[u8], value: &[u8]) -> Result<bool, Fail> {
-    let s = StatePred::HasXattr(
-        Term::File(NodeId(node)),
-        Term::Text(text(name)?),
-        Term::Text(text(value)?),
-    );
-    Ok(meta.holds(&s))
+fn file(node: u64) -> Term {
+    Term::File(NodeId(node))
 }
 
-fn is_in(meta: &Meta, node: u64, directory: u64) -> bool {
-    let s = StatePred::InDir(Term::File(NodeId(node)), Term::File(NodeId(directory)));
-    meta.holds(&s)
+fn owned(node: u64, owner: &[u8]) -> Result<StatePred, Fail> {
+    Ok(StatePred::Owner(file(node), Term::Prin(principal(owner)?)))
+}
+
+fn has(node: u64, name: &[u8], value: &[u8]) -> Result<StatePred, Fail> {
+    let name = Term::Text(text(name)?);
+    let value = Term::Text(text(value)?);
+    Ok(StatePred::HasXattr(file(node), name, value))
+}
+
+fn is_in(node: u64, directory: u64) -> StatePred {
+    StatePred::InDir(file(node), file(directory))
+}
+
+// How many of the predicates are true.
+fn true_of(meta: &Meta, predicates: &[StatePred]) -> usize {
+    predicates.iter().filter(|s| meta.holds(s)).count()
 }
 
 #[test]
 fn each_operation_is_made(rt: HostRuntime) -> Result<(), Fail> {
-    let alloc = rt.alloc();
-    let mut meta = Meta::new(alloc)?;
-    assert_eq!(rt; add(&mut meta, alloc, 2, b"alice", 1)?, Answer::Done);
-    assert_eq!(rt;
-        set(&mut meta, alloc, 2, b"pcfs.class", b"secret")?,
-        Answer::Done
-    );
-    assert_eq!(rt;
-        set(&mut meta, alloc, 2, b"pcfs.class", b"public")?,
-        Answer::Done
-    );
-    assert_eq!(rt;
-        get(&mut meta, alloc, 2, b"pcfs.class")?,
-        Answer::Text(text(b"public")?)
-    );
-    assert_eq!(rt; chown(&mut meta, alloc, 2, b"bob")?, Answer::Done);
-    assert_eq!(rt; relocate(&mut meta, alloc, 2, 3)?, Answer::Done);
-    assert!(rt; is_owner(&meta, 2, b"bob")? && !is_owner(&meta, 2, b"alice")?);
-    assert!(rt;
-        has(&meta, 2, b"pcfs.class", b"public")? && !has(&meta, 2, b"pcfs.class", b"secret")?
-    );
-    assert!(rt; is_in(&meta, 2, 3) && !is_in(&meta, 2, 1));
-    assert_eq!(rt; remove(&mut meta, alloc, 2, b"pcfs.class")?, Answer::Done);
-    assert_eq!(rt; drop_node(&mut meta, alloc, 2)?, Answer::Done);
-    assert!(rt; !is_owner(&meta, 2, b"bob")? && !meta.contains(NodeId(2)));
+    let mut meta = Meta::new(rt.alloc())?;
+    let calls = [
+        (Call::Add(2, b"alice", 1), Wanted::Done),
+        (Call::Set(2, b"pcfs.class", b"secret"), Wanted::Done),
+        (Call::Set(2, b"pcfs.class", b"public"), Wanted::Done),
+        (Call::Get(2, b"pcfs.class"), Wanted::Text(b"public")),
+        (Call::Chown(2, b"bob"), Wanted::Done),
+        (Call::Move(2, 3), Wanted::Done),
+    ];
+    assert!(rt; all_answer(&mut meta, rt.alloc(), &calls)?);
+    let held = [
+        owned(2, b"bob")?,
+        has(2, b"pcfs.class", b"public")?,
+        is_in(2, 3),
+    ];
+    let others = [
+        owned(2, b"alice")?,
+        has(2, b"pcfs.class", b"secret")?,
+        is_in(2, 1),
+    ];
+    assert!(rt; true_of(&meta, &held) == 3 && true_of(&meta, &others) == 0);
+    let calls = [
+        (Call::Remove(2, b"pcfs.class"), Wanted::Done),
+        (
+            Call::Get(2, b"pcfs.class"),
+            Wanted::Refused(Refusal::NoAttribute),
+        ),
+        (Call::Drop(2), Wanted::Done),
+        (
+            Call::Get(2, b"pcfs.class"),
+            Wanted::Refused(Refusal::NoNode),
+        ),
+    ];
+    assert!(rt; all_answer(&mut meta, rt.alloc(), &calls)? && true_of(&meta, &held) == 0);
     Ok(())
 }
 
 #[test]
 fn the_root_has_an_owner_and_no_directory(rt: HostRuntime) -> Result<(), Fail> {
     let meta = Meta::new(rt.alloc())?;
-    assert_eq!(rt; meta.owner(NodeId(1)), Principal::new(b"admin"));
-    assert!(rt; is_owner(&meta, 1, b"admin")? && !is_in(&meta, 1, 0) && !is_in(&meta, 1, 1));
+    let others = [is_in(1, 0), is_in(1, 1), owned(0, b"admin")?];
+    assert!(rt; true_of(&meta, &[owned(1, b"admin")?]) == 1 && true_of(&meta, &others) == 0);
+    assert!(rt; meta.owner(NodeId(1)) == Principal::new(b"admin"));
     Ok(())
+}
+
+// Whether the bytes are refused as a name wherever one is asked for.
+fn is_no_name(meta: &mut Meta, alloc: Global, name: &[u8]) -> Result<bool, Fail> {
+    let refused = Wanted::Refused(Refusal::BadAttrName);
+    let calls = [
+        (Call::Get(1, name), refused),
+        (Call::Set(1, name, b""), refused),
+        (Call::Remove(1, name), refused),
+    ];
+    all_answer(meta, alloc, &calls)
 }
 
 #[test]
 fn the_first_refusal_is_reported(rt: HostRuntime) -> Result<(), Fail> {
-    let alloc = rt.alloc();
-    let mut meta = Meta::new(alloc)?;
-    assert_eq!(rt;
-        get(&mut meta, alloc, 2, b"A")?,
-        Answer::Refused(Refusal::NoNode)
-    );
-    assert_eq!(rt;
-        chown(&mut meta, alloc, 2, b"bob")?,
-        Answer::Refused(Refusal::NoNode)
-    );
+    let mut meta = Meta::new(rt.alloc())?;
     let long = [b'a'; 65];
+    let calls = [
+        (Call::Get(2, b"A"), Wanted::Refused(Refusal::NoNode)),
+        (Call::Chown(2, b"bob"), Wanted::Refused(Refusal::NoNode)),
+        (
+            Call::Remove(1, &long[..64]),
+            Wanted::Refused(Refusal::NoAttribute),
+        ),
+    ];
+    assert!(rt; all_answer(&mut meta, rt.alloc(), &calls)?);
     for name in [
         b"".as_slice(),
         b"A".as_slice(),
         b"1".as_slice(),
         b"a-b".as_slice(),
-        long.as_slice(),
+        &long,
     ] {
-        assert_eq!(rt;
-            get(&mut meta, alloc, 1, name)?,
-            Answer::Refused(Refusal::BadAttrName)
-        );
-        assert_eq!(rt;
-            set(&mut meta, alloc, 1, name, b"")?,
-            Answer::Refused(Refusal::BadAttrName)
-        );
-        assert_eq!(rt;
-            remove(&mut meta, alloc, 1, name)?,
-            Answer::Refused(Refusal::BadAttrName)
-        );
+        assert!(rt; is_no_name(&mut meta, rt.alloc(), name)?);
     }
-    assert_eq!(rt;
-        get(&mut meta, alloc, 1, b"a")?,
-        Answer::Refused(Refusal::NoAttribute)
-    );
-    assert_eq!(rt;
-        remove(&mut meta, alloc, 1, &long[..64])?,
-        Answer::Refused(Refusal::NoAttribute)
-    );
     Ok(())
 }
 
-// Sets 32 attributes, whose names end in the digits 0 to 9, and `.`, `_` and letters.
+// Sets 32 attributes, whose names end in these bytes.
 fn fill(meta: &mut Meta, alloc: Global) -> Result<bool, Fail> {
-    let mut done = true;
     for last in b"z9a.8b_7c6d5e4f3g2h1i0jklmnopqrs" {
-        let answer = set(meta, alloc, 1, &[b'x', *last], b"old")?;
-        done = done && answer == Answer::Done;
+        if !answers(
+            meta,
+            alloc,
+            &Call::Set(1, &[b'x', *last], b"old"),
+            &Wanted::Done,
+        )? {
+            return Ok(false);
+        }
     }
-    Ok(done)
+    Ok(true)
 }
 
 #[test]
 fn a_node_has_at_most_32_attributes(rt: HostRuntime) -> Result<(), Fail> {
-    let alloc = rt.alloc();
-    let mut meta = Meta::new(alloc)?;
-    assert!(rt; fill(&mut meta, alloc)?);
-    assert_eq!(rt;
-        set(&mut meta, alloc, 1, b"x", b"new")?,
-        Answer::Refused(Refusal::AttrFull)
-    );
-    assert_eq!(rt; set(&mut meta, alloc, 1, b"x.", b"new")?, Answer::Done);
-    assert_eq!(rt;
-        get(&mut meta, alloc, 1, b"x.")?,
-        Answer::Text(text(b"new")?)
-    );
-    assert_eq!(rt;
-        get(&mut meta, alloc, 1, b"x_")?,
-        Answer::Text(text(b"old")?)
-    );
-    assert_eq!(rt; remove(&mut meta, alloc, 1, b"xz")?, Answer::Done);
-    assert_eq!(rt; set(&mut meta, alloc, 1, b"x", b"new")?, Answer::Done);
+    let mut meta = Meta::new(rt.alloc())?;
+    let calls = [
+        (
+            Call::Set(1, b"x", b"new"),
+            Wanted::Refused(Refusal::AttrFull),
+        ),
+        (Call::Set(1, b"x.", b"new"), Wanted::Done),
+        (Call::Get(1, b"x."), Wanted::Text(b"new")),
+        (Call::Get(1, b"x_"), Wanted::Text(b"old")),
+        (Call::Remove(1, b"xz"), Wanted::Done),
+        (Call::Set(1, b"x", b"new"), Wanted::Done),
+    ];
+    assert!(rt; fill(&mut meta, rt.alloc())? && all_answer(&mut meta, rt.alloc(), &calls)?);
     Ok(())
 }
