@@ -1,17 +1,17 @@
 -- What is kept after a change, piece by piece.
-use Rattle.std.proofs.Common.{◌≡◌, ◌≢◌, ℕ, ◌+◌, ◌-◌, ◌<◌, ◌≤◌, inl, inr, Bool, true, false, cond, IsSome, is_some, Option, Some, None, List, [], ◌∷◌, length, map, refl, sym, ap, ◌∙◌, subst, arith, nat_eq, nat_cmp, vec_capacity, Result, Ok, OnOk}
-use Rattle.std.specs.Map.{lookup, remove_entry}
-use Rattle.std.specs.BTreeMap.{BTreeMap, is_at, UpdatesBy}
-use Rattle.std.proofs.lemmas.Bool.{cond-true, cond-false, false≢true, eq-eqb, ne_eqb, cases_eq}
-use Rattle.std.proofs.lemmas.Option.{none-some, same_Some}
-use Rattle.file_world.specs.Tree.{Place, Node, Nodes, FileTree, node_at, is_place, contents_sum, IsTree}
+use Rattle.std.proofs.Common.{◌≡◌, ℕ, ◌+◌, ◌≤◌, cond, IsSome, is_some, Option, Some, None, List, length, refl, sym, ap, ◌∙◌, subst, arith, nat_eq, nat_cmp, vec_capacity, Result, Ok, OnOk}
+use Rattle.std.specs.Map.{remove_entry}
+use Rattle.std.specs.BTreeMap.{is_at}
+use Rattle.std.proofs.lemmas.Bool.{cond-true, cond-false, false≢true, eq-eqb, ne_eqb}
+use Rattle.std.proofs.lemmas.Option.{same_Some}
+use Rattle.file_world.specs.Tree.{Place, Nodes, node_at, is_place, contents_sum}
 use Rattle.file_world.specs.TreeEffect.{at, with_contents, with_place, revised}
 use Rattle.file_world.proofs.RowLemmas.{split, sum_by-revised, sum_by-removed, weight-le-sum_by}
 use Rattle.file_world.proofs.PlaceLemmas.{is_place-true}
 use Rattle.file_tree.specs.declared.node.Node.{Node as Kept}
 use Rattle.file_tree.specs.Index.{Entries, shown, rows_of, kept_at, number_in, held_at, HasRoom, Puts, Fills, Removes, Replaces, Relocates}
-use Rattle.file_tree.proofs.IndexLemmas.{same_test, SetsValue, held-set, rows-set_value, rows-remove_entry, node_at-kept, node_at-missing}
-use Rattle.file_tree.proofs.KeptLemmas.{kept_there, some_kept}
+use Rattle.file_tree.proofs.IndexLemmas.{same_test, SetsValue, held-set, rows-set_value, rows-remove_entry, node_at-kept}
+use Rattle.file_tree.proofs.KeptLemmas.{some_kept}
 
 pub Fills-from_set : (old new : Entries) (number : ℕ) (was now : Kept) (contents : List ℕ) (total : ℕ) → kept_at old number ≡ Some was → SetsValue old new number now → ((name : List ℕ) → number_in (Some now) name ≡ number_in (Some was) name) → shown now ≡ with_contents contents (shown was) → total + length was.contents.items ≡ contents_sum (rows_of old) + length contents → Fills old new number contents total
 Fills-from_set old new number was now contents total there sets names shows sum =

@@ -1,28 +1,24 @@
 -- What the tree is after each operation's change, from what was ready.
-use Rattle.std.proofs.Common.{◌≡◌, ◌≢◌, ℕ, ◌+◌, ◌-◌, ◌<◌, ◌≤◌, inl, inr, Bool, true, false, cond, IsSome, is_some, IsTrue, Option, Some, None, unwrap_or, List, [], ◌∷◌, ◌++◌, length, map, take, refl, sym, ap, ◌∙◌, subst, arith, nat_eq}
-use Rattle.std.specs.Map.{lookup, remove_entry}
-use Rattle.std.proofs.lemmas.Bool.{cond-true, cond-false, false≢true, true≢false, not-false, ltb-false, cases_eq, false_from_ne_true}
-use Rattle.std.proofs.lemmas.Option.{none-some, same_Some}
+use Rattle.std.proofs.Common.{◌≡◌, ℕ, ◌+◌, ◌-◌, ◌≤◌, inl, inr, false, IsSome, is_some, Option, Some, None, unwrap_or, List, [], ◌∷◌, ◌++◌, length, take, sym, ap, ◌∙◌, subst, arith, nat_eq}
+use Rattle.std.proofs.lemmas.Bool.{cond-true, cond-false, false≢true, not-false, ltb-false, cases_eq, false_from_ne_true}
+use Rattle.std.proofs.lemmas.Option.{same_Some}
 use Rattle.std.proofs.lemmas.List.Sums.{sum_by_push}
 use Rattle.bl_syntax.specs.declared.terms.NodeId.{NodeId}
 use Rattle.file_world.specs.declared.operation.Kind.{Kind}
 use Rattle.file_world.specs.declared.operation.Kind.TheVariants.{File, Directory}
 use Rattle.file_world.specs.declared.operation.TreeOp.{TreeOp}
-use Rattle.file_world.specs.declared.operation.TreeOp.TheVariants.{Read, Write, Truncate, List as ListOf, Lookup, Create, Mkdir, Unlink, Rename}
-use Rattle.file_world.specs.FileNames.{is_node_name}
+use Rattle.file_world.specs.declared.operation.TreeOp.TheVariants.{Write, Truncate, Create, Mkdir, Unlink, Rename}
 use Rattle.file_world.specs.Limits.{most_bytes, most_bytes_together}
-use Rattle.file_world.specs.Tree.{Place, Node, Nodes, FileTree, node_at, number_at, is_place, contents_sum, IsTree}
-use Rattle.file_world.specs.TreeEffect.{at, child_of, contents_of, is_directory, new_node, with_contents, with_place, written, resized, revised, tests_of, tree_refusal, tree_after, Change, changed_tree, add, fill, remove, move}
+use Rattle.file_world.specs.Tree.{Place, Node, Nodes, FileTree, node_at, is_place, contents_sum, IsTree}
+use Rattle.file_world.specs.TreeEffect.{at, child_of, contents_of, new_node, with_place, written, resized, revised, tests_of, tree_after, changed_tree, add, fill, remove, move}
 use Rattle.file_world.proofs.RowLemmas.{split, lookup-append_found, sum_by-revised}
-use Rattle.file_world.proofs.PlaceLemmas.{is_place-true, is_place-same, is_place-refl, Stands}
+use Rattle.file_world.proofs.PlaceLemmas.{is_place-true, is_place-refl}
 use Rattle.file_world.proofs.TreeLemmas.{CanAdd, CanFill, CanRemove, CanMove, IsTree-add, IsTree-fill, IsTree-remove, IsTree-move}
-use Rattle.file_world.proofs.EffectLemmas.{none_hold, directory_from, file_from, can_add, can_fill, Named, named_child, can_remove, can_move, can_write, can_truncate, IsTree-after, length-resized}
-use Rattle.file_tree.specs.declared.node.Node.{Node as Kept}
-use Rattle.file_tree.specs.declared.ready.Spot.{Spot}
+use Rattle.file_world.proofs.EffectLemmas.{none_hold, directory_from, can_add, named_child, can_remove, can_move, can_write, can_truncate, length-resized}
 use Rattle.file_tree.specs.declared.ready.Ready.{Ready}
-use Rattle.file_tree.specs.declared.ready.Ready.TheVariants.{Nothing, Contents, Made, Gone, Moved}
-use Rattle.file_tree.specs.State.{spot, ready_for, child_or_none}
-use Rattle.file_tree.specs.Index.{Entries, shown, rows_of, kept_at, number_in, held_at, place_of, held_spot, settled, expected, tree_in, HasRoom, IsKept, Puts, Fills, Removes, Relocates, IsChangeable, Changes, number_ready}
+use Rattle.file_tree.specs.declared.ready.Ready.TheVariants.{Contents, Made, Gone, Moved}
+use Rattle.file_tree.specs.State.{spot, child_or_none}
+use Rattle.file_tree.specs.Index.{Entries, shown, rows_of, kept_at, held_at, place_of, settled, expected, tree_in, HasRoom, IsKept, Puts, Fills, Removes, Relocates, IsChangeable, Changes, number_ready}
 use Rattle.file_tree.proofs.IndexLemmas.{rows-append, take-append_one}
 use Rattle.file_tree.proofs.KeptLemmas.{some_kept, IsKept-from, short_name}
 use Rattle.file_tree.proofs.ChildLemmas.{child-added_here, child-added_elsewhere, child-filled, child-removed_within, child-removed_here, child-removed_elsewhere, child-moved_here, child-moved_from, child-moved_elsewhere}

@@ -1,15 +1,15 @@
 -- The children in a tree after a change.
-use Rattle.std.proofs.Common.{◌≡◌, ◌≢◌, ℕ, ◌+◌, ◌<◌, ◌≤◌, inl, inr, Bool, true, false, cond, Option, Some, None, List, [], ◌∷◌, ◌++◌, length, map, refl, sym, ap, ◌∙◌, subst, arith, nat_eq}
-use Rattle.std.specs.Map.{lookup, remove_entry, keys_of}
-use Rattle.std.proofs.lemmas.Bool.{cond-true, cond-false, false≢true, true≢false, eq-eqb, ne_eqb, eqb-true, eqb-false, cases_eq}
+use Rattle.std.proofs.Common.{◌≡◌, ◌≢◌, ℕ, ◌<◌, ◌≤◌, inl, inr, Bool, true, false, cond, Option, Some, None, List, [], ◌∷◌, ◌++◌, refl, sym, ap, ◌∙◌, subst, arith, nat_eq}
+use Rattle.std.specs.Map.{lookup, remove_entry}
+use Rattle.std.proofs.lemmas.Bool.{cond-true, cond-false, true≢false, eq-eqb, ne_eqb, cases_eq}
 use Rattle.std.proofs.lemmas.Option.{none-some, same_Some}
 use Rattle.file_world.specs.declared.operation.Kind.{Kind}
-use Rattle.file_world.specs.declared.operation.Kind.TheVariants.{File, Directory}
-use Rattle.file_world.specs.Tree.{Place, Node, Nodes, FileTree, node_at, number_at, is_place, places_of, IsReached, at_root, below, root, IsSound, IsTree}
-use Rattle.file_world.specs.TreeEffect.{is_directory_kind, is_directory, at, child_of, new_node, with_contents, with_place, revised, Change, changed_tree, add, fill, remove, move}
-use Rattle.file_world.proofs.RowLemmas.{split, cond_at_true, cond_at_false, lookup-append_found, lookup-append_none, lookup-revised_same, lookup-revised_other, map-revised, lookup-removed_same, lookup-removed_other}
-use Rattle.file_world.proofs.PlaceLemmas.{is_place-true, is_place-same, is_place-flip, Stands, stands_at, number_of_place}
-use Rattle.file_world.proofs.TreeLemmas.{CanAdd, CanFill, CanRemove, CanMove, found-push, found-revised, IsTree-add, IsTree-fill, IsTree-remove, IsTree-move}
+use Rattle.file_world.specs.declared.operation.Kind.TheVariants.{Directory}
+use Rattle.file_world.specs.Tree.{Place, Node, Nodes, FileTree, node_at, number_at, is_place, IsReached, at_root, below, root, IsTree}
+use Rattle.file_world.specs.TreeEffect.{is_directory_kind, is_directory, at, child_of, new_node, with_contents, with_place, revised, changed_tree, add, remove, move}
+use Rattle.file_world.proofs.RowLemmas.{split, lookup-append_found, lookup-append_none, lookup-revised_same, lookup-revised_other, map-revised, lookup-removed_same, lookup-removed_other}
+use Rattle.file_world.proofs.PlaceLemmas.{is_place-same, Stands, stands_at, number_of_place}
+use Rattle.file_world.proofs.TreeLemmas.{CanAdd, CanRemove, CanMove, found-push, found-revised, IsTree-add, IsTree-remove, IsTree-move}
 
 -- two options that hold the same are the same
 option_same : (a b : Option ℕ) → ((m : ℕ) → a ≡ Some m → b ≡ Some m) → ((m : ℕ) → b ≡ Some m → a ≡ Some m) → a ≡ b

@@ -5,12 +5,11 @@ use Rattle.std.specs.Map.{lookup}
 use Rattle.std.specs.BTreeMap.{is_at}
 use Rattle.std.specs.Cmp.Lexicographic.{slice_cmp}
 use Rattle.file_world.specs.Tree.{Node, Nodes, IsTree}
-use Rattle.file_world.specs.TreeEffect.{new_node}
 use Rattle.file_tree.specs.declared.node.Node.{Node as Kept}
 use Rattle.file_tree.specs.declared.ready.Spot.{Spot}
 use Rattle.file_tree.specs.declared.ready.Ready.{Ready}
 use Rattle.file_tree.specs.declared.ready.Ready.TheVariants.{Nothing, Contents, Made, Gone, Moved}
-use Rattle.file_tree.specs.Index.{Entries, rows_of, kept_at, number_in, held_at, held_spot, settled, expected, IsHeldFree, IsLast, IsPrepared, IsKept, IsCopy, unroomed, place_of}
+use Rattle.file_tree.specs.Index.{Entries, rows_of, kept_at, number_in, held_at, held_spot, settled, expected, IsHeldFree, IsPrepared, IsKept, IsCopy, unroomed}
 use Rattle.file_tree.proofs.IndexLemmas.{take-append_one}
 
 abbrev pub AreCopies : Entries → Entries → Type 0

@@ -1,5 +1,5 @@
 -- The tree of the root alone, and the children of any tree as the code finds them.
-use Rattle.std.proofs.Common.{◌≡◌, ◌≢◌, ℕ, ◌+◌, ◌-◌, ◌<◌, ◌≤◌, ◌^◌, inl, inr, Bool, true, false, cond, Option, Some, None, List, [], ◌∷◌, length, map, refl, sym, ap, ◌∙◌, subst, arith, nat_eq, nat_cmp, nat_le, le-leb}
+use Rattle.std.proofs.Common.{◌≡◌, ℕ, ◌<◌, ◌≤◌, inl, inr, cond, Option, Some, None, List, [], ◌∷◌, length, refl, sym, ap, ◌∙◌, arith, nat_eq, nat_cmp, nat_le, le-leb}
 use Rattle.std.specs.Prelude.{◌==◌}
 use Rattle.std.specs.Map.{lookup}
 use Rattle.std.specs.BTreeMap.{is_at}
@@ -13,7 +13,7 @@ use Rattle.file_world.proofs.TreeLemmas.{IsTree-fresh}
 use Rattle.file_tree.specs.declared.node.Node.{Node as Kept}
 use Rattle.file_tree.specs.declared.ready.Spot.{Spot}
 use Rattle.file_tree.specs.declared.ready.Ready.{Ready}
-use Rattle.file_tree.specs.Index.{Entries, shown, rows_of, kept_at, number_in, held_at, place_of, held_spot, settled, expected, tree_in, IsHeldFree, IsKept, above_zero}
+use Rattle.file_tree.specs.Index.{Entries, shown, rows_of, number_in, held_at, place_of, held_spot, settled, expected, tree_in, IsHeldFree, IsKept, above_zero}
 use Rattle.file_tree.proofs.KeptLemmas.{IsKept-from, child_short, child_above_zero}
 
 no_child : (directory : ℕ) (name : List ℕ) → child_of fresh_tree.rows directory name ≡ None

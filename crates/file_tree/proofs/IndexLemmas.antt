@@ -1,5 +1,5 @@
 -- The nodes that are kept, seen as the rows of a tree.
-use Rattle.std.proofs.Common.{◌≡◌, ◌≢◌, ℕ, ◌+◌, ◌-◌, ◌<◌, ◌≤◌, inl, inr, Bool, true, false, cond, Option, Some, None, option_map, IsSome, List, [], ◌∷◌, ◌++◌, length, map, take, refl, sym, ap, ◌∙◌, subst, arith, nat_eq, nat_lt, nat_cmp, is_eq, Ordering, Less, Equal, Greater, Bor, MutBor, take_all, le_refl, length-append}
+use Rattle.std.proofs.Common.{◌≡◌, ◌≢◌, ℕ, ◌-◌, ◌<◌, inl, inr, Bool, true, false, cond, Option, Some, None, option_map, IsSome, List, [], ◌∷◌, ◌++◌, length, take, refl, sym, ap, ◌∙◌, subst, arith, nat_eq, nat_lt, nat_cmp, is_eq, Ordering, Less, Equal, Greater, Bor, MutBor, take_all, le_refl, length-append}
 use Rattle.std.specs.Map.{lookup, remove_entry, set_value, keys_of}
 use Rattle.std.specs.BTreeMap.{BTreeMap, is_at, insert_entry, WritesThrough, Updates, UpdatesBy}
 use Rattle.std.specs.Option.{option_copied, option_copied_mut}
@@ -8,10 +8,10 @@ use Rattle.std.proofs.lemmas.List.{take-append-le}
 use Rattle.std.specs.Cmp.Lexicographic.{slice_cmp}
 use Rattle.std.specs.List.Sorted.{IsStrictlySortedBy}
 use Rattle.std.specs.Str.{bytes_eq}
-use Rattle.std.proofs.lemmas.Bool.{cond-true, cond-false, false≢true, ltb-true, ltb-false, le-ltb, eq-eqb, ne_eqb, eqb-true, eqb-false, and_cases, and_from, cases_eq}
+use Rattle.std.proofs.lemmas.Bool.{cond-true, cond-false, false≢true, ltb-true, le-ltb, eq-eqb, ne_eqb, and_cases, cases_eq}
 use Rattle.std.proofs.lemmas.Map.Text.{is_eq-slice_cmp}
 use Rattle.std.proofs.lemmas.Slice.Eq.{bytes_eq-Decides}
-use Rattle.std.proofs.lemmas.Option.{none-some, same_Some}
+use Rattle.std.proofs.lemmas.Option.{same_Some}
 use Rattle.file_world.specs.Tree.{Place, Node, Nodes, node_at, is_place}
 use Rattle.file_world.specs.TreeEffect.{at, revised}
 use Rattle.file_world.proofs.RowLemmas.{split, cond_at_true, cond_at_false, lookup-append_none, above_found, rising_head, rising_tail}

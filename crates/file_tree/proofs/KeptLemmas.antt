@@ -1,26 +1,22 @@
 -- What is kept, and what it is ready for, after each step of the code.
-use Rattle.std.proofs.Common.{◌≡◌, ◌≢◌, ℕ, ◌+◌, ◌-◌, ◌<◌, ◌≤◌, inl, inr, Bool, true, false, cond, IsTrue, IsSome, Option, Some, None, List, [], ◌∷◌, ◌++◌, length, map, take, refl, sym, ap, ◌∙◌, subst, arith, nat_eq, nat_le, nat_cmp, is_none, is_some, le-leb, leb-true, ◌&&◌, not, codes, bytes_eq}
-use Rattle.std.specs.List.{list_all}
+use Rattle.std.proofs.Common.{◌≡◌, ℕ, ◌-◌, ◌<◌, ◌≤◌, inl, inr, true, cond, IsSome, Option, Some, None, List, [], ◌∷◌, ◌++◌, length, take, refl, sym, ap, ◌∙◌, subst, arith, nat_le, nat_cmp, is_some, le-leb, leb-true}
 use Rattle.std.specs.Map.{lookup, remove_entry}
 use Rattle.std.specs.BTreeMap.{is_at}
 use Rattle.std.specs.Cmp.Lexicographic.{slice_cmp}
 use Rattle.file_world.specs.declared.operation.Kind.{Kind}
-use Rattle.std.proofs.lemmas.Bool.{cond-true, cond-false, false≢true, true≢false, eq-eqb, ne_eqb, eqb-true, eqb-false, and_parts, cases_eq, cases_lt, lt-leb}
+use Rattle.std.proofs.lemmas.Bool.{cond-true, cond-false, eq-eqb, and_parts, cases_eq, cases_lt, lt-leb}
 use Rattle.std.proofs.lemmas.Option.{none-some, same_Some}
-use Rattle.file_world.specs.declared.operation.Kind.TheVariants.{File, Directory}
-use Rattle.file_world.specs.FileNames.{is_node_name, is_node_name_byte}
-use Rattle.file_world.specs.Tree.{Place, Node, Nodes, FileTree, node_at, number_at, is_place, contents_sum, root, IsSound, IsTree}
-use Rattle.file_world.specs.TreeEffect.{is_directory, at, child_of, has_names, new_node, contents_of}
+use Rattle.file_world.specs.FileNames.{is_node_name}
+use Rattle.file_world.specs.Tree.{Place, Node, Nodes, FileTree, node_at, is_place, contents_sum, root, IsTree}
+use Rattle.file_world.specs.TreeEffect.{is_directory, at, child_of, new_node, contents_of}
 use Rattle.file_world.proofs.RowLemmas.{split, cond_at_true, cond_at_false, weight-le-sum_by}
-use Rattle.file_world.proofs.PlaceLemmas.{Stands, is_place-same, is_place-true}
-use Rattle.file_world.proofs.EffectLemmas.{HoldsNames, directory_from, child-in_directory, some_from}
+use Rattle.file_world.proofs.PlaceLemmas.{is_place-true}
 use Rattle.file_tree.specs.declared.node.Node.{Node as Kept}
 use Rattle.file_tree.specs.declared.ready.Spot.{Spot}
-use Rattle.file_tree.specs.declared.ready.Ready.{Ready}
 use Rattle.file_tree.specs.declared.ready.Ready.TheVariants.{Nothing, Contents, Made, Gone, Moved}
-use Rattle.file_tree.specs.Index.{Entries, shown, rows_of, kept_at, number_in, held_at, place_of, held_spot, settled, expected, tree_in, HasRoom, IsLast, IsKept, Puts, Keeps, IsBelow, AddsLast, Prepares, Stays}
-use Rattle.file_tree.proofs.IndexLemmas.{same_test, node_at-rows, node_at-kept, node_at-missing, kept_at-append, kept_at-last, rows-append, take-append_one}
-use Rattle.file_tree.proofs.ChildLemmas.{stands_in, number_from}
+use Rattle.file_tree.specs.Index.{Entries, shown, rows_of, kept_at, number_in, held_at, place_of, expected, tree_in, HasRoom, IsKept, Puts, Keeps, IsBelow, AddsLast, Prepares, Stays}
+use Rattle.file_tree.proofs.IndexLemmas.{same_test, node_at-kept, node_at-missing, kept_at-append, kept_at-last, take-append_one}
+use Rattle.file_tree.proofs.ChildLemmas.{stands_in}
 
 -- ---- the tree that is kept while nothing is ready
 

@@ -1,16 +1,14 @@
 -- The names that a directory keeps, as the list of its names.
-use Rattle.std.proofs.Common.{◌≡◌, ℕ, Bool, true, false, cond, Option, Some, None, List, [], ◌∷◌, map, refl, sym, ap, ◌∙◌, subst, nat_cmp}
+use Rattle.std.proofs.Common.{◌≡◌, ℕ, true, Option, Some, None, map, sym, ap, ◌∙◌, nat_cmp}
 use Rattle.std.specs.List.Sorted.{IsStrictlySortedBy}
-use Rattle.std.specs.Map.{lookup, keys_of}
-use Rattle.std.specs.BTreeMap.{is_at}
+use Rattle.std.specs.Map.{keys_of}
 use Rattle.std.specs.Cmp.Lexicographic.{slice_cmp}
-use Rattle.std.proofs.lemmas.Bool.{cond-true, cond-false, false≢true}
-use Rattle.file_world.specs.declared.reply.NamedNode.{NamedNode}
-use Rattle.file_world.specs.Tree.{Place, Node, Nodes, node_at, number_at}
-use Rattle.file_world.specs.TreeEffect.{is_directory, at, child_of, names_in}
+use Rattle.std.proofs.lemmas.Bool.{cond-true, false≢true}
+use Rattle.file_world.specs.Tree.{Nodes, node_at, number_at}
+use Rattle.file_world.specs.TreeEffect.{is_directory, at, names_in}
 use Rattle.file_world.proofs.ListingLemmas.{pairs_of, same_pairs, names_found, names_sorted, names_again}
 use Rattle.file_tree.specs.declared.node.Node.{Node as Kept}
-use Rattle.file_tree.specs.Index.{Entries, rows_of, kept_at, number_in, held_at, named_node, IsKept}
+use Rattle.file_tree.specs.Index.{Entries, rows_of, kept_at, number_in, named_node, IsKept}
 use Rattle.file_tree.proofs.IndexLemmas.{node_at-missing}
 
 pub listed_names : (entries : Entries) (next directory : ℕ) (node : Kept) → IsKept entries next None → is_directory (node_at (rows_of entries) directory) ≡ true → kept_at entries directory ≡ Some node → IsStrictlySortedBy (slice_cmp nat_cmp) (keys_of node.names.entries) → map named_node node.names.entries ≡ names_in (rows_of entries) directory

@@ -1,5 +1,5 @@
 -- How the nodes that the code keeps stand for the rows of a tree, and where the names in its directories are found.
-use Rattle.std.specs.Prelude.{◌≡◌, ◌≢◌, ◌≤◌, ◌<◌, ◌-◌, ℕ, List, [], ◌∷◌, ◌++◌, length, take, map, Bool, false, Option, Some, None, if◌then◌else◌, vec_capacity, nat_eq, ◌==◌}
+use Rattle.std.specs.Prelude.{◌≡◌, ◌≢◌, ◌≤◌, ◌<◌, ◌-◌, ℕ, List, [], ◌∷◌, ◌++◌, length, take, map, false, Option, Some, None, if◌then◌else◌, vec_capacity, nat_eq, ◌==◌}
 use Rattle.std.specs.Map.{lookup, remove_entry}
 use Rattle.std.specs.BTreeMap.{is_at}
 use Rattle.std.specs.Ordering.{nat_cmp}

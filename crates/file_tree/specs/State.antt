@@ -1,5 +1,5 @@
 -- What contracts see of a tree: its rows and the next number, and for which change it is ready.
-use Rattle.std.specs.Prelude.{◌≡◌, ◌+◌, ℕ, List, length, Option, Some, None, unwrap_or, Result, Ok, Err, Bool}
+use Rattle.std.specs.Prelude.{◌≡◌, ℕ, List, length, Option, Some, None, unwrap_or, Result, Ok, Err}
 use Rattle.file_world.specs.declared.operation.Kind.TheVariants.{File, Directory}
 use Rattle.file_world.specs.declared.operation.TreeOp.{TreeOp}
 use Rattle.file_world.specs.declared.operation.TreeOp.TheVariants.{Read, Write, Truncate, List as ListOf, Lookup, Create, Mkdir, Unlink, Rename}

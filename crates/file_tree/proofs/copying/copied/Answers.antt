@@ -1,5 +1,5 @@
 -- A clone shows the same rows and names, so what is ready in it can be given up.
-use Rattle.std.proofs.Common.{◌≡◌, Option, sym, ap, ◌∙◌, subst}
+use Rattle.std.proofs.Common.{Option, sym, ap, ◌∙◌, subst}
 use Rattle.file_tree.specs.declared.ready.Ready.{Ready}
 use Rattle.file_tree.specs.Index.{rows_of, settled, IsKept}
 use Rattle.file_tree.proofs.CopyLemmas.{copied_kept}
