@@ -1,5 +1,6 @@
 pub mod Frame
 pub mod Area
+pub mod AreaView
 pub mod Contents
 pub mod Reports
 pub mod Rest

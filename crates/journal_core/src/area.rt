@@ -15,6 +15,7 @@ use bl_syntax::NoMemory;
 use bl_syntax::fields::u64_bytes;
 use pcfs_ports::{Disk, Failed};
 use std::alloc::{AllocError, AllocFailed, Global};
+use std::marker::Model;
 
 /// The greatest length of an area with its closed gate, in bytes.
 pub const AREA_LIMIT: u64 = 67_108_864;
@@ -57,11 +58,24 @@ impl<T: Drop> From<AllocFailed<T>> for AreaFault {
     }
 }
 
-/// A disk whose bytes are an area, and where its closed gate stands.
+/// A disk whose bytes are an area. Contracts see the disk, and where the closed gate of the area stands,
+/// which is below `AREA_LIMIT`.
 #[derive(Debug, Drop)]
 pub struct Area<D: Disk> {
     pub(crate) disk: D,
     pub(crate) end: u64,
+}
+
+impl<D: Disk> Model for Area<D> {
+    ghost use Rattle.std.specs.Prelude.{◌<◌};
+    ghost use Rattle.journal_core.specs.Area.{area_limit};
+    ghost use Rattle.journal_core.specs.AreaView.{AreaView};
+
+    ghost Value = { AreaView D };
+
+    ghost view = { λ s. record { disk = s.disk; end = s.end } };
+
+    ghost invariant = { λ s. s.end < area_limit };
 }
 
 // All of an area without records from offset 1 on, and its closed gate.
@@ -106,6 +120,7 @@ fn format_disk<D: Disk>(
     ensures unchanged { result ≡ Err AreaFault.AreaFull → disk.new ≡ disk.old }
     ensures memory { result ≡ Err AreaFault.NoMemory → disk.new ≡ disk.old }
     ensures end { IfOk result (λ end. end ≡ length image.now + 24) }
+    ensures fits { IfOk result (λ end. end < area_limit) }
     ensures image { OnOk result (D.image disk.new ≡
         option_map (written 0 (area_bytes generation image.now [] ++ 0 ∷ [])) (D.image disk.old)) }
     ensures pinned { OnOk result (IsPinned D.clock D.left_since D.image disk.new) }
@@ -140,6 +155,7 @@ impl<D: Disk> Area<D> {
         ensures full { IsErrAnd result (λ e. e.0 ≡ AreaFault.AreaFull) ↔ area_limit < length image.now + 25 }
         ensures unchanged { IfErr result (λ e. e.0 ≢ AreaFault.Disk → e.1 ≡ disk) }
         ensures end { IfOk result (λ area. area.end ≡ length image.now + 24) }
+        ensures fits { IfOk result (λ area. area.end < area_limit) }
         ensures image { IfOk result (λ area. D.image area.disk ≡
             option_map (written 0 (area_bytes generation image.now [] ++ 0 ∷ [])) (D.image disk)) }
         ensures pinned { IfOk result (λ area. IsPinned D.clock D.left_since D.image area.disk) }
@@ -177,6 +193,7 @@ impl<D: Disk> Area<D> {
         ensures not_memory { result ≢ Err AreaFault.NoMemory }
         ensures end { OnOk result (self.new.end ≡ self.old.end + length framed.now + 5) }
         ensures end_stays { OnErr result (self.new.end ≡ self.old.end) }
+        ensures fits { self.new.end < area_limit }
         ensures image { OnOk result (D.image self.new.disk ≡
             option_map (written self.old.end (record_bytes framed.now ++ 0 ∷ [])) (D.image self.old.disk)) }
         ensures pinned { OnOk result (IsPinned D.clock D.left_since D.image self.new.disk) }

@@ -8,41 +8,45 @@ use Rattle.journal_core.proofs.AreaLemmas.{append_says, append_writes, told_same
 use Rattle.journal_core.proofs.area.Area.append.Goals as goal
 
 pub returns-in_err-write_then_open-clause-any_moment : goal.returns-in_err-write_then_open-clause-any_moment
-returns-in_err-write_then_open-clause-any_moment g c body counted rest =
-    let end = c.args.self.now.end in
+returns-in_err-write_then_open-clause-any_moment g c = rw (← c.self.view_is) (λ body counted rest.
+    let end = c.self.inside.end in
     let frame = c.bytes-frame.result.now in
-    weaker_leaves g.D.Disk.clock g.D.Disk.left_since c.args.self.now.disk c.write_then_open.new.disk
+    weaker_leaves g.D.Disk.clock g.D.Disk.left_since c.self.inside.disk c.write_then_open.new.disk
     (λ left. Torn (end + 1) frame rest.bytes left ⊎ Torn end (1 ∷ []) (written (end + 1) frame rest.bytes) left)
     (IsWithOrWithout body c.args.framed.now)
     (λ left torn. append_says body rest.bytes c.args.framed.now frame left end counted c.bytes-frame.ensures rest.closed torn)
-    (c.write_then_open.ensures.any_moment rest.bytes rest.told rest.pinned)
+    (c.write_then_open.ensures.any_moment rest.bytes rest.told rest.pinned))
 
 pub returns-clause-any_moment : goal.returns-clause-any_moment
-returns-clause-any_moment g c body counted rest =
-    let end = c.args.self.now.end in
+returns-clause-any_moment g c = rw (← c.self.view_is) (λ body counted rest.
+    let end = c.self.inside.end in
     let frame = c.bytes-frame.result.now in
-    weaker_leaves g.D.Disk.clock g.D.Disk.left_since c.args.self.now.disk c.write_then_open.new.disk
+    weaker_leaves g.D.Disk.clock g.D.Disk.left_since c.self.inside.disk c.write_then_open.new.disk
     (λ left. Torn (end + 1) frame rest.bytes left ⊎ Torn end (1 ∷ []) (written (end + 1) frame rest.bytes) left)
     (IsWithOrWithout body c.args.framed.now)
     (λ left torn. append_says body rest.bytes c.args.framed.now frame left end counted c.bytes-frame.ensures rest.closed torn)
-    (c.write_then_open.ensures.any_moment rest.bytes rest.told rest.pinned)
+    (c.write_then_open.ensures.any_moment rest.bytes rest.told rest.pinned))
 
 pub returns-clause-image : goal.returns-clause-image
-returns-clause-image g c =
-    let end = c.args.self.now.end in
+returns-clause-image g c = rw (← c.self.view_is) (
+    let end = c.self.inside.end in
     let frame = c.bytes-frame.result.now in
     c.in_ok-write_then_open.ensures.image
     ∙ told_same (λ bytes. written end (1 ∷ []) (written (end + 1) frame bytes)) (written end (record_bytes c.args.framed.now ++ 0 ∷ []))
-    (g.D.Disk.image c.args.self.now.disk) (λ bytes. append_writes end frame c.args.framed.now bytes c.bytes-frame.ensures)
+    (g.D.Disk.image c.self.inside.disk) (λ bytes. append_writes end frame c.args.framed.now bytes c.bytes-frame.ensures))
 
 pub returns-clause-rests : goal.returns-clause-rests
-returns-clause-rests g c body bytes counted told stands =
-    let end = c.args.self.now.end in
+returns-clause-rests g c = rw (← c.self.view_is) (λ body bytes counted told stands.
+    let end = c.self.inside.end in
+    let frame = c.bytes-frame.result.now in
     let record_and_gate = record_bytes c.args.framed.now ++ 0 ∷ [] in
     record {
       bytes = written end record_and_gate bytes;
-      told = returns-clause-image g c ∙ ap (option_map (written end record_and_gate)) told;
+      told = c.in_ok-write_then_open.ensures.image
+          ∙ told_same (λ b. written end (1 ∷ []) (written (end + 1) frame b)) (written end record_and_gate)
+          (g.D.Disk.image c.self.inside.disk) (λ b. append_writes end frame c.args.framed.now b c.bytes-frame.ensures)
+          ∙ ap (option_map (written end record_and_gate)) told;
       closed = subst (λ (n : ℕ). Closed (body ++ record_bytes c.args.framed.now) (written n record_and_gate bytes)) counted
           (closed_written body (record_bytes c.args.framed.now) bytes stands.front);
       pinned = c.in_ok-write_then_open.ensures.pinned;
-    }
+    })
