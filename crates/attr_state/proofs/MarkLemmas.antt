@@ -97,7 +97,7 @@ marks-set_same (entry ∷ entries) number old new e same =
     (λ s. ap marks_of (cond-false (is_at (nat_cmp number) entry.0) _ _ s)
     ∙ ap (λ (marks : Marks). (entry.0, shown entry.1) ∷ marks) (marks-set_same entries number old new (cond_at_false (is_at (nat_cmp number) entry.0) _ _ _ s e) same))
 
-keys-shown : (entries : Entries) → keys_of (marks_of entries) ≡ keys_of entries
+pub keys-shown : (entries : Entries) → keys_of (marks_of entries) ≡ keys_of entries
 keys-shown [] = refl
 keys-shown (entry ∷ entries) = ap (λ (keys : List ℕ). entry.0 ∷ keys) (keys-shown entries)
 

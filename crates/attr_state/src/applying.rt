@@ -2,6 +2,7 @@
 
 ghost use Rattle.std.specs.Prelude.{◌≡◌, ◌≤◌, length, nat_eq, IsSome};
 ghost use Rattle.std.specs.Map.{remove_entry};
+ghost use Rattle.file_world.specs.Limits.{longest_name};
 ghost use Rattle.file_world.specs.Attributes.{mark_at};
 ghost use Rattle.file_world.specs.AttributeEffect.{attributes_of, with_value, without_value, with_attributes, with_owner, with_parent, marks_after};
 ghost use Rattle.attr_state.specs.Index.{marks_of, kept_at, AreOrdered, HasRoom, Revises, IsChangeable};
@@ -12,7 +13,7 @@ use bl_syntax::{Principal, Text};
 use file_world::MetaOp;
 
 fn set(marks: &mut Marks, number: u64, name: &[u8], value: Text)
-    requires short { length name.now ≤ 64 }
+    requires short { length name.now ≤ longest_name }
     requires ordered { AreOrdered marks.old.entries }
     requires room { HasRoom marks.old.entries number
         (length (with_value (attributes_of (mark_at (marks_of marks.old.entries) number)) name.now value)) }

@@ -4,6 +4,7 @@ ghost use Rattle.std.specs.Prelude.{◌≡◌, ◌≤◌, length, IfOk, IfErr, v
 ghost use Rattle.std.specs.List.Sorted.{IsSearchInRange};
 ghost use Rattle.std.specs.Ordering.{nat_cmp};
 ghost use Rattle.std.specs.Cmp.Lexicographic.{slice_cmp};
+ghost use Rattle.file_world.specs.Limits.{longest_name};
 ghost use Rattle.file_world.specs.Attributes.{value_at};
 ghost use Rattle.file_world.specs.AttributeEffect.{with_value, without_value};
 ghost use Rattle.attr_state.specs.Index.{AreSorted, IsAt, IsGap};
@@ -43,7 +44,7 @@ pub fn value_among(attributes: &[Attribute], name: &[u8]) -> Option<Text>
 
 /// Puts a value under a name, in the place of one that is there.
 pub fn put(attributes: &mut Attributes, name: &[u8], value: Text)
-    requires short { length name.now ≤ 64 }
+    requires short { length name.now ≤ longest_name }
     requires sorted { AreSorted attributes.old.items }
     requires room { length (with_value attributes.old.items name.now value) ≤ vec_capacity attributes.old }
     ensures put { attributes.new.items ≡ with_value attributes.old.items name.now value }

@@ -10,6 +10,7 @@ use crate::mark::{Mark, Marks};
 use crate::ready::Ready;
 use crate::settled::settled_mark;
 use bl_syntax::{NodeId, Term};
+use file_world::ROOT_NUMBER;
 
 fn named_mark<'a>(marks: &'a Marks, ready: &Option<Ready>, node: &Term) -> Option<&'a Mark>
     requires { IsKept marks.now.entries ready.now }
@@ -67,7 +68,7 @@ pub fn is_in(marks: &Marks, ready: &Option<Ready>, node: &Term, directory: &Term
     match named_mark(marks, ready, node) {
         None => false,
         Some(mark) => {
-            !node.is_same(&Term::File(NodeId(1)))
+            !node.is_same(&Term::File(NodeId(ROOT_NUMBER)))
                 && directory.is_same(&Term::File(NodeId(mark.parent)))
         }
     }

@@ -1,6 +1,7 @@
 //! What is kept of each node.
 
 use bl_syntax::{Principal, Short, Text};
+use std::alloc::AllocError;
 use std::collections::BTreeMap;
 
 /// The name of an attribute, and its value.
@@ -20,3 +21,18 @@ pub struct Mark {
 
 /// Marks under the numbers of their nodes.
 pub type Marks = BTreeMap<u64, Mark>;
+
+impl Clone for Mark {
+    ghost use Rattle.std.specs.Prelude.{◌≡◌};
+    ghost use Rattle.attr_state.specs.Index.{shown};
+
+    ghost is_clone = { λ mark copy. shown copy ≡ shown mark };
+
+    fn clone(&self) -> Result<Self, AllocError> {
+        Ok(Mark {
+            owner: self.owner,
+            parent: self.parent,
+            attributes: self.attributes.clone()?,
+        })
+    }
+}

@@ -13,10 +13,10 @@ use crate::mark::{Mark, Marks};
 use crate::preparing::{forget, prepare};
 use crate::ready::Ready;
 use crate::refusals::{refusal, reply};
-use crate::settled::settled_mark;
+use crate::settled::{copied, settled_mark};
 use bl_syntax::{NoMemory, NodeId, Principal, StatePred, Text};
 use condition_set::Facts;
-use file_world::{MetaOp, MetaReply, OpFault};
+use file_world::{MetaOp, MetaReply, OpFault, ROOT_NUMBER};
 use std::alloc::{AllocFailed, Global};
 use std::collections::BTreeMap;
 use std::marker::Model;
@@ -50,7 +50,7 @@ impl Meta {
             attributes: Vec::new(alloc),
         };
         let mut marks = BTreeMap::new(alloc);
-        let put: Result<Option<Mark>, AllocFailed<(u64, Mark)>> = marks.insert(1, root);
+        let put: Result<Option<Mark>, AllocFailed<(u64, Mark)>> = marks.insert(ROOT_NUMBER, root);
         match put {
             Ok(_) => Ok(Meta { marks, ready: None }),
             Err(_) => Err(NoMemory),
@@ -110,6 +110,16 @@ impl Meta {
     {
         self.ready = None;
         change(&mut self.marks, op);
+    }
+
+    /// Equal owners and attributes in memory of their own, with nothing ready.
+    pub fn copy(&self) -> Result<Meta, NoMemory>
+        ensures { IfOk result (λ copied. copied ≡ record { marks = self.now.marks; ready = None }) }
+    {
+        Ok(Meta {
+            marks: copied(&self.marks, &self.ready)?,
+            ready: None,
+        })
     }
 }
 

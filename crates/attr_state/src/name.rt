@@ -5,6 +5,8 @@ ghost use Rattle.std.specs.List.{list_all};
 ghost use Rattle.bl_syntax.specs.Names.{is_lower_case, is_digit};
 ghost use Rattle.file_world.specs.FileNames.{is_attribute_name_byte, is_attribute_name};
 
+use file_world::LONGEST_NAME;
+
 fn is_lower_case(byte: u8) -> bool
     ensures { result ≡ is_lower_case byte }
 {
@@ -37,7 +39,9 @@ pub fn is_attribute_name(name: &[u8]) -> bool
     match name {
         [] => false,
         [first, others @ ..] => {
-            is_lower_case(*first) && are_attribute_name_bytes(others) && others.len() <= 63
+            is_lower_case(*first)
+                && are_attribute_name_bytes(others)
+                && others.len() <= LONGEST_NAME - 1
         }
     }
 }

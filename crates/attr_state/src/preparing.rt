@@ -3,7 +3,7 @@
 ghost use Rattle.std.specs.Prelude.{◌≡◌, ◌+◌, length, None, Some, IsSome, IfOk, OnErr};
 ghost use Rattle.file_world.specs.Attributes.{mark_at};
 ghost use Rattle.file_world.specs.AttributeEffect.{attributes_of, meta_refusal, IsAskable};
-ghost use Rattle.attr_state.specs.Index.{marks_of, marks_in, kept_at, AreOrdered, IsKept, Prepares, Stays};
+ghost use Rattle.attr_state.specs.Index.{marks_of, marks_in, kept_at, AreOrdered, Prepares, Stays};
 ghost use Rattle.attr_state.specs.State.{ready_for};
 
 use crate::mark::{Mark, Marks};
@@ -79,7 +79,7 @@ pub fn prepare(marks: &mut Marks, alloc: Global, op: &MetaOp) -> Result<Ready, N
 
 /// Gives up what is ready.
 pub fn forget(marks: &mut Marks, ready: &Option<Ready>)
-    requires { IsKept marks.old.entries ready.now }
+    requires { AreOrdered marks.old.entries }
     ensures ordered { AreOrdered marks.new.entries }
     ensures same { marks_of marks.new.entries ≡ marks_in ready.now marks.old.entries }
 {

@@ -1,6 +1,7 @@
 //! The first refusal of an operation, and the reply of one that is not refused.
 
 ghost use Rattle.std.specs.Prelude.{◌≡◌, ◌++◌, [], ◌∷◌, ◌&&◌, length, None, is_none, nat_le};
+ghost use Rattle.file_world.specs.Limits.{most_attributes};
 ghost use Rattle.file_world.specs.Outcome.{first_of};
 ghost use Rattle.file_world.specs.Attributes.{mark_at};
 ghost use Rattle.file_world.specs.AttributeEffect.{attribute_tests, attributes_of, value_of, meta_refusal, meta_reply};
@@ -11,10 +12,7 @@ use crate::attributes::value_among;
 use crate::mark::Marks;
 use crate::name::is_attribute_name;
 use bl_syntax::Text;
-use file_world::{MetaOp, MetaReply, Refusal};
-
-/// The most attributes of a node.
-const MOST_ATTRIBUTES: usize = 32;
+use file_world::{MOST_ATTRIBUTES, MetaOp, MetaReply, Refusal};
 
 fn node_refusal(marks: &Marks, number: u64) -> Option<Refusal>
     ensures { result ≡ first_of ((is_none (mark_at (marks_of marks.now.entries) number), NoNode) ∷ []) }
@@ -77,7 +75,7 @@ fn full_refusal(marks: &Marks, number: u64, name: &[u8]) -> Option<Refusal>
     ensures { result ≡ first_of (attribute_tests (marks_of marks.now.entries) number name.now
         ++ (
           is_none (value_of (marks_of marks.now.entries) number name.now)
-              && nat_le 32 (length (attributes_of (mark_at (marks_of marks.now.entries) number))),
+              && nat_le most_attributes (length (attributes_of (mark_at (marks_of marks.now.entries) number))),
           AttrFull,
         )
         ∷ []) }

@@ -1,11 +1,13 @@
 //! Marks without the one that is only ready to be made.
 
-ghost use Rattle.std.specs.Prelude.{◌≡◌, IfSome, option_map};
+ghost use Rattle.std.specs.Prelude.{◌≡◌, None, IfSome, IfOk, option_map};
 ghost use Rattle.file_world.specs.Attributes.{mark_at};
-ghost use Rattle.attr_state.specs.Index.{shown, marks_in, is_held, AreSorted, IsKept};
+ghost use Rattle.attr_state.specs.Index.{shown, marks_of, marks_in, is_held, AreSorted, AreOrdered, IsKept};
 
 use crate::mark::{Mark, Marks};
+use crate::preparing::forget;
 use crate::ready::Ready;
+use bl_syntax::NoMemory;
 
 fn is_held(ready: &Option<Ready>, number: u64) -> bool
     ensures { result ≡ is_held ready.now number }
@@ -26,4 +28,15 @@ pub fn settled_mark<'a>(marks: &'a Marks, ready: &Option<Ready>, number: u64) ->
         return None;
     }
     marks.get(&number)
+}
+
+/// The same marks in memory of their own, with nothing ready.
+pub fn copied(marks: &Marks, ready: &Option<Ready>) -> Result<Marks, NoMemory>
+    requires { AreOrdered marks.now.entries }
+    ensures kept { IfOk result (λ copied. IsKept copied.entries None) }
+    ensures same { IfOk result (λ copied. marks_of copied.entries ≡ marks_in ready.now marks.now.entries) }
+{
+    let mut copied: Marks = marks.clone()?;
+    forget(&mut copied, ready);
+    Ok(copied)
 }
