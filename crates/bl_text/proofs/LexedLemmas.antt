@@ -9,7 +9,7 @@ use Rattle.bl_syntax.specs.declared.terms.Term.TheVariants.{Prin, File, Perm, Ti
 use Rattle.bl_syntax.specs.declared.terms.TimePoint.TheVariants as times
 use Rattle.bl_syntax.specs.declared.terms.Sort.{Sort}
 use Rattle.bl_syntax.specs.TimeOrder.{IsMoment, IsInRange}
-use Rattle.bl_syntax.specs.Names.{is_lower_case, is_digit, is_principal_name}
+use Rattle.bl_syntax.specs.Names.{is_lower_case, is_upper_case, is_digit, is_principal_name}
 use Rattle.bl_tokens.specs.declared.classes.Class.TheVariants as classes
 use Rattle.bl_tokens.specs.declared.tokens.Sign.{Sign}
 use Rattle.bl_tokens.specs.declared.tokens.Keyword.{Keyword as Word}
@@ -17,7 +17,7 @@ use Rattle.bl_tokens.specs.declared.tokens.Token.{Token}
 use Rattle.bl_tokens.specs.declared.tokens.Token.TheVariants.{Name, LongWord, Constant, BadDate, SortName, Keyword, End, Bad}
 use Rattle.bl_tokens.specs.declared.tokens.Token.TheVariants as tokens
 use Rattle.bl_tokens.specs.declared.tokens.Lexeme.{Lexeme}
-use Rattle.bl_tokens.specs.Classes.{is_in, is_upper_case}
+use Rattle.bl_tokens.specs.Classes.{is_in}
 use Rattle.bl_tokens.specs.Numerals.{numeral_below}
 use Rattle.bl_tokens.specs.Dates.{begins_date, goes_on_with_time, date_second_at, day_second_at, is_moment}
 use Rattle.bl_tokens.specs.Words.{keyword, sort_named, constant_named, constant_or_name, sort_or_other, keyword_or_other, name_token}

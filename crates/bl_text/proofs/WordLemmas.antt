@@ -10,12 +10,12 @@ use Rattle.std.proofs.lemmas.Bool.Decides.{nat_tests}
 use Rattle.std.proofs.lemmas.Slice.Eq.{bytes_eq-Decides}
 use Rattle.std.proofs.lemmas.Fmt.{decimal_digit, decimal_is_IsNumeral, decimal_nonempty, first_decimal, length-decimal-le}
 use Rattle.std.proofs.Math.Seq.{take-append_seam, drop-append_seam}
-use Rattle.bl_syntax.specs.Names.{is_lower_case, is_digit, is_name_byte, is_identifier, is_among, reserved_words, is_principal_name, is_text_byte, is_text}
+use Rattle.bl_syntax.specs.Names.{is_lower_case, is_upper_case, is_digit, is_name_byte, is_identifier, is_among, reserved_words, is_principal_name, is_text_byte, is_text}
 use Rattle.bl_syntax.specs.declared.terms.Term.TheVariants as terms
 use Rattle.bl_tokens.specs.declared.classes.Class.TheVariants as classes
 use Rattle.bl_tokens.specs.declared.tokens.Token.TheVariants as tokens
 use Rattle.bl_tokens.specs.declared.tokens.Lexeme.{Lexeme}
-use Rattle.bl_tokens.specs.Classes.{is_in, is_upper_case, is_word_byte}
+use Rattle.bl_tokens.specs.Classes.{is_in, is_word_byte}
 use Rattle.bl_tokens.specs.Dates.{begins_date, has_two, has_byte}
 use Rattle.bl_tokens.specs.Numerals.{is_numeral, numeral_below}
 use Rattle.bl_tokens.specs.Words.{keyword, sort_named, constant_named, constant_or_name, sort_or_other, keyword_or_other, word_token}

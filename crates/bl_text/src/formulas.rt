@@ -1,9 +1,11 @@
 //! Formulas are read by recursive descent: a function for each level of the grammar. It goes no
 //! deeper than there are nodes left and parentheses may be open. Each token is read once: the one
-//! behind a formula's first token tells how it goes on, and is handed down as `ahead`.
+//! behind a formula's first token tells how it goes on, and is handed down as `ahead`: one place for
+//! all levels. Functions that call themselves hold boxes and places alone, and drop no formula
+//! themselves, so that the deepest text takes little of the stack.
 
-ghost use Rattle.std.specs.Prelude.{◌≡◌, ℕ, ◌+◌, ◌-◌, ◌≤◌, List, length, true, false, IfOk, IfErr, MatchResult};
-ghost use Rattle.bl_syntax.specs.Formula.{formula, both, either, implies, forall_, exists_, says, on};
+ghost use Rattle.std.specs.Prelude.{◌≡◌, ℕ, ◌+◌, ◌-◌, ◌≤◌, List, length, true, false, Err, IfOk, IfErr};
+ghost use Rattle.bl_syntax.specs.Formula.{formula};
 ghost use Rattle.bl_tokens.specs.declared.faults.TextFault.{TextFault};
 ghost use Rattle.bl_text.specs.Scope.{variables};
 ghost use Rattle.bl_tokens.specs.Tokens.{behind_node, is_sign, is_word};
@@ -14,64 +16,24 @@ ghost use Rattle.bl_text.specs.Read.{Reads, ReadsArguments, ReadsCall, PutsOn, I
 
 use crate::applied::{applied, is_atom};
 use crate::pieces::{
-    argument, binder, count, expected, go_behind, interval, next_argument, simple, speaker,
-    step_into, step_node,
+    argument, binder, count, expected, go_behind, interval, look_ahead, next_argument, simple,
+    speaker, step_into, step_node,
 };
 use crate::scope::Scope;
-use bl_syntax::{Formula, NoMemory, Principal, Sequence, Sort, Term, Terms};
+use bl_syntax::boxes::{both_of, either_of, every_of, implies_of, on_of, says_of, some_of};
+use bl_syntax::{Formula, Principal, Sequence, Terms};
 use bl_tokens::{Here, Keyword, Sign, TextFault, Token, behind, behind_node, is_sign, is_word};
 use std::alloc::Global;
 
+/// Drops what was read so far; the fault is the answer. No caller has room for a formula.
 #[inline(never)]
-fn both_of(alloc: Global, a: Box<Formula>, b: Box<Formula>) -> Result<Box<Formula>, TextFault>
-    ensures { MatchResult result (λ f. formula f.value ≡ both (formula a.value) (formula b.value)) (λ e. e ≡ TextFault.NoMemory) }
+fn refuse(_read: Box<Formula>, fault: TextFault) -> Result<Box<Formula>, TextFault>
+    ensures { result ≡ Err fault }
 {
-    Ok(Box::new(alloc, Formula::And(a, b))?)
+    Err(fault)
 }
 
-#[inline(never)]
-fn either_of(alloc: Global, a: Box<Formula>, b: Box<Formula>) -> Result<Box<Formula>, TextFault>
-    ensures { MatchResult result (λ f. formula f.value ≡ either (formula a.value) (formula b.value)) (λ e. e ≡ TextFault.NoMemory) }
-{
-    Ok(Box::new(alloc, Formula::Or(a, b))?)
-}
-
-#[inline(never)]
-fn implies_of(alloc: Global, a: Box<Formula>, b: Box<Formula>) -> Result<Box<Formula>, TextFault>
-    ensures { MatchResult result (λ f. formula f.value ≡ implies (formula a.value) (formula b.value)) (λ e. e ≡ TextFault.NoMemory) }
-{
-    Ok(Box::new(alloc, Formula::Imp(a, b))?)
-}
-
-#[inline(never)]
-fn every_of(alloc: Global, sort: Sort, a: Box<Formula>) -> Result<Box<Formula>, TextFault>
-    ensures { MatchResult result (λ f. formula f.value ≡ forall_ sort (formula a.value)) (λ e. e ≡ TextFault.NoMemory) }
-{
-    Ok(Box::new(alloc, Formula::Forall(sort, a))?)
-}
-
-#[inline(never)]
-fn some_of(alloc: Global, sort: Sort, a: Box<Formula>) -> Result<Box<Formula>, TextFault>
-    ensures { MatchResult result (λ f. formula f.value ≡ exists_ sort (formula a.value)) (λ e. e ≡ TextFault.NoMemory) }
-{
-    Ok(Box::new(alloc, Formula::Exists(sort, a))?)
-}
-
-#[inline(never)]
-fn says_of(alloc: Global, who: Term, a: Box<Formula>) -> Result<Box<Formula>, TextFault>
-    ensures { MatchResult result (λ f. formula f.value ≡ says who (formula a.value)) (λ e. e ≡ TextFault.NoMemory) }
-{
-    Ok(Box::new(alloc, Formula::Says(who, a))?)
-}
-
-#[inline(never)]
-fn on_of(alloc: Global, a: Box<Formula>, from: Term, to: Term) -> Result<Box<Formula>, TextFault>
-    ensures { MatchResult result (λ f. formula f.value ≡ on (formula a.value) from to) (λ e. e ≡ TextFault.NoMemory) }
-{
-    Ok(Box::new(alloc, Formula::At(a, from, to))?)
-}
-
-/// The formula on the interval behind the sign `@` at that place, and what follows it.
+/// The formula on the interval behind the sign `@` at that place. It goes behind the interval.
 #[inline(never)]
 fn on_interval(
     alloc: Global,
@@ -79,15 +41,15 @@ fn on_interval(
     in_statement: bool,
     scope: &Scope<'_>,
     a: Box<Formula>,
-    here: &Here,
-) -> Result<(Box<Formula>, Here), TextFault>
+    here: &mut Here,
+) -> Result<Box<Formula>, TextFault>
     requires scope { length (variables scope.now) ≤ 512 }
-    requires within { here.now.end ≤ length text.now }
-    ensures read { IfOk result (λ r. PutsOn text.now in_statement (variables scope.now) here.now r.1 (formula a.value) (formula r.0.value)) }
-    ensures fault { IfErr result (λ e. IntervalStops text.now in_statement (variables scope.now) here.now e) }
+    requires within { here.old.end ≤ length text.now }
+    ensures read { IfOk result (λ f. PutsOn text.now in_statement (variables scope.now) here.old here.new (formula a.value) (formula f.value)) }
+    ensures fault { IfErr result (λ e. IntervalStops text.now in_statement (variables scope.now) here.old e) }
 {
-    let (from, to, there) = interval(text, in_statement, scope, here)?;
-    Ok((on_of(alloc, a, from, to)?, there))
+    let (from, to) = interval(text, in_statement, scope, here)?;
+    Ok(on_of(alloc, a, &from, &to)?)
 }
 
 /// Whether a principal or a variable stands there, before `says`.
@@ -255,6 +217,7 @@ pub fn formula_at(
     scope: &Scope<'_>,
     depth: u16,
     here: &mut Here,
+    ahead: &mut Here,
 ) -> Result<Box<Formula>, TextFault>
     requires scope { length (variables scope.now) + here.old.left ≤ 512 }
     requires within { here.old.end ≤ length text.now }
@@ -262,15 +225,16 @@ pub fn formula_at(
     ensures fault { IfErr result (λ e. Stops text.now in_statement grammar.formula (variables scope.now) depth here.old e) }
 {
     if is_word(Keyword::Forall, &here.token) {
-        for_every(alloc, text, in_statement, scope, depth, here)
+        for_every(alloc, text, in_statement, scope, depth, here, ahead)
     } else if is_word(Keyword::Exists, &here.token) {
-        for_some(alloc, text, in_statement, scope, depth, here)
+        for_some(alloc, text, in_statement, scope, depth, here, ahead)
     } else {
-        implication(alloc, text, in_statement, scope, depth, here)
+        implication(alloc, text, in_statement, scope, depth, here, ahead)
     }
 }
 
 /// Reads the formula at that place, which begins with `forall`.
+#[inline(never)]
 #[cycle(descent)]
 fn for_every(
     alloc: Global,
@@ -279,6 +243,7 @@ fn for_every(
     scope: &Scope<'_>,
     depth: u16,
     here: &mut Here,
+    ahead: &mut Here,
 ) -> Result<Box<Formula>, TextFault>
     requires scope { length (variables scope.now) + here.old.left ≤ 512 }
     requires within { here.old.end ≤ length text.now }
@@ -288,11 +253,12 @@ fn for_every(
 {
     let (name, sort) = binder(text, here)?;
     let inner = Scope::Inside(name, sort, &*scope);
-    let a = formula_at(alloc, text, in_statement, &inner, depth, here)?;
-    every_of(alloc, sort, a)
+    let a = formula_at(alloc, text, in_statement, &inner, depth, here, ahead)?;
+    Ok(every_of(alloc, sort, a)?)
 }
 
 /// Reads the formula at that place, which begins with `exists`.
+#[inline(never)]
 #[cycle(descent)]
 fn for_some(
     alloc: Global,
@@ -301,6 +267,7 @@ fn for_some(
     scope: &Scope<'_>,
     depth: u16,
     here: &mut Here,
+    ahead: &mut Here,
 ) -> Result<Box<Formula>, TextFault>
     requires scope { length (variables scope.now) + here.old.left ≤ 512 }
     requires within { here.old.end ≤ length text.now }
@@ -310,8 +277,8 @@ fn for_some(
 {
     let (name, sort) = binder(text, here)?;
     let inner = Scope::Inside(name, sort, &*scope);
-    let a = formula_at(alloc, text, in_statement, &inner, depth, here)?;
-    some_of(alloc, sort, a)
+    let a = formula_at(alloc, text, in_statement, &inner, depth, here, ahead)?;
+    Ok(some_of(alloc, sort, a)?)
 }
 
 /// Reads the formula at that place, which begins with no quantifier.
@@ -323,6 +290,7 @@ fn implication(
     scope: &Scope<'_>,
     depth: u16,
     here: &mut Here,
+    ahead: &mut Here,
 ) -> Result<Box<Formula>, TextFault>
     requires scope { length (variables scope.now) + here.old.left ≤ 512 }
     requires within { here.old.end ≤ length text.now }
@@ -330,14 +298,20 @@ fn implication(
     ensures read { IfOk result (λ f. Reads text.now in_statement grammar.formula (variables scope.now) depth here.old here.new (formula f.value)) }
     ensures fault { IfErr result (λ e. Stops text.now in_statement grammar.formula (variables scope.now) depth here.old e) }
 {
-    let a = disjunction(alloc, text, in_statement, scope, depth, here)?;
+    let a = disjunction(alloc, text, in_statement, scope, depth, here, ahead)?;
     if !is_sign(Sign::Implies, &here.token) {
         return Ok(a);
     }
-    count(here)?;
-    step_node(text, here);
-    let b = formula_at(alloc, text, in_statement, scope, depth, here)?;
-    implies_of(alloc, a, b)
+    match count(here) {
+        Ok(()) => {
+            step_node(text, here);
+            match formula_at(alloc, text, in_statement, scope, depth, here, ahead) {
+                Ok(b) => Ok(implies_of(alloc, a, b)?),
+                Err(fault) => refuse(a, fault),
+            }
+        }
+        Err(fault) => refuse(a, fault),
+    }
 }
 
 /// Reads formulas between `|`.
@@ -349,19 +323,26 @@ fn disjunction(
     scope: &Scope<'_>,
     depth: u16,
     here: &mut Here,
+    ahead: &mut Here,
 ) -> Result<Box<Formula>, TextFault>
     requires scope { length (variables scope.now) + here.old.left ≤ 512 }
     requires within { here.old.end ≤ length text.now }
     ensures read { IfOk result (λ f. Reads text.now in_statement grammar.disjunction (variables scope.now) depth here.old here.new (formula f.value)) }
     ensures fault { IfErr result (λ e. Stops text.now in_statement grammar.disjunction (variables scope.now) depth here.old e) }
 {
-    let first = conjunction(alloc, text, in_statement, scope, depth, here)?;
+    let first = conjunction(alloc, text, in_statement, scope, depth, here, ahead)?;
     let mut a = first;
     'or: while is_sign(Sign::Or, &here.token) {
-        count(here)?;
-        step_node(text, here);
-        let b = conjunction(alloc, text, in_statement, scope, depth, here)?;
-        a = either_of(alloc, a, b)?;
+        match count(here) {
+            Ok(()) => {
+                step_node(text, here);
+                match conjunction(alloc, text, in_statement, scope, depth, here, ahead) {
+                    Ok(b) => a = either_of(alloc, a, b)?,
+                    Err(fault) => return refuse(a, fault),
+                }
+            }
+            Err(fault) => return refuse(a, fault),
+        }
     }
     Ok(a)
 }
@@ -375,19 +356,26 @@ fn conjunction(
     scope: &Scope<'_>,
     depth: u16,
     here: &mut Here,
+    ahead: &mut Here,
 ) -> Result<Box<Formula>, TextFault>
     requires scope { length (variables scope.now) + here.old.left ≤ 512 }
     requires within { here.old.end ≤ length text.now }
     ensures read { IfOk result (λ f. Reads text.now in_statement grammar.conjunction (variables scope.now) depth here.old here.new (formula f.value)) }
     ensures fault { IfErr result (λ e. Stops text.now in_statement grammar.conjunction (variables scope.now) depth here.old e) }
 {
-    let first = unary(alloc, text, in_statement, scope, depth, here)?;
+    let first = unary(alloc, text, in_statement, scope, depth, here, ahead)?;
     let mut a = first;
     'and: while is_sign(Sign::And, &here.token) {
-        count(here)?;
-        step_node(text, here);
-        let b = unary(alloc, text, in_statement, scope, depth, here)?;
-        a = both_of(alloc, a, b)?;
+        match count(here) {
+            Ok(()) => {
+                step_node(text, here);
+                match unary(alloc, text, in_statement, scope, depth, here, ahead) {
+                    Ok(b) => a = both_of(alloc, a, b)?,
+                    Err(fault) => return refuse(a, fault),
+                }
+            }
+            Err(fault) => return refuse(a, fault),
+        }
     }
     Ok(a)
 }
@@ -401,21 +389,23 @@ fn unary(
     scope: &Scope<'_>,
     depth: u16,
     here: &mut Here,
+    ahead: &mut Here,
 ) -> Result<Box<Formula>, TextFault>
     requires scope { length (variables scope.now) + here.old.left ≤ 512 }
     requires within { here.old.end ≤ length text.now }
     ensures read { IfOk result (λ f. Reads text.now in_statement grammar.unary (variables scope.now) depth here.old here.new (formula f.value)) }
     ensures fault { IfErr result (λ e. Stops text.now in_statement grammar.unary (variables scope.now) depth here.old e) }
 {
-    let ahead = behind_node(text, here);
-    if is_saying(here, &ahead) {
-        said(alloc, text, in_statement, scope, depth, here, &ahead)
+    look_ahead(text, here, ahead);
+    if is_saying(here, ahead) {
+        said(alloc, text, in_statement, scope, depth, here, ahead)
     } else {
-        postfix(alloc, text, in_statement, scope, depth, here, &ahead)
+        postfix(alloc, text, in_statement, scope, depth, here, ahead)
     }
 }
 
 /// Reads a formula that the principal at that place says.
+#[inline(never)]
 #[cycle(descent)]
 fn said(
     alloc: Global,
@@ -424,20 +414,20 @@ fn said(
     scope: &Scope<'_>,
     depth: u16,
     here: &mut Here,
-    ahead: &Here,
+    ahead: &mut Here,
 ) -> Result<Box<Formula>, TextFault>
     requires scope { length (variables scope.now) + here.old.left ≤ 512 }
     requires within { here.old.end ≤ length text.now }
-    requires ahead { ahead.now ≡ behind_node text.now here.old }
-    requires ahead_within { ahead.now.end ≤ length text.now }
-    requires ahead_left { ahead.now.left ≡ here.old.left - 1 }
+    requires ahead { ahead.old ≡ behind_node text.now here.old }
+    requires ahead_within { ahead.old.end ≤ length text.now }
+    requires ahead_left { ahead.old.left ≡ here.old.left - 1 }
     requires saying { is_saying text.now here.old ≡ true }
     ensures read { IfOk result (λ f. Reads text.now in_statement grammar.unary (variables scope.now) depth here.old here.new (formula f.value)) }
     ensures fault { IfErr result (λ e. Stops text.now in_statement grammar.unary (variables scope.now) depth here.old e) }
 {
     let who = speaker(text, scope, here, ahead)?;
-    let a = unary(alloc, text, in_statement, scope, depth, here)?;
-    says_of(alloc, who, a)
+    let a = unary(alloc, text, in_statement, scope, depth, here, ahead)?;
+    Ok(says_of(alloc, &who, a)?)
 }
 
 /// Reads a formula on intervals.
@@ -449,22 +439,20 @@ fn postfix(
     scope: &Scope<'_>,
     depth: u16,
     here: &mut Here,
-    ahead: &Here,
+    ahead: &mut Here,
 ) -> Result<Box<Formula>, TextFault>
     requires scope { length (variables scope.now) + here.old.left ≤ 512 }
     requires within { here.old.end ≤ length text.now }
-    requires ahead { ahead.now ≡ behind_node text.now here.old }
-    requires ahead_within { ahead.now.end ≤ length text.now }
-    requires ahead_left { ahead.now.left ≡ here.old.left - 1 }
+    requires ahead { ahead.old ≡ behind_node text.now here.old }
+    requires ahead_within { ahead.old.end ≤ length text.now }
+    requires ahead_left { ahead.old.left ≡ here.old.left - 1 }
     ensures read { IfOk result (λ f. Reads text.now in_statement grammar.postfix (variables scope.now) depth here.old here.new (formula f.value)) }
     ensures fault { IfErr result (λ e. Stops text.now in_statement grammar.postfix (variables scope.now) depth here.old e) }
 {
     let first = primary(alloc, text, in_statement, scope, depth, here, ahead)?;
     let mut a = first;
     'at: while is_sign(Sign::At, &here.token) {
-        let (f, there) = on_interval(alloc, text, in_statement, scope, a, here)?;
-        a = f;
-        *here = there;
+        a = on_interval(alloc, text, in_statement, scope, a, here)?;
     }
     Ok(a)
 }
@@ -478,13 +466,13 @@ fn primary(
     scope: &Scope<'_>,
     depth: u16,
     here: &mut Here,
-    ahead: &Here,
+    ahead: &mut Here,
 ) -> Result<Box<Formula>, TextFault>
     requires scope { length (variables scope.now) + here.old.left ≤ 512 }
     requires within { here.old.end ≤ length text.now }
-    requires ahead { ahead.now ≡ behind_node text.now here.old }
-    requires ahead_within { ahead.now.end ≤ length text.now }
-    requires ahead_left { ahead.now.left ≡ here.old.left - 1 }
+    requires ahead { ahead.old ≡ behind_node text.now here.old }
+    requires ahead_within { ahead.old.end ≤ length text.now }
+    requires ahead_left { ahead.old.left ≡ here.old.left - 1 }
     ensures read { IfOk result (λ f. Reads text.now in_statement grammar.primary (variables scope.now) depth here.old here.new (formula f.value)) }
     ensures fault { IfErr result (λ e. Stops text.now in_statement grammar.primary (variables scope.now) depth here.old e) }
 {
@@ -506,13 +494,13 @@ fn group(
     scope: &Scope<'_>,
     depth: u16,
     here: &mut Here,
-    ahead: &Here,
+    ahead: &mut Here,
 ) -> Result<Box<Formula>, TextFault>
     requires scope { length (variables scope.now) + here.old.left ≤ 512 }
     requires within { here.old.end ≤ length text.now }
-    requires ahead { ahead.now ≡ behind_node text.now here.old }
-    requires ahead_within { ahead.now.end ≤ length text.now }
-    requires ahead_left { ahead.now.left ≡ here.old.left - 1 }
+    requires ahead { ahead.old ≡ behind_node text.now here.old }
+    requires ahead_within { ahead.old.end ≤ length text.now }
+    requires ahead_left { ahead.old.left ≡ here.old.left - 1 }
     requires open { is_sign Sign.Open here.old.token ≡ true }
     ensures read { IfOk result (λ f. Reads text.now in_statement grammar.primary (variables scope.now) depth here.old here.new (formula f.value)) }
     ensures fault { IfErr result (λ e. Stops text.now in_statement grammar.primary (variables scope.now) depth here.old e) }
@@ -521,7 +509,9 @@ fn group(
         return Err(TextFault::TooLarge(here.at));
     }
     step_into(text, here, ahead);
-    let a = formula_at(alloc, text, in_statement, scope, depth + 1, here)?;
-    go_behind(text, Sign::Close, here)?;
-    Ok(a)
+    let a = formula_at(alloc, text, in_statement, scope, depth + 1, here, ahead)?;
+    match go_behind(text, Sign::Close, here) {
+        Ok(()) => Ok(a),
+        Err(fault) => refuse(a, fault),
+    }
 }

@@ -33,7 +33,16 @@ fn read_formula(alloc: Global, text: &[u8]) -> Result<Formula, TextFault>
     ensures fault { IfErr result (FormulaFault text.now) }
 {
     let mut here = beginning(text);
-    let f = formula_at(alloc, text, false, &Scope::Outermost, 0, &mut here)?;
+    let mut ahead = here;
+    let f = formula_at(
+        alloc,
+        text,
+        false,
+        &Scope::Outermost,
+        0,
+        &mut here,
+        &mut ahead,
+    )?;
     if is_end(&here.token) {
         Ok(Box::into_inner(f))
     } else {
@@ -156,7 +165,16 @@ fn read_statement(alloc: Global, text: &[u8]) -> Result<Statement, TextFault>
 {
     let mut here = beginning(text);
     let who = opening(text, &mut here)?;
-    let body = formula_at(alloc, text, true, &Scope::Outermost, 0, &mut here)?;
+    let mut ahead = here;
+    let body = formula_at(
+        alloc,
+        text,
+        true,
+        &Scope::Outermost,
+        0,
+        &mut here,
+        &mut ahead,
+    )?;
     let (from, to) = span(text, &mut here)?;
     match Statement::new(who, Box::into_inner(body), from, to) {
         Some(statement) => Ok(statement),

@@ -68,6 +68,17 @@ pub fn step_into(text: &[u8], here: &mut Here, ahead: &Here)
     };
 }
 
+/// Reads the token behind one that is a node of the formula, into `ahead`.
+#[inline(never)]
+pub fn look_ahead(text: &[u8], here: &Here, ahead: &mut Here)
+    requires { here.now.end ≤ length text.now }
+    ensures same { ahead.new ≡ behind_node text.now here.now }
+    ensures within { ahead.new.end ≤ length text.now }
+    ensures left { ahead.new.left ≡ here.now.left - 1 }
+{
+    *ahead = behind_node(text, here);
+}
+
 /// Goes to the place behind a token that is a node of the formula.
 #[inline(never)]
 pub fn step_node(text: &[u8], here: &mut Here)
@@ -191,27 +202,31 @@ fn time_argument(in_statement: bool, scope: &Scope<'_>, here: &Here) -> Result<T
     Ok(term)
 }
 
-/// The interval behind the sign `@` at that place, and what follows it.
+/// The times of the interval behind the sign `@` at that place. It goes behind the interval.
 #[tactic(auto, unfolding(crate::specs::Pieces::interval))]
+#[inline(never)]
 pub fn interval(
     text: &[u8],
     in_statement: bool,
     scope: &Scope<'_>,
-    here: &Here,
-) -> Result<(Term, Term, Here), TextFault>
+    here: &mut Here,
+) -> Result<(Term, Term), TextFault>
     requires scope { length (variables scope.now) ≤ 512 }
-    requires within { here.now.end ≤ length text.now }
-    ensures value { result ≡ interval text.now in_statement (variables scope.now) here.now }
-    ensures within { IfOk result (λ r. r.2.end ≤ length text.now) }
-    ensures left { IfOk result (λ r. r.2.left + 1 ≤ here.now.left) }
+    requires within { here.old.end ≤ length text.now }
+    ensures value { MatchResult result (λ r. interval text.now in_statement (variables scope.now) here.old ≡ Ok (r.0, r.1, here.new)) (λ e. interval text.now in_statement (variables scope.now) here.old ≡ Err e) }
+    ensures within { OnOk result (here.new.end ≤ length text.now) }
+    ensures left { OnOk result (here.new.left + 1 ≤ here.old.left) }
 {
     count(here)?;
-    let first = expected(text, Sign::OpenInterval, &behind_node(text, here))?;
-    let from = time_argument(in_statement, scope, &first)?;
-    let second = expected(text, Sign::Comma, &behind_node(text, &first))?;
-    let to = time_argument(in_statement, scope, &second)?;
-    let there = expected(text, Sign::CloseInterval, &behind_node(text, &second))?;
-    Ok((from, to, there))
+    step_node(text, here);
+    go_behind(text, Sign::OpenInterval, here)?;
+    let from = time_argument(in_statement, scope, here)?;
+    step_node(text, here);
+    go_behind(text, Sign::Comma, here)?;
+    let to = time_argument(in_statement, scope, here)?;
+    step_node(text, here);
+    go_behind(text, Sign::CloseInterval, here)?;
+    Ok((from, to))
 }
 
 #[tactic(auto, unfolding(crate::specs::Pieces::variable_name))]

@@ -1,12 +1,8 @@
 -- Classes of bytes of a text. They are this project's own.
-use Rattle.std.specs.Prelude.{ℕ, Bool, nat_le, ◌&&◌, ◌||◌, ◌==◌}
-use Rattle.bl_syntax.specs.Names.{is_digit, is_name_byte, is_text_byte}
+use Rattle.std.specs.Prelude.{ℕ, Bool, ◌||◌, ◌==◌}
+use Rattle.bl_syntax.specs.Names.{is_upper_case, is_digit, is_name_byte, is_text_byte}
 use Rattle.bl_tokens.specs.declared.classes.Class.{Class}
 use Rattle.bl_tokens.specs.declared.classes.Class.TheVariants.{Space, Digit, Name, Word, Text}
-
--- from `A` to `Z`
-abbrev pub is_upper_case : ℕ → Bool
-is_upper_case byte = nat_le 65 byte && nat_le byte 90
 
 -- what may follow the first byte of a variable: a letter, a digit or `_`
 abbrev pub is_word_byte : ℕ → Bool

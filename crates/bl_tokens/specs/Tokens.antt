@@ -4,7 +4,7 @@ use Rattle.std.specs.List.{prefix_len, take_while, starts_with}
 use Rattle.std.specs.Str.Parse.{digits_value}
 use Rattle.bl_syntax.specs.declared.terms.Term.TheVariants as terms
 use Rattle.bl_syntax.specs.declared.terms.TimePoint.TheVariants as times
-use Rattle.bl_syntax.specs.Names.{is_lower_case, is_digit, is_text}
+use Rattle.bl_syntax.specs.Names.{is_lower_case, is_upper_case, is_digit, is_text}
 use Rattle.bl_tokens.specs.declared.tokens.Sign.{Sign}
 use Rattle.bl_tokens.specs.declared.tokens.Sign.TheVariants as signs
 use Rattle.bl_tokens.specs.declared.tokens.Keyword.{Keyword}
@@ -14,7 +14,7 @@ use Rattle.bl_tokens.specs.declared.tokens.Token.TheVariants as tokens
 use Rattle.bl_tokens.specs.declared.tokens.Lexeme.{Lexeme}
 use Rattle.bl_tokens.specs.declared.tokens.Here.{Here}
 use Rattle.bl_tokens.specs.declared.classes.Class.TheVariants as classes
-use Rattle.bl_tokens.specs.Classes.{is_in, is_upper_case}
+use Rattle.bl_tokens.specs.Classes.{is_in}
 use Rattle.bl_tokens.specs.Numerals.{numeral_below}
 use Rattle.bl_tokens.specs.Dates.{begins_date, goes_on_with_time, date_second_at, day_second_at, is_moment}
 use Rattle.bl_tokens.specs.Words.{word_token}

@@ -2,8 +2,9 @@
 
 ghost use Rattle.std.specs.Prelude.{◌≡◌, ◌≤◌, length};
 ghost use Rattle.std.specs.List.{prefix_len};
-ghost use Rattle.bl_syntax.specs.Names.{is_lower_case, is_digit, is_name_byte, is_text_byte};
-ghost use Rattle.bl_tokens.specs.Classes.{is_upper_case, is_word_byte, is_space, is_in};
+ghost use Rattle.bl_tokens.specs.Classes.{is_word_byte, is_space, is_in};
+
+use bl_syntax::byte_classes::{is_digit, is_name_byte, is_text_byte, is_upper_case};
 
 /// A class of bytes.
 #[derive(Clone, Copy, Debug, PartialEq, Eq)]
@@ -18,46 +19,16 @@ pub enum Class {
     Text,
 }
 
-pub fn is_lower_case(byte: u8) -> bool
-    ensures { result ≡ is_lower_case byte }
-{
-    b'a' <= byte && byte <= b'z'
-}
-
-pub fn is_upper_case(byte: u8) -> bool
-    ensures { result ≡ is_upper_case byte }
-{
-    b'A' <= byte && byte <= b'Z'
-}
-
-pub fn is_digit(byte: u8) -> bool
-    ensures { result ≡ is_digit byte }
-{
-    b'0' <= byte && byte <= b'9'
-}
-
 fn is_space(byte: u8) -> bool
     ensures { result ≡ is_space byte }
 {
     byte == b' '
 }
 
-fn is_name_byte(byte: u8) -> bool
-    ensures { result ≡ is_name_byte byte }
-{
-    is_lower_case(byte) || is_digit(byte) || byte == b'_'
-}
-
 fn is_word_byte(byte: u8) -> bool
     ensures { result ≡ is_word_byte byte }
 {
     is_name_byte(byte) || is_upper_case(byte)
-}
-
-fn is_text_byte(byte: u8) -> bool
-    ensures { result ≡ is_text_byte byte }
-{
-    32 <= byte && byte <= 126 && !(byte == b'"') && !(byte == b'\\')
 }
 
 fn is_in(class: Class, byte: u8) -> bool

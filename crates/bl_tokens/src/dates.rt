@@ -4,7 +4,7 @@ ghost use Rattle.std.specs.Prelude.{◌≡◌, ◌+◌, ◌<◌, ◌≤◌, pos,
 ghost use Rattle.jiff.specs.Words.{epoch_day};
 ghost use Rattle.bl_tokens.specs.Dates.{has_two, has_byte, begins_date, goes_on_with_time, two_at, year_at, date_second, day_second, date_second_at, day_second_at};
 
-use crate::classes::is_digit;
+use bl_syntax::byte_classes::is_digit;
 use jiff::civil::Date;
 
 fn has_two(bytes: &[u8], place: usize) -> bool

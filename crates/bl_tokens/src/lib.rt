@@ -11,7 +11,7 @@ mod times;
 mod tokens;
 mod words;
 
-pub use classes::{Class, is_lower_case, is_upper_case, run_len};
+pub use classes::{Class, run_len};
 pub use faults::TextFault;
 pub use numerals::smallest_numeral;
 pub use times::parse_time;

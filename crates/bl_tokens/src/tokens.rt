@@ -8,10 +8,11 @@ ghost use Rattle.bl_tokens.specs.Dates.{begins_date, goes_on_with_time};
 ghost use Rattle.bl_tokens.specs.Ranges.{IsTokenInRange};
 ghost use Rattle.bl_tokens.specs.Tokens.{bad, sized, second_token, short_value, integer_lexeme, negative_lexeme, date_token, date_time_token, time_lexeme, digits_of, minus_lexeme, plus_lexeme, word_lexeme, variable_lexeme, file_lexeme, parameter_lexeme, text_lexeme, begins_with, short_sign, sign_lexeme, begun_by, first_lexeme, token_from, behind, behind_node, sign_code, word_code, is_sign, is_word};
 
-use crate::classes::{Class, is_digit, is_lower_case, is_upper_case, run_len};
+use crate::classes::{Class, run_len};
 use crate::dates::{begins_date, date_second_at, day_second_at, goes_on_with_time, second_within};
 use crate::numerals::{digits_value, long_numeral, short_numeral};
 use crate::words::word_token;
+use bl_syntax::byte_classes::{is_digit, is_lower_case, is_upper_case};
 use bl_syntax::{NodeId, Principal, Short, Sort, Term, Text, TimePoint, is_moment};
 
 /// A word of the grammar.

@@ -17,14 +17,14 @@ use Rattle.bl_syntax.specs.declared.terms.Term.{Term}
 use Rattle.bl_syntax.specs.declared.terms.Term.TheVariants as terms
 use Rattle.bl_syntax.specs.declared.terms.TimePoint.TheVariants as times
 use Rattle.bl_syntax.specs.declared.terms.Perm.TheVariants as permissions
-use Rattle.bl_syntax.specs.Names.{is_lower_case, is_digit, is_name_byte, is_text_byte, is_text, is_identifier, is_among, reserved_words, is_principal_name}
+use Rattle.bl_syntax.specs.Names.{is_lower_case, is_upper_case, is_digit, is_name_byte, is_text_byte, is_text, is_identifier, is_among, reserved_words, is_principal_name}
 use Rattle.bl_syntax.specs.TimeOrder.{IsMoment}
 use Rattle.bl_syntax.specs.Spelling.{IsSpellable}
 use Rattle.bl_tokens.specs.declared.classes.Class.TheVariants as classes
 use Rattle.bl_tokens.specs.declared.tokens.Token.{Token}
 use Rattle.bl_tokens.specs.declared.tokens.Token.TheVariants as tokens
 use Rattle.bl_tokens.specs.declared.tokens.Lexeme.{Lexeme}
-use Rattle.bl_tokens.specs.Classes.{is_in, is_upper_case}
+use Rattle.bl_tokens.specs.Classes.{is_in}
 use Rattle.bl_tokens.specs.Dates.{begins_date, is_moment}
 use Rattle.bl_tokens.specs.Words.{keyword, sort_named, constant_named, constant_or_name, sort_or_other, keyword_or_other, word_token}
 use Rattle.bl_tokens.specs.Tokens.{first_lexeme, sized, bad, begins_with, word_lexeme, file_lexeme, parameter_lexeme, text_lexeme, time_lexeme, minus_lexeme, integer_lexeme, negative_lexeme, digits_of, short_value, second_token}

@@ -2,7 +2,7 @@
 -- the longest run of letters, digits and `_` that begins with a letter, the number of a hypothesis the longest run of digits; everything else is a token of formulas.
 use Rattle.std.specs.Prelude.{ℕ, ◌+◌, ◌-◌, ◌^◌, List, [], ◌∷◌, length, drop, Bool, false, nat_le, ◌&&◌, ◌||◌, Option, Some, None, Result, Ok, Err, if◌then◌else◌}
 use Rattle.std.specs.List.{prefix_len, take_while}
-use Rattle.bl_syntax.specs.Names.{is_lower_case}
+use Rattle.bl_syntax.specs.Names.{is_lower_case, is_upper_case}
 use Rattle.bl_syntax.specs.declared.terms.Sort.TheVariants as sorts
 use Rattle.bl_syntax.specs.declared.terms.Term.{Term}
 use Rattle.bl_tokens.specs.declared.classes.Class.TheVariants as classes
@@ -10,7 +10,7 @@ use Rattle.bl_tokens.specs.declared.faults.TextFault.{TextFault}
 use Rattle.bl_tokens.specs.declared.faults.TextFault.TheVariants.{Unexpected, UnknownName, TooLarge}
 use Rattle.bl_tokens.specs.declared.tokens.Sign.{Sign}
 use Rattle.bl_tokens.specs.declared.tokens.Here.{Here}
-use Rattle.bl_tokens.specs.Classes.{is_in, is_upper_case}
+use Rattle.bl_tokens.specs.Classes.{is_in}
 use Rattle.bl_tokens.specs.Numerals.{numeral_below}
 use Rattle.bl_tokens.specs.Tokens.{token_from, is_sign}
 use Rattle.bl_text.specs.Pieces.{◌>>=◌, term_of, sorted}

@@ -11,11 +11,11 @@ ghost use Rattle.bl_tokens.specs.declared.tokens.Token.{Token};
 ghost use Rattle.proof_text.specs.Places.{placed, first_byte, token_at, behind_token, behind_sign, term_at, time_at, hypothesis_at, is_letter, begins_word, rule_at, room, one_fewer};
 
 use crate::names::{RuleName, rule_named};
+use bl_syntax::byte_classes::{is_lower_case, is_upper_case};
 use bl_syntax::{Sort, Term};
 use bl_text::{Scope, sorted, term_of};
 use bl_tokens::{
-    Class, Here, Sign, TextFault, digits_of, is_lower_case, is_sign, is_upper_case, run_len,
-    smallest_numeral, token_from,
+    Class, Here, Sign, TextFault, digits_of, is_sign, run_len, smallest_numeral, token_from,
 };
 
 /// A place in a proof's text: the byte from which the next token is read, and how many rules are

@@ -8,7 +8,7 @@ use Rattle.bl_tokens.specs.Tokens.{is_sign}
 use Rattle.bl_text.specs.Grammar.{is_saying, is_call}
 use Rattle.bl_text.specs.Grammar as g
 use Rattle.bl_text.specs.Stops as s
-use Rattle.bl_text.proofs.ReadLemmas.{passed, stops_at, is_at, is_form, every_quantifies, some_quantifies, formula_ended, lt_true, lt_false, ok_of, err_of, none_left, stops_at_interval}
+use Rattle.bl_text.proofs.ReadLemmas.{passed, stops_at, is_at, is_form, every_quantifies, some_quantifies, formula_ended, lt_true, lt_false, stops_at_interval}
 use Rattle.bl_text.proofs.formulas.+descent.Goals as goal
 
 pub for_every-returns-in_err-name-clause-fault : goal.for_every-returns-in_err-name-clause-fault
@@ -17,18 +17,18 @@ for_every-returns-in_err-name-clause-fault t c = passed c.from_residual.result c
 pub for_every-returns-in_err-a-clause-fault : goal.for_every-returns-in_err-a-clause-fault
 for_every-returns-in_err-a-clause-fault t c = passed c.from_residual-in_err-a.result c.in_err-a.field-0.0 _ (search rules) (s.in_body _ _ _ _ c.in_ok-name.name c.in_ok-name.sort _ (every_quantifies _ c.requires.word) c.in_ok-name.ensures.value c.in_err-a.ensures.fault)
 
+pub for_every-returns-in_err-every_of-clause-fault : goal.for_every-returns-in_err-every_of-clause-fault
+for_every-returns-in_err-every_of-clause-fault t c = passed c.from_residual-in_err-every_of.result NoMemory _ (search rules) (s.no_memory _ _ _ _)
+
 pub for_every-returns-clause-read : goal.for_every-returns-clause-read
 for_every-returns-clause-read t c =
     let read = c.in_ok-a.ensures.read in
-    ok_of c.every_of.result _ _ _ (λ f made. record {
-      is_text = is_form made (g.for_every _ _ _ _ _ c.in_ok-name.name c.in_ok-name.sort (formula c.in_ok-a.a.value) c.requires.word c.in_ok-name.ensures.value read.is_text);
+    record {
+      is_text = is_form c.in_ok-every_of.ensures (g.for_every _ _ _ _ _ c.in_ok-name.name c.in_ok-name.sort (formula c.in_ok-a.a.value) c.requires.word c.in_ok-name.ensures.value read.is_text);
       ended = read.ended;
       left = omega (arith, read.left, c.in_ok-name.ensures.left);
       within = read.within;
-    }) c.every_of.ensures
-
-pub for_every-returns-clause-fault : goal.for_every-returns-clause-fault
-for_every-returns-clause-fault t c = err_of c.every_of.result _ _ _ (λ e none. none_left none) c.every_of.ensures
+    }
 
 pub for_some-returns-in_err-name-clause-fault : goal.for_some-returns-in_err-name-clause-fault
 for_some-returns-in_err-name-clause-fault t c = passed c.from_residual.result c.in_err-name.field-0.0 _ (search rules) (s.in_binder _ _ _ _ (some_quantifies _ c.requires.word) c.in_err-name.ensures.value)
@@ -36,18 +36,18 @@ for_some-returns-in_err-name-clause-fault t c = passed c.from_residual.result c.
 pub for_some-returns-in_err-a-clause-fault : goal.for_some-returns-in_err-a-clause-fault
 for_some-returns-in_err-a-clause-fault t c = passed c.from_residual-in_err-a.result c.in_err-a.field-0.0 _ (search rules) (s.in_body _ _ _ _ c.in_ok-name.name c.in_ok-name.sort _ (some_quantifies _ c.requires.word) c.in_ok-name.ensures.value c.in_err-a.ensures.fault)
 
+pub for_some-returns-in_err-some_of-clause-fault : goal.for_some-returns-in_err-some_of-clause-fault
+for_some-returns-in_err-some_of-clause-fault t c = passed c.from_residual-in_err-some_of.result NoMemory _ (search rules) (s.no_memory _ _ _ _)
+
 pub for_some-returns-clause-read : goal.for_some-returns-clause-read
 for_some-returns-clause-read t c =
     let read = c.in_ok-a.ensures.read in
-    ok_of c.some_of.result _ _ _ (λ f made. record {
-      is_text = is_form made (g.for_some _ _ _ _ _ c.in_ok-name.name c.in_ok-name.sort (formula c.in_ok-a.a.value) c.requires.word c.in_ok-name.ensures.value read.is_text);
+    record {
+      is_text = is_form c.in_ok-some_of.ensures (g.for_some _ _ _ _ _ c.in_ok-name.name c.in_ok-name.sort (formula c.in_ok-a.a.value) c.requires.word c.in_ok-name.ensures.value read.is_text);
       ended = read.ended;
       left = omega (arith, read.left, c.in_ok-name.ensures.left);
       within = read.within;
-    }) c.some_of.ensures
-
-pub for_some-returns-clause-fault : goal.for_some-returns-clause-fault
-for_some-returns-clause-fault t c = err_of c.some_of.result _ _ _ (λ e none. none_left none) c.some_of.ensures
+    }
 
 pub implication-returns-in_err-a-clause-fault : goal.implication-returns-in_err-a-clause-fault
 implication-returns-in_err-a-clause-fault t c = passed c.from_residual.result c.in_err-a.field-0.0 _ (search rules) (s.in_premise _ _ _ _ c.requires.no_quantifier c.in_err-a.ensures.fault)
@@ -58,26 +58,26 @@ implication-returns-then-not-is_sign-clause-read t c =
     let none : is_sign signs.Implies c.disjunction.new.here.token ≡ false = search rules in
     record { is_text = g.one_disjunction _ _ _ _ _ c.requires.no_quantifier read.is_text; ended = formula_ended c.disjunction.new.here.token none read.ended; left = read.left; within = read.within }
 
-pub implication-returns-in_err-count-clause-fault : goal.implication-returns-in_err-count-clause-fault
-implication-returns-in_err-count-clause-fault t c = passed c.from_residual-in_err-count.result c.in_err-count.field-0.0 _ (search rules) (s.at_implies _ _ _ c.disjunction.new.here (formula c.in_ok-a.a.value) _ c.requires.no_quantifier c.in_ok-a.ensures.read.is_text (let sign : is_sign signs.Implies c.disjunction.new.here.token ≡ true = search rules in sign) (sym c.in_err-count.ensures.value))
+pub implication-returns-in-Err-clause-fault : goal.implication-returns-in-Err-clause-fault
+implication-returns-in-Err-clause-fault t c = passed c.refuse-in-Err.result c.in-Err.fault _ c.refuse-in-Err.ensures (s.at_implies _ _ _ c.disjunction.new.here (formula c.in_ok-a.a.value) _ c.requires.no_quantifier c.in_ok-a.ensures.read.is_text (let sign : is_sign signs.Implies c.disjunction.new.here.token ≡ true = search rules in sign) (sym c.in-Err.ensures.value))
 
-pub implication-returns-in_err-b-clause-fault : goal.implication-returns-in_err-b-clause-fault
-implication-returns-in_err-b-clause-fault t c = passed c.from_residual-in_err-b.result c.in_err-b.field-0.0 _ (search rules) (s.in_conclusion _ _ _ c.disjunction.new.here (formula c.in_ok-a.a.value) _ c.requires.no_quantifier c.in_ok-a.ensures.read.is_text (let sign : is_sign signs.Implies c.disjunction.new.here.token ≡ true = search rules in sign) (sym c.in_ok-count.ensures.value) (stops_at c.step_node.ensures.same c.in_err-b.ensures.fault))
+pub implication-returns-in-Err-formula_at-clause-fault : goal.implication-returns-in-Err-formula_at-clause-fault
+implication-returns-in-Err-formula_at-clause-fault t c = passed c.refuse.result c.in-Err-formula_at.fault _ c.refuse.ensures (s.in_conclusion _ _ _ c.disjunction.new.here (formula c.in_ok-a.a.value) _ c.requires.no_quantifier c.in_ok-a.ensures.read.is_text (let sign : is_sign signs.Implies c.disjunction.new.here.token ≡ true = search rules in sign) (sym c.in-Ok.ensures.value) (stops_at c.step_node.ensures.same c.in-Err-formula_at.ensures.fault))
 
-pub implication-returns-clause-read : goal.implication-returns-clause-read
-implication-returns-clause-read t c =
+pub implication-returns-in_err-implies_of-in-Ok-formula_at-clause-fault : goal.implication-returns-in_err-implies_of-in-Ok-formula_at-clause-fault
+implication-returns-in_err-implies_of-in-Ok-formula_at-clause-fault t c = passed c.from_residual-in_err-implies_of-in-Ok-formula_at.result NoMemory _ (search rules) (s.no_memory _ _ _ _)
+
+pub implication-returns-in_ok-implies_of-in-Ok-formula_at-clause-read : goal.implication-returns-in_ok-implies_of-in-Ok-formula_at-clause-read
+implication-returns-in_ok-implies_of-in-Ok-formula_at-clause-read t c =
     let first = c.in_ok-a.ensures.read in
-    let read = c.in_ok-b.ensures.read in
+    let read = c.in-Ok-formula_at.ensures.read in
     let sign : is_sign signs.Implies c.disjunction.new.here.token ≡ true = search rules in
-    ok_of c.implies_of.result _ _ _ (λ f made. record {
-      is_text = is_form made (g.implication _ _ _ c.disjunction.new.here _ (formula c.in_ok-a.a.value) (formula c.in_ok-b.b.value) c.requires.no_quantifier first.is_text sign (sym c.in_ok-count.ensures.value) (is_at c.step_node.ensures.same read.is_text));
+    record {
+      is_text = is_form c.in_ok-implies_of-in-Ok-formula_at.ensures (g.implication _ _ _ c.disjunction.new.here _ (formula c.in_ok-a.a.value) (formula c.in-Ok-formula_at.b.value) c.requires.no_quantifier first.is_text sign (sym c.in-Ok.ensures.value) (is_at c.step_node.ensures.same read.is_text));
       ended = read.ended;
       left = omega (arith, first.left, read.left, c.step_node.ensures.left);
       within = read.within;
-    }) c.implies_of.ensures
-
-pub implication-returns-clause-fault : goal.implication-returns-clause-fault
-implication-returns-clause-fault t c = err_of c.implies_of.result _ _ _ (λ e none. none_left none) c.implies_of.ensures
+    }
 
 pub disjunction-returns-in_err-first-clause-fault : goal.disjunction-returns-in_err-first-clause-fault
 disjunction-returns-in_err-first-clause-fault t c = passed c.from_residual.result c.in_err-first.field-0.0 _ (search rules) (s.in_first_disjunct _ _ _ _ c.in_err-first.ensures.fault)
@@ -87,22 +87,22 @@ disjunction-or-init t c =
     let read = c.in_ok-first.ensures.read in
     record { is_text = g.one_conjunction _ _ _ _ _ read.is_text; ended = read.ended; left = read.left; within = read.within }
 
-pub disjunction-returns-in_err-count-clause-fault : goal.disjunction-returns-in_err-count-clause-fault
-disjunction-returns-in_err-count-clause-fault t c = passed c.from_residual-in_err-count.result c.in_err-count.field-0.0 _ (search rules) (s.at_or _ _ _ c.or.here (formula c.or.a.value) _ c.or.invariant.is_text (let sign : is_sign signs.Or c.or.here.token ≡ true = search rules in sign) (sym c.in_err-count.ensures.value))
+pub disjunction-returns-in-Err-clause-fault : goal.disjunction-returns-in-Err-clause-fault
+disjunction-returns-in-Err-clause-fault t c = passed c.refuse-in-Err.result c.in-Err.fault _ c.refuse-in-Err.ensures (s.at_or _ _ _ c.or.here (formula c.or.a.value) _ c.or.invariant.is_text (let sign : is_sign signs.Or c.or.here.token ≡ true = search rules in sign) (sym c.in-Err.ensures.value))
 
-pub disjunction-returns-in_err-b-clause-fault : goal.disjunction-returns-in_err-b-clause-fault
-disjunction-returns-in_err-b-clause-fault t c = passed c.from_residual-in_err-b.result c.in_err-b.field-0.0 _ (search rules) (s.in_disjunct _ _ _ c.or.here (formula c.or.a.value) _ c.or.invariant.is_text (let sign : is_sign signs.Or c.or.here.token ≡ true = search rules in sign) (sym c.in_ok-count.ensures.value) (stops_at c.step_node.ensures.same c.in_err-b.ensures.fault))
+pub disjunction-returns-in-Err-conjunction-clause-fault : goal.disjunction-returns-in-Err-conjunction-clause-fault
+disjunction-returns-in-Err-conjunction-clause-fault t c = passed c.refuse.result c.in-Err-conjunction.fault _ c.refuse.ensures (s.in_disjunct _ _ _ c.or.here (formula c.or.a.value) _ c.or.invariant.is_text (let sign : is_sign signs.Or c.or.here.token ≡ true = search rules in sign) (sym c.in-Ok.ensures.value) (stops_at c.step_node.ensures.same c.in-Err-conjunction.ensures.fault))
 
-pub disjunction-returns-in_err-a-clause-fault : goal.disjunction-returns-in_err-a-clause-fault
-disjunction-returns-in_err-a-clause-fault t c = passed c.from_residual-in_err-a.result NoMemory _ (search rules) (s.no_memory _ _ _ _)
+pub disjunction-returns-in_err-a-in-Ok-conjunction-clause-fault : goal.disjunction-returns-in_err-a-in-Ok-conjunction-clause-fault
+disjunction-returns-in_err-a-in-Ok-conjunction-clause-fault t c = passed c.from_residual-in_err-a-in-Ok-conjunction.result NoMemory _ (search rules) (s.no_memory _ _ _ _)
 
 pub disjunction-or-preserved : goal.disjunction-or-preserved
 disjunction-or-preserved t c =
     let l = c.or in
-    let read = c.in_ok-b.ensures.read in
+    let read = c.in-Ok-conjunction.ensures.read in
     let sign : is_sign signs.Or l.here.token ≡ true = search rules in
     record {
-      is_text = is_form c.in_ok-a.ensures (g.or_further _ _ _ l.here _ (formula l.a.value) (formula c.in_ok-b.b.value) l.invariant.is_text sign (sym c.in_ok-count.ensures.value) (is_at c.step_node.ensures.same read.is_text));
+      is_text = is_form c.in_ok-a-in-Ok-conjunction.ensures (g.or_further _ _ _ l.here _ (formula l.a.value) (formula c.in-Ok-conjunction.b.value) l.invariant.is_text sign (sym c.in-Ok.ensures.value) (is_at c.step_node.ensures.same read.is_text));
       ended = read.ended;
       left = omega (arith, l.invariant.left, read.left, c.step_node.ensures.left);
       within = read.within;
@@ -116,22 +116,22 @@ conjunction-and-init t c =
     let read = c.in_ok-first.ensures.read in
     record { is_text = g.one_unary _ _ _ _ _ read.is_text; ended = read.ended; left = read.left; within = read.within }
 
-pub conjunction-returns-in_err-count-clause-fault : goal.conjunction-returns-in_err-count-clause-fault
-conjunction-returns-in_err-count-clause-fault t c = passed c.from_residual-in_err-count.result c.in_err-count.field-0.0 _ (search rules) (s.at_and _ _ _ c.and.here (formula c.and.a.value) _ c.and.invariant.is_text (let sign : is_sign signs.And c.and.here.token ≡ true = search rules in sign) (sym c.in_err-count.ensures.value))
+pub conjunction-returns-in-Err-clause-fault : goal.conjunction-returns-in-Err-clause-fault
+conjunction-returns-in-Err-clause-fault t c = passed c.refuse-in-Err.result c.in-Err.fault _ c.refuse-in-Err.ensures (s.at_and _ _ _ c.and.here (formula c.and.a.value) _ c.and.invariant.is_text (let sign : is_sign signs.And c.and.here.token ≡ true = search rules in sign) (sym c.in-Err.ensures.value))
 
-pub conjunction-returns-in_err-b-clause-fault : goal.conjunction-returns-in_err-b-clause-fault
-conjunction-returns-in_err-b-clause-fault t c = passed c.from_residual-in_err-b.result c.in_err-b.field-0.0 _ (search rules) (s.in_conjunct _ _ _ c.and.here (formula c.and.a.value) _ c.and.invariant.is_text (let sign : is_sign signs.And c.and.here.token ≡ true = search rules in sign) (sym c.in_ok-count.ensures.value) (stops_at c.step_node.ensures.same c.in_err-b.ensures.fault))
+pub conjunction-returns-in-Err-unary-clause-fault : goal.conjunction-returns-in-Err-unary-clause-fault
+conjunction-returns-in-Err-unary-clause-fault t c = passed c.refuse.result c.in-Err-unary.fault _ c.refuse.ensures (s.in_conjunct _ _ _ c.and.here (formula c.and.a.value) _ c.and.invariant.is_text (let sign : is_sign signs.And c.and.here.token ≡ true = search rules in sign) (sym c.in-Ok.ensures.value) (stops_at c.step_node.ensures.same c.in-Err-unary.ensures.fault))
 
-pub conjunction-returns-in_err-a-clause-fault : goal.conjunction-returns-in_err-a-clause-fault
-conjunction-returns-in_err-a-clause-fault t c = passed c.from_residual-in_err-a.result NoMemory _ (search rules) (s.no_memory _ _ _ _)
+pub conjunction-returns-in_err-a-in-Ok-unary-clause-fault : goal.conjunction-returns-in_err-a-in-Ok-unary-clause-fault
+conjunction-returns-in_err-a-in-Ok-unary-clause-fault t c = passed c.from_residual-in_err-a-in-Ok-unary.result NoMemory _ (search rules) (s.no_memory _ _ _ _)
 
 pub conjunction-and-preserved : goal.conjunction-and-preserved
 conjunction-and-preserved t c =
     let l = c.and in
-    let read = c.in_ok-b.ensures.read in
+    let read = c.in-Ok-unary.ensures.read in
     let sign : is_sign signs.And l.here.token ≡ true = search rules in
     record {
-      is_text = is_form c.in_ok-a.ensures (g.and_further _ _ _ l.here _ (formula l.a.value) (formula c.in_ok-b.b.value) l.invariant.is_text sign (sym c.in_ok-count.ensures.value) (is_at c.step_node.ensures.same read.is_text));
+      is_text = is_form c.in_ok-a-in-Ok-unary.ensures (g.and_further _ _ _ l.here _ (formula l.a.value) (formula c.in-Ok-unary.b.value) l.invariant.is_text sign (sym c.in-Ok.ensures.value) (is_at c.step_node.ensures.same read.is_text));
       ended = read.ended;
       left = omega (arith, l.invariant.left, read.left, c.step_node.ensures.left);
       within = read.within;
@@ -153,18 +153,18 @@ said-returns-in_err-who-clause-fault t c = passed c.from_residual.result c.in_er
 pub said-returns-in_err-a-clause-fault : goal.said-returns-in_err-a-clause-fault
 said-returns-in_err-a-clause-fault t c = passed c.from_residual-in_err-a.result c.in_err-a.field-0.0 _ (search rules) (s.in_said _ _ _ _ c.in_ok-who.who _ c.requires.saying c.in_ok-who.ensures.value c.in_err-a.ensures.fault)
 
+pub said-returns-in_err-says_of-clause-fault : goal.said-returns-in_err-says_of-clause-fault
+said-returns-in_err-says_of-clause-fault t c = passed c.from_residual-in_err-says_of.result NoMemory _ (search rules) (s.no_memory _ _ _ _)
+
 pub said-returns-clause-read : goal.said-returns-clause-read
 said-returns-clause-read t c =
     let read = c.in_ok-a.ensures.read in
-    ok_of c.says_of.result _ _ _ (λ f made. record {
-      is_text = is_form made (g.saying _ _ _ _ _ c.in_ok-who.who (formula c.in_ok-a.a.value) c.requires.saying c.in_ok-who.ensures.value read.is_text);
+    record {
+      is_text = is_form c.in_ok-says_of.ensures (g.saying _ _ _ _ _ c.in_ok-who.who (formula c.in_ok-a.a.value) c.requires.saying c.in_ok-who.ensures.value read.is_text);
       ended = read.ended;
       left = omega (arith, read.left, c.in_ok-who.ensures.left);
       within = read.within;
-    }) c.says_of.ensures
-
-pub said-returns-clause-fault : goal.said-returns-clause-fault
-said-returns-clause-fault t c = err_of c.says_of.result _ _ _ (λ e none. none_left none) c.says_of.ensures
+    }
 
 pub postfix-returns-in_err-first-clause-fault : goal.postfix-returns-in_err-first-clause-fault
 postfix-returns-in_err-first-clause-fault t c = passed c.from_residual.result c.in_err-first.field-0.0 _ (search rules) (s.in_primary _ _ _ _ c.in_err-first.ensures.fault)
@@ -174,16 +174,16 @@ postfix-at-init t c =
     let read = c.in_ok-first.ensures.read in
     record { is_text = g.one_primary _ _ _ _ _ read.is_text; ended = refl; left = read.left; within = read.within }
 
-pub postfix-returns-in_err-f-clause-fault : goal.postfix-returns-in_err-f-clause-fault
-postfix-returns-in_err-f-clause-fault t c = passed c.from_residual-in_err-f.result c.in_err-f.field-0.0 _ (search rules) (stops_at_interval c.at.invariant.is_text (let sign : is_sign signs.At c.at.here.token ≡ true = search rules in sign) c.in_err-f.ensures.fault)
+pub postfix-returns-in_err-a-clause-fault : goal.postfix-returns-in_err-a-clause-fault
+postfix-returns-in_err-a-clause-fault t c = passed c.from_residual-in_err-a.result c.in_err-a.field-0.0 _ (search rules) (stops_at_interval c.at.invariant.is_text (let sign : is_sign signs.At c.at.here.token ≡ true = search rules in sign) c.in_err-a.ensures.fault)
 
 pub postfix-at-preserved : goal.postfix-at-preserved
 postfix-at-preserved t c =
     let l = c.at in
-    let read = c.in_ok-f.ensures.read in
+    let read = c.in_ok-a.ensures.read in
     let sign : is_sign signs.At l.here.token ≡ true = search rules in
     record {
-      is_text = is_form read.value (g.on_interval _ _ _ l.here c.in_ok-f.there (formula l.a.value) read.from read.to l.invariant.is_text sign read.interval_is);
+      is_text = is_form read.value (g.on_interval _ _ _ l.here c.on_interval.new.here (formula l.a.value) read.from read.to l.invariant.is_text sign read.interval_is);
       ended = refl;
       left = omega (arith, l.invariant.left, read.left);
       within = read.within;
@@ -207,15 +207,15 @@ group-returns-then-depth-ge512-clause-fault t c = s.too_deep _ _ _ c.requires.op
 pub group-returns-in_err-a-clause-fault : goal.group-returns-in_err-a-clause-fault
 group-returns-in_err-a-clause-fault t c = passed c.from_residual.result c.in_err-a.field-0.0 _ (search rules) (s.in_group _ _ _ _ c.requires.open (lt_true c.args.depth 512 (omega arith)) (stops_at c.step_into.ensures.same c.in_err-a.ensures.fault))
 
-pub group-returns-in_err-go_behind-clause-fault : goal.group-returns-in_err-go_behind-clause-fault
-group-returns-in_err-go_behind-clause-fault t c = passed c.from_residual-in_err-go_behind.result c.in_err-go_behind.field-0.0 _ (search rules) (s.not_closed _ _ _ _ (formula c.in_ok-a.a.value) _ c.requires.open (lt_true c.args.depth 512 (omega arith)) (is_at c.step_into.ensures.same c.in_ok-a.ensures.read.is_text) c.in_ok-a.ensures.read.ended c.in_err-go_behind.ensures.value)
+pub group-returns-in-Err-clause-fault : goal.group-returns-in-Err-clause-fault
+group-returns-in-Err-clause-fault t c = passed c.refuse.result c.in-Err.fault _ c.refuse.ensures (s.not_closed _ _ _ _ (formula c.in_ok-a.a.value) _ c.requires.open (lt_true c.args.depth 512 (omega arith)) (is_at c.step_into.ensures.same c.in_ok-a.ensures.read.is_text) c.in_ok-a.ensures.read.ended c.in-Err.ensures.value)
 
-pub group-returns-clause-read : goal.group-returns-clause-read
-group-returns-clause-read t c =
+pub group-returns-in-Ok-clause-read : goal.group-returns-in-Ok-clause-read
+group-returns-in-Ok-clause-read t c =
     let read = c.in_ok-a.ensures.read in
     record {
-      is_text = g.group _ _ _ _ _ (formula c.in_ok-a.a.value) c.requires.open (lt_true c.args.depth 512 (omega arith)) (is_at c.step_into.ensures.same read.is_text) c.in_ok-go_behind.ensures.value;
+      is_text = g.group _ _ _ _ _ (formula c.in_ok-a.a.value) c.requires.open (lt_true c.args.depth 512 (omega arith)) (is_at c.step_into.ensures.same read.is_text) c.in-Ok.ensures.value;
       ended = refl;
-      left = omega (arith, read.left, c.step_into.ensures.left, c.in_ok-go_behind.ensures.left);
-      within = c.in_ok-go_behind.ensures.within;
+      left = omega (arith, read.left, c.step_into.ensures.left, c.in-Ok.ensures.left);
+      within = c.in-Ok.ensures.within;
     }
