@@ -1,0 +1,21 @@
+-- Both halves after the operation are those of the world after it.
+use Rattle.std.proofs.Common.{ap, ◌∙◌}
+use Rattle.world_state.specs.Halves.{op_in}
+use Rattle.world_state.proofs.HalvesLemmas.{ready_shown, applied, op_in-part_of}
+use Rattle.world_state.proofs.world.World.apply.Goals as goal
+
+pub apply-requires : goal.apply-requires
+apply-requires c = ready_shown _ c.self.inside.tree c.self.inside.meta _ c.args.op _ c.self.invariant c.self.view_is c.half_of-half.ensures c.requires
+
+pub invariant_of-self : goal.invariant_of-self
+invariant_of-self c =
+    (applied _ c.self.inside.tree c.self.inside.meta _ c.args.op _ _ _ c.self.invariant c.self.view_is c.half_of-half.ensures c.bytes.ensures.named c.is_operation.ensures c.requires
+    c.apply.ensures.tree c.apply.ensures.meta).kept
+
+pub returns-clause-world : goal.returns-clause-world
+returns-clause-world c =
+    (applied _ c.self.inside.tree c.self.inside.meta _ c.args.op _ _ _ c.self.invariant c.self.view_is c.half_of-half.ensures c.bytes.ensures.named c.is_operation.ensures c.requires
+    c.apply.ensures.tree c.apply.ensures.meta).world_is
+
+pub returns-clause-op : goal.returns-clause-op
+returns-clause-op c = c.op_of.ensures ∙ ap op_in c.half_of-half.ensures ∙ op_in-part_of c.args.op

@@ -1,0 +1,23 @@
+-- What the halves answer is the answer of the world.
+use Rattle.std.proofs.Common.{ap, ◌∙◌}
+use Rattle.world_state.specs.Halves.{op_in}
+use Rattle.world_state.specs.State.{WorldState}
+use Rattle.world_state.proofs.HalvesLemmas.{asked_shown, halves_same, joined_same, reserved_shown, op_in-part_of}
+use Rattle.world_state.proofs.world.World.reserve.Goals as goal
+
+pub reserve-answer-requires : goal.reserve-answer-requires
+reserve-answer-requires c = asked_shown _ _ _ c.args.op _ c.self.invariant c.half_of-half.ensures
+
+pub invariant_of-self : goal.invariant_of-self
+invariant_of-self c = halves_same _ _ _ _ c.reserve-answer.ensures.tree c.reserve-answer.ensures.meta c.self.invariant
+
+pub returns-clause-same : goal.returns-clause-same
+returns-clause-same c = joined_same _ _ _ _ c.reserve-answer.ensures.tree c.reserve-answer.ensures.meta ∙ ap (λ (s : WorldState). s.world) c.self.view_is
+
+pub returns-clause-op : goal.returns-clause-op
+returns-clause-op c = c.op_of.ensures ∙ ap op_in c.half_of-half.ensures ∙ op_in-part_of c.args.op
+
+pub returns-clause-answer : goal.returns-clause-answer
+returns-clause-answer c =
+    reserved_shown c.args.caller.now c.self.inside.tree c.reserve-answer.new.tree c.self.inside.meta c.reserve-answer.new.meta _ c.args.op _ _ c.self.invariant c.self.view_is c.half_of-half.ensures
+    c.reserve-answer.ensures.tree c.reserve-answer.ensures.meta c.reserve-answer.ensures.answer

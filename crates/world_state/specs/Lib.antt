@@ -1,0 +1,4 @@
+pub mod Halves
+pub mod Needed
+pub mod State
+pub mod StateCode

@@ -1,0 +1,54 @@
+-- What contracts see of a world: the plain world, and what its two halves are ready to change (this project's own).
+use Rattle.std.specs.Prelude.{◌≡◌, ℕ, List, Option, Some, None, Result, Ok, Err}
+use Rattle.file_world.specs.declared.operation.MetaOp.{MetaOp}
+use Rattle.file_world.specs.declared.operation.Op.{Op}
+use Rattle.file_world.specs.declared.refusal.OpFault.{OpFault}
+use Rattle.file_world.specs.declared.refusal.OpFault.TheVariants.{Refused, NoMemory}
+use Rattle.file_world.specs.declared.reply.OpReply.{OpReply}
+use Rattle.file_world.specs.Effect.{Part, tree_part, meta_part, part_of, refusal, reply}
+use Rattle.file_world.specs.Halves.{meta_op_of}
+use Rattle.file_world.specs.World.{World, tree_of, marks_of}
+use Rattle.file_tree.specs.declared.ready.Ready.{Ready as TreeReady}
+use Rattle.file_tree.specs.State.{TreeState, IsReady as IsTreeReadyFor}
+use Rattle.attr_state.specs.declared.ready.Ready.{Ready as MetaReady}
+use Rattle.attr_state.specs.State.{MetaState, IsReady as IsMetaReadyFor}
+
+-- the changes for which memory was taken, in the tree and in owners and attributes
+pub record Readiness : Type 0 where
+  pub tree : Option TreeReady
+  pub meta : Option MetaReady
+
+pub record WorldState : Type 0 where
+  pub world : World
+  pub ready : Readiness
+
+-- the tree, and what it is ready to change
+abbrev pub tree_state : WorldState → TreeState
+tree_state state = record { tree = tree_of state.world; ready = state.ready.tree }
+
+-- the marks, and what they are ready to change
+abbrev pub meta_state : WorldState → MetaState
+meta_state state = record { marks = marks_of state.world; ready = state.ready.meta }
+
+abbrev pub IsTreeReady : TreeState → Part → Type 0
+IsTreeReady tree (tree_part op) = IsTreeReadyFor tree op
+IsTreeReady tree (meta_part op) = Unit {0}
+
+abbrev pub IsMetaReady : MetaState → Option MetaOp → Type 0
+IsMetaReady meta None = Unit {0}
+IsMetaReady meta (Some op) = IsMetaReadyFor meta op
+
+-- each half is ready for what the caller's operation does to it
+pub record AreReady (caller : List ℕ) (tree : TreeState) (meta : MetaState) (part : Part) : Type 0 where
+  pub tree_ready : IsTreeReady tree part
+  pub meta_ready : IsMetaReady meta (meta_op_of caller tree.tree part)
+
+-- the world is ready for the caller's operation
+abbrev pub IsReady : List ℕ → WorldState → Op → Type 0
+IsReady caller state op = AreReady caller (tree_state state) (meta_state state) (part_of op)
+
+-- the operation got its reply and the world is ready for it; or it is refused, and its first refusal is told; or out of memory
+abbrev pub Reserves : List ℕ → World → Op → Result OpReply OpFault → WorldState → Type 0
+Reserves caller world op (Ok told) after = (refusal world op ≡ None) × (told ≡ reply world op) × IsReady caller after op
+Reserves caller world op (Err (Refused refused)) after = refusal world op ≡ Some refused
+Reserves caller world op (Err NoMemory) after = refusal world op ≡ None

@@ -1,0 +1,104 @@
+//! The world and its calls.
+
+ghost use Rattle.std.specs.Prelude.{◌≡◌, IfOk};
+ghost use Rattle.file_world.specs.Effect.{world_after};
+ghost use Rattle.file_world.specs.Facts.{facts};
+ghost use Rattle.file_world.specs.World.{IsWorld, fresh_world};
+ghost use Rattle.world_state.specs.State.{IsReady, Reserves, meta_state, tree_state};
+
+use crate::half::{half_of, is_operation, op_of};
+use crate::halves::{apply, reserve};
+use attr_state::Meta;
+use bl_syntax::{NoMemory, Principal, StatePred};
+use condition_set::Facts;
+use file_tree::Tree;
+use file_world::{Op, OpFault, OpReply};
+use std::alloc::Global;
+use std::marker::Model;
+
+/// The world: a file tree, and the owners and attributes of its nodes.
+#[derive(Drop)]
+pub struct World {
+    tree: Tree,
+    meta: Meta,
+}
+
+impl Model for World {
+    ghost use Rattle.world_state.specs.Halves.{AreHalves, joined};
+    ghost use Rattle.world_state.specs.State.{WorldState};
+    ghost use Rattle.world_state.specs.StateCode.{world_state_code};
+
+    ghost Value = { WorldState };
+
+    ghost coded = { world_state_code };
+
+    ghost view = { λ w. record { world = joined w.tree.tree w.meta.marks; ready = record { tree = w.tree.ready; meta = w.meta.ready } } };
+
+    ghost invariant = { λ w. AreHalves w.tree.tree w.meta.marks };
+}
+
+impl World {
+    /// The world with the root alone, which `admin` owns.
+    pub fn new(alloc: Global) -> Result<World, NoMemory>
+        ensures { IfOk result (λ world. world.world ≡ fresh_world) }
+    {
+        let tree = Tree::new(alloc)?;
+        let meta = Meta::new(alloc)?;
+        Ok(World { tree, meta })
+    }
+
+    /// The file tree.
+    pub fn tree(&self) -> &Tree
+        ensures same { result.now ≡ tree_state self.now }
+        ensures whole { IsWorld self.now.world }
+    {
+        &self.tree
+    }
+
+    /// The owners and attributes.
+    pub fn meta(&self) -> &Meta
+        ensures same { result.now ≡ meta_state self.now }
+        ensures whole { IsWorld self.now.world }
+    {
+        &self.meta
+    }
+
+    /// The reply of the caller's operation, with all memory taken for its change, or its first refusal; and the
+    /// operation, which is given back. The world stays. What was ready before is given up.
+    pub fn reserve(
+        &mut self,
+        alloc: Global,
+        caller: &Principal,
+        op: Op,
+    ) -> (Op, Result<OpReply, OpFault>)
+        ensures same { self.new.world ≡ self.old.world }
+        ensures op { result.0 ≡ op }
+        ensures answer { Reserves caller.now self.old.world op result.1 self.new }
+    {
+        let half = half_of(op);
+        let answer = reserve(&mut self.tree, &mut self.meta, alloc, caller, &half);
+        (op_of(half), answer)
+    }
+
+    /// Makes the change of the caller's operation, for which the world is ready, and gives the operation back. It takes
+    /// no memory.
+    pub fn apply(&mut self, caller: &Principal, op: Op) -> Op
+        requires { IsReady caller.now self.old op }
+        ensures world { self.new.world ≡ world_after caller.now self.old.world op }
+        ensures op { result ≡ op }
+    {
+        let _ = caller.bytes();
+        is_operation(&op);
+        let half = half_of(op);
+        apply(&mut self.tree, &mut self.meta, caller, &half);
+        op_of(half)
+    }
+}
+
+impl Facts for World {
+    ghost facts = { λ world. facts world.world };
+
+    fn holds(&self, s: &StatePred) -> bool {
+        self.meta.holds(s)
+    }
+}

@@ -1,0 +1,153 @@
+//! Operations on the world, one after the other.
+
+use bl_syntax::{Bytes, NoMemory, NodeId, Principal, StatePred, Term, Text};
+use condition_set::Facts;
+use file_world::{MetaReply, Op, OpFault, OpReply, Refusal, TreeReply};
+use std::alloc::Global;
+use std::test::Fail;
+use world_state::World;
+
+/// An operation, by its words.
+#[derive(Clone, Copy)]
+enum Call<'a> {
+    Create(u64, &'a [u8]),
+    Mkdir(u64, &'a [u8]),
+    Write(u64, u64, &'a [u8]),
+    Read(u64, u64, u64),
+    Rename(u64, &'a [u8], u64, &'a [u8]),
+    Unlink(u64, &'a [u8]),
+    Getattr(u64, &'a [u8]),
+    Setattr(u64, &'a [u8], &'a [u8]),
+    Chown(u64, &'a [u8]),
+}
+
+/// What an operation is to answer.
+#[derive(Clone, Copy)]
+enum Wanted<'a> {
+    Done,
+    Node(u64),
+    Bytes(&'a [u8]),
+    Text(&'a [u8]),
+    Refused(Refusal),
+}
+
+fn bytes(alloc: Global, of: &[u8]) -> Result<Bytes, NoMemory> {
+    let mut copied = Bytes::new(alloc);
+    copied.extend(of)?;
+    Ok(copied)
+}
+
+fn text(of: &[u8]) -> Result<Text, Fail> {
+    Ok(Text::new(of).ok_or("no text")?)
+}
+
+fn principal(name: &[u8]) -> Result<Principal, Fail> {
+    Ok(Principal::new(name).ok_or("no name")?)
+}
+
+fn op_of(alloc: Global, call: &Call) -> Result<Op, Fail> {
+    match call {
+        Call::Create(directory, name) => Ok(Op::Create(NodeId(*directory), bytes(alloc, name)?)),
+        Call::Mkdir(directory, name) => Ok(Op::Mkdir(NodeId(*directory), bytes(alloc, name)?)),
+        Call::Write(file, offset, part) => {
+            Ok(Op::Write(NodeId(*file), *offset, bytes(alloc, part)?))
+        }
+        Call::Read(file, offset, len) => Ok(Op::Read(NodeId(*file), *offset, *len)),
+        Call::Rename(directory, name, target, renamed) => {
+            let from = bytes(alloc, name)?;
+            let to = bytes(alloc, renamed)?;
+            Ok(Op::Rename(NodeId(*directory), from, NodeId(*target), to))
+        }
+        Call::Unlink(directory, name) => Ok(Op::Unlink(NodeId(*directory), bytes(alloc, name)?)),
+        Call::Getattr(node, name) => Ok(Op::Getattr(NodeId(*node), bytes(alloc, name)?)),
+        Call::Setattr(node, name, value) => {
+            Ok(Op::Setattr(NodeId(*node), bytes(alloc, name)?, text(value)?))
+        }
+        Call::Chown(node, owner) => Ok(Op::Chown(NodeId(*node), principal(owner)?)),
+    }
+}
+
+fn is_wanted(reply: &OpReply, wanted: &Wanted) -> bool {
+    match (reply, wanted) {
+        (OpReply::Tree(TreeReply::Done), Wanted::Done) => true,
+        (OpReply::Meta(MetaReply::Done), Wanted::Done) => true,
+        (OpReply::Tree(TreeReply::Node(node)), Wanted::Node(number)) => node.0 == *number,
+        (OpReply::Tree(TreeReply::Bytes(part)), Wanted::Bytes(wanted)) => {
+            part.as_slice() == *wanted
+        }
+        (OpReply::Meta(MetaReply::Text(text)), Wanted::Text(wanted)) => text.bytes() == *wanted,
+        _ => false,
+    }
+}
+
+// Whether the caller's operation, reserved and applied, answers what is wanted.
+fn answers(world: &mut World, alloc: Global, call: &Call, wanted: &Wanted) -> Result<bool, Fail> {
+    let caller = principal(b"alice")?;
+    let (op, answer) = world.reserve(alloc, &caller, op_of(alloc, call)?);
+    match (answer, wanted) {
+        (Ok(reply), wanted) => {
+            world.apply(&caller, op);
+            Ok(is_wanted(&reply, wanted))
+        }
+        (Err(OpFault::Refused(refusal)), Wanted::Refused(reason)) => Ok(refusal == *reason),
+        _ => Ok(false),
+    }
+}
+
+// Whether each operation in turn answers what is wanted.
+fn all_answer(world: &mut World, alloc: Global, calls: &[(Call, Wanted)]) -> Result<bool, Fail> {
+    for (call, wanted) in calls {
+        if !answers(world, alloc, call, wanted)? {
+            return Ok(false);
+        }
+    }
+    Ok(true)
+}
+
+fn file(node: u64) -> Term {
+    Term::File(NodeId(node))
+}
+
+#[test]
+fn both_halves_follow(rt: HostRuntime) -> Result<(), Fail> {
+    let mut world = World::new(rt.alloc())?;
+    let calls = [
+        (Call::Mkdir(1, b"home"), Wanted::Node(2)),
+        (Call::Create(1, b"notes"), Wanted::Node(3)),
+        (Call::Create(9, b"notes"), Wanted::Refused(Refusal::NoNode)),
+        (Call::Write(3, 1, b"ab"), Wanted::Done),
+        (Call::Read(3, 0, 9), Wanted::Bytes(b"\0ab")),
+        (Call::Setattr(3, b"pcfs.class", b"public"), Wanted::Done),
+        (Call::Rename(1, b"notes", 2, b"kept"), Wanted::Done),
+        (Call::Getattr(3, b"pcfs.class"), Wanted::Text(b"public")),
+        (Call::Chown(2, b"bob"), Wanted::Done),
+        (Call::Unlink(1, b"home"), Wanted::Refused(Refusal::NotEmpty)),
+    ];
+    assert!(rt; all_answer(&mut world, rt.alloc(), calls.as_slice())?);
+    assert!(rt; world.holds(&StatePred::Owner(file(3), Term::Prin(principal(b"alice")?))));
+    assert!(rt; world.holds(&StatePred::Owner(file(2), Term::Prin(principal(b"bob")?))));
+    assert!(rt; world.holds(&StatePred::InDir(file(3), file(2))));
+    assert!(rt; !world.holds(&StatePred::InDir(file(3), file(1))));
+    let gone = [
+        (Call::Unlink(2, b"kept"), Wanted::Done),
+        (Call::Getattr(3, b"pcfs.class"), Wanted::Refused(Refusal::NoNode)),
+        (Call::Create(2, b"kept"), Wanted::Node(4)),
+        (Call::Getattr(4, b"pcfs.class"), Wanted::Refused(Refusal::NoAttribute)),
+    ];
+    assert!(rt; all_answer(&mut world, rt.alloc(), gone.as_slice())?);
+    Ok(())
+}
+
+#[test]
+fn needs_name_the_child(rt: HostRuntime) -> Result<(), Fail> {
+    let mut world = World::new(rt.alloc())?;
+    let made = [(Call::Create(1, b"notes"), Wanted::Node(2))];
+    assert!(rt; all_answer(&mut world, rt.alloc(), made.as_slice())?);
+    let there = op_of(rt.alloc(), &Call::Rename(1, b"notes", 1, b"kept"))?;
+    let needs = world.needs(&there);
+    assert_eq!(rt; needs.as_slice().len(), 3);
+    assert_eq!(rt; needs.as_slice()[2].0.0, 2);
+    let missing = op_of(rt.alloc(), &Call::Unlink(1, b"kept"))?;
+    assert_eq!(rt; world.needs(&missing).as_slice().len(), 1);
+    Ok(())
+}
