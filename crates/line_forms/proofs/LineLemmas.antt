@@ -28,14 +28,14 @@ pub record AreOneHead (f g : Form) (x y : List ℕ) : Type 0 where
   pub form : f ≡ g
   pub behind : x ≡ y
 
-pub one_head : {line x y : List ℕ} {f g : Form} → head_of line ≡ Ok (f, x) → head_of line ≡ Ok (g, y) → AreOneHead f g x y
-one_head {line} {x} {y} {f} {g} h k =
+pub one_head : (line : List ℕ) {x y : List ℕ} {f g : Form} → head_of line ≡ Ok (f, x) → head_of line ≡ Ok (g, y) → AreOneHead f g x y
+one_head line {x} {y} {f} {g} h k =
     let both : ◌≡◌ {A = Result Head LineFault} (Ok (head f x)) (Ok (head g y)) = sym h ∙ k in
     let pairs : head f x ≡ head g y = cc in
     record { form = ap (λ (p : Head). p.0) pairs; behind = ap (λ (p : Head). p.1) pairs }
 
-pub no_head : {line x : List ℕ} {f : Form} {fault : LineFault} → head_of line ≡ Ok (f, x) → head_of line ≡ Err fault → ⊥
-no_head {line} {x} {f} {fault} h k = let both : ◌≡◌ {A = Result Head LineFault} (Ok (head f x)) (Err fault) = sym h ∙ k in absurd (cc)
+pub no_head : (line : List ℕ) {x : List ℕ} {f : Form} {fault : LineFault} → head_of line ≡ Ok (f, x) → head_of line ≡ Err fault → ⊥
+no_head line {x} {f} {fault} h k = let both : ◌≡◌ {A = Result Head LineFault} (Ok (head f x)) (Err fault) = sym h ∙ k in absurd (cc)
 
 -- and its words write one thing
 pub record AreOneReading (f g : Form) (a b : Arguments) (x y : List ℕ) : Type 0 where
@@ -45,7 +45,7 @@ pub record AreOneReading (f g : Form) (a b : Arguments) (x y : List ℕ) : Type 
 
 pub HasWords-unique : {line : List ℕ} {f g : Form} {a b : Arguments} {x y : List ℕ} → HasWords line f a x → HasWords line g b y → AreOneReading f g a b x y
 HasWords-unique {line} {f} {g} {a} {b} {x} {y} h k =
-    let one = one_head h.head_is k.head_is in
+    let one = one_head line h.head_is k.head_is in
     let words : AreWords (kinds_of f) h.behind blank b y =
     subst (λ v. AreWords (kinds_of f) v blank b y) (sym one.behind) (subst (λ form. AreWords (kinds_of form) k.behind blank b y) (sym one.form) k.words) in
     let same = AreWords-unique (kinds_of f) h.behind blank a b x y h.words words in
@@ -89,21 +89,21 @@ transported {f} {g} {x} {y} fault same rest h =
 -- words of a line, and a bad one among them
 words_not_bad : {line : List ℕ} {f g : Form} {a : Arguments} {x behind : List ℕ} {whole place : ℕ} → HasWords line f a x → head_of line ≡ Ok (g, behind) → IsBadWord whole (kinds_of g) behind place → ⊥
 words_not_bad {line} {f} {g} {a} {x} {behind} h head bad =
-    let one = one_head h.head_is head in
+    let one = one_head line h.head_is head in
     let words : AreWords (kinds_of g) behind blank a x =
     subst (λ v. AreWords (kinds_of g) v blank a x) one.behind (subst (λ form. AreWords (kinds_of form) h.behind blank a x) one.form h.words) in
     words_or_bad bad blank a x words
 
 -- a right number of words, and a wrong one
-same_count : {line : List ℕ} {f g : Form} {x y : List ℕ} → head_of line ≡ Ok (f, x) → head_of line ≡ Ok (g, y) → is_counted f x ≡ is_counted g y
-same_count {line} {f} {g} {x} {y} h k =
-    let one = one_head h k in
+same_count : (line : List ℕ) {f g : Form} {x y : List ℕ} → head_of line ≡ Ok (f, x) → head_of line ≡ Ok (g, y) → is_counted f x ≡ is_counted g y
+same_count line {f} {g} {x} {y} h k =
+    let one = one_head line h k in
     ap (λ form. is_counted form x) one.form ∙ ap (λ v. is_counted g v) one.behind
 
 pub command_or_fault : {line : List ℕ} {command : Command} {fault : LineFault} → IsLine line command → IsFault line fault → ⊥
-command_or_fault h (of_head fault is) = no_head h.has_words.head_is is
-command_or_fault h (of_count form behind head wrong) = false≢true (sym wrong ∙ sym (same_count h.has_words.head_is head) ∙ h.has_words.counted)
-command_or_fault h (of_word form behind place head counted bad) = words_not_bad h.has_words head bad
+command_or_fault {line} h (of_head fault is) = no_head line h.has_words.head_is is
+command_or_fault {line} h (of_count form behind head wrong) = false≢true (sym wrong ∙ sym (same_count line h.has_words.head_is head) ∙ h.has_words.counted)
+command_or_fault {line} h (of_word form behind place head counted bad) = words_not_bad h.has_words head bad
 command_or_fault {line} {command} h (of_text form arguments rest fault words is some) =
     let one = HasWords-unique h.has_words words in
     some (asked_or_fault h.form h.arguments (text_of h.rest) command fault h.asked (transported fault one.form one.rest is))
@@ -121,32 +121,32 @@ text_fault_once Verify text e f h k first second = one_if_told (fault_once h k) 
 text_fault_once Check text e f h k first second = one_if_told (fault_once h k) first second
 text_fault_once (Do operation) text e f h k first second = absurd h
 
-one_of_heads : {line : List ℕ} {e f : LineFault} → head_of line ≡ Err e → head_of line ≡ Err f → e ≡ f
-one_of_heads {line} {e} {f} h k = let both : ◌≡◌ {A = Result Head LineFault} (Err e) (Err f) = sym h ∙ k in cc
+one_of_heads : (line : List ℕ) {e f : LineFault} → head_of line ≡ Err e → head_of line ≡ Err f → e ≡ f
+one_of_heads line {e} {f} h k = let both : ◌≡◌ {A = Result Head LineFault} (Err e) (Err f) = sym h ∙ k in cc
 
-one_bad_place : {line : List ℕ} {f g : Form} {x y : List ℕ} {whole first second : ℕ} → head_of line ≡ Ok (f, x) → head_of line ≡ Ok (g, y) → IsBadWord whole (kinds_of f) x first → IsBadWord whole (kinds_of g) y second → first ≡ second
-one_bad_place {line} {f} {g} {x} {y} {whole} {first} {second} h k bad other =
-    let one = one_head h k in
+one_bad_place : (line : List ℕ) {f g : Form} {x y : List ℕ} {whole first second : ℕ} → head_of line ≡ Ok (f, x) → head_of line ≡ Ok (g, y) → IsBadWord whole (kinds_of f) x first → IsBadWord whole (kinds_of g) y second → first ≡ second
+one_bad_place line {f} {g} {x} {y} {whole} {first} {second} h k bad other =
+    let one = one_head line h k in
     let moved : IsBadWord whole (kinds_of f) x second =
     subst (λ v. IsBadWord whole (kinds_of f) v second) (sym one.behind) (subst (λ form. IsBadWord whole (kinds_of form) y second) (sym one.form) other) in
     bad_once bad second moved
 
 pub one_fault : {line : List ℕ} {first : LineFault} → IsFault line first → (second : LineFault) → IsFault line second → first ≡ second
-one_fault (of_head e is) second (of_head f other) = one_of_heads is other
-one_fault (of_head e is) second (of_count g y head wrong) = absurd (no_head head is)
-one_fault (of_head e is) second (of_word g y p head counted bad) = absurd (no_head head is)
-one_fault (of_head e is) second (of_text g b y f words h some) = absurd (no_head words.head_is is)
-one_fault (of_count f x head wrong) second (of_head e is) = absurd (no_head head is)
-one_fault (of_count f x head wrong) second (of_count g y other no) = refl
-one_fault (of_count f x head wrong) second (of_word g y p other counted bad) = absurd (false≢true (sym wrong ∙ same_count head other ∙ counted))
-one_fault (of_count f x head wrong) second (of_text g b y e words h some) = absurd (false≢true (sym wrong ∙ same_count head words.head_is ∙ words.counted))
-one_fault (of_word f x place head counted bad) second (of_head e is) = absurd (no_head head is)
-one_fault (of_word f x place head counted bad) second (of_count g y other wrong) = absurd (false≢true (sym wrong ∙ same_count other head ∙ counted))
-one_fault (of_word f x place head counted bad) second (of_word g y p other fits worse) = ap BadWord (one_bad_place head other bad worse)
-one_fault (of_word f x place head counted bad) second (of_text g b y e words h some) = absurd (words_not_bad words head bad)
-one_fault (of_text f a x e words h some) second (of_head fault is) = absurd (no_head words.head_is is)
-one_fault (of_text f a x e words h some) second (of_count g y head wrong) = absurd (false≢true (sym wrong ∙ same_count head words.head_is ∙ words.counted))
-one_fault (of_text f a x e words h some) second (of_word g y p head counted bad) = absurd (words_not_bad words head bad)
-one_fault (of_text f a x e words h some) second (of_text g b y d other k more) =
+one_fault {line} (of_head e is) second (of_head f other) = one_of_heads line is other
+one_fault {line} (of_head e is) second (of_count g y head wrong) = absurd (no_head line head is)
+one_fault {line} (of_head e is) second (of_word g y p head counted bad) = absurd (no_head line head is)
+one_fault {line} (of_head e is) second (of_text g b y f words h some) = absurd (no_head line words.head_is is)
+one_fault {line} (of_count f x head wrong) second (of_head e is) = absurd (no_head line head is)
+one_fault {line} (of_count f x head wrong) second (of_count g y other still) = refl
+one_fault {line} (of_count f x head wrong) second (of_word g y p other counted bad) = absurd (false≢true (sym wrong ∙ same_count line head other ∙ counted))
+one_fault {line} (of_count f x head wrong) second (of_text g b y e words h some) = absurd (false≢true (sym wrong ∙ same_count line head words.head_is ∙ words.counted))
+one_fault {line} (of_word f x place head counted bad) second (of_head e is) = absurd (no_head line head is)
+one_fault {line} (of_word f x place head counted bad) second (of_count g y other wrong) = absurd (false≢true (sym wrong ∙ same_count line other head ∙ counted))
+one_fault {line} (of_word f x place head counted bad) second (of_word g y p other fits worse) = ap BadWord (one_bad_place line head other bad worse)
+one_fault {line} (of_word f x place head counted bad) second (of_text g b y e words h some) = absurd (words_not_bad words head bad)
+one_fault {line} (of_text f a x e words h some) second (of_head fault is) = absurd (no_head line words.head_is is)
+one_fault {line} (of_text f a x e words h some) second (of_count g y head wrong) = absurd (false≢true (sym wrong ∙ same_count line head words.head_is ∙ words.counted))
+one_fault {line} (of_text f a x e words h some) second (of_word g y p head counted bad) = absurd (words_not_bad words head bad)
+one_fault {line} (of_text f a x e words h some) second (of_text g b y d other k more) =
     let one = HasWords-unique words other in
     ap BadText (text_fault_once f (text_of x) e d h (transported d one.form one.rest k) some more)
