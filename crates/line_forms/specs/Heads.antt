@@ -1,0 +1,53 @@
+-- The first words of a line, which name its form, and the number of the words behind them (this project's own).
+use Rattle.std.specs.Prelude.{ℕ, ◌-◌, List, [], ◌∷◌, length, codes, Bool, true, false, Option, Some, None, Result, Ok, Err, if◌then◌else◌}
+use Rattle.std.specs.Str.{bytes_eq}
+use Rattle.line_words.specs.Cutting.{first_cut}
+use Rattle.line_words.specs.Reading.{after_words}
+use Rattle.line_forms.specs.declared.forms.Operation.{Operation}
+use Rattle.line_forms.specs.declared.forms.Form.{Form}
+use Rattle.line_forms.specs.declared.forms.Form.TheVariants.{Do}
+use Rattle.line_forms.specs.declared.fault.LineFault.{LineFault}
+use Rattle.line_forms.specs.declared.fault.LineFault.TheVariants.{BadWord, BadCount}
+use Rattle.line_forms.specs.Forms.{form_named, operation_named, kinds_of, has_text}
+
+-- a form, and what stands behind the words that name it
+abbrev pub Head : Type 0
+Head = Form × List ℕ
+
+-- the operation that this word names, in a line of that length of which the second word and all behind it are left
+abbrev pub by_operation : ℕ → List ℕ → Option Operation → Result Head LineFault
+by_operation whole line None = Err (BadWord (whole - length line))
+by_operation whole line (Some operation) = Ok (Do operation, (first_cut line).behind)
+
+-- the operation that the second word names
+abbrev pub operation_head : ℕ → List ℕ → Result Head LineFault
+operation_head whole [] = Err BadCount
+operation_head whole (space ∷ line) = by_operation whole line (operation_named (first_cut line).word)
+
+-- the form that the first word names, but for `do`
+abbrev pub by_form : List ℕ → Option Form → Result Head LineFault
+by_form behind None = Err (BadWord 0)
+by_form behind (Some form) = Ok (form, behind)
+
+-- the form that the first words of a line name
+abbrev pub head_of : List ℕ → Result Head LineFault
+head_of line =
+    if bytes_eq (first_cut line).word (codes "do") then operation_head (length line) (first_cut line).behind
+    else by_form (first_cut line).behind (form_named (first_cut line).word)
+
+-- whether this may stand behind the words: a space and a text, or nothing
+abbrev pub may_end : Bool → Option (List ℕ) → Bool
+may_end text None = false
+may_end true (Some []) = false
+may_end true (Some (space ∷ others)) = true
+may_end false (Some []) = true
+may_end false (Some (space ∷ others)) = false
+
+-- whether the number of words is right, of which these stand behind the name of the form; a text counts as one word
+abbrev pub is_counted : Form → List ℕ → Bool
+is_counted form behind = may_end (has_text form) (after_words (kinds_of form) behind)
+
+-- the text behind a space
+abbrev pub text_of : List ℕ → List ℕ
+text_of [] = []
+text_of (space ∷ text) = text

@@ -1,0 +1,5 @@
+pub mod Faults
+pub mod Forms
+pub mod Heads
+pub mod Lines
+pub mod Making

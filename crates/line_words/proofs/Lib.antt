@@ -1,0 +1,9 @@
+pub mod ArgumentLemmas
+pub mod CitedLemmas
+pub mod CutLemmas
+pub mod GrammarLemmas
+pub mod KindLemmas
+pub mod NumeralLemmas
+pub mod OptionLemmas
+pub mod ProcapLemmas
+pub mod ReadingLemmas

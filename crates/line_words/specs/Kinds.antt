@@ -1,0 +1,54 @@
+-- What a word of each kind writes (this project's own).
+use Rattle.std.specs.Prelude.{◌≡◌, pos, ℕ, List, [], ◌∷◌, ◌++◌, codes, None}
+use Rattle.bl_syntax.specs.declared.terms.Perm.TheVariants.{Read}
+use Rattle.line_words.specs.Numbers.{IsSecond, IsLongNumber, IsCount, IsFile, IsIssue}
+use Rattle.line_words.specs.Cited.{IsCited}
+use Rattle.line_words.specs.Procaps.{IsProcapWord}
+use Rattle.line_words.specs.Grammar.{IsName, IsPrincipal, IsData, IsQuoted, IsPermission, IsSigned}
+use Rattle.line_words.specs.declared.procap_word.ProcapWord.{ProcapWord}
+use Rattle.line_words.specs.declared.kinds.Kind.{Kind}
+use Rattle.line_words.specs.declared.kinds.Kind.TheVariants.{Node, Target, Name, NewName, Offset, Len, Most, Data, Value, Who, Permission, Second, Issue, Cited, Signature, Procap}
+use Rattle.line_words.specs.declared.arguments.Arguments.{Arguments}
+
+-- where no word was read
+abbrev pub blank : Arguments
+blank = record {
+  node = record { 0 = 0 };
+  target = record { 0 = 0 };
+  name = [];
+  new_name = [];
+  offset = 0;
+  len = 0;
+  bytes = [];
+  value = [];
+  who = codes "nobody";
+  perm = Read;
+  second = pos 0;
+  issue = 0;
+  cited = [];
+  signature = None;
+  procaps = [];
+}
+
+-- the word is of the kind, and what it writes goes to the kind's own field
+abbrev pub Sets : Kind → List ℕ → Arguments → Arguments → Type 0
+Sets Node word before after = IsFile word after.node × (after ≡ record before { node = after.node })
+Sets Target word before after = IsFile word after.target × (after ≡ record before { target = after.target })
+Sets Name word before after = IsName word after.name × (after ≡ record before { name = after.name })
+Sets NewName word before after = IsName word after.new_name × (after ≡ record before { new_name = after.new_name })
+Sets Offset word before after = IsLongNumber word after.offset × (after ≡ record before { offset = after.offset })
+Sets Len word before after = IsLongNumber word after.len × (after ≡ record before { len = after.len })
+Sets Most word before after = IsCount word after.len × (after ≡ record before { len = after.len })
+Sets Data word before after = IsData word after.bytes × (after ≡ record before { bytes = after.bytes })
+Sets Value word before after = IsQuoted word after.value × (after ≡ record before { value = after.value })
+Sets Who word before after = IsPrincipal word after.who × (after ≡ record before { who = after.who })
+Sets Permission word before after = IsPermission word after.perm × (after ≡ record before { perm = after.perm })
+Sets Second word before after = IsSecond word after.second × (after ≡ record before { second = after.second })
+Sets Issue word before after = IsIssue word after.issue × (after ≡ record before { issue = after.issue })
+Sets Cited word before after = IsCited word after.cited × (after ≡ record before { cited = after.cited })
+Sets Signature word before after = IsSigned word after.signature × (after ≡ record before { signature = after.signature })
+Sets Procap word before after = (given : ProcapWord) × IsProcapWord word given × (after ≡ record before { procaps = before.procaps ++ given ∷ [] })
+
+-- the word is of no such kind
+abbrev pub IsOutside : Kind → List ℕ → Type 0
+IsOutside kind word = (before after : Arguments) → Sets kind word before after → ⊥

@@ -1,0 +1,9 @@
+pub mod Cited
+pub mod Cutting
+pub mod Grammar
+pub mod Kinds
+pub mod Lengths
+pub mod Numbers
+pub mod Numerals
+pub mod Procaps
+pub mod Reading

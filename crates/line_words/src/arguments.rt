@@ -1,0 +1,110 @@
+//! What the words of a line write.
+
+ghost use Rattle.std.specs.Prelude.{◌≡◌, true, false, IsTrue, IfOk, IfSome, IfNone};
+ghost use Rattle.line_words.specs.Kinds.{blank, Sets, IsOutside};
+
+use crate::cited::cited_numbers;
+use crate::kinds::Kind;
+use crate::named::{data, name, permission, principal, quoted, signed};
+use crate::numerals::{count, file, issue, long_number, second};
+use crate::procap_word::{ProcapWords, procap_word};
+use bl_syntax::{Bytes, NoMemory, NodeId, Numbers, Perm, Principal, Text};
+use std::alloc::Global;
+
+/// What the words of a line write: a field for each kind of words. A field that no word has set is blank.
+#[derive(Debug, Drop)]
+pub struct Arguments {
+    pub node: NodeId,
+    pub target: NodeId,
+    pub name: Bytes,
+    pub new_name: Bytes,
+    pub offset: u64,
+    pub len: u64,
+    pub bytes: Bytes,
+    pub value: Text,
+    pub who: Principal,
+    pub perm: Perm,
+    pub second: i64,
+    pub issue: u64,
+    pub cited: Numbers,
+    pub signature: Option<Bytes>,
+    pub procaps: ProcapWords,
+}
+
+// Puts a value that was read into its field, and tells whether there is one.
+fn put<T: Drop>(field: &mut T, value: Option<T>) -> bool
+    ensures found { IfSome value (λ v. (result ≡ true) × (field.new ≡ v)) }
+    ensures outside { IfNone value (result ≡ false) }
+{
+    match value {
+        Some(value) => {
+            *field = value;
+            true
+        }
+        None => false,
+    }
+}
+
+impl Arguments {
+    /// All fields blank. It takes no memory.
+    pub fn blank(alloc: Global) -> Arguments
+        ensures { result ≡ blank }
+    {
+        Arguments {
+            node: NodeId(0),
+            target: NodeId(0),
+            name: Bytes::new(alloc),
+            new_name: Bytes::new(alloc),
+            offset: 0,
+            len: 0,
+            bytes: Bytes::new(alloc),
+            value: Text::new(b"").unwrap(),
+            who: Principal::new(b"nobody").unwrap(),
+            perm: Perm::Read,
+            second: 0,
+            issue: 0,
+            cited: Numbers::new(alloc),
+            signature: None,
+            procaps: ProcapWords::new(alloc),
+        }
+    }
+
+    // Adds the procap that the word gives, and tells whether it gives one.
+    fn add_procap(&mut self, alloc: Global, word: &[u8]) -> Result<bool, NoMemory>
+        ensures set { IfOk result (λ fits. IsTrue fits → Sets Kind.Procap word.now self.old self.new) }
+        ensures outside { IfOk result (λ fits. fits ≡ false → IsOutside Kind.Procap word.now) }
+    {
+        match procap_word(alloc, word)? {
+            Some(given) => {
+                self.procaps.push(given)?;
+                Ok(true)
+            }
+            None => Ok(false),
+        }
+    }
+
+    /// Reads a word into the field of its kind. It returns false exactly if the word is not of the kind.
+    pub fn read(&mut self, alloc: Global, kind: Kind, word: &[u8]) -> Result<bool, NoMemory>
+        ensures set { IfOk result (λ fits. IsTrue fits → Sets kind word.now self.old self.new) }
+        ensures outside { IfOk result (λ fits. fits ≡ false → IsOutside kind word.now) }
+    {
+        match kind {
+            Kind::Node => Ok(put(&mut self.node, file(word))),
+            Kind::Target => Ok(put(&mut self.target, file(word))),
+            Kind::Name => Ok(put(&mut self.name, name(alloc, word)?)),
+            Kind::NewName => Ok(put(&mut self.new_name, name(alloc, word)?)),
+            Kind::Offset => Ok(put(&mut self.offset, long_number(word))),
+            Kind::Len => Ok(put(&mut self.len, long_number(word))),
+            Kind::Most => Ok(put(&mut self.len, count(word))),
+            Kind::Data => Ok(put(&mut self.bytes, data(alloc, word)?)),
+            Kind::Value => Ok(put(&mut self.value, quoted(word))),
+            Kind::Who => Ok(put(&mut self.who, principal(word))),
+            Kind::Permission => Ok(put(&mut self.perm, permission(word))),
+            Kind::Second => Ok(put(&mut self.second, second(word))),
+            Kind::Issue => Ok(put(&mut self.issue, issue(word))),
+            Kind::Cited => Ok(put(&mut self.cited, cited_numbers(alloc, word)?)),
+            Kind::Signature => Ok(put(&mut self.signature, signed(alloc, word)?)),
+            Kind::Procap => self.add_procap(alloc, word),
+        }
+    }
+}

@@ -1,0 +1,38 @@
+//! The kinds of words.
+
+/// What a word of a line stands for.
+#[derive(Clone, Copy, Debug, PartialEq, Eq)]
+pub enum Kind {
+    /// A node, by its number: `#N`.
+    Node,
+    /// A second node.
+    Target,
+    /// A name: 1 to 255 visible bytes, the first of them no quote.
+    Name,
+    /// A second name.
+    NewName,
+    /// An offset in bytes, below 2^64.
+    Offset,
+    /// A length in bytes, below 2^64.
+    Len,
+    /// The greatest number of bytes to be read at once: at most 65,536.
+    Most,
+    /// At most 65,536 bytes, in hexadecimal.
+    Data,
+    /// A text constant between quotes.
+    Value,
+    /// A principal.
+    Who,
+    /// A permission.
+    Permission,
+    /// A whole second, from 1970-01-01T00:00:00Z.
+    Second,
+    /// The number of an issue, from 1.
+    Issue,
+    /// The numbers of 1 to 64 statements, strictly rising, with commas between them.
+    Cited,
+    /// A signature of 1 to 32,768 bytes in hexadecimal, or `-` for the ring's key.
+    Signature,
+    /// A procap in hexadecimal, or `@N` for that of an issue.
+    Procap,
+}
