@@ -1,25 +1,23 @@
 -- The halves of a world, and what an operation does to both.
-use Rattle.std.proofs.Common.{◌≡◌, ℕ, List, [], ◌∷◌, map, Option, Some, None, Result, Ok, Err, refl, sym, ◌∙◌, ap, subst}
+use Rattle.std.proofs.Common.{◌≡◌, ℕ, List, [], ◌∷◌, map, None, Result, Ok, Err, refl, sym, ◌∙◌, ap, subst}
 use Rattle.std.specs.Prelude.{IsTrue}
 use Rattle.bl_syntax.specs.Names.{is_principal_name}
-use Rattle.file_world.specs.declared.operation.MetaOp.{MetaOp}
 use Rattle.file_world.specs.declared.operation.Op.{Op}
 use Rattle.file_world.specs.declared.operation.Op.TheVariants.{Read, Write, Truncate, List as ListOf, Lookup, Create, Mkdir, Unlink, Rename, Getattr, Setattr, Delattr, Chown}
 use Rattle.file_world.specs.declared.refusal.OpFault.{OpFault}
 use Rattle.file_world.specs.declared.refusal.OpFault.TheVariants.{Refused, NoMemory}
-use Rattle.file_world.specs.declared.refusal.Refusal.{Refusal}
 use Rattle.file_world.specs.declared.reply.OpReply.{OpReply}
 use Rattle.file_world.specs.Attributes.{Marks}
-use Rattle.file_world.specs.Effect.{Part, tree_part, meta_part, part_of, IsOperation, refusal_in, refusal, reply_in, reply, world_after}
+use Rattle.file_world.specs.Effect.{Part, tree_part, meta_part, part_of, IsOperation, refusal_in, refusal, reply_in, world_after}
 use Rattle.file_world.specs.Halves.{marks_followed, meta_op_of, tree_half_after}
-use Rattle.file_world.specs.Laws.{HalvesAfter, HalvesKeepStep}
+use Rattle.file_world.specs.Laws.{HalvesKeepStep}
 use Rattle.file_world.specs.Tree.{FileTree}
 use Rattle.file_world.specs.World.{Item, World, IsWorld, node_of, mark_of, tree_of, marks_of}
 use Rattle.file_world.proofs.HalvesLemmas.{halves_after, IsWorld-after}
 use Rattle.file_tree.specs.State.{TreeState}
 use Rattle.attr_state.specs.State.{MetaState}
 use Rattle.world_state.specs.Halves.{joined_rows, joined, AreHalves, halves_refusal, halves_reply, IsAskedOf, HalvesReserve, op_in}
-use Rattle.world_state.specs.State.{WorldState, tree_state, meta_state, IsTreeReady, IsMetaReady, AreReady, IsReady, Reserves}
+use Rattle.world_state.specs.State.{WorldState, tree_state, meta_state, AreReady, IsReady, Reserves}
 
 joined_rows-halves : (rows : List (ℕ × Item)) → joined_rows (map (λ row. (row.0, node_of row.1)) rows) (map (λ row. (row.0, mark_of row.1)) rows) ≡ rows
 joined_rows-halves [] = refl
