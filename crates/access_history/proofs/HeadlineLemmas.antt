@@ -4,11 +4,11 @@ use Rattle.std.specs.List.{AllByRecursion}
 use Rattle.access_history.specs.declared.event.Event.{Event}
 use Rattle.access_history.specs.declared.event.Event.TheVariants.{Acted}
 use Rattle.access_history.specs.declared.event.Base.{Base}
-use Rattle.access_history.specs.declared.event.Op.{Op}
+use Rattle.access_history.specs.declared.event.FileOp.{FileOp}
 use Rattle.access_history.specs.Authority.{Authority}
 use Rattle.procap.specs.declared.procap.Procap.{Procap}
-use Rattle.access_history.specs.Needs.{Need, needs}
-use Rattle.access_history.specs.Answer.{IsMet}
+use Rattle.access_history.specs.Needs.{OpNeed, needs}
+use Rattle.access_history.specs.Answer.{IsNeedMet}
 use Rattle.access_history.specs.Replay.{replay, next_state}
 use Rattle.access_history.specs.Lawful.{IsDerived, IsLawful, AreLawful, no_event, one_more, MayFollow, may_act}
 use Rattle.access_history.specs.Headline.{WasRightful, Headline}
@@ -34,7 +34,7 @@ unfolding AreFollowing
 AreFollowing-at authority state [] later event all = all.0
 AreFollowing-at authority state (first ∷ earlier) later event all = AreFollowing-at authority (next_state state first) earlier later event all.1
 
-WasRightful-each : (key : List ℕ) (state : Base) (caller : List ℕ) (procaps : List Procap) (moment : ℤ) (wants : List Need) → AllByRecursion (IsMet key state caller procaps moment) wants → AllByRecursion (IsDerived state caller procaps moment) wants →
+WasRightful-each : (key : List ℕ) (state : Base) (caller : List ℕ) (procaps : List Procap) (moment : ℤ) (wants : List OpNeed) → AllByRecursion (IsNeedMet key state caller procaps moment) wants → AllByRecursion (IsDerived state caller procaps moment) wants →
     AllByRecursion (WasRightful key state caller procaps moment) wants
 WasRightful-each key state caller procaps moment [] met derived = tt
 WasRightful-each key state caller procaps moment (need ∷ wants) met derived = (
@@ -53,7 +53,7 @@ WasRightful-each key state caller procaps moment (need ∷ wants) met derived = 
 )
 
 -- the needs of an operation that may come next
-WasRightful-acted : (authority : Authority) (state : Base) (pass : ℕ) (caller : List ℕ) (op : Op) (procaps : List Procap) (moment : ℤ) → MayFollow authority state (Acted pass caller op procaps moment) → AllByRecursion (WasRightful authority.key state caller procaps moment) (needs op state.world)
+WasRightful-acted : (authority : Authority) (state : Base) (pass : ℕ) (caller : List ℕ) (op : FileOp) (procaps : List Procap) (moment : ℤ) → MayFollow authority state (Acted pass caller op procaps moment) → AllByRecursion (WasRightful authority.key state caller procaps moment) (needs op state.world)
 WasRightful-acted authority state _ _ _ _ _ (may_act pass caller op procaps moment reply after later in_range slots bytes admitted does derived) =
     WasRightful-each authority.key state caller procaps moment (needs op state.world) admitted derived
 

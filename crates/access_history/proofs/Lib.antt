@@ -1,10 +1,10 @@
 pub mod AnswerLemmas
-pub mod Backing
-pub mod Beginning
+pub mod GoodIssueLemmas
+pub mod FreshLemmas
 pub mod HeadlineLemmas
-pub mod Keeping
+pub mod HistoryLemmas
 pub mod LawfulLemmas
 pub mod ListLemmas
 pub mod NumberedLemmas
-pub mod Replays
+pub mod ReplayLemmas
 pub mod TreeLemmas

@@ -1,9 +1,9 @@
 -- Whose signatures are accepted, and under which key procaps are sealed; statements with their signatures (this project's own).
 use Rattle.std.specs.Prelude.{ℕ, List, Bool, IsTrue, map}
-use Rattle.bl_syntax.specs.Statement.{Saying}
-use Rattle.bl_syntax.specs.Grant.{Granted}
+use Rattle.bl_syntax.specs.Statement.{StatementView}
+use Rattle.bl_syntax.specs.Grant.{GrantView}
 use Rattle.policy_statement.specs.Messages.{statement_message}
-use Rattle.policy_statement.specs.Registered.{Registered}
+use Rattle.policy_statement.specs.Registered.{RegisteredView}
 use Rattle.procap.specs.Genuine.{seal_of}
 use Rattle.procap.specs.declared.procap.Procap.{Procap}
 
@@ -13,17 +13,17 @@ pub record Authority : Type 0 where
   pub accepts : List ℕ → List ℕ → List ℕ → Bool
 
 -- the signature is accepted from who says the statement, under the statement's message
-abbrev pub IsSigned : Authority → Saying → List ℕ → Type 0
-IsSigned authority statement signature = IsTrue (authority.accepts statement.who (statement_message statement) signature)
+abbrev pub IsSignedStatement : Authority → StatementView → List ℕ → Type 0
+IsSignedStatement authority statement signature = IsTrue (authority.accepts statement.who (statement_message statement) signature)
 
 -- the signature with which the statement was registered is accepted
-abbrev pub IsSignedEntry : Authority → Registered → Type 0
-IsSignedEntry authority entry = IsSigned authority entry.statement entry.signature
+abbrev pub IsSignedEntry : Authority → RegisteredView → Type 0
+IsSignedEntry authority entry = IsSignedStatement authority entry.statement entry.signature
 
 -- the statements without their signatures, in order
-abbrev pub sayings : List Registered → List Saying
-sayings entries = map (λ (entry : Registered). entry.statement) entries
+abbrev pub sayings : List RegisteredView → List StatementView
+sayings entries = map (λ (entry : RegisteredView). entry.statement) entries
 
 -- the procap of a grant under a key: the grant with its seal
-abbrev pub procap_of : List ℕ → Granted → Procap
+abbrev pub procap_of : List ℕ → GrantView → Procap
 procap_of key g = record { grant = g; tag = seal_of key g }

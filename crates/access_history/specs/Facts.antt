@@ -4,7 +4,7 @@ use Rattle.bl_syntax.specs.declared.terms.Term.TheVariants.{Prin, File}
 use Rattle.bl_syntax.specs.declared.terms.StatePred.{StatePred}
 use Rattle.bl_syntax.specs.declared.terms.StatePred.TheVariants.{Owner, InDir}
 use Rattle.access_history.specs.declared.world.Row.{Row}
-use Rattle.access_history.specs.World.{FileTree}
+use Rattle.access_history.specs.World.{WorldView}
 
 -- who owns a node
 abbrev pub ownership : Row → StatePred
@@ -18,5 +18,5 @@ containment row = InDir (File row.number) (File (record { 0 = row.parent }))
 abbrev pub facts_of : List Row → List StatePred
 facts_of rows = map ownership rows ++ map containment (drop 1 rows)
 
-abbrev pub facts : FileTree → List StatePred
+abbrev pub facts : WorldView → List StatePred
 facts world = facts_of world.rows

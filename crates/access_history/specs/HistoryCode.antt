@@ -5,19 +5,19 @@ use Rattle.access_history.specs.declared.event.Event.{Event}
 use Rattle.access_history.specs.declared.event.Base.{Base}
 use Rattle.access_history.specs.contracts.event.Event as event
 use Rattle.access_history.specs.contracts.event.Base as base
-use Rattle.policy_statement.specs.Ring.{Key}
-use Rattle.access_history.specs.History.{Kept}
+use Rattle.policy_statement.specs.Ring.{KeyView}
+use Rattle.access_history.specs.History.{HistoryView}
 
-abbrev pub key_code : Coded Key
+abbrev pub key_code : Coded KeyView
 key_code =
     code_by (List ℕ × List ℕ) (coded× (coded_list coded_ℕ) (coded_list coded_ℕ))
     (λ k. (k.who, k.key))
     (λ p. record { who = p.0; key = p.1 })
     (λ _. refl)
 
-abbrev pub kept_code : Coded Kept
-kept_code =
-    code_by (List ℕ × (List Key × (Base × (List Event × ℕ)))) (coded× (coded_list coded_ℕ) (coded× (coded_list key_code) (coded× base.the_row.coded (coded× (coded_list event.the_row.coded) coded_ℕ))))
+abbrev pub history_code : Coded HistoryView
+history_code =
+    code_by (List ℕ × (List KeyView × (Base × (List Event × ℕ)))) (coded× (coded_list coded_ℕ) (coded× (coded_list key_code) (coded× base.the_row.coded (coded× (coded_list event.the_row.coded) coded_ℕ))))
     (λ h. (h.key, (h.ring, (h.base, (h.events, h.room)))))
     (λ p. record { key = p.0; ring = p.1.0; base = p.1.1.0; events = p.1.1.1.0; room = p.1.1.1.1 })
     (λ _. refl)

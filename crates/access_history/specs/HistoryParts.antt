@@ -2,12 +2,12 @@
 use Rattle.std.specs.Prelude.{◌≡◌, min}
 use Rattle.access_history.specs.declared.event.Base.{Base}
 use Rattle.access_history.specs.declared.history.History.TheInside.{Inside}
-use Rattle.access_history.specs.History.{Kept, authority_of, spare}
+use Rattle.access_history.specs.History.{HistoryView, authority_of, spare}
 use Rattle.access_history.specs.Lawful.{IsLawful}
 use Rattle.access_history.specs.Replay.{replay}
 
 -- the history that the fields stand for
-abbrev pub kept_by : Inside → Kept
+abbrev pub kept_by : Inside → HistoryView
 kept_by h = record { key = h.key; ring = h.ring; base = h.base; events = h.events.items; room = min (min (spare h.events) (spare h.rows)) (min h.statements.spare (spare h.issues)) }
 
 -- the state that the fields show

@@ -1,13 +1,13 @@
 -- Laws of the definitions: a tree stays a tree, also along a whole history; an answer is determined; the headline holds of what is lawful.
 use Rattle.std.specs.Prelude.{◌≡◌, ℕ, ℤ, List, Option, Some}
 use Rattle.bl_syntax.specs.Grant.{AreDistinct}
-use Rattle.access_history.specs.declared.event.Op.{Op}
+use Rattle.access_history.specs.declared.event.FileOp.{FileOp}
 use Rattle.access_history.specs.declared.event.Event.{Event}
 use Rattle.access_history.specs.declared.event.Base.{Base}
 use Rattle.access_history.specs.declared.request.StepRequest.{StepRequest}
 use Rattle.access_history.specs.declared.reply.Reply.{Reply}
-use Rattle.access_history.specs.World.{FileTree, IsTree}
-use Rattle.access_history.specs.Effect.{OpReply, replied, effect}
+use Rattle.access_history.specs.World.{WorldView, IsRowTree}
+use Rattle.access_history.specs.Effect.{EffectReply, replied, effect}
 use Rattle.access_history.specs.Replay.{replay}
 use Rattle.access_history.specs.Lawful.{IsLawful}
 use Rattle.access_history.specs.Headline.{Headline}
@@ -19,11 +19,11 @@ use Rattle.procap.specs.declared.procap.Procap.{Procap}
 
 -- whoever calls, an operation that is not refused leaves a tree a tree
 abbrev pub EffectKeepsTrees : Type 0
-EffectKeepsTrees = (caller : List ℕ) (op : Op) (world after : FileTree) (reply : OpReply) → IsTree world → effect caller op world ≡ replied reply after → IsTree after
+EffectKeepsTrees = (caller : List ℕ) (op : FileOp) (world after : WorldView) (reply : EffectReply) → IsRowTree world → effect caller op world ≡ replied reply after → IsRowTree after
 
 -- the world of the state after a lawful history is a tree
 abbrev pub HistoriesKeepTrees : Type 0
-HistoriesKeepTrees = (authority : Authority) (base : Base) (events : List Event) → IsLawful authority base events → IsTree (replay base events).world
+HistoriesKeepTrees = (authority : Authority) (base : Base) (events : List Event) → IsLawful authority base events → IsRowTree (replay base events).world
 
 -- a request has one answer over a state, and one event to keep
 abbrev pub AnswersAreDetermined : Type 0
@@ -33,7 +33,7 @@ AnswersAreDetermined = (authority : Authority) (state : Base) (pass : ℕ) (cloc
 
 -- an operation that is admitted and that the effect does not refuse gets the effect's reply and is kept
 abbrev pub AdmittedAreKept : Type 0
-AdmittedAreKept = (authority : Authority) (state : Base) (pass : ℕ) (clock : ℤ) (caller : List ℕ) (op : Op) (procaps : List Procap) (made : OpReply) (after : FileTree) (reply : Reply) (event : Option Event)
+AdmittedAreKept = (authority : Authority) (state : Base) (pass : ℕ) (clock : ℤ) (caller : List ℕ) (op : FileOp) (procaps : List Procap) (made : EffectReply) (after : WorldView) (reply : Reply) (event : Option Event)
     → IsAdmitted authority.key state caller op procaps (moment_of state clock) → effect caller op state.world ≡ replied made after
     → Answers authority state pass clock (Act caller op procaps) reply event → (reply_of made ≡ reply) × (Some (Acted pass caller op procaps (moment_of state clock)) ≡ event)
 

@@ -1,11 +1,11 @@
 -- The state after an event, and after a list of events (this project's own).
 use Rattle.std.specs.Prelude.{◌+◌, List, [], ◌∷◌, ◌++◌, negsuc, codes}
-use Rattle.access_history.specs.declared.world.Kind.TheVariants.{Directory}
+use Rattle.access_history.specs.declared.world.RowKind.TheVariants.{Directory}
 use Rattle.access_history.specs.declared.event.Event.{Event}
 use Rattle.access_history.specs.declared.event.Event.TheVariants.{Registered, Issued, Acted}
 use Rattle.access_history.specs.declared.event.Base.{Base}
-use Rattle.access_history.specs.World.{FileTree}
-use Rattle.access_history.specs.Effect.{Outcome, refusal, replied, effect}
+use Rattle.access_history.specs.World.{WorldView}
+use Rattle.access_history.specs.Effect.{EffectOutcome, refusal, replied, effect}
 
 -- a store before its first event: the root, which `admin` owns, and the first moment of the range
 abbrev pub fresh : Base
@@ -18,7 +18,7 @@ fresh = record {
 }
 
 -- the tree after an outcome: as it was where the operation was refused
-abbrev pub tree_after : Outcome → FileTree → FileTree
+abbrev pub tree_after : EffectOutcome → WorldView → WorldView
 tree_after (refusal number) world = world
 tree_after (replied reply after) world = after
 

@@ -4,11 +4,11 @@ use Rattle.std.specs.List.{list_all, AllByRecursion}
 use Rattle.std.specs.Str.{bytes_eq}
 use Rattle.bl_syntax.specs.Names.{is_lower_case, is_digit}
 use Rattle.bl_syntax.specs.Grant.{AreDistinct}
-use Rattle.access_history.specs.declared.world.Kind.TheVariants.{Directory}
+use Rattle.access_history.specs.declared.world.RowKind.TheVariants.{Directory}
 use Rattle.access_history.specs.declared.world.Row.{Row}
 
 -- the nodes in the order in which they were made, and the number of the next one
-pub record FileTree : Type 0 where
+pub record WorldView : Type 0 where
   pub rows : List Row
   pub next : ℕ
 
@@ -32,21 +32,21 @@ pub record IsRoot (row : Row) : Type 0 where
   pub name : row.name ≡ []
 
 -- following parents from the row, each of them a directory, leads to the root
-pub data IsReached (rows : List Row) : Row → Type 0 where
-  at_root : {row : Row} → Contains rows row → IsRoot row → IsReached rows row
-  below : {row parent : Row} → Contains rows row → row.parent ≡ parent.number.0 → parent.kind ≡ Directory → IsReached rows parent → IsReached rows row
+pub data RowReachesRoot (rows : List Row) : Row → Type 0 where
+  at_root : {row : Row} → Contains rows row → IsRoot row → RowReachesRoot rows row
+  below : {row parent : Row} → Contains rows row → row.parent ≡ parent.number.0 → parent.kind ≡ Directory → RowReachesRoot rows parent → RowReachesRoot rows row
 
 -- where a node hangs: its parent, and its name there
 abbrev place_of : Row → ℕ × List ℕ
 place_of row = (row.parent, row.name)
 
 -- a tree within the limits
-pub record IsTree (world : FileTree) : Type 0 where
+pub record IsRowTree (world : WorldView) : Type 0 where
   pub root : Row
   pub others : List Row
   pub root_first : world.rows ≡ root ∷ others
   pub is_root : IsRoot root
-  pub reached : AllByRecursion (IsReached world.rows) world.rows
+  pub reached : AllByRecursion (RowReachesRoot world.rows) world.rows
   pub named : AllByRecursion (λ row. IsTrue (is_node_name row.name)) others
   pub places_differ : AreDistinct (map place_of others)
   pub numbers_differ : AreDistinct (map (λ row. row.number.0) world.rows)

@@ -1,6 +1,6 @@
 //! What the history keeps.
 
-use crate::world::World;
+use crate::world::TreeRows;
 use bl_syntax::{Bytes, Grant, NodeId, Numbers, Principal, Sequence, Statement};
 use policy_statement::Registered;
 use procap::Procap;
@@ -8,7 +8,7 @@ use proof_term::ProofTree;
 
 /// An operation on the file tree.
 #[derive(Debug, Drop)]
-pub enum Op {
+pub enum FileOp {
     /// Makes a file in a directory under a name.
     Create(NodeId, Bytes),
 }
@@ -38,7 +38,7 @@ pub enum Event {
     Acted {
         pass: u64,
         caller: Principal,
-        op: Op,
+        op: FileOp,
         procaps: Procaps,
         moment: i64,
     },
@@ -56,7 +56,7 @@ pub type Issues = Sequence<Issue>;
 /// A state.
 #[derive(Debug, Drop)]
 pub struct Base {
-    pub world: World,
+    pub world: TreeRows,
     pub statements: Statements,
     pub issues: Issues,
     pub moment: i64,

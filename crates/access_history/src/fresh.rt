@@ -4,7 +4,7 @@ ghost use Rattle.std.specs.Prelude.{◌≡◌, IfOk};
 ghost use Rattle.access_history.specs.Replay.{fresh};
 
 use crate::event::Base;
-use crate::world::World;
+use crate::world::TreeRows;
 use bl_syntax::{NoMemory, Sequence};
 use std::alloc::Global;
 
@@ -17,7 +17,7 @@ impl Base {
         ensures { IfOk result (λ base. base ≡ fresh) }
     {
         Ok(Base {
-            world: World::new(alloc)?,
+            world: TreeRows::new(alloc)?,
             statements: Sequence::new(alloc),
             issues: Sequence::new(alloc),
             moment: FIRST_MOMENT,

@@ -3,7 +3,7 @@
 ghost use Rattle.std.specs.Prelude.{◌≡◌, ◌≤◌, ◌<◌, ◌+◌, ◌-◌, ◌^◌, ◌++◌, ◌∷◌, [], IfOk, OnOk, OnErr, length};
 
 use crate::event::{Base, Event, Events, Issue};
-use crate::step::{Change, Step};
+use crate::step::{StateChange, Step};
 use crate::world::Row;
 use bl_syntax::{NoMemory, Sequence};
 use policy_statement::{Keyring, Registered, Registry};
@@ -28,12 +28,12 @@ pub struct History {
 }
 
 impl Model for History {
-    ghost use Rattle.access_history.specs.History.{Kept};
-    ghost use Rattle.access_history.specs.HistoryCode.{kept_code};
+    ghost use Rattle.access_history.specs.History.{HistoryView};
+    ghost use Rattle.access_history.specs.HistoryCode.{history_code};
 
-    ghost Value = { Kept };
+    ghost Value = { HistoryView };
 
-    ghost coded = { kept_code };
+    ghost coded = { history_code };
 
     ghost use Rattle.access_history.specs.HistoryParts.{kept_by, IsKeeping};
 
@@ -167,11 +167,11 @@ impl History {
     {
         let Step { event, change } = step;
         match change {
-            Change::Statement(statement, signature) => {
+            StateChange::Statement(statement, signature) => {
                 let _ = self.statements.keep(statement, signature);
             }
-            Change::Issue(issue) => self.issues.push(issue).unwrap(),
-            Change::Node(added) => {
+            StateChange::Issue(issue) => self.issues.push(issue).unwrap(),
+            StateChange::Node(added) => {
                 self.rows.push(added.row).unwrap();
                 self.next += 1;
                 self.moment = added.moment;

@@ -14,14 +14,14 @@ mod request;
 mod step;
 mod world;
 
-pub use event::{Base, Event, Events, Issue, Op, Procaps};
+pub use event::{Base, Event, Events, FileOp, Issue, Procaps};
 pub use history::History;
 pub use laws::{
     admitted_operations_are_kept, answers_are_determined, effect_keeps_trees, histories_keep_trees,
     lawful_histories_are_rightful,
 };
 pub use node_name::is_node_name;
-pub use reply::{Cause, Denial, RegisterFault, Reply};
+pub use reply::{Denial, DenialCause, Rejection, Reply};
 pub use request::StepRequest;
-pub use step::{AddedNode, Change, Step};
-pub use world::{Kind, Row, World, create_refusal, created_row};
+pub use step::{AddedNode, StateChange, Step};
+pub use world::{Row, RowKind, TreeRows, create_refusal, created_row};

@@ -5,7 +5,7 @@ use procap::Procap;
 
 /// Why a statement was not registered.
 #[derive(Clone, Copy, Debug)]
-pub enum RegisterFault {
+pub enum Rejection {
     /// The signature is not accepted from who says the statement.
     BadSignature,
     /// As many statements as may be kept are there.
@@ -16,7 +16,7 @@ pub enum RegisterFault {
 
 /// Why a procap does not give what is needed. Places of conditions count from 1.
 #[derive(Clone, Copy, Debug)]
-pub enum Cause {
+pub enum DenialCause {
     /// Its seal is not the one of its grant under the server's key.
     Seal,
     /// It names another principal than the caller.
@@ -36,7 +36,7 @@ pub enum Cause {
 pub struct Denial {
     /// The place of the need, from 1.
     pub need: u32,
-    pub cause: Cause,
+    pub cause: DenialCause,
     /// The number of the last event, in whose state it was decided.
     pub at: u64,
 }
@@ -59,7 +59,7 @@ pub enum Reply {
     Denied(Denial),
     /// The number of the refusal, and the number of the last event.
     Refused(u32, u64),
-    Rejected(RegisterFault),
+    Rejected(Rejection),
     /// There is no statement or issue of this number.
     Absent(u64),
     /// The proof has this fault at this node, counted from 0.

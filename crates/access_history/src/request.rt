@@ -1,6 +1,6 @@
 //! What the gate is asked.
 
-use crate::event::{Op, Procaps};
+use crate::event::{FileOp, Procaps};
 use bl_syntax::{Bytes, Principal, Statement};
 use proof_verifier::Checked;
 
@@ -12,7 +12,7 @@ pub enum StepRequest {
     /// Issue what the proof grants, where the statements that it cites stand under their numbers.
     Issue(Checked),
     /// Let the caller act, under these procaps, one for each place.
-    Act(Principal, Op, Procaps),
+    Act(Principal, FileOp, Procaps),
     /// Show the procap of the issue of this number: to the principal that it names, or, where nobody is named, to the
     /// operator, who may see each.
     ShowProcap(u64, Option<Principal>),

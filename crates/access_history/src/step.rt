@@ -13,7 +13,7 @@ pub struct AddedNode {
 
 /// What an event does to the state.
 #[derive(Debug, Drop)]
-pub enum Change {
+pub enum StateChange {
     /// A statement more, with its signature.
     Statement(Statement, Bytes),
     /// An issue more.
@@ -26,5 +26,5 @@ pub enum Change {
 #[derive(Debug, Drop)]
 pub struct Step {
     pub event: Event,
-    pub change: Change,
+    pub change: StateChange,
 }

@@ -3,7 +3,7 @@
 ghost use Rattle.std.specs.Prelude.{◌≡◌, [], ◌∷◌, ◌&&◌, ◌==◌, IfOk, IsTrue};
 ghost use Rattle.std.specs.List.{list_any};
 ghost use Rattle.std.specs.Str.{bytes_eq};
-ghost use Rattle.access_history.specs.World.{IsTree, is_node_name};
+ghost use Rattle.access_history.specs.World.{IsRowTree, is_node_name};
 ghost use Rattle.access_history.specs.Effect.{is_directory_kind, has_node, has_directory, has_entry, is_full, create_refusal, created_row};
 ghost use Rattle.access_history.specs.Replay.{fresh};
 
@@ -14,7 +14,7 @@ use std::marker::Model;
 
 /// What a node is.
 #[derive(Clone, Copy, Debug, PartialEq, Eq)]
-pub enum Kind {
+pub enum RowKind {
     File,
     Directory,
 }
@@ -23,7 +23,7 @@ pub enum Kind {
 #[derive(Clone, Copy, Debug)]
 pub struct Row {
     pub number: NodeId,
-    pub kind: Kind,
+    pub kind: RowKind,
     pub owner: Principal,
     /// The number of the directory that holds it, or 0 for the root.
     pub parent: u64,
@@ -33,35 +33,35 @@ pub struct Row {
 
 /// The file tree: its nodes in the order in which they were made, and the next number.
 #[derive(Debug, Drop)]
-pub struct World {
+pub struct TreeRows {
     rows: Vec<Row>,
     next: u64,
 }
 
-impl Model for World {
-    ghost use Rattle.access_history.specs.World.{FileTree, IsTree};
+impl Model for TreeRows {
+    ghost use Rattle.access_history.specs.World.{WorldView, IsRowTree};
 
-    ghost Value = { FileTree };
+    ghost Value = { WorldView };
 
     ghost view = { λ w. record { rows = w.rows.items; next = w.next } };
 
-    ghost invariant = { λ w. IsTree (record { rows = w.rows.items; next = w.next }) };
+    ghost invariant = { λ w. IsRowTree (record { rows = w.rows.items; next = w.next }) };
 }
 
-impl World {
+impl TreeRows {
     /// The tree with the root alone, which `admin` owns.
-    pub fn new(alloc: Global) -> Result<World, NoMemory>
+    pub fn new(alloc: Global) -> Result<TreeRows, NoMemory>
         ensures { IfOk result (λ world. world ≡ fresh.world) }
     {
         let mut rows = Vec::new(alloc);
         rows.push(root_row())?;
-        Ok(World { rows, next: 2 })
+        Ok(TreeRows { rows, next: 2 })
     }
 
     /// The nodes in the order in which they were made.
     pub fn rows(&self) -> &[Row]
         ensures same { result.now ≡ self.now.rows }
-        ensures tree { IsTree self.now }
+        ensures tree { IsRowTree self.now }
     {
         self.rows.as_slice()
     }
@@ -74,10 +74,10 @@ impl World {
     }
 
     /// An equal tree in memory of its own.
-    pub fn copy(&self, alloc: Global) -> Result<World, NoMemory>
+    pub fn copy(&self, alloc: Global) -> Result<TreeRows, NoMemory>
         ensures { IfOk result (λ copied. copied ≡ self.now) }
     {
-        Ok(World {
+        Ok(TreeRows {
             rows: Vec::from_slice(alloc, self.rows.as_slice())?,
             next: self.next,
         })
@@ -89,7 +89,7 @@ fn root_row() -> Row
 {
     Row {
         number: NodeId(1),
-        kind: Kind::Directory,
+        kind: RowKind::Directory,
         owner: Principal::new(b"admin").unwrap(),
         parent: 0,
         name: Short::new(b""),
@@ -127,8 +127,8 @@ fn is_directory(row: &Row) -> bool
     ensures { result ≡ is_directory_kind row.now.kind }
 {
     match row.kind {
-        Kind::File => false,
-        Kind::Directory => true,
+        RowKind::File => false,
+        RowKind::Directory => true,
     }
 }
 
@@ -160,7 +160,7 @@ pub fn created_row(caller: Principal, directory: NodeId, name: &[u8], next: u64)
 {
     Row {
         number: NodeId(next),
-        kind: Kind::File,
+        kind: RowKind::File,
         owner: caller,
         parent: directory.0,
         name: Short::new(name),

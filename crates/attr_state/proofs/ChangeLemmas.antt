@@ -11,12 +11,12 @@ use Rattle.file_world.specs.FileNames.{is_attribute_name, is_attribute_name_byte
 use Rattle.file_world.specs.Attributes.{Attributes, Mark, mark_at, value_at}
 use Rattle.file_world.specs.AttributeEffect.{attributes_of, value_of, with_value, meta_tests, meta_refusal}
 use Rattle.file_world.proofs.EffectLemmas.{none_hold, some_from}
-use Rattle.attr_state.specs.declared.mark.Mark.{Mark as Kept}
-use Rattle.attr_state.specs.Index.{Entries, marks_of, kept_at, AreSorted, AreOrdered}
+use Rattle.attr_state.specs.declared.mark.KeptMark.{KeptMark as Kept}
+use Rattle.attr_state.specs.Index.{MarkEntries, marks_of, kept_at, AreSorted, AreOrdered}
 use Rattle.attr_state.proofs.NameLemmas.{length-with_found, length-with_missing}
 use Rattle.attr_state.proofs.MarkLemmas.{mark_at-kept, mark_at-missing, none_sorted}
 
-pub some_kept : (entries : Entries) (number : ℕ) → is_none (mark_at (marks_of entries) number) ≡ false → IsSome (kept_at entries number)
+pub some_kept : (entries : MarkEntries) (number : ℕ) → is_none (mark_at (marks_of entries) number) ≡ false → IsSome (kept_at entries number)
 some_kept entries number e = by (kept_at entries number) refl
   where
     by : (found : Option Kept) → kept_at entries number ≡ found → IsSome (kept_at entries number)
@@ -24,7 +24,7 @@ some_kept entries number e = by (kept_at entries number) refl
     by (Some kept) h = subst IsSome (sym h) refl
 
 -- a node without a mark has none that is kept
-pub not_kept : (entries : Entries) (number : ℕ) → mark_at (marks_of entries) number ≡ None → kept_at entries number ≡ None
+pub not_kept : (entries : MarkEntries) (number : ℕ) → mark_at (marks_of entries) number ≡ None → kept_at entries number ≡ None
 not_kept entries number e = by (kept_at entries number) refl
   where
     by : (found : Option Kept) → kept_at entries number ≡ found → kept_at entries number ≡ None
@@ -41,29 +41,29 @@ short_name name e = short_from name e
 
 -- ---- a value that is set
 
-pub record IsSettable (entries : Entries) (number : ℕ) (name value : List ℕ) : Type 0 where
+pub record IsSettable (entries : MarkEntries) (number : ℕ) (name value : List ℕ) : Type 0 where
   pub there : IsSome (kept_at entries number)
   pub short : length name ≤ 64
 
-pub settable : (entries : Entries) (node : NodeId) (name value : List ℕ) → meta_refusal (marks_of entries) (Set node name value) ≡ None → IsSettable entries node.0 name value
+pub settable : (entries : MarkEntries) (node : NodeId) (name value : List ℕ) → meta_refusal (marks_of entries) (Set node name value) ≡ None → IsSettable entries node.0 name value
 settable entries node name value free =
     let h = none_hold (meta_tests (marks_of entries) (Set node name value)) free in
     record { there = some_kept entries node.0 h.0; short = short_name name (not-false _ h.1.0) }
 
-pub removable : (entries : Entries) (node : NodeId) (name : List ℕ) → meta_refusal (marks_of entries) (Remove node name) ≡ None → IsSome (kept_at entries node.0)
+pub removable : (entries : MarkEntries) (node : NodeId) (name : List ℕ) → meta_refusal (marks_of entries) (Remove node name) ≡ None → IsSome (kept_at entries node.0)
 removable entries node name free = some_kept entries node.0 (none_hold (meta_tests (marks_of entries) (Remove node name)) free).0
 
-pub ownable : (entries : Entries) (node : NodeId) (owner : List ℕ) → meta_refusal (marks_of entries) (Chown node owner) ≡ None → IsSome (kept_at entries node.0)
+pub ownable : (entries : MarkEntries) (node : NodeId) (owner : List ℕ) → meta_refusal (marks_of entries) (Chown node owner) ≡ None → IsSome (kept_at entries node.0)
 ownable entries node owner free = some_kept entries node.0 (none_hold (meta_tests (marks_of entries) (Chown node owner)) free).0
 
 -- a value that is asked for is there
-pub readable : (entries : Entries) (node : NodeId) (name : List ℕ) → meta_refusal (marks_of entries) (Get node name) ≡ None → (value : List ℕ) × (value_of (marks_of entries) node.0 name ≡ Some value)
+pub readable : (entries : MarkEntries) (node : NodeId) (name : List ℕ) → meta_refusal (marks_of entries) (Get node name) ≡ None → (value : List ℕ) × (value_of (marks_of entries) node.0 name ≡ Some value)
 readable entries node name free =
     some_from (value_of (marks_of entries) node.0 name) (none_hold (meta_tests (marks_of entries) (Get node name)) free).1.1.0
 
 -- ---- how many attributes there are to be
 
-pub sorted_attributes : (entries : Entries) (number : ℕ) → AreOrdered entries → AreSorted (attributes_of (mark_at (marks_of entries) number))
+pub sorted_attributes : (entries : MarkEntries) (number : ℕ) → AreOrdered entries → AreSorted (attributes_of (mark_at (marks_of entries) number))
 sorted_attributes entries number ordered = by (kept_at entries number) refl
   where
     by : (found : Option Kept) → kept_at entries number ≡ found → AreSorted (attributes_of (mark_at (marks_of entries) number))

@@ -13,9 +13,9 @@ use Rattle.bl_syntax.specs.declared.terms.StatePred.TheVariants.{Owner, HasXattr
 use Rattle.file_world.specs.Attributes.{Attributes, Mark, Marks, mark_at, value_at}
 use Rattle.file_world.specs.Facts.{ownership, possession, containment, facts_of_node, facts_of_marks}
 use Rattle.file_world.proofs.RowLemmas.{split, cond_at_true, cond_at_false, lookup_here, lookup_later, above_found, AreRising, rising_head, rising_tail, rising-removed}
-use Rattle.attr_state.specs.declared.ready.Ready.{Ready}
-use Rattle.attr_state.specs.declared.ready.Ready.TheVariants.{Nothing, Attributes as Room, Made}
-use Rattle.attr_state.specs.Index.{Entries, marks_of, marks_in, mark_named, AreSorted, IsKept}
+use Rattle.attr_state.specs.declared.ready.MetaReady.{MetaReady}
+use Rattle.attr_state.specs.declared.ready.MetaReady.TheVariants.{Nothing, Attributes as Room, Made}
+use Rattle.attr_state.specs.Index.{MarkEntries, marks_of, marks_in, mark_named, AreSorted, IsMarkIndex}
 use Rattle.attr_state.proofs.NameLemmas.{compare, AllAfter, head_after, tail_sorted, apart_from_greater}
 use Rattle.attr_state.proofs.MarkLemmas.{rising_marks, marks-removed}
 
@@ -293,7 +293,7 @@ value_holds marks node name value mark e is =
 
 -- ---- the marks that contracts see
 
-pub rising_in : (ready : Option Ready) (entries : Entries) → IsKept entries ready → AreRising (marks_in ready entries)
+pub rising_in : (ready : Option MetaReady) (entries : MarkEntries) → IsMarkIndex entries ready → AreRising (marks_in ready entries)
 rising_in None entries kept = rising_marks entries kept.ordered.rising
 rising_in (Some Nothing) entries kept = rising_marks entries kept.ordered.rising
 rising_in (Some (Room number len)) entries kept = rising_marks entries kept.ordered.rising

@@ -8,12 +8,12 @@ use Rattle.std.specs.List.Sorted.{IsStrictlySortedBy}
 use Rattle.std.proofs.lemmas.Bool.{cond-true, cond-false, ltb-true, ltb-false, le-ltb, eq-eqb, ne_eqb, eqb-true, eqb-false}
 use Rattle.std.proofs.lemmas.Option.{none-some, same_Some}
 use Rattle.file_world.specs.Attributes.{Mark, Marks, mark_at}
-use Rattle.file_world.specs.TreeEffect.{revised}
+use Rattle.file_world.specs.TreeEffect.{revise}
 use Rattle.file_world.specs.AttributeEffect.{new_mark}
 use Rattle.file_world.proofs.RowLemmas.{split, cond_at_true, cond_at_false, rising_head, rising_tail, none_below, less_from_lt, lt_from_less, above_found, AreAbove}
-use Rattle.attr_state.specs.declared.mark.Mark.{Mark as Kept}
-use Rattle.attr_state.specs.declared.ready.Ready.TheVariants.{Made}
-use Rattle.attr_state.specs.Index.{Entries, shown, marks_of, kept_at, AreSorted, AreOrdered, HasRoom, IsMade, IsKept, Revises, Stays, Prepares}
+use Rattle.attr_state.specs.declared.mark.KeptMark.{KeptMark as Kept}
+use Rattle.attr_state.specs.declared.ready.MetaReady.TheVariants.{Made}
+use Rattle.attr_state.specs.Index.{MarkEntries, shown, marks_of, kept_at, AreSorted, AreOrdered, HasMarkRoom, IsMarkMade, IsMarkIndex, Revises, MetaStays, PreparesMeta}
 
 -- ---- tests of numbers
 
@@ -37,31 +37,31 @@ itself number = same_test number number ∙ eq-eqb number number refl
 pub apart : (number other : ℕ) → other ≢ number → is_at (nat_cmp number) other ≡ false
 apart number other differ = same_test number other ∙ ne_eqb number other (λ h. differ (sym h))
 
-pub kept_by_number : (entries : Entries) (number : ℕ) → kept_at entries number ≡ lookup (nat_eq number) entries
+pub kept_by_number : (entries : MarkEntries) (number : ℕ) → kept_at entries number ≡ lookup (nat_eq number) entries
 kept_by_number entries number = ap (λ (test : ℕ → Bool). lookup test entries) (same_tests number)
 
-pub removed_by_number : (entries : Entries) (number : ℕ) → remove_entry (is_at (nat_cmp number)) entries ≡ remove_entry (nat_eq number) entries
+pub removed_by_number : (entries : MarkEntries) (number : ℕ) → remove_entry (is_at (nat_cmp number)) entries ≡ remove_entry (nat_eq number) entries
 removed_by_number entries number = ap (λ (test : ℕ → Bool). remove_entry test entries) (same_tests number)
 
 -- ---- marks
 
-lookup-shown : (test : ℕ → Bool) (entries : Entries) → lookup test (marks_of entries) ≡ option_map shown (lookup test entries)
+lookup-shown : (test : ℕ → Bool) (entries : MarkEntries) → lookup test (marks_of entries) ≡ option_map shown (lookup test entries)
 lookup-shown test [] = refl
 lookup-shown test (entry ∷ entries) =
     split (test entry.0)
     (λ t. cond-true (test entry.0) _ _ t ∙ sym (ap (option_map shown) (cond-true (test entry.0) (Some entry.1) (lookup test entries) t)))
     (λ f. cond-false (test entry.0) _ _ f ∙ (lookup-shown test entries ∙ sym (ap (option_map shown) (cond-false (test entry.0) (Some entry.1) (lookup test entries) f))))
 
-pub mark_at-shown : (entries : Entries) (number : ℕ) → mark_at (marks_of entries) number ≡ option_map shown (kept_at entries number)
+pub mark_at-shown : (entries : MarkEntries) (number : ℕ) → mark_at (marks_of entries) number ≡ option_map shown (kept_at entries number)
 mark_at-shown entries number = lookup-shown (nat_eq number) entries ∙ ap (option_map shown) (sym (kept_by_number entries number))
 
-pub mark_at-kept : (entries : Entries) (number : ℕ) (kept : Kept) → kept_at entries number ≡ Some kept → mark_at (marks_of entries) number ≡ Some (shown kept)
+pub mark_at-kept : (entries : MarkEntries) (number : ℕ) (kept : Kept) → kept_at entries number ≡ Some kept → mark_at (marks_of entries) number ≡ Some (shown kept)
 mark_at-kept entries number kept e = mark_at-shown entries number ∙ ap (option_map shown) e
 
-pub mark_at-missing : (entries : Entries) (number : ℕ) → kept_at entries number ≡ None → mark_at (marks_of entries) number ≡ None
+pub mark_at-missing : (entries : MarkEntries) (number : ℕ) → kept_at entries number ≡ None → mark_at (marks_of entries) number ≡ None
 mark_at-missing entries number e = mark_at-shown entries number ∙ ap (option_map shown) e
 
-removed-shown : (test : ℕ → Bool) (entries : Entries) → marks_of (remove_entry test entries) ≡ remove_entry test (marks_of entries)
+removed-shown : (test : ℕ → Bool) (entries : MarkEntries) → marks_of (remove_entry test entries) ≡ remove_entry test (marks_of entries)
 removed-shown test [] = refl
 removed-shown test (entry ∷ entries) =
     split (test entry.0)
@@ -69,11 +69,11 @@ removed-shown test (entry ∷ entries) =
     (λ f. ap marks_of (cond-false (test entry.0) entries (entry ∷ remove_entry test entries) f)
     ∙ (ap (λ (marks : Marks). (entry.0, shown entry.1) ∷ marks) (removed-shown test entries) ∙ sym (cond-false (test entry.0) _ _ f)))
 
-pub marks-removed : (entries : Entries) (number : ℕ) → marks_of (remove_entry (is_at (nat_cmp number)) entries) ≡ remove_entry (nat_eq number) (marks_of entries)
+pub marks-removed : (entries : MarkEntries) (number : ℕ) → marks_of (remove_entry (is_at (nat_cmp number)) entries) ≡ remove_entry (nat_eq number) (marks_of entries)
 marks-removed entries number = ap marks_of (removed_by_number entries number) ∙ removed-shown (nat_eq number) entries
 
 -- a value that is set shows as a revised mark
-pub marks-set : (entries : Entries) (number : ℕ) (revision : Mark → Mark) (old new : Kept) → kept_at entries number ≡ Some old → shown new ≡ revision (shown old) → marks_of (set_value (is_at (nat_cmp number)) entries new) ≡ revised number revision (marks_of entries)
+pub marks-set : (entries : MarkEntries) (number : ℕ) (revision : Mark → Mark) (old new : Kept) → kept_at entries number ≡ Some old → shown new ≡ revision (shown old) → marks_of (set_value (is_at (nat_cmp number)) entries new) ≡ revise number revision (marks_of entries)
 marks-set [] number revision old new e same = refl
 marks-set (entry ∷ entries) number revision old new e same =
     split (nat_eq number entry.0)
@@ -88,7 +88,7 @@ marks-set (entry ∷ entries) number revision old new e same =
     ∙ sym (cond-false (nat_eq number entry.0) _ _ f)))
 
 -- one that shows the same leaves the marks
-pub marks-set_same : (entries : Entries) (number : ℕ) (old new : Kept) → kept_at entries number ≡ Some old → shown new ≡ shown old → marks_of (set_value (is_at (nat_cmp number)) entries new) ≡ marks_of entries
+pub marks-set_same : (entries : MarkEntries) (number : ℕ) (old new : Kept) → kept_at entries number ≡ Some old → shown new ≡ shown old → marks_of (set_value (is_at (nat_cmp number)) entries new) ≡ marks_of entries
 marks-set_same [] number old new e same = refl
 marks-set_same (entry ∷ entries) number old new e same =
     split (is_at (nat_cmp number) entry.0)
@@ -97,18 +97,18 @@ marks-set_same (entry ∷ entries) number old new e same =
     (λ s. ap marks_of (cond-false (is_at (nat_cmp number) entry.0) _ _ s)
     ∙ ap (λ (marks : Marks). (entry.0, shown entry.1) ∷ marks) (marks-set_same entries number old new (cond_at_false (is_at (nat_cmp number) entry.0) _ _ _ s e) same))
 
-pub keys-shown : (entries : Entries) → keys_of (marks_of entries) ≡ keys_of entries
+pub keys-shown : (entries : MarkEntries) → keys_of (marks_of entries) ≡ keys_of entries
 keys-shown [] = refl
 keys-shown (entry ∷ entries) = ap (λ (keys : List ℕ). entry.0 ∷ keys) (keys-shown entries)
 
-pub rising_marks : (entries : Entries) → IsStrictlySortedBy nat_cmp (keys_of entries) → IsStrictlySortedBy nat_cmp (keys_of (marks_of entries))
+pub rising_marks : (entries : MarkEntries) → IsStrictlySortedBy nat_cmp (keys_of entries) → IsStrictlySortedBy nat_cmp (keys_of (marks_of entries))
 rising_marks entries rising = subst (IsStrictlySortedBy nat_cmp) (sym (keys-shown entries)) rising
 
-pub found_mark : (entries : Entries) (number : ℕ) (mark : Mark) → IsMade entries number mark → mark_at (marks_of entries) number ≡ Some mark
+pub found_mark : (entries : MarkEntries) (number : ℕ) (mark : Mark) → IsMarkMade entries number mark → mark_at (marks_of entries) number ≡ Some mark
 found_mark entries number mark is = mark_at-kept entries number is.kept is.found ∙ ap (λ (m : Mark). Some m) is.shows
 
 -- a revision of no node leaves the marks
-pub revised-missing : (number : ℕ) (revision : Mark → Mark) (marks : Marks) → mark_at marks number ≡ None → revised number revision marks ≡ marks
+pub revised-missing : (number : ℕ) (revision : Mark → Mark) (marks : Marks) → mark_at marks number ≡ None → revise number revision marks ≡ marks
 revised-missing number revision [] e = refl
 revised-missing number revision (mark ∷ marks) e =
     split (nat_eq number mark.0)
@@ -193,7 +193,7 @@ module _ {V : Type 0} where
 -- ---- what the map of the marks says
 
 -- a mark that is set
-pub record SetsMark (old new : Entries) (number : ℕ) (mark : Kept) : Type 0 where
+pub record SetsMark (old new : MarkEntries) (number : ℕ) (mark : Kept) : Type 0 where
   pub entries : new ≡ set_value (is_at (nat_cmp number)) old mark
   pub found : (other : ℕ) → kept_at new other ≡ cond (is_at (nat_cmp number) other) (Some mark) (kept_at old other)
   pub rising : IsStrictlySortedBy nat_cmp (keys_of new)
@@ -205,13 +205,13 @@ pub SetsMark-from_map : (m n : BTreeMap ℕ Kept) (number : ℕ) (was now : Kept
 SetsMark-from_map m n number was now there h =
     record { entries = h.0; found = (h.3 (some_from_value (kept_at m.entries number) was there)).0; rising = h.4 }
 
--- what is told of a map's value behind a reference
+-- what is told of a map's value after a reference
 pub found_behind : {A : Type 0} (result : Option (MutBor A)) (found : Option A) (mark : MutBor A) → option_copied_mut result ≡ found → result ≡ Some mark → found ≡ Some mark.now
 found_behind result found mark value is = sym value ∙ ap option_copied_mut is
 
 -- ---- marks in order
 
-pub AreOrdered-with : (old new : Entries) (number : ℕ) (mark : Kept) → AreOrdered old → IsStrictlySortedBy nat_cmp (keys_of new) → ((other : ℕ) → kept_at new other ≡ cond (is_at (nat_cmp number) other) (Some mark) (kept_at old other)) → AreSorted mark.attributes.items → AreOrdered new
+pub AreOrdered-with : (old new : MarkEntries) (number : ℕ) (mark : Kept) → AreOrdered old → IsStrictlySortedBy nat_cmp (keys_of new) → ((other : ℕ) → kept_at new other ≡ cond (is_at (nat_cmp number) other) (Some mark) (kept_at old other)) → AreSorted mark.attributes.items → AreOrdered new
 AreOrdered-with old new number mark ordered rising found sorted =
     record {
       rising = rising;
@@ -221,7 +221,7 @@ AreOrdered-with old new number mark ordered rising found sorted =
           (λ f. ordered.sorted other kept (sym (cond-false (is_at (nat_cmp number) other) _ _ f) ∙ (sym (found other) ∙ e)));
     }
 
-pub AreOrdered-without : (old new : Entries) (number : ℕ) → AreOrdered old → IsStrictlySortedBy nat_cmp (keys_of new) → ((other : ℕ) → kept_at new other ≡ cond (is_at (nat_cmp number) other) None (kept_at old other)) → AreOrdered new
+pub AreOrdered-without : (old new : MarkEntries) (number : ℕ) → AreOrdered old → IsStrictlySortedBy nat_cmp (keys_of new) → ((other : ℕ) → kept_at new other ≡ cond (is_at (nat_cmp number) other) None (kept_at old other)) → AreOrdered new
 AreOrdered-without old new number ordered rising found =
     record {
       rising = rising;
@@ -231,19 +231,19 @@ AreOrdered-without old new number ordered rising found =
           (λ f. ordered.sorted other kept (sym (cond-false (is_at (nat_cmp number) other) _ _ f) ∙ (sym (found other) ∙ e)));
     }
 
-pub Revises-from_set : (old new : Entries) (number : ℕ) (was now : Kept) (revision : Mark → Mark) → AreOrdered old → kept_at old number ≡ Some was → SetsMark old new number now → AreSorted now.attributes.items → shown now ≡ revision (shown was) → Revises old new number revision
+pub Revises-from_set : (old new : MarkEntries) (number : ℕ) (was now : Kept) (revision : Mark → Mark) → AreOrdered old → kept_at old number ≡ Some was → SetsMark old new number now → AreSorted now.attributes.items → shown now ≡ revision (shown was) → Revises old new number revision
 Revises-from_set old new number was now revision ordered there sets sorted same =
     record {
       ordered = AreOrdered-with old new number now ordered sets.rising sets.found sorted;
       marks = ap marks_of sets.entries ∙ marks-set old number revision was now there same;
     }
 
-pub Revises-missing : (entries : Entries) (number : ℕ) (revision : Mark → Mark) → AreOrdered entries → kept_at entries number ≡ None → Revises entries entries number revision
+pub Revises-missing : (entries : MarkEntries) (number : ℕ) (revision : Mark → Mark) → AreOrdered entries → kept_at entries number ≡ None → Revises entries entries number revision
 Revises-missing entries number revision ordered missing =
     record { ordered = ordered; marks = sym (revised-missing number revision (marks_of entries) (mark_at-missing entries number missing)) }
 
 -- a mark that is set with the same attributes, and room for more
-pub Stays-from_set : (old new : Entries) (number : ℕ) (was now : Kept) → AreOrdered old → kept_at old number ≡ Some was → SetsMark old new number now → shown now ≡ shown was → Stays old new
+pub Stays-from_set : (old new : MarkEntries) (number : ℕ) (was now : Kept) → AreOrdered old → kept_at old number ≡ Some was → SetsMark old new number now → shown now ≡ shown was → MetaStays old new
 Stays-from_set old new number was now ordered there sets same =
     record {
       ordered = AreOrdered-with old new number now ordered sets.rising sets.found
@@ -251,7 +251,7 @@ Stays-from_set old new number was now ordered there sets same =
       same = ap marks_of sets.entries ∙ marks-set_same old number was now there same;
     }
 
-pub kept_set : (old new : Entries) (number : ℕ) (mark : Kept) → SetsMark old new number mark → kept_at new number ≡ Some mark
+pub kept_set : (old new : MarkEntries) (number : ℕ) (mark : Kept) → SetsMark old new number mark → kept_at new number ≡ Some mark
 kept_set old new number mark sets = sets.found number ∙ cond-true (is_at (nat_cmp number) number) _ _ (itself number)
 
 -- ---- a mark that is ready to be made
@@ -261,30 +261,30 @@ unfolding IsStrictlySortedBy
 none_sorted = tt
 
 -- the marks with a new one show what they showed, once it is taken out
-pub Prepares-made : (old new : Entries) (number : ℕ) (owner : List ℕ) (parent : ℕ) (mark : Kept) → AreOrdered old → kept_at old number ≡ None → new ≡ insert_entry nat_cmp old number mark → IsStrictlySortedBy nat_cmp (keys_of new) → ((other : ℕ) → kept_at new other ≡ cond (is_at (nat_cmp number) other) (Some mark) (kept_at old other)) → shown mark ≡ new_mark owner parent → Prepares old new (Made number owner parent)
+pub Prepares-made : (old new : MarkEntries) (number : ℕ) (owner : List ℕ) (parent : ℕ) (mark : Kept) → AreOrdered old → kept_at old number ≡ None → new ≡ insert_entry nat_cmp old number mark → IsStrictlySortedBy nat_cmp (keys_of new) → ((other : ℕ) → kept_at new other ≡ cond (is_at (nat_cmp number) other) (Some mark) (kept_at old other)) → shown mark ≡ new_mark owner parent → PreparesMeta old new (Made number owner parent)
 Prepares-made old new number owner parent mark ordered missing is rising found shows =
     record {
       kept = record {
         ordered = AreOrdered-with old new number mark ordered rising found (subst (λ (m : Mark). AreSorted m.attributes) (sym shows) none_sorted);
         prepared = record { kept = mark; found = found number ∙ cond-true (is_at (nat_cmp number) number) _ _ (itself number); shows = shows };
       };
-      same = ap (λ (es : Entries). marks_of (remove_entry (is_at (nat_cmp number)) es)) is
+      same = ap (λ (es : MarkEntries). marks_of (remove_entry (is_at (nat_cmp number)) es)) is
           ∙ (ap marks_of (removed_by_number (insert_entry nat_cmp old number mark) number)
           ∙ ap marks_of (removed-inserted old number mark (sym (kept_by_number old number) ∙ missing)));
     }
 
 -- the mark that is made is the one that was ready
-pub made : (entries : Entries) (number : ℕ) (mark : Mark) → AreOrdered entries → IsMade entries number mark → insert_entry nat_cmp (marks_of (remove_entry (is_at (nat_cmp number)) entries)) number mark ≡ marks_of entries
+pub made : (entries : MarkEntries) (number : ℕ) (mark : Mark) → AreOrdered entries → IsMarkMade entries number mark → insert_entry nat_cmp (marks_of (remove_entry (is_at (nat_cmp number)) entries)) number mark ≡ marks_of entries
 made entries number mark ordered is =
     ap (λ (marks : Marks). insert_entry nat_cmp marks number mark) (marks-removed entries number)
     ∙ inserted-removed (marks_of entries) number mark (rising_marks entries ordered.rising) (found_mark entries number mark is)
 
-pub made_again : (entries : Entries) (number : ℕ) (mark : Mark) → AreOrdered entries → IsMade entries number mark → insert_entry nat_cmp (marks_of entries) number mark ≡ marks_of entries
+pub made_again : (entries : MarkEntries) (number : ℕ) (mark : Mark) → AreOrdered entries → IsMarkMade entries number mark → insert_entry nat_cmp (marks_of entries) number mark ≡ marks_of entries
 made_again entries number mark ordered is =
     inserted-again (marks_of entries) number mark (rising_marks entries ordered.rising) (found_mark entries number mark is)
 
 -- the room of the mark that is found
-pub room_at : (entries : Entries) (number len : ℕ) (mark : Kept) → HasRoom entries number len → kept_at entries number ≡ Some mark → len ≤ vec_capacity mark.attributes
+pub room_at : (entries : MarkEntries) (number len : ℕ) (mark : Kept) → HasMarkRoom entries number len → kept_at entries number ≡ Some mark → len ≤ vec_capacity mark.attributes
 room_at entries number len mark room there = subst (λ (k : Kept). len ≤ vec_capacity k.attributes) (same_Some _ _ (sym room.found ∙ there)) room.room
 
 -- ---- one mark alone
@@ -293,6 +293,6 @@ none_ordered : AreOrdered []
 unfolding IsStrictlySortedBy
 none_ordered = record { rising = tt; sorted = λ number kept e. absurd (none-some _ e) }
 
-pub fresh_kept : (old new : Entries) (mark : Kept) → old ≡ [] → IsStrictlySortedBy nat_cmp (keys_of new) → ((other : ℕ) → kept_at new other ≡ cond (is_at (nat_cmp 1) other) (Some mark) (kept_at old other)) → mark.attributes.items ≡ [] → IsKept new None
+pub fresh_kept : (old new : MarkEntries) (mark : Kept) → old ≡ [] → IsStrictlySortedBy nat_cmp (keys_of new) → ((other : ℕ) → kept_at new other ≡ cond (is_at (nat_cmp 1) other) (Some mark) (kept_at old other)) → mark.attributes.items ≡ [] → IsMarkIndex new None
 fresh_kept old new mark none rising found items =
     record { ordered = AreOrdered-with old new 1 mark (subst AreOrdered (sym none) none_ordered) rising found (subst AreSorted (sym items) none_sorted); prepared = tt }

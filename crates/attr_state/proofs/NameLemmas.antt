@@ -16,7 +16,7 @@ use Rattle.std.proofs.lemmas.Slice.Eq.{bytes_eq-Decides}
 use Rattle.file_world.proofs.RowLemmas.{split, cond_at_false}
 use Rattle.file_world.specs.Attributes.{Attributes, value_at}
 use Rattle.file_world.specs.AttributeEffect.{with_value, without_value}
-use Rattle.attr_state.specs.Index.{AreSorted, IsAt, IsGap}
+use Rattle.attr_state.specs.Index.{AreSorted, IsMarkAt, IsGap}
 
 abbrev pub Attribute : Type 0
 Attribute = List ℕ × List ℕ
@@ -92,7 +92,7 @@ comparisons_rise attributes name sorted =
     ap is_lt (greater_back (get_or attributes k d).0 (get_or attributes (k + 1) d).0
     (subst (λ (n : ℕ). compare (get_or attributes k d).0 (get_or attributes n d).0 ≡ Less) next (adjacent attributes k d sorted (omega (arith, high))))))
 
-IsAt-from : (attributes : Attributes) (name : List ℕ) (place : ℕ) → AreSorted attributes → place < length attributes → ((d : Attribute) → compare (get_or attributes place d).0 name ≡ Equal) → IsAt attributes name place
+IsAt-from : (attributes : Attributes) (name : List ℕ) (place : ℕ) → AreSorted attributes → place < length attributes → ((d : Attribute) → compare (get_or attributes place d).0 name ≡ Equal) → IsMarkAt attributes name place
 IsAt-from [] name place sorted lt equal = absurd (omega (arith, lt))
 IsAt-from (attribute ∷ attributes) name zero sorted lt equal = same_from_equal attribute.0 name (equal attribute)
 IsAt-from (attribute ∷ attributes) name (suc place) sorted lt equal =
@@ -117,7 +117,7 @@ IsGap-from (attribute ∷ attributes) name (suc place) le less greater = (
 
 -- what a search finds
 pub record Searched (attributes : Attributes) (name : List ℕ) (result : Result ℕ ℕ) : Type 0 where
-  pub found : IfOk result (IsAt attributes name)
+  pub found : IfOk result (IsMarkAt attributes name)
   pub absent : IfErr result (IsGap attributes name)
 
 pub searched : (attributes : Attributes) (name : List ℕ) (result : Result ℕ ℕ) → AreSorted attributes → IsSearchInRange result (length attributes) → IsBinarySearchResult (λ attribute. compare attribute.0 name) attributes result → Searched attributes name result
@@ -128,7 +128,7 @@ searched attributes name (Err place) sorted within parted =
 
 -- ---- look-ups
 
-pub at_within : (attributes : Attributes) (name : List ℕ) (place : ℕ) → IsAt attributes name place → place < length attributes
+pub at_within : (attributes : Attributes) (name : List ℕ) (place : ℕ) → IsMarkAt attributes name place → place < length attributes
 at_within [] name place at = absurd at
 at_within (attribute ∷ attributes) name zero at = omega arith
 at_within (attribute ∷ attributes) name (suc place) at = let rest = at_within attributes name place at.1 in omega (arith, rest)
@@ -138,7 +138,7 @@ gap_within attributes name zero gap = omega arith
 gap_within [] name (suc place) gap = absurd gap
 gap_within (attribute ∷ attributes) name (suc place) gap = let rest = gap_within attributes name place gap.1 in omega (arith, rest)
 
-pub value_at-found : (attributes : Attributes) (name : List ℕ) (place : ℕ) (d : Attribute) → IsAt attributes name place → value_at attributes name ≡ Some (get_or attributes place d).1
+pub value_at-found : (attributes : Attributes) (name : List ℕ) (place : ℕ) (d : Attribute) → IsMarkAt attributes name place → value_at attributes name ≡ Some (get_or attributes place d).1
 value_at-found [] name place d at = absurd at
 value_at-found (attribute ∷ attributes) name zero d at = cond-true (bytes_eq name attribute.0) _ _ (itself attribute.0 name at)
 value_at-found (attribute ∷ attributes) name (suc place) d at = cond-false (bytes_eq name attribute.0) _ _ (apart_from_greater name attribute.0 at.0) ∙ value_at-found attributes name place d at.1
@@ -160,7 +160,7 @@ with_here attribute attributes name value e = ap (λ (o : Ordering). match_order
 with_later : (attribute : Attribute) (attributes : Attributes) (name value : List ℕ) → compare name attribute.0 ≡ Greater → with_value (attribute ∷ attributes) name value ≡ attribute ∷ with_value attributes name value
 with_later attribute attributes name value e = ap (λ (o : Ordering). match_ordering o ((name, value) ∷ attribute ∷ attributes) ((attribute.0, value) ∷ attributes) (attribute ∷ with_value attributes name value)) e
 
-pub with_value-found : (attributes : Attributes) (name value : List ℕ) (place : ℕ) → IsAt attributes name place → with_value attributes name value ≡ set attributes place (name, value)
+pub with_value-found : (attributes : Attributes) (name value : List ℕ) (place : ℕ) → IsMarkAt attributes name place → with_value attributes name value ≡ set attributes place (name, value)
 with_value-found [] name value place at = absurd at
 with_value-found (attribute ∷ attributes) name value zero at =
     with_here attribute attributes name value (ap (compare name) at ∙ tied_itself nat_list_cmp_total name) ∙ ap (λ (n : List ℕ). (n, value) ∷ attributes) at
@@ -174,7 +174,7 @@ with_value-missing [] name value (suc place) gap = absurd gap
 with_value-missing (attribute ∷ attributes) name value (suc place) gap =
     with_later attribute attributes name value (greater_back attribute.0 name gap.0) ∙ ap (λ (rest : Attributes). attribute ∷ rest) (with_value-missing attributes name value place gap.1)
 
-pub without_value-found : (attributes : Attributes) (name : List ℕ) (place : ℕ) → IsAt attributes name place → without_value attributes name ≡ remove attributes place
+pub without_value-found : (attributes : Attributes) (name : List ℕ) (place : ℕ) → IsMarkAt attributes name place → without_value attributes name ≡ remove attributes place
 without_value-found [] name place at = absurd at
 without_value-found (attribute ∷ attributes) name zero at = cond-true (bytes_eq name attribute.0) _ _ (itself attribute.0 name at)
 without_value-found (attribute ∷ attributes) name (suc place) at =

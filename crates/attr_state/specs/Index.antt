@@ -10,26 +10,26 @@ use Rattle.std.specs.Cmp.Lexicographic.{slice_cmp}
 use Rattle.bl_syntax.specs.declared.terms.Term.{Term}
 use Rattle.bl_syntax.specs.declared.terms.Term.TheVariants.{Prin, File, Perm, Time, Text, Ctime, Param, Bound}
 use Rattle.file_world.specs.Attributes.{Attributes, Mark, Marks, mark_at}
-use Rattle.file_world.specs.TreeEffect.{revised}
+use Rattle.file_world.specs.TreeEffect.{revise}
 use Rattle.file_world.specs.AttributeEffect.{new_mark, meta_refusal}
 use Rattle.file_world.specs.declared.operation.MetaOp.{MetaOp}
-use Rattle.attr_state.specs.declared.mark.Mark.{Mark as Kept}
-use Rattle.attr_state.specs.declared.ready.Ready.{Ready}
-use Rattle.attr_state.specs.declared.ready.Ready.TheVariants.{Nothing, Attributes as Room, Made}
+use Rattle.attr_state.specs.declared.mark.KeptMark.{KeptMark as Kept}
+use Rattle.attr_state.specs.declared.ready.MetaReady.{MetaReady}
+use Rattle.attr_state.specs.declared.ready.MetaReady.TheVariants.{Nothing, Attributes as Room, Made}
 use Rattle.attr_state.specs.State.{ready_for}
 
 -- marks as they are kept, under the numbers of their nodes
-abbrev pub Entries : Type 0
-Entries = List (ℕ × Kept)
+abbrev pub MarkEntries : Type 0
+MarkEntries = List (ℕ × Kept)
 
 abbrev pub shown : Kept → Mark
 shown kept = record { owner = kept.owner; parent = kept.parent; attributes = kept.attributes.items }
 
-abbrev pub marks_of : Entries → Marks
+abbrev pub marks_of : MarkEntries → Marks
 marks_of entries = map (λ entry. (entry.0, shown entry.1)) entries
 
 -- the mark that is kept under the number
-abbrev pub kept_at : Entries → ℕ → Option Kept
+abbrev pub kept_at : MarkEntries → ℕ → Option Kept
 kept_at entries number = lookup (is_at (nat_cmp number)) entries
 
 -- names in byte order
@@ -37,10 +37,10 @@ abbrev pub AreSorted : Attributes → Type 0
 AreSorted attributes = IsStrictlySortedBy (slice_cmp nat_cmp) (keys_of attributes)
 
 -- the attribute of that name stands at that place, after those with lesser names
-abbrev pub IsAt : Attributes → List ℕ → ℕ → Type 0
-IsAt [] name place = ⊥
-IsAt (attribute ∷ attributes) name zero = attribute.0 ≡ name
-IsAt (attribute ∷ attributes) name (suc place) = (slice_cmp nat_cmp attribute.0 name ≡ Less) × IsAt attributes name place
+abbrev pub IsMarkAt : Attributes → List ℕ → ℕ → Type 0
+IsMarkAt [] name place = ⊥
+IsMarkAt (attribute ∷ attributes) name zero = attribute.0 ≡ name
+IsMarkAt (attribute ∷ attributes) name (suc place) = (slice_cmp nat_cmp attribute.0 name ≡ Less) × IsMarkAt attributes name place
 
 -- an attribute of that name would go to that place: those before it have lesser names, those from it on greater ones
 abbrev pub IsGap : Attributes → List ℕ → ℕ → Type 0
@@ -49,72 +49,72 @@ IsGap [] name (suc place) = ⊥
 IsGap (attribute ∷ attributes) name (suc place) = (slice_cmp nat_cmp attribute.0 name ≡ Less) × IsGap attributes name place
 
 -- the numbers rise, and so do the names of each node's attributes
-pub record AreOrdered (entries : Entries) : Type 0 where
+pub record AreOrdered (entries : MarkEntries) : Type 0 where
   pub rising : IsStrictlySortedBy nat_cmp (keys_of entries)
   pub sorted : (number : ℕ) (kept : Kept) → kept_at entries number ≡ Some kept → AreSorted kept.attributes.items
 
 -- the marks without one that is only ready to be made
-abbrev pub settled : Option Ready → Entries → Entries
+abbrev pub settled : Option MetaReady → MarkEntries → MarkEntries
 settled None entries = entries
 settled (Some Nothing) entries = entries
 settled (Some (Room number len)) entries = entries
 settled (Some (Made number owner parent)) entries = remove_entry (is_at (nat_cmp number)) entries
 
 -- whether the mark of the node of that number is only ready to be made
-abbrev pub is_held : Option Ready → ℕ → Bool
+abbrev pub is_held : Option MetaReady → ℕ → Bool
 is_held None number = false
 is_held (Some Nothing) number = false
 is_held (Some (Room node len)) number = false
 is_held (Some (Made node owner parent)) number = nat_eq node number
 
 -- the marks as contracts see them
-abbrev pub marks_in : Option Ready → Entries → Marks
+abbrev pub marks_in : Option MetaReady → MarkEntries → Marks
 marks_in ready entries = marks_of (settled ready entries)
 
 -- a mark is kept with room for so many attributes
-pub record HasRoom (entries : Entries) (number len : ℕ) : Type 0 where
+pub record HasMarkRoom (entries : MarkEntries) (number len : ℕ) : Type 0 where
   pub kept : Kept
   pub found : kept_at entries number ≡ Some kept
   pub room : len ≤ vec_capacity kept.attributes
 
 -- that mark is kept under the number
-pub record IsMade (entries : Entries) (number : ℕ) (mark : Mark) : Type 0 where
+pub record IsMarkMade (entries : MarkEntries) (number : ℕ) (mark : Mark) : Type 0 where
   pub kept : Kept
   pub found : kept_at entries number ≡ Some kept
   pub shows : shown kept ≡ mark
 
 -- the memory for what is ready is there
-abbrev pub IsPrepared : Option Ready → Entries → Type 0
-IsPrepared None entries = Unit {0}
-IsPrepared (Some Nothing) entries = Unit {0}
-IsPrepared (Some (Room number len)) entries = HasRoom entries number len
-IsPrepared (Some (Made number owner parent)) entries = IsMade entries number (new_mark owner parent)
+abbrev pub IsMetaPrepared : Option MetaReady → MarkEntries → Type 0
+IsMetaPrepared None entries = Unit {0}
+IsMetaPrepared (Some Nothing) entries = Unit {0}
+IsMetaPrepared (Some (Room number len)) entries = HasMarkRoom entries number len
+IsMetaPrepared (Some (Made number owner parent)) entries = IsMarkMade entries number (new_mark owner parent)
 
 -- the marks are in order, and what is ready is prepared
-pub record IsKept (entries : Entries) (ready : Option Ready) : Type 0 where
+pub record IsMarkIndex (entries : MarkEntries) (ready : Option MetaReady) : Type 0 where
   pub ordered : AreOrdered entries
-  pub prepared : IsPrepared ready entries
+  pub prepared : IsMetaPrepared ready entries
 
 -- what is ready is prepared, and the marks are as before
-pub record Prepares (old new : Entries) (ready : Ready) : Type 0 where
-  pub kept : IsKept new (Some ready)
+pub record PreparesMeta (old new : MarkEntries) (ready : MetaReady) : Type 0 where
+  pub kept : IsMarkIndex new (Some ready)
   pub same : marks_in (Some ready) new ≡ marks_of old
 
 -- nothing is ready, and the marks are as before
-pub record Stays (old new : Entries) : Type 0 where
+pub record MetaStays (old new : MarkEntries) : Type 0 where
   pub ordered : AreOrdered new
   pub same : marks_of new ≡ marks_of old
 
 -- the mark of the node of that number is revised
-pub record Revises (old new : Entries) (number : ℕ) (revision : Mark → Mark) : Type 0 where
+pub record Revises (old new : MarkEntries) (number : ℕ) (revision : Mark → Mark) : Type 0 where
   pub ordered : AreOrdered new
-  pub marks : marks_of new ≡ revised number revision (marks_of old)
+  pub marks : marks_of new ≡ revise number revision (marks_of old)
 
 -- the operation is not refused, and the memory for it is there
-pub record IsChangeable (entries : Entries) (op : MetaOp) : Type 0 where
+pub record IsMetaChangeable (entries : MarkEntries) (op : MetaOp) : Type 0 where
   pub ordered : AreOrdered entries
   pub free : meta_refusal (marks_of entries) op ≡ None
-  pub prepared : IsPrepared (Some (ready_for (marks_of entries) op)) entries
+  pub prepared : IsMetaPrepared (Some (ready_for (marks_of entries) op)) entries
 
 -- the mark of the node that a term names
 abbrev pub mark_named : Marks → Term → Option Mark

@@ -7,16 +7,16 @@ use Rattle.file_world.specs.declared.refusal.OpFault.TheVariants.{Refused, NoMem
 use Rattle.file_world.specs.declared.reply.MetaReply.{MetaReply}
 use Rattle.file_world.specs.Attributes.{Marks, mark_at}
 use Rattle.file_world.specs.AttributeEffect.{attributes_of, with_value, meta_refusal, meta_reply}
-use Rattle.attr_state.specs.declared.ready.Ready.{Ready}
-use Rattle.attr_state.specs.declared.ready.Ready.TheVariants.{Nothing, Attributes, Made}
+use Rattle.attr_state.specs.declared.ready.MetaReady.{MetaReady}
+use Rattle.attr_state.specs.declared.ready.MetaReady.TheVariants.{Nothing, Attributes, Made}
 
 -- the marks, and the change for which memory was taken
-pub record MetaState : Type 0 where
+pub record MetaView : Type 0 where
   pub marks : Marks
-  pub ready : Option Ready
+  pub ready : Option MetaReady
 
 -- what an operation that is not refused gets ready
-abbrev pub ready_for : Marks → MetaOp → Ready
+abbrev pub ready_for : Marks → MetaOp → MetaReady
 ready_for marks (Get node name) = Nothing
 ready_for marks (Set node name value) = Attributes node.0 (length (with_value (attributes_of (mark_at marks node.0)) name value))
 ready_for marks (Remove node name) = Nothing
@@ -26,12 +26,12 @@ ready_for marks (Drop node) = Nothing
 ready_for marks (Move node parent) = Nothing
 
 -- the operation is not refused, and what it changes is ready
-pub record IsReady (state : MetaState) (op : MetaOp) : Type 0 where
+pub record IsMetaReady (state : MetaView) (op : MetaOp) : Type 0 where
   pub free : meta_refusal state.marks op ≡ None
   pub ready : state.ready ≡ Some (ready_for state.marks op)
 
 -- the operation got its reply and is ready; or it is refused, and its first refusal is told; or out of memory
-abbrev pub Reserves : Marks → MetaOp → Result MetaReply OpFault → Option Ready → Type 0
-Reserves marks op (Ok reply) ready = (meta_refusal marks op ≡ None) × (reply ≡ meta_reply marks op) × (ready ≡ Some (ready_for marks op))
-Reserves marks op (Err (Refused refusal)) ready = (meta_refusal marks op ≡ Some refusal) × (ready ≡ None)
-Reserves marks op (Err NoMemory) ready = (meta_refusal marks op ≡ None) × (ready ≡ None)
+abbrev pub ReservesMeta : Marks → MetaOp → Result MetaReply OpFault → Option MetaReady → Type 0
+ReservesMeta marks op (Ok reply) ready = (meta_refusal marks op ≡ None) × (reply ≡ meta_reply marks op) × (ready ≡ Some (ready_for marks op))
+ReservesMeta marks op (Err (Refused refusal)) ready = (meta_refusal marks op ≡ Some refusal) × (ready ≡ None)
+ReservesMeta marks op (Err NoMemory) ready = (meta_refusal marks op ≡ None) × (ready ≡ None)

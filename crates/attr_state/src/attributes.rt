@@ -7,9 +7,9 @@ ghost use Rattle.std.specs.Cmp.Lexicographic.{slice_cmp};
 ghost use Rattle.file_world.specs.Limits.{longest_name};
 ghost use Rattle.file_world.specs.Attributes.{value_at};
 ghost use Rattle.file_world.specs.AttributeEffect.{with_value, without_value};
-ghost use Rattle.attr_state.specs.Index.{AreSorted, IsAt, IsGap};
+ghost use Rattle.attr_state.specs.Index.{AreSorted, IsMarkAt, IsGap};
 
-use crate::mark::{Attribute, Attributes};
+use crate::mark::{Attribute, KeptAttributes};
 use bl_syntax::{Short, Text};
 use std::alloc::AllocFailed;
 use std::cmp::Ordering;
@@ -25,7 +25,7 @@ fn compare(attribute: &Attribute, name: &[u8]) -> Ordering
 fn search(attributes: &[Attribute], name: &[u8]) -> Result<usize, usize>
     requires { AreSorted attributes.now }
     ensures bound { IsSearchInRange result (length attributes.now) }
-    ensures found { IfOk result (IsAt attributes.now name.now) }
+    ensures found { IfOk result (IsMarkAt attributes.now name.now) }
     ensures absent { IfErr result (IsGap attributes.now name.now) }
 {
     attributes.binary_search_by(|attribute| compare(attribute, name))
@@ -43,7 +43,7 @@ pub fn value_among(attributes: &[Attribute], name: &[u8]) -> Option<Text>
 }
 
 /// Puts a value under a name, in the place of one that is there.
-pub fn put(attributes: &mut Attributes, name: &[u8], value: Text)
+pub fn put(attributes: &mut KeptAttributes, name: &[u8], value: Text)
     requires short { length name.now ≤ longest_name }
     requires sorted { AreSorted attributes.old.items }
     requires room { length (with_value attributes.old.items name.now value) ≤ vec_capacity attributes.old }
@@ -61,7 +61,7 @@ pub fn put(attributes: &mut Attributes, name: &[u8], value: Text)
 }
 
 /// Takes the attribute of that name out.
-pub fn take_out(attributes: &mut Attributes, name: &[u8])
+pub fn take_out(attributes: &mut KeptAttributes, name: &[u8])
     requires { AreSorted attributes.old.items }
     ensures taken { attributes.new.items ≡ without_value attributes.old.items name.now }
     ensures sorted { AreSorted attributes.new.items }

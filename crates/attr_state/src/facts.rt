@@ -3,17 +3,21 @@
 ghost use Rattle.std.specs.Prelude.{◌≡◌, ◌↔◌, Contains, IsTrue, IfSome, option_map};
 ghost use Rattle.bl_syntax.specs.declared.terms.StatePred.TheVariants.{Owner, HasXattr, InDir};
 ghost use Rattle.file_world.specs.Facts.{facts_of_marks};
-ghost use Rattle.attr_state.specs.Index.{shown, marks_in, mark_named, AreSorted, IsKept};
+ghost use Rattle.attr_state.specs.Index.{shown, marks_in, mark_named, AreSorted, IsMarkIndex};
 
 use crate::attributes::value_among;
-use crate::mark::{Mark, Marks};
-use crate::ready::Ready;
+use crate::mark::{KeptMark, KeptMarks};
+use crate::ready::MetaReady;
 use crate::settled::settled_mark;
 use bl_syntax::{NodeId, Term};
 use file_world::ROOT_NUMBER;
 
-fn named_mark<'a>(marks: &'a Marks, ready: &Option<Ready>, node: &Term) -> Option<&'a Mark>
-    requires { IsKept marks.now.entries ready.now }
+fn named_mark<'a>(
+    marks: &'a KeptMarks,
+    ready: &Option<MetaReady>,
+    node: &Term,
+) -> Option<&'a KeptMark>
+    requires { IsMarkIndex marks.now.entries ready.now }
     ensures shown { option_map (λ mark. shown mark.now) result
         ≡ mark_named (marks_in ready.now marks.now.entries) node.now }
     ensures sorted { IfSome result (λ mark. AreSorted mark.now.attributes.items) }
@@ -25,8 +29,8 @@ fn named_mark<'a>(marks: &'a Marks, ready: &Option<Ready>, node: &Term) -> Optio
 }
 
 /// Whether the principal owns the node.
-pub fn is_owner(marks: &Marks, ready: &Option<Ready>, node: &Term, owner: &Term) -> bool
-    requires { IsKept marks.now.entries ready.now }
+pub fn is_owner(marks: &KeptMarks, ready: &Option<MetaReady>, node: &Term, owner: &Term) -> bool
+    requires { IsMarkIndex marks.now.entries ready.now }
     ensures { IsTrue result
         ↔ Contains (facts_of_marks (marks_in ready.now marks.now.entries)) (Owner node.now owner.now) }
 {
@@ -38,13 +42,13 @@ pub fn is_owner(marks: &Marks, ready: &Option<Ready>, node: &Term, owner: &Term)
 
 /// Whether the attribute of that name has the value.
 pub fn has_value(
-    marks: &Marks,
-    ready: &Option<Ready>,
+    marks: &KeptMarks,
+    ready: &Option<MetaReady>,
     node: &Term,
     name: &Term,
     value: &Term,
 ) -> bool
-    requires { IsKept marks.now.entries ready.now }
+    requires { IsMarkIndex marks.now.entries ready.now }
     ensures { IsTrue result
         ↔ Contains (facts_of_marks (marks_in ready.now marks.now.entries)) (HasXattr node.now name.now value.now) }
 {
@@ -60,8 +64,8 @@ pub fn has_value(
 }
 
 /// Whether the directory holds the node. None holds the root.
-pub fn is_in(marks: &Marks, ready: &Option<Ready>, node: &Term, directory: &Term) -> bool
-    requires { IsKept marks.now.entries ready.now }
+pub fn is_in(marks: &KeptMarks, ready: &Option<MetaReady>, node: &Term, directory: &Term) -> bool
+    requires { IsMarkIndex marks.now.entries ready.now }
     ensures { IsTrue result
         ↔ Contains (facts_of_marks (marks_in ready.now marks.now.entries)) (InDir node.now directory.now) }
 {

@@ -18,4 +18,4 @@ mod settled;
 
 pub use file_world::{MetaOp, MetaReply, OpFault, Refusal};
 pub use meta::Meta;
-pub use ready::Ready;
+pub use ready::MetaReady;

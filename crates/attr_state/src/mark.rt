@@ -8,28 +8,28 @@ use std::collections::BTreeMap;
 pub type Attribute = (Short<64>, Text);
 
 /// Attributes in the byte order of their names.
-pub type Attributes = Vec<Attribute>;
+pub type KeptAttributes = Vec<Attribute>;
 
 /// What is kept of a node.
 #[derive(Drop)]
-pub struct Mark {
+pub struct KeptMark {
     pub owner: Principal,
     /// The number of its directory, or 0 for the root.
     pub parent: u64,
-    pub attributes: Attributes,
+    pub attributes: KeptAttributes,
 }
 
 /// Marks under the numbers of their nodes.
-pub type Marks = BTreeMap<u64, Mark>;
+pub type KeptMarks = BTreeMap<u64, KeptMark>;
 
-impl Clone for Mark {
+impl Clone for KeptMark {
     ghost use Rattle.std.specs.Prelude.{◌≡◌};
     ghost use Rattle.attr_state.specs.Index.{shown};
 
     ghost is_clone = { λ mark copy. shown copy ≡ shown mark };
 
     fn clone(&self) -> Result<Self, AllocError> {
-        Ok(Mark {
+        Ok(KeptMark {
             owner: self.owner,
             parent: self.parent,
             attributes: self.attributes.clone()?,

@@ -4,14 +4,14 @@ ghost use Rattle.std.specs.Prelude.{◌≡◌, None, IfOk, is_some, option_map};
 ghost use Rattle.file_world.specs.Attributes.{mark_at};
 ghost use Rattle.file_world.specs.Facts.{facts_of_marks};
 ghost use Rattle.file_world.specs.AttributeEffect.{fresh_marks, value_of, marks_after, IsAskable};
-ghost use Rattle.attr_state.specs.State.{Reserves, IsReady};
+ghost use Rattle.attr_state.specs.State.{ReservesMeta, IsMetaReady};
 
 use crate::applying::change;
 use crate::attributes::value_among;
 use crate::facts::{has_value, is_in, is_owner};
-use crate::mark::{Mark, Marks};
+use crate::mark::{KeptMark, KeptMarks};
 use crate::preparing::{forget, prepare};
-use crate::ready::Ready;
+use crate::ready::MetaReady;
 use crate::refusals::{refusal, reply};
 use crate::settled::{copied, settled_mark};
 use bl_syntax::{NoMemory, NodeId, Principal, StatePred, Text};
@@ -24,19 +24,19 @@ use std::marker::Model;
 /// Owners and attributes: the mark of each node, and what an operation is ready to change.
 #[derive(Drop)]
 pub struct Meta {
-    marks: Marks,
-    ready: Option<Ready>,
+    marks: KeptMarks,
+    ready: Option<MetaReady>,
 }
 
 impl Model for Meta {
-    ghost use Rattle.attr_state.specs.State.{MetaState};
-    ghost use Rattle.attr_state.specs.Index.{marks_in, IsKept};
+    ghost use Rattle.attr_state.specs.State.{MetaView};
+    ghost use Rattle.attr_state.specs.Index.{marks_in, IsMarkIndex};
 
-    ghost Value = { MetaState };
+    ghost Value = { MetaView };
 
     ghost view = { λ m. record { marks = marks_in m.ready m.marks.entries; ready = m.ready } };
 
-    ghost invariant = { λ m. IsKept m.marks.entries m.ready };
+    ghost invariant = { λ m. IsMarkIndex m.marks.entries m.ready };
 }
 
 impl Meta {
@@ -44,13 +44,16 @@ impl Meta {
     pub fn new(alloc: Global) -> Result<Meta, NoMemory>
         ensures { IfOk result (λ meta. meta ≡ record { marks = fresh_marks; ready = None }) }
     {
-        let root = Mark {
+        let root = KeptMark {
             owner: Principal::new(b"admin").unwrap(),
             parent: 0,
             attributes: Vec::new(alloc),
         };
         let mut marks = BTreeMap::new(alloc);
-        let put: Result<Option<Mark>, AllocFailed<(u64, Mark)>> = marks.insert(ROOT_NUMBER, root);
+        let put: Result<Option<KeptMark>, AllocFailed<(u64, KeptMark)>> = marks.insert(
+            ROOT_NUMBER,
+            root,
+        );
         match put {
             Ok(_) => Ok(Meta { marks, ready: None }),
             Err(_) => Err(NoMemory),
@@ -89,7 +92,7 @@ impl Meta {
     pub fn reserve(&mut self, alloc: Global, op: &MetaOp) -> Result<MetaReply, OpFault>
         requires { IsAskable self.old.marks op.now }
         ensures same { self.new.marks ≡ self.old.marks }
-        ensures answer { Reserves self.old.marks op.now result self.new.ready }
+        ensures answer { ReservesMeta self.old.marks op.now result self.new.ready }
     {
         forget(&mut self.marks, &self.ready);
         self.ready = None;
@@ -104,7 +107,7 @@ impl Meta {
 
     /// Makes the change of the operation that is ready. It takes no memory.
     pub fn apply(&mut self, op: &MetaOp)
-        requires { IsReady self.old op.now }
+        requires { IsMetaReady self.old op.now }
         ensures marks { self.new.marks ≡ marks_after self.old.marks op.now }
         ensures ready { self.new.ready ≡ None }
     {

@@ -4,7 +4,7 @@ use bl_syntax::Principal;
 
 /// What an operation is ready to change, with the memory for it.
 #[derive(Clone, Copy, Debug)]
-pub enum Ready {
+pub enum MetaReady {
     /// What takes no memory.
     Nothing,
     /// The attributes of the node of that number, to so many.

@@ -9,12 +9,12 @@ ghost use Rattle.file_world.specs.declared.refusal.Refusal.TheVariants.{NoNode, 
 ghost use Rattle.attr_state.specs.Index.{marks_of, AreOrdered};
 
 use crate::attributes::value_among;
-use crate::mark::Marks;
+use crate::mark::KeptMarks;
 use crate::name::is_attribute_name;
 use bl_syntax::Text;
 use file_world::{MOST_ATTRIBUTES, MetaOp, MetaReply, Refusal};
 
-fn node_refusal(marks: &Marks, number: u64) -> Option<Refusal>
+fn node_refusal(marks: &KeptMarks, number: u64) -> Option<Refusal>
     ensures { result ≡ first_of ((is_none (mark_at (marks_of marks.now.entries) number), NoNode) ∷ []) }
 {
     match marks.get(&number) {
@@ -23,7 +23,7 @@ fn node_refusal(marks: &Marks, number: u64) -> Option<Refusal>
     }
 }
 
-fn attribute_refusal(marks: &Marks, number: u64, name: &[u8]) -> Option<Refusal>
+fn attribute_refusal(marks: &KeptMarks, number: u64, name: &[u8]) -> Option<Refusal>
     ensures { result ≡ first_of (attribute_tests (marks_of marks.now.entries) number name.now) }
 {
     if let Some(refusal) = node_refusal(marks, number) {
@@ -37,7 +37,7 @@ fn attribute_refusal(marks: &Marks, number: u64, name: &[u8]) -> Option<Refusal>
 }
 
 /// The value of an attribute of the node of that number.
-pub fn value_kept(marks: &Marks, number: u64, name: &[u8]) -> Option<Text>
+pub fn value_kept(marks: &KeptMarks, number: u64, name: &[u8]) -> Option<Text>
     requires { AreOrdered marks.now.entries }
     ensures { result ≡ value_of (marks_of marks.now.entries) number name.now }
 {
@@ -47,7 +47,7 @@ pub fn value_kept(marks: &Marks, number: u64, name: &[u8]) -> Option<Text>
     }
 }
 
-fn count(marks: &Marks, number: u64) -> usize
+fn count(marks: &KeptMarks, number: u64) -> usize
     ensures { result ≡ length (attributes_of (mark_at (marks_of marks.now.entries) number)) }
 {
     match marks.get(&number) {
@@ -56,7 +56,7 @@ fn count(marks: &Marks, number: u64) -> usize
     }
 }
 
-fn missing_refusal(marks: &Marks, number: u64, name: &[u8]) -> Option<Refusal>
+fn missing_refusal(marks: &KeptMarks, number: u64, name: &[u8]) -> Option<Refusal>
     requires { AreOrdered marks.now.entries }
     ensures { result ≡ first_of (attribute_tests (marks_of marks.now.entries) number name.now
         ++ (is_none (value_of (marks_of marks.now.entries) number name.now), NoAttribute) ∷ []) }
@@ -70,7 +70,7 @@ fn missing_refusal(marks: &Marks, number: u64, name: &[u8]) -> Option<Refusal>
     }
 }
 
-fn full_refusal(marks: &Marks, number: u64, name: &[u8]) -> Option<Refusal>
+fn full_refusal(marks: &KeptMarks, number: u64, name: &[u8]) -> Option<Refusal>
     requires { AreOrdered marks.now.entries }
     ensures { result ≡ first_of (attribute_tests (marks_of marks.now.entries) number name.now
         ++ (
@@ -91,7 +91,7 @@ fn full_refusal(marks: &Marks, number: u64, name: &[u8]) -> Option<Refusal>
 }
 
 /// The first refusal of an operation; none if nothing refuses it.
-pub fn refusal(marks: &Marks, op: &MetaOp) -> Option<Refusal>
+pub fn refusal(marks: &KeptMarks, op: &MetaOp) -> Option<Refusal>
     requires { AreOrdered marks.now.entries }
     ensures { result ≡ meta_refusal (marks_of marks.now.entries) op.now }
 {
@@ -107,7 +107,7 @@ pub fn refusal(marks: &Marks, op: &MetaOp) -> Option<Refusal>
 }
 
 /// The reply of an operation that is not refused.
-pub fn reply(marks: &Marks, op: &MetaOp) -> MetaReply
+pub fn reply(marks: &KeptMarks, op: &MetaOp) -> MetaReply
     requires ordered { AreOrdered marks.now.entries }
     requires free { meta_refusal (marks_of marks.now.entries) op.now ≡ None }
     ensures { result ≡ meta_reply (marks_of marks.now.entries) op.now }

@@ -2,25 +2,29 @@
 
 ghost use Rattle.std.specs.Prelude.{◌≡◌, None, IfSome, IfOk, option_map};
 ghost use Rattle.file_world.specs.Attributes.{mark_at};
-ghost use Rattle.attr_state.specs.Index.{shown, marks_of, marks_in, is_held, AreSorted, AreOrdered, IsKept};
+ghost use Rattle.attr_state.specs.Index.{shown, marks_of, marks_in, is_held, AreSorted, AreOrdered, IsMarkIndex};
 
-use crate::mark::{Mark, Marks};
+use crate::mark::{KeptMark, KeptMarks};
 use crate::preparing::forget;
-use crate::ready::Ready;
+use crate::ready::MetaReady;
 use bl_syntax::NoMemory;
 
-fn is_held(ready: &Option<Ready>, number: u64) -> bool
+fn is_held(ready: &Option<MetaReady>, number: u64) -> bool
     ensures { result ≡ is_held ready.now number }
 {
     match ready {
-        Some(Ready::Made(new, _, _)) => *new == number,
+        Some(MetaReady::Made(new, _, _)) => *new == number,
         _ => false,
     }
 }
 
 /// The mark of the node of that number; none also of one that is only ready to be made.
-pub fn settled_mark<'a>(marks: &'a Marks, ready: &Option<Ready>, number: u64) -> Option<&'a Mark>
-    requires { IsKept marks.now.entries ready.now }
+pub fn settled_mark<'a>(
+    marks: &'a KeptMarks,
+    ready: &Option<MetaReady>,
+    number: u64,
+) -> Option<&'a KeptMark>
+    requires { IsMarkIndex marks.now.entries ready.now }
     ensures shown { option_map (λ mark. shown mark.now) result ≡ mark_at (marks_in ready.now marks.now.entries) number }
     ensures sorted { IfSome result (λ mark. AreSorted mark.now.attributes.items) }
 {
@@ -31,12 +35,12 @@ pub fn settled_mark<'a>(marks: &'a Marks, ready: &Option<Ready>, number: u64) ->
 }
 
 /// The same marks in memory of their own, with nothing ready.
-pub fn copied(marks: &Marks, ready: &Option<Ready>) -> Result<Marks, NoMemory>
+pub fn copied(marks: &KeptMarks, ready: &Option<MetaReady>) -> Result<KeptMarks, NoMemory>
     requires { AreOrdered marks.now.entries }
-    ensures kept { IfOk result (λ copied. IsKept copied.entries None) }
+    ensures kept { IfOk result (λ copied. IsMarkIndex copied.entries None) }
     ensures same { IfOk result (λ copied. marks_of copied.entries ≡ marks_in ready.now marks.now.entries) }
 {
-    let mut copied: Marks = marks.clone()?;
+    let mut copied: KeptMarks = marks.clone()?;
     forget(&mut copied, ready);
     Ok(copied)
 }

@@ -2,14 +2,14 @@
 use Rattle.std.proofs.Common.{◌≡◌, ◌≤◌, ℕ, true, eqb, leb, List, refl, sym, subst, arith, inl, inr}
 use Rattle.std.specs.Prelude.{◌&&◌, ◌||◌}
 use Rattle.std.proofs.lemmas.Bool.{cases_eq, or_cases, and_parts, leb-true, eqb-true}
-use Rattle.bl_syntax.specs.Formula.{Form}
+use Rattle.bl_syntax.specs.Formula.{FormulaView}
 use Rattle.bl_syntax.specs.FormulaReading.{Counted, fields_at}
 use Rattle.bl_codec.specs.Leaves.{is_leaf_tag, leaf_at}
 
-abbrev Same : (ℕ → List ℕ → Counted Form) → ℕ → ℕ → List ℕ → ℕ → Type 0
+abbrev Same : (ℕ → List ℕ → Counted FormulaView) → ℕ → ℕ → List ℕ → ℕ → Type 0
 Same inner input left rest tag = fields_at inner input left tag rest ≡ leaf_at input left tag rest
 
-first_leaves : (inner : ℕ → List ℕ → Counted Form) (input left tag : ℕ) (rest : List ℕ) → 16 ≤ tag → tag ≤ 20 → Same inner input left rest tag
+first_leaves : (inner : ℕ → List ℕ → Counted FormulaView) (input left tag : ℕ) (rest : List ℕ) → 16 ≤ tag → tag ≤ 20 → Same inner input left rest tag
 unfolding fields_at leaf_at
 first_leaves inner input left tag rest low high =
     elim (cases_eq tag 16) [
@@ -30,7 +30,7 @@ first_leaves inner input left tag rest low high =
           ]
     ]
 
-pub leaf_is : (inner : ℕ → List ℕ → Counted Form) (input left tag : ℕ) (rest : List ℕ) → is_leaf_tag tag ≡ true → Same inner input left rest tag
+pub leaf_is : (inner : ℕ → List ℕ → Counted FormulaView) (input left tag : ℕ) (rest : List ℕ) → is_leaf_tag tag ≡ true → Same inner input left rest tag
 unfolding fields_at leaf_at
 leaf_is inner input left tag rest is =
     elim (or_cases (leb 16 tag && leb tag 20 || eqb tag 24) (eqb tag 25) is) [

@@ -9,13 +9,13 @@ use Rattle.bl_syntax.specs.declared.codec_fault.CodecFault.TheVariants.{TooLarge
 use Rattle.bl_syntax.specs.declared.codec_fault.CodecFault.TheVariants as faults
 use Rattle.bl_syntax.specs.declared.terms.Term.{Term}
 use Rattle.bl_syntax.specs.declared.terms.Term.TheVariants.{Prin, File, Perm, Time, Text, Ctime, Param, Bound}
-use Rattle.bl_syntax.specs.Spelling.{IsSpellable, counted, permission_code, time_spelling, term_spelling}
+use Rattle.bl_syntax.specs.Spelling.{IsSpellable, with_length, permission_code, time_spelling, term_spelling}
 use Rattle.bl_syntax.specs.Reading.{◌>>=◌, place, term_at}
 use Rattle.bl_syntax.specs.FormulaReading.{Counted, with_left, is_term_tag, node_term_at, two_terms_at, three_terms_at, terms_at, count_at}
 use Rattle.bl_syntax.specs.Codec.{AreBytes}
 use Rattle.bl_syntax.proofs.CodecLemmas.{by_test, ok_is, bind_memoryless}
 use Rattle.bl_syntax.proofs.TermLemmas.{term_found, term_again, term_memoryless}
-use Rattle.bl_codec.proofs.FoundLemmas.{Found, Finds, one_then, then_finds, admitted_ok, admitted_again, admitted_memoryless, with_left_ok, then_again}
+use Rattle.bl_codec.proofs.NodesFoundLemmas.{Found, Finds, one_then, then_finds, admitted_ok, admitted_again, admitted_memoryless, with_left_ok, then_again}
 
 abbrev pub one : {A : Type 0} → A → ℕ
 one x = 1
@@ -36,11 +36,11 @@ term_read input left tag more rest t is e room =
 
 pub node_term_again : (input left : ℕ) (t : Term) (rest : List ℕ) → IsSpellable t → 1 ≤ left → node_term_at input left (term_spelling t ++ rest) ≡ Ok (t, (left - 1, rest))
 unfolding term_spelling
-node_term_again input left (Prin name) rest h room = term_read input left 1 (counted name ++ rest) rest (Prin name) refl (term_again input (Prin name) rest h) room
+node_term_again input left (Prin name) rest h room = term_read input left 1 (with_length name ++ rest) rest (Prin name) refl (term_again input (Prin name) rest h) room
 node_term_again input left (File n) rest h room = term_read input left 2 (to_be_bytes w64 n.0 ++ rest) rest (File n) refl (term_again input (File n) rest h) room
 node_term_again input left (Perm permission) rest h room = term_read input left 3 (permission_code permission ∷ rest) rest (Perm permission) refl (term_again input (Perm permission) rest h) room
 node_term_again input left (Time point) rest h room = term_read input left 4 (time_spelling point ++ rest) rest (Time point) refl (term_again input (Time point) rest h) room
-node_term_again input left (Text text) rest h room = term_read input left 5 (counted text ++ rest) rest (Text text) refl (term_again input (Text text) rest h) room
+node_term_again input left (Text text) rest h room = term_read input left 5 (with_length text ++ rest) rest (Text text) refl (term_again input (Text text) rest h) room
 node_term_again input left Ctime rest h room = term_read input left 6 rest rest Ctime refl (term_again input Ctime rest h) room
 node_term_again input left (Param n) rest h room = term_read input left 7 (to_be_bytes w32 n ++ rest) rest (Param n) refl (term_again input (Param n) rest h) room
 node_term_again input left (Bound n) rest h room = term_read input left 8 (to_be_bytes w32 n ++ rest) rest (Bound n) refl (term_again input (Bound n) rest h) room
@@ -79,7 +79,7 @@ two_terms_again input left a b rest h k room =
     then_again (λ x y. (x, y)) (λ n bytes. node_term_at input n bytes) (λ n bytes. node_term_at input n bytes) (term_spelling a) (term_spelling b) rest a b left 1 1
     (node_term_again input left a (term_spelling b ++ rest) h (omega arith)) (node_term_again input (left - 1) b rest k (omega arith))
 
--- one value behind another, for want of memory
+-- one value after another, because memory runs out
 pub then_memoryless : {A B C : Type 0} (k : A → B → C) (r : Counted A) (g : ℕ → List ℕ → Counted B) → (r ≡ Err faults.NoMemory → ⊥) → ((n : ℕ) (rest : List ℕ) → g n rest ≡ Err faults.NoMemory → ⊥)
     → one_then k r g ≡ Err faults.NoMemory → ⊥
 then_memoryless k r g first second e =

@@ -1,3 +1,3 @@
 pub mod Kept
 pub mod Leaves
-pub mod Said
+pub mod StatementBody

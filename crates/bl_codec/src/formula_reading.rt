@@ -2,12 +2,12 @@
 
 ghost use Rattle.std.specs.Prelude.{◌≡◌, Err, IfOk, IfErr};
 ghost use Rattle.bl_syntax.specs.declared.codec_fault.CodecFault.TheVariants.{NoMemory};
-ghost use Rattle.bl_syntax.specs.Formula.{formula, says, on};
-ghost use Rattle.bl_syntax.specs.Reading.{Gives, reading};
-ghost use Rattle.bl_syntax.specs.Codec.{GivesOrStops, ReadsFront};
+ghost use Rattle.bl_syntax.specs.Formula.{formula_view, says, on};
+ghost use Rattle.bl_syntax.specs.Reading.{GivesReading, reading};
+ghost use Rattle.bl_syntax.specs.Codec.{GivesReadingOrReports, ReadsFront};
 ghost use Rattle.bl_syntax.specs.FormulaSpelling.{IsSpellableFormula, formula_spelling};
-ghost use Rattle.bl_codec.specs.Leaves.{is_leaf_tag, leaf_at, joined, bound_by};
-ghost use Rattle.bl_syntax.specs.FormulaReading.{is_term_tag, is_formula_tag, node_term_at, two_terms_at, three_terms_at, terms_at, count_at, atom_at, pair_at, bound_at, says_at, on_at, fields_at, no_more, node_at, formula_at, whole_formula_at};
+ghost use Rattle.bl_codec.specs.Leaves.{is_leaf_tag, leaf_at, join_formulas, bind_formula};
+ghost use Rattle.bl_syntax.specs.FormulaReading.{is_term_tag, is_formula_tag, node_term_at, two_terms_at, three_terms_at, terms_at, count_at, atom_at, pair_at, binder_at, says_at, on_at, fields_at, no_more, node_at, formula_at, whole_formula_at};
 
 use bl_syntax::fields::{place, predicate_at, sort_at, term_at};
 use bl_syntax::{CodecFault, Constraint, Formula, Sequence, Sort, StatePred, Term, Terms};
@@ -28,7 +28,7 @@ fn is_term_tag(tag: u8) -> bool
 /// A term as one of the nodes that are left.
 #[tactic(auto, unfolding(bl_syntax::specs::FormulaReading::node_term_at))]
 fn node_term_at(input: usize, left: u16, bytes: &[u8]) -> Result<(Term, u16, &[u8]), CodecFault>
-    ensures { Gives (λ x. (x.0, (x.1, x.2.now))) result (node_term_at input left bytes.now) }
+    ensures { GivesReading (λ x. (x.0, (x.1, x.2.now))) result (node_term_at input left bytes.now) }
 {
     match bytes {
         [] => Err(CodecFault::Short),
@@ -53,7 +53,7 @@ fn two_terms_at(
     left: u16,
     bytes: &[u8],
 ) -> Result<(Term, Term, u16, &[u8]), CodecFault>
-    ensures { Gives (λ x. ((x.0, x.1), (x.2, x.3.now))) result (two_terms_at input left bytes.now) }
+    ensures { GivesReading (λ x. ((x.0, x.1), (x.2, x.3.now))) result (two_terms_at input left bytes.now) }
 {
     match node_term_at(input, left, bytes) {
         Err(fault) => Err(fault),
@@ -70,7 +70,7 @@ fn three_terms_at(
     left: u16,
     bytes: &[u8],
 ) -> Result<(Term, Term, Term, u16, &[u8]), CodecFault>
-    ensures { Gives (λ x. ((x.0, (x.1, x.2)), (x.3, x.4.now))) result (three_terms_at input left bytes.now) }
+    ensures { GivesReading (λ x. ((x.0, (x.1, x.2)), (x.3, x.4.now))) result (three_terms_at input left bytes.now) }
 {
     match node_term_at(input, left, bytes) {
         Err(fault) => Err(fault),
@@ -84,7 +84,7 @@ fn three_terms_at(
 /// The number of an atom's terms.
 #[tactic(auto, unfolding(bl_syntax::specs::FormulaReading::count_at))]
 fn count_at(input: usize, bytes: &[u8]) -> Result<(u8, &[u8]), CodecFault>
-    ensures { Gives (λ x. (x.0, x.1.now)) result (count_at input bytes.now) }
+    ensures { GivesReading (λ x. (x.0, x.1.now)) result (count_at input bytes.now) }
 {
     match bytes {
         [] => Err(CodecFault::Short),
@@ -105,7 +105,7 @@ fn terms_at(
     left: u16,
     bytes: &[u8],
 ) -> Result<(Terms, u16, &[u8]), CodecFault>
-    ensures { GivesOrStops (λ x. (x.0, (x.1, x.2.now))) result (terms_at count input left bytes.now) }
+    ensures { GivesReadingOrReports (λ x. (x.0, (x.1, x.2.now))) result (terms_at count input left bytes.now) }
 {
     let mut terms = Sequence::new(alloc);
     let mut still = left;
@@ -131,7 +131,7 @@ fn atom_at(
     left: u16,
     bytes: &[u8],
 ) -> Result<(Formula, u16, &[u8]), CodecFault>
-    ensures { GivesOrStops (λ x. (formula x.0, (x.1, x.2.now))) result (atom_at input left bytes.now) }
+    ensures { GivesReadingOrReports (λ x. (formula_view x.0, (x.1, x.2.now))) result (atom_at input left bytes.now) }
 {
     match predicate_at(input, bytes) {
         Err(fault) => Err(fault),
@@ -146,7 +146,7 @@ fn atom_at(
 }
 
 /// The fields of a formula that has no formulas in it.
-#[tactic(auto, using(crate::proofs::StopLemmas::hands_on, crate::proofs::StopLemmas::stops), unfolding(crate::specs::Leaves::leaf_at))]
+#[tactic(auto, using(crate::proofs::ReportsFaultLemmas::hands_on, crate::proofs::ReportsFaultLemmas::stops), unfolding(crate::specs::Leaves::leaf_at))]
 fn leaf_at(
     alloc: Global,
     input: usize,
@@ -154,7 +154,7 @@ fn leaf_at(
     tag: u8,
     rest: &[u8],
 ) -> Result<(Formula, u16, &[u8]), CodecFault>
-    ensures { GivesOrStops (λ x. (formula x.0, (x.1, x.2.now))) result (leaf_at input left tag rest.now) }
+    ensures { GivesReadingOrReports (λ x. (formula_view x.0, (x.1, x.2.now))) result (leaf_at input left tag rest.now) }
 {
     match tag {
         16 => atom_at(alloc, input, left, rest),
@@ -204,7 +204,7 @@ fn boxed_leaf_at(
     tag: u8,
     rest: &[u8],
 ) -> Result<(Box<Formula>, u16, &[u8]), CodecFault>
-    ensures { GivesOrStops (λ x. (formula x.0.value, (x.1, x.2.now))) result (leaf_at input left tag rest.now) }
+    ensures { GivesReadingOrReports (λ x. (formula_view x.0.value, (x.1, x.2.now))) result (leaf_at input left tag rest.now) }
 {
     match leaf_at(alloc, input, left, tag, rest) {
         Err(fault) => Err(fault),
@@ -220,8 +220,8 @@ fn is_leaf_tag(tag: u8) -> bool
 }
 
 #[inline(never)]
-fn boxed(alloc: Global, f: Formula) -> Result<Box<Formula>, CodecFault>
-    ensures ok { IfOk result (λ b. formula b.value ≡ formula f) }
+fn box_formula(alloc: Global, f: Formula) -> Result<Box<Formula>, CodecFault>
+    ensures ok { IfOk result (λ b. formula_view b.value ≡ formula_view f) }
     ensures err { IfErr result (λ fault. fault ≡ NoMemory) }
 {
     Ok(Box::new(alloc, f)?)
@@ -235,40 +235,40 @@ fn boxed_pair(
     a: Box<Formula>,
     b: Box<Formula>,
 ) -> Result<Box<Formula>, CodecFault>
-    ensures ok { IfOk result (λ f. formula f.value ≡ joined tag (formula a.value) (formula b.value)) }
+    ensures ok { IfOk result (λ f. formula_view f.value ≡ join_formulas tag (formula_view a.value) (formula_view b.value)) }
     ensures err { IfErr result (λ fault. fault ≡ NoMemory) }
 {
     match tag {
-        21 => boxed(alloc, Formula::And(a, b)),
-        22 => boxed(alloc, Formula::Or(a, b)),
-        _ => boxed(alloc, Formula::Imp(a, b)),
+        21 => box_formula(alloc, Formula::And(a, b)),
+        22 => box_formula(alloc, Formula::Or(a, b)),
+        _ => box_formula(alloc, Formula::Imp(a, b)),
     }
 }
 
 /// A formula inside the binder of that tag.
 #[inline(never)]
-fn boxed_bound(
+fn boxed_binder(
     alloc: Global,
     tag: u8,
     sort: Sort,
     body: Box<Formula>,
 ) -> Result<Box<Formula>, CodecFault>
-    ensures ok { IfOk result (λ f. formula f.value ≡ bound_by tag sort (formula body.value)) }
+    ensures ok { IfOk result (λ f. formula_view f.value ≡ bind_formula tag sort (formula_view body.value)) }
     ensures err { IfErr result (λ fault. fault ≡ NoMemory) }
 {
     match tag {
-        26 => boxed(alloc, Formula::Forall(sort, body)),
-        _ => boxed(alloc, Formula::Exists(sort, body)),
+        26 => box_formula(alloc, Formula::Forall(sort, body)),
+        _ => box_formula(alloc, Formula::Exists(sort, body)),
     }
 }
 
 /// What a principal says.
 #[inline(never)]
 fn boxed_says(alloc: Global, who: &Term, body: Box<Formula>) -> Result<Box<Formula>, CodecFault>
-    ensures ok { IfOk result (λ f. formula f.value ≡ says who.now (formula body.value)) }
+    ensures ok { IfOk result (λ f. formula_view f.value ≡ says who.now (formula_view body.value)) }
     ensures err { IfErr result (λ fault. fault ≡ NoMemory) }
 {
-    boxed(alloc, Formula::Says(*who, body))
+    box_formula(alloc, Formula::Says(*who, body))
 }
 
 /// A formula on an interval.
@@ -279,15 +279,15 @@ fn boxed_on(
     from: &Term,
     to: &Term,
 ) -> Result<Box<Formula>, CodecFault>
-    ensures ok { IfOk result (λ f. formula f.value ≡ on (formula body.value) from.now to.now) }
+    ensures ok { IfOk result (λ f. formula_view f.value ≡ on (formula_view body.value) from.now to.now) }
     ensures err { IfErr result (λ fault. fault ≡ NoMemory) }
 {
-    boxed(alloc, Formula::At(body, *from, *to))
+    box_formula(alloc, Formula::At(body, *from, *to))
 }
 
 /// Two formulas.
 #[cycle(formula)]
-#[tactic(auto, using(crate::proofs::StopLemmas::hands_on, crate::proofs::StopLemmas::stops), unfolding(bl_syntax::specs::FormulaReading::pair_at))]
+#[tactic(auto, using(crate::proofs::ReportsFaultLemmas::hands_on, crate::proofs::ReportsFaultLemmas::stops), unfolding(bl_syntax::specs::FormulaReading::pair_at))]
 fn pair_at(
     alloc: Global,
     input: usize,
@@ -295,7 +295,7 @@ fn pair_at(
     left: u16,
     bytes: &[u8],
 ) -> Result<(Box<Formula>, Box<Formula>, u16, &[u8]), CodecFault>
-    ensures { GivesOrStops (λ x. ((formula x.0.value, formula x.1.value), (x.2, x.3.now))) result (pair_at (λ n rest. formula_at input depth n rest) left bytes.now) }
+    ensures { GivesReadingOrReports (λ x. ((formula_view x.0.value, formula_view x.1.value), (x.2, x.3.now))) result (pair_at (λ n rest. formula_at input depth n rest) left bytes.now) }
 {
     match formula_at(alloc, input, depth, left, bytes) {
         Err(fault) => Err(fault),
@@ -308,15 +308,15 @@ fn pair_at(
 
 /// A binder's sort, and the formula inside it.
 #[cycle(formula)]
-#[tactic(auto, using(crate::proofs::StopLemmas::hands_on, crate::proofs::StopLemmas::stops), unfolding(bl_syntax::specs::FormulaReading::bound_at))]
-fn bound_at(
+#[tactic(auto, using(crate::proofs::ReportsFaultLemmas::hands_on, crate::proofs::ReportsFaultLemmas::stops), unfolding(bl_syntax::specs::FormulaReading::binder_at))]
+fn binder_at(
     alloc: Global,
     input: usize,
     depth: u16,
     left: u16,
     bytes: &[u8],
 ) -> Result<(Sort, Box<Formula>, u16, &[u8]), CodecFault>
-    ensures { GivesOrStops (λ x. ((x.0, formula x.1.value), (x.2, x.3.now))) result (bound_at (λ n rest. formula_at input depth n rest) input left bytes.now) }
+    ensures { GivesReadingOrReports (λ x. ((x.0, formula_view x.1.value), (x.2, x.3.now))) result (binder_at (λ n rest. formula_at input depth n rest) input left bytes.now) }
 {
     let (sort, rest) = sort_at(input, bytes)?;
     match formula_at(alloc, input, depth, left, rest) {
@@ -327,7 +327,7 @@ fn bound_at(
 
 /// Who says a formula, and the formula.
 #[cycle(formula)]
-#[tactic(auto, using(crate::proofs::StopLemmas::hands_on, crate::proofs::StopLemmas::stops), unfolding(bl_syntax::specs::FormulaReading::says_at))]
+#[tactic(auto, using(crate::proofs::ReportsFaultLemmas::hands_on, crate::proofs::ReportsFaultLemmas::stops), unfolding(bl_syntax::specs::FormulaReading::says_at))]
 fn says_at(
     alloc: Global,
     input: usize,
@@ -335,7 +335,7 @@ fn says_at(
     left: u16,
     bytes: &[u8],
 ) -> Result<(Box<Formula>, u16, &[u8]), CodecFault>
-    ensures { GivesOrStops (λ x. (formula x.0.value, (x.1, x.2.now))) result (says_at (λ n rest. formula_at input depth n rest) input left bytes.now) }
+    ensures { GivesReadingOrReports (λ x. (formula_view x.0.value, (x.1, x.2.now))) result (says_at (λ n rest. formula_at input depth n rest) input left bytes.now) }
 {
     match node_term_at(input, left, bytes) {
         Err(fault) => Err(fault),
@@ -348,7 +348,7 @@ fn says_at(
 
 /// A formula, and the interval on which it holds.
 #[cycle(formula)]
-#[tactic(auto, using(crate::proofs::StopLemmas::hands_on, crate::proofs::StopLemmas::stops), unfolding(bl_syntax::specs::FormulaReading::on_at))]
+#[tactic(auto, using(crate::proofs::ReportsFaultLemmas::hands_on, crate::proofs::ReportsFaultLemmas::stops), unfolding(bl_syntax::specs::FormulaReading::on_at))]
 fn on_at(
     alloc: Global,
     input: usize,
@@ -356,7 +356,7 @@ fn on_at(
     left: u16,
     bytes: &[u8],
 ) -> Result<(Box<Formula>, u16, &[u8]), CodecFault>
-    ensures { GivesOrStops (λ x. (formula x.0.value, (x.1, x.2.now))) result (on_at (λ n rest. formula_at input depth n rest) input left bytes.now) }
+    ensures { GivesReadingOrReports (λ x. (formula_view x.0.value, (x.1, x.2.now))) result (on_at (λ n rest. formula_at input depth n rest) input left bytes.now) }
 {
     match formula_at(alloc, input, depth, left, bytes) {
         Err(fault) => Err(fault),
@@ -375,7 +375,7 @@ fn is_formula_tag(tag: u8) -> bool
 
 /// The fields of a formula with that tag, which are its terms and formulas.
 #[cycle(formula)]
-#[tactic(auto, using(crate::proofs::StopLemmas::hands_on, crate::proofs::StopLemmas::stops), unfolding(bl_syntax::specs::FormulaReading::fields_at))]
+#[tactic(auto, using(crate::proofs::ReportsFaultLemmas::hands_on, crate::proofs::ReportsFaultLemmas::stops), unfolding(bl_syntax::specs::FormulaReading::fields_at))]
 fn fields_at(
     alloc: Global,
     input: usize,
@@ -384,7 +384,7 @@ fn fields_at(
     tag: u8,
     rest: &[u8],
 ) -> Result<(Box<Formula>, u16, &[u8]), CodecFault>
-    ensures { GivesOrStops (λ x. (formula x.0.value, (x.1, x.2.now))) result (fields_at (λ n rest. formula_at input depth n rest) input left tag rest.now) }
+    ensures { GivesReadingOrReports (λ x. (formula_view x.0.value, (x.1, x.2.now))) result (fields_at (λ n rest. formula_at input depth n rest) input left tag rest.now) }
 {
     if is_leaf_tag(tag) {
         return boxed_leaf_at(alloc, input, left, tag, rest);
@@ -394,9 +394,9 @@ fn fields_at(
             Err(fault) => Err(fault),
             Ok((a, b, left, rest)) => Ok((boxed_pair(alloc, tag, a, b)?, left, rest)),
         },
-        26 | 27 => match bound_at(alloc, input, depth, left, rest) {
+        26 | 27 => match binder_at(alloc, input, depth, left, rest) {
             Err(fault) => Err(fault),
-            Ok((sort, body, left, rest)) => Ok((boxed_bound(alloc, tag, sort, body)?, left, rest)),
+            Ok((sort, body, left, rest)) => Ok((boxed_binder(alloc, tag, sort, body)?, left, rest)),
         },
         28 => says_at(alloc, input, depth, left, rest),
         _ => on_at(alloc, input, depth, left, rest),
@@ -405,7 +405,7 @@ fn fields_at(
 
 /// A formula as one of the nodes that are left, whose formulas are nested at most so deep.
 #[cycle(formula)]
-#[tactic(auto, using(crate::proofs::StopLemmas::hands_on, crate::proofs::StopLemmas::stops), unfolding(bl_syntax::specs::FormulaReading::node_at))]
+#[tactic(auto, using(crate::proofs::ReportsFaultLemmas::hands_on, crate::proofs::ReportsFaultLemmas::stops), unfolding(bl_syntax::specs::FormulaReading::node_at))]
 fn node_at(
     alloc: Global,
     input: usize,
@@ -413,7 +413,7 @@ fn node_at(
     left: u16,
     bytes: &[u8],
 ) -> Result<(Box<Formula>, u16, &[u8]), CodecFault>
-    ensures { GivesOrStops (λ x. (formula x.0.value, (x.1, x.2.now))) result (node_at (λ n rest. formula_at input depth n rest) input left bytes.now) }
+    ensures { GivesReadingOrReports (λ x. (formula_view x.0.value, (x.1, x.2.now))) result (node_at (λ n rest. formula_at input depth n rest) input left bytes.now) }
 {
     match bytes {
         [] => Err(CodecFault::Short),
@@ -431,7 +431,7 @@ fn node_at(
 
 /// The fault of a formula that would be nested too deep.
 #[tactic(auto, unfolding(bl_syntax::specs::FormulaReading::node_at))]
-fn too_deep(input: usize, bytes: &[u8]) -> CodecFault
+fn depth_fault(input: usize, bytes: &[u8]) -> CodecFault
     ensures { node_at no_more input 0 bytes.now ≡ Err result }
 {
     match bytes {
@@ -455,23 +455,23 @@ fn formula_at(
     left: u16,
     bytes: &[u8],
 ) -> Result<(Box<Formula>, u16, &[u8]), CodecFault>
-    ensures { GivesOrStops (λ x. (formula x.0.value, (x.1, x.2.now))) result (formula_at input depth left bytes.now) }
+    ensures { GivesReadingOrReports (λ x. (formula_view x.0.value, (x.1, x.2.now))) result (formula_at input depth left bytes.now) }
 {
     if depth == 0 {
-        return Err(too_deep(input, bytes));
+        return Err(depth_fault(input, bytes));
     }
     node_at(alloc, input, depth - 1, left, bytes)
 }
 
 /// A formula within the limits: the reader that formats with formulas in them are made of. It reads at the front of
-/// `bytes`, the rest of an input of `input` bytes, and gives the formula and the bytes behind it, or the first fault.
-#[tactic(auto, using(crate::proofs::StopLemmas::hands_on), unfolding(bl_syntax::specs::FormulaReading::whole_formula_at))]
+/// `bytes`, the rest of an input of `input` bytes, and gives the formula and the bytes after it, or the first fault.
+#[tactic(auto, using(crate::proofs::ReportsFaultLemmas::hands_on), unfolding(bl_syntax::specs::FormulaReading::whole_formula_at))]
 pub fn whole_formula_at(
     alloc: Global,
     input: usize,
     bytes: &[u8],
 ) -> Result<(Formula, &[u8]), CodecFault>
-    ensures { GivesOrStops (λ x. (formula x.0, x.1.now)) result (whole_formula_at input bytes.now) }
+    ensures { GivesReadingOrReports (λ x. (formula_view x.0, x.1.now)) result (whole_formula_at input bytes.now) }
 {
     match formula_at(alloc, input, MOST_NODES, MOST_NODES, bytes) {
         Err(fault) => Err(fault),
@@ -480,10 +480,10 @@ pub fn whole_formula_at(
 }
 
 /// The formula whose spelling begins the bytes, and how many bytes it takes, or the first fault. Bytes may follow it.
-#[tactic(auto, using(crate::proofs::StopLemmas::hands_on))]
+#[tactic(auto, using(crate::proofs::ReportsFaultLemmas::hands_on))]
 pub fn read_formula(alloc: Global, bytes: &[u8]) -> Result<(Formula, usize), CodecFault>
-    ensures exact { GivesOrStops (λ x. (formula x.0, x.1)) result (reading whole_formula_at bytes.now) }
-    ensures front { ReadsFront formula IsSpellableFormula formula_spelling bytes.now result }
+    ensures exact { GivesReadingOrReports (λ x. (formula_view x.0, x.1)) result (reading whole_formula_at bytes.now) }
+    ensures front { ReadsFront formula_view IsSpellableFormula formula_spelling bytes.now result }
 {
     match whole_formula_at(alloc, bytes.len(), bytes) {
         Err(fault) => Err(fault),

@@ -4,10 +4,10 @@ ghost use Rattle.std.specs.Prelude.{◌≡◌, ◌≤◌, ◌++◌, ◌∷◌, O
 ghost use Rattle.std.specs.List.{flat_map, AllByRecursion};
 ghost use Rattle.bl_syntax.specs.Names.{is_predicate_name};
 ghost use Rattle.bl_syntax.specs.Terms.{HasTimeInRange};
-ghost use Rattle.bl_syntax.specs.Formula.{formula};
+ghost use Rattle.bl_syntax.specs.Formula.{formula_view};
 ghost use Rattle.bl_syntax.specs.WellSorted.{IsWithinLimits, widest_atom, terms_of_state};
 ghost use Rattle.bl_syntax.specs.Statement.{AllTerms};
-ghost use Rattle.bl_syntax.specs.Spelling.{IsSpellable, counted, term_spelling};
+ghost use Rattle.bl_syntax.specs.Spelling.{IsSpellable, with_length, term_spelling};
 ghost use Rattle.bl_syntax.specs.FormulaSpelling.{AreNamed, IsSpellableFormula, state_spelling, formula_spelling};
 ghost use Rattle.bl_codec.specs.Kept.{Keeps};
 
@@ -16,10 +16,10 @@ use bl_syntax::{Bytes, Formula, NoMemory, StatePred, Term, Word, write_term};
 
 /// Adds the spelling of a formula, or nothing. The formula is within the limits, and its times are in the range of moments.
 pub fn write_formula(f: &Formula, out: &mut Bytes) -> Result<(), NoMemory>
-    requires limits { IsWithinLimits (formula f.now) }
-    requires times { AllTerms HasTimeInRange (formula f.now) }
-    ensures ok { OnOk result (out.new ≡ out.old ++ formula_spelling (formula f.now)) }
-    ensures spelled { OnOk result (IsSpellableFormula (formula f.now)) }
+    requires limits { IsWithinLimits (formula_view f.now) }
+    requires times { AllTerms HasTimeInRange (formula_view f.now) }
+    ensures ok { OnOk result (out.new ≡ out.old ++ formula_spelling (formula_view f.now)) }
+    ensures spelled { OnOk result (IsSpellableFormula (formula_view f.now)) }
     ensures err { OnErr result (out.new ≡ out.old) }
 {
     let len = out.len();
@@ -33,11 +33,11 @@ pub fn write_formula(f: &Formula, out: &mut Bytes) -> Result<(), NoMemory>
 /// Adds the spelling of a formula, or a front of it where there is no memory for more.
 #[tactic(auto, using(crate::proofs::KeptLemmas::kept), unfolding(bl_syntax::specs::FormulaSpelling::formula_spelling))]
 fn put_formula(f: &Formula, out: &mut Bytes) -> Result<(), NoMemory>
-    requires arguments { widest_atom (formula f.now) ≤ 8 }
-    requires times { AllTerms HasTimeInRange (formula f.now) }
-    ensures ok { OnOk result (out.new ≡ out.old ++ formula_spelling (formula f.now)) }
-    ensures names { OnOk result (AreNamed (formula f.now)) }
-    ensures terms { OnOk result (AllTerms IsSpellable (formula f.now)) }
+    requires arguments { widest_atom (formula_view f.now) ≤ 8 }
+    requires times { AllTerms HasTimeInRange (formula_view f.now) }
+    ensures ok { OnOk result (out.new ≡ out.old ++ formula_spelling (formula_view f.now)) }
+    ensures names { OnOk result (AreNamed (formula_view f.now)) }
+    ensures terms { OnOk result (AllTerms IsSpellable (formula_view f.now)) }
     ensures err { OnErr result (Keeps out.old out.new) }
 {
     match f {
@@ -121,7 +121,7 @@ fn put_state(s: &StatePred, out: &mut Bytes) -> Result<(), NoMemory>
 fn put_atom(name: &Word, terms: &[Term], out: &mut Bytes) -> Result<(), NoMemory>
     requires arguments { length terms.now ≤ 8 }
     requires times { AllByRecursion HasTimeInRange terms.now }
-    ensures ok { OnOk result (out.new ≡ out.old ++ 16 ∷ (counted name.now ++ length terms.now ∷ flat_map term_spelling terms.now)) }
+    ensures ok { OnOk result (out.new ≡ out.old ++ 16 ∷ (with_length name.now ++ length terms.now ∷ flat_map term_spelling terms.now)) }
     ensures named { OnOk result (IsTrue (is_predicate_name name.now)) }
     ensures spelled { OnOk result (AllByRecursion IsSpellable terms.now) }
     ensures err { OnErr result (Keeps out.old out.new) }

@@ -4,9 +4,9 @@ ghost use Rattle.std.specs.Prelude.{◌≡◌, ◌++◌, OnOk, OnErr};
 ghost use Rattle.bl_syntax.specs.Reading.{reading};
 ghost use Rattle.bl_syntax.specs.FormulaSpelling.{IsSpellableStatement, statement_spelling};
 ghost use Rattle.bl_syntax.specs.FormulaReading.{statement_at};
-ghost use Rattle.bl_syntax.specs.Codec.{GivesOrStops, ReadsFront};
+ghost use Rattle.bl_syntax.specs.Codec.{GivesReadingOrReports, ReadsFront};
 ghost use Rattle.bl_codec.specs.Kept.{Keeps};
-ghost use Rattle.bl_codec.specs.Said.{said_at};
+ghost use Rattle.bl_codec.specs.StatementBody.{body_at};
 
 use crate::formula_reading::whole_formula_at;
 use crate::formula_writing::write_formula;
@@ -42,15 +42,15 @@ fn put_statement(s: &Statement, out: &mut Bytes) -> Result<(), NoMemory>
 }
 
 /// The formula and the interval of what a principal says, in a statement that begins at `start`.
-#[tactic(auto, using(crate::proofs::StopLemmas::hands_on, crate::proofs::StopLemmas::stops), unfolding(crate::specs::Said::said_at))]
-fn said_at(
+#[tactic(auto, using(crate::proofs::ReportsFaultLemmas::hands_on, crate::proofs::ReportsFaultLemmas::stops), unfolding(crate::specs::StatementBody::body_at))]
+fn body_at(
     alloc: Global,
     input: usize,
     start: usize,
     who: Principal,
     bytes: &[u8],
 ) -> Result<(Statement, &[u8]), CodecFault>
-    ensures { GivesOrStops (λ x. (x.0, x.1.now)) result (said_at input start who bytes.now) }
+    ensures { GivesReadingOrReports (λ x. (x.0, x.1.now)) result (body_at input start who bytes.now) }
 {
     match whole_formula_at(alloc, input, bytes) {
         Err(fault) => Err(fault),
@@ -66,28 +66,28 @@ fn said_at(
 }
 
 /// A statement: the reader that formats with statements in them are made of. It reads at the front of `bytes`, the rest
-/// of an input of `input` bytes, and gives the statement and the bytes behind it, or the first fault. A statement whose
+/// of an input of `input` bytes, and gives the statement and the bytes after it, or the first fault. A statement whose
 /// bytes are whole, but that may not be made, has its fault at its first byte.
-#[tactic(auto, using(crate::proofs::StopLemmas::hands_on, crate::proofs::StopLemmas::stops), unfolding(bl_syntax::specs::FormulaReading::statement_at, crate::specs::Said::said_at))]
+#[tactic(auto, using(crate::proofs::ReportsFaultLemmas::hands_on, crate::proofs::ReportsFaultLemmas::stops), unfolding(bl_syntax::specs::FormulaReading::statement_at, crate::specs::StatementBody::body_at))]
 pub fn statement_at(
     alloc: Global,
     input: usize,
     bytes: &[u8],
 ) -> Result<(Statement, &[u8]), CodecFault>
-    ensures { GivesOrStops (λ x. (x.0, x.1.now)) result (statement_at input bytes.now) }
+    ensures { GivesReadingOrReports (λ x. (x.0, x.1.now)) result (statement_at input bytes.now) }
 {
     match name_at(input, bytes) {
         Err(fault) => Err(fault),
-        Ok((who, rest)) => said_at(alloc, input, place(input, bytes), who, rest),
+        Ok((who, rest)) => body_at(alloc, input, place(input, bytes), who, rest),
     }
 }
 
 /// The statement whose spelling begins the bytes, and how many bytes it takes, or the first fault. Bytes may follow it.
 /// `NotCanonical(0)` comes also where the bytes are whole and the statement is not closed or not well sorted, or holds a
 /// parameter or the current time.
-#[tactic(auto, using(crate::proofs::StopLemmas::hands_on))]
+#[tactic(auto, using(crate::proofs::ReportsFaultLemmas::hands_on))]
 pub fn read_statement(alloc: Global, bytes: &[u8]) -> Result<(Statement, usize), CodecFault>
-    ensures exact { GivesOrStops (λ x. x) result (reading statement_at bytes.now) }
+    ensures exact { GivesReadingOrReports (λ x. x) result (reading statement_at bytes.now) }
     ensures front { ReadsFront (λ s. s) IsSpellableStatement statement_spelling bytes.now result }
 {
     match statement_at(alloc, bytes.len(), bytes) {

@@ -6,7 +6,7 @@ use Rattle.std.proofs.lemmas.Bool.{cases_eq, cases_lt}
 use Rattle.std.proofs.lemmas.List.Edits.{length-swap, Swapped, swapped_from_swap}
 use Rattle.std.proofs.lemmas.Option.{slice_get-get_or, slice_get_within, get_or_from_slice_get, same_Some}
 use Rattle.bl_syntax.specs.declared.terms.Constraint.{Constraint}
-use Rattle.bl_constraints.specs.Search.{IsOrder, StandsAt, IsReached, IsGoneOnFrom}
+use Rattle.bl_constraints.specs.Search.{IsOrder, StandsAt, IsReachedConstraint, IsGoneOnFrom}
 use Rattle.bl_constraints.proofs.ChainLemmas.{by_cases}
 
 pub stands : (psi : List Constraint) (order : List ℕ) (place : ℕ) (d : Constraint) → slice_index order place < length psi → StandsAt psi order place (get_or psi (slice_index order place) d)
@@ -22,14 +22,14 @@ pub contained : (psi : List Constraint) (order : List ℕ) (place : ℕ) (c : Co
 contained psi order place c h = (slice_index order place, slice_get_within psi (slice_index order place) c h, get_or_from_slice_get psi (slice_index order place) c c h)
 
 -- each constraint stands somewhere
-pub somewhere : (psi : List Constraint) (order : List ℕ) → IsOrder psi order → (c : Constraint) → Contains psi c → IsReached psi order (length order) c
+pub somewhere : (psi : List Constraint) (order : List ℕ) → IsOrder psi order → (c : Constraint) → Contains psi c → IsReachedConstraint psi order (length order) c
 somewhere psi order is_order c h =
     let place = is_order.each h.0 h.1 in
     (place.0, place.1, subst (λ (k : ℕ). slice_get psi k ≡ Some c) (sym place.2) (slice_get-get_or psi h.0 c h.1 ∙ ap Some h.2))
 
 -- it is among the first, or among the others
 pub reached_or_rest : (psi : List Constraint) (order : List ℕ) (count : ℕ) → IsOrder psi order → (c : Constraint) → Contains psi c
-    → IsReached psi order count c ⊎ ((place : ℕ) × (count ≤ place) × (place < length order) × StandsAt psi order place c)
+    → IsReachedConstraint psi order count c ⊎ ((place : ℕ) × (count ≤ place) × (place < length order) × StandsAt psi order place c)
 reached_or_rest psi order count is_order c h =
     let place = somewhere psi order is_order c h in
     by_cases (cases_lt place.0 count) (λ lt. inl (place.0, lt, place.2)) (λ ge. inr (place.0, ge, place.1, place.2))
@@ -43,7 +43,7 @@ pub still_stands : (psi : List Constraint) (old new : List ℕ) (place : ℕ) (c
 still_stands psi old new place c same h = moved psi old new place place c same h
 
 pub still_reached : (psi : List Constraint) (old new : List ℕ) (count more : ℕ) → count ≤ more → ((place : ℕ) → place < count → slice_index new place ≡ slice_index old place)
-    → (c : Constraint) → IsReached psi old count c → IsReached psi new more c
+    → (c : Constraint) → IsReachedConstraint psi old count c → IsReachedConstraint psi new more c
 still_reached psi old new count more le kept c h = (h.0, omega (arith, h.1, le), still_stands psi old new h.0 c (kept h.0 h.1) h.2)
 
 -- two places are exchanged

@@ -9,7 +9,7 @@ use Rattle.bl_syntax.specs.declared.terms.Constraint.{Constraint}
 use Rattle.bl_syntax.specs.Entailment.{IsLink, same, IsChain, link}
 use Rattle.bl_syntax.proofs.EntailmentLemmas.{IsChain-joined}
 use Rattle.bl_constraints.specs.declared.links.End.{End}
-use Rattle.bl_constraints.specs.Search.{IsEnd, IsOrder, StandsAt, IsReached, IsGoneOnFrom, IsReachedFrom, IsFound, IsSearched}
+use Rattle.bl_constraints.specs.Search.{IsEnd, IsOrder, StandsAt, IsReachedConstraint, IsGoneOnFrom, IsReachedFrom, IsFound, IsSearched}
 use Rattle.bl_constraints.proofs.ChainLemmas.{by_cases, through, onward}
 use Rattle.bl_constraints.proofs.OrderLemmas.{one_stands, contained, reached_or_rest, moved, still_stands, still_reached, first_swapped, second_swapped, other_swapped, IsOrder-swapped}
 
@@ -157,7 +157,7 @@ module _ (psi : List Constraint) (end : End) (old : List ℕ) (done reached : �
   is_here : (k : ℕ) (c : Constraint) → k ≡ next → StandsAt psi new k c → c ≡ here
   is_here k c is stands_k = one_stands psi now next here c stands (stood next c lt (subst (λ (n : ℕ). StandsAt psi new n c) is stands_k))
 
-  next_reached : (k : ℕ) (c d : Constraint) → k < next + 1 → StandsAt psi new k c → Contains psi d → IsLink [] c.high d.low → IsReached psi new more d
+  next_reached : (k : ℕ) (c d : Constraint) → k < next + 1 → StandsAt psi new k c → Contains psi d → IsLink [] c.high d.low → IsReachedConstraint psi new more d
   next_reached k c d before stands_k d_among l =
       by_cases (cases_eq k next)
       (λ is. by_cases (reached_or_rest psi new more extended.is_order d d_among)

@@ -16,8 +16,8 @@ use Rattle.bl_syntax.specs.TimeOrder.{IsUpTo}
 use Rattle.bl_syntax.specs.Entailment.{IsLink, IsChain, link, IsContradictory}
 use Rattle.bl_syntax.proofs.EntailmentLemmas.{IsUpTo-PosInf, IsUpTo-transitive, IsChain-joined}
 use Rattle.bl_constraints.specs.declared.links.End.TheVariants.{To, Before}
-use Rattle.bl_constraints.specs.declared.sources.Source.{Source}
-use Rattle.bl_constraints.specs.Search.{IsOrder, StandsAt, IsReached, IsGoneOnFrom, IsReachedFrom, IsFound, IsSearched}
+use Rattle.bl_constraints.specs.declared.sources.ConstantSource.{ConstantSource}
+use Rattle.bl_constraints.specs.Search.{IsOrder, StandsAt, IsReachedConstraint, IsGoneOnFrom, IsReachedFrom, IsFound, IsSearched}
 use Rattle.bl_constraints.specs.Sources.{HasNoSource, IsGreatestSource, IsLater, IsSafe, HasReachedMore}
 use Rattle.bl_constraints.proofs.ChainLemmas.{by_cases, led_to}
 use Rattle.bl_constraints.proofs.LinkLemmas.{link_in, link_of_times, link_from_time, link_into_time}
@@ -44,7 +44,7 @@ pub record HasNoSourceBefore (psi : List Constraint) (order : List ℕ) (reached
   pub none : (k : ℕ) (c : Constraint) (point : TimePoint) → reached ≤ k → k < end → StandsAt psi order k c → c.low ≡ Time point → ⊥
 
 -- the greatest constant with which one between these places begins
-pub record IsGreatestBefore (psi : List Constraint) (order : List ℕ) (reached end : ℕ) (source : Source) : Type 0 where
+pub record IsGreatestBefore (psi : List Constraint) (order : List ℕ) (reached end : ℕ) (source : ConstantSource) : Type 0 where
   pub constraint : Constraint
   pub stands_at : StandsAt psi order source.place constraint
   pub not_reached : reached ≤ source.place
@@ -52,7 +52,7 @@ pub record IsGreatestBefore (psi : List Constraint) (order : List ℕ) (reached 
   pub begins : constraint.low ≡ Time source.point
   pub greatest : (k : ℕ) (c : Constraint) (point : TimePoint) → reached ≤ k → k < end → StandsAt psi order k c → c.low ≡ Time point → IsUpTo point source.point
 
-abbrev pub IsGreatestSoFar : List Constraint → List ℕ → ℕ → ℕ → Option Source → Type 0
+abbrev pub IsGreatestSoFar : List Constraint → List ℕ → ℕ → ℕ → Option ConstantSource → Type 0
 IsGreatestSoFar psi order reached end greatest = MatchOption greatest (HasNoSourceBefore psi order reached end) (IsGreatestBefore psi order reached end)
 
 pub source_none : (psi : List Constraint) (order : List ℕ) (reached : ℕ) → IsGreatestSoFar psi order reached reached None
@@ -66,7 +66,7 @@ module _ (psi : List Constraint) (order : List ℕ) (reached place : ℕ) (here 
   begins_here k c point is stands_k begins = subst (λ (x : Constraint). x.low ≡ Time point) (is_here k c is stands_k) begins
 
   -- a constraint that begins with no constant
-  pub source_skip : (greatest : Option Source) → ((point : TimePoint) → here.low ≡ Time point → ⊥) → IsGreatestSoFar psi order reached place greatest → IsGreatestSoFar psi order reached (place + 1) greatest
+  pub source_skip : (greatest : Option ConstantSource) → ((point : TimePoint) → here.low ≡ Time point → ⊥) → IsGreatestSoFar psi order reached place greatest → IsGreatestSoFar psi order reached (place + 1) greatest
   source_skip None other so_far = record {
     none = λ k c point ge lt stands_k begins.
         by_cases (cases_eq k place)
@@ -93,7 +93,7 @@ module _ (psi : List Constraint) (order : List ℕ) (reached place : ℕ) (here 
       subst (λ (w : TimePoint). IsUpTo w bound) (time_of_same mine point (sym begins_mine ∙ begins_here k c point is stands_k begins)) h
 
   -- it begins with the greatest constant so far
-  source_here : (mine : Source) → mine.place ≡ place → reached ≤ place → here.low ≡ Time mine.point
+  source_here : (mine : ConstantSource) → mine.place ≡ place → reached ≤ place → here.low ≡ Time mine.point
       → ((k : ℕ) (c : Constraint) (point : TimePoint) → reached ≤ k → k < place + 1 → StandsAt psi order k c → c.low ≡ Time point → IsUpTo point mine.point)
       → IsGreatestBefore psi order reached (place + 1) mine
   source_here mine at ge begins greatest = record {
@@ -105,14 +105,14 @@ module _ (psi : List Constraint) (order : List ℕ) (reached place : ℕ) (here 
     greatest = greatest;
   }
 
-  later_here : (mine later : Source) → mine.place ≡ place → reached ≤ place → here.low ≡ Time mine.point → later ≡ mine
+  later_here : (mine later : ConstantSource) → mine.place ≡ place → reached ≤ place → here.low ≡ Time mine.point → later ≡ mine
       → ((k : ℕ) (c : Constraint) (point : TimePoint) → reached ≤ k → k < place + 1 → StandsAt psi order k c → c.low ≡ Time point → IsUpTo point later.point)
       → IsGreatestBefore psi order reached (place + 1) later
   later_here mine later at ge begins same greatest =
-      source_here later (ap (λ (x : Source). x.place) same ∙ at) ge (begins ∙ ap (λ (x : Source). Time x.point) (sym same)) greatest
+      source_here later (ap (λ (x : ConstantSource). x.place) same ∙ at) ge (begins ∙ ap (λ (x : ConstantSource). Time x.point) (sym same)) greatest
 
   -- it begins with a constant
-  pub source_more : (greatest : Option Source) (mine later : Source) → mine.place ≡ place → reached ≤ place → here.low ≡ Time mine.point → IsLater greatest mine later
+  pub source_more : (greatest : Option ConstantSource) (mine later : ConstantSource) → mine.place ≡ place → reached ≤ place → here.low ≡ Time mine.point → IsLater greatest mine later
       → IsGreatestSoFar psi order reached place greatest → IsGreatestBefore psi order reached (place + 1) later
   source_more None mine later at ge begins is_later so_far =
       later_here mine later at ge begins (by_cases is_later.either (λ e. e) (λ e. cc))
@@ -132,14 +132,14 @@ module _ (psi : List Constraint) (order : List ℕ) (reached place : ℕ) (here 
       let is : later ≡ other = sym (same_Some other later same) in
       record {
         constraint = so_far.constraint;
-        stands_at = subst (λ (x : Source). StandsAt psi order x.place so_far.constraint) (sym is) so_far.stands_at;
-        not_reached = subst (λ (x : Source). reached ≤ x.place) (sym is) so_far.not_reached;
-        within = subst (λ (x : Source). x.place < length order) (sym is) so_far.within;
-        begins = subst (λ (x : Source). so_far.constraint.low ≡ Time x.point) (sym is) so_far.begins;
+        stands_at = subst (λ (x : ConstantSource). StandsAt psi order x.place so_far.constraint) (sym is) so_far.stands_at;
+        not_reached = subst (λ (x : ConstantSource). reached ≤ x.place) (sym is) so_far.not_reached;
+        within = subst (λ (x : ConstantSource). x.place < length order) (sym is) so_far.within;
+        begins = subst (λ (x : ConstantSource). so_far.constraint.low ≡ Time x.point) (sym is) so_far.begins;
         greatest = bound;
       })
 
-pub source_all : (psi : List Constraint) (order : List ℕ) (reached place : ℕ) (greatest : Option Source) → length order ≤ place → IsGreatestSoFar psi order reached place greatest
+pub source_all : (psi : List Constraint) (order : List ℕ) (reached place : ℕ) (greatest : Option ConstantSource) → length order ≤ place → IsGreatestSoFar psi order reached place greatest
     → MatchOption greatest (HasNoSource psi order reached) (IsGreatestSource psi order reached)
 source_all psi order reached place None end so_far = λ k c point ge lt. so_far.none k c point ge (omega (arith, lt, end))
 source_all psi order reached place (Some source) end so_far = record {
@@ -152,26 +152,26 @@ source_all psi order reached place (Some source) end so_far = record {
 }
 
 reached_next : (psi : List Constraint) (order : List ℕ) (reached : ℕ) → IsGoneOnFrom psi order reached reached
-    → (c d : Constraint) → IsReached psi order reached c → Contains psi d → IsLink [] c.high d.low → IsReached psi order reached d
+    → (c d : Constraint) → IsReachedConstraint psi order reached c → Contains psi d → IsLink [] c.high d.low → IsReachedConstraint psi order reached d
 reached_next psi order reached gone_on c d r among l = gone_on.next r.0 c d r.1 r.2 among l
 
 -- a chain from a constant later than those from which there is more to reach leads to what is reached
-from_later : (psi : List Constraint) (order : List ℕ) (reached : ℕ) (source : Source) → IsOrder psi order → IsGoneOnFrom psi order reached reached → IsGreatestSource psi order reached source
-    → (a : TimePoint) → (IsUpTo a source.point → ⊥) → (c : Constraint) → Contains psi c → IsChain psi (Time a) c.low → IsReached psi order reached c
+from_later : (psi : List Constraint) (order : List ℕ) (reached : ℕ) (source : ConstantSource) → IsOrder psi order → IsGoneOnFrom psi order reached reached → IsGreatestSource psi order reached source
+    → (a : TimePoint) → (IsUpTo a source.point → ⊥) → (c : Constraint) → Contains psi c → IsChain psi (Time a) c.low → IsReachedConstraint psi order reached c
 from_later psi order reached source is_order gone_on greatest a later c among chain =
-    let enters : (d : Constraint) → Contains psi d → IsLink [] (Time a) d.low → IsReached psi order reached d =
+    let enters : (d : Constraint) → Contains psi d → IsLink [] (Time a) d.low → IsReachedConstraint psi order reached d =
     λ d d_among l.
     by_cases (reached_or_rest psi order reached is_order d d_among)
     (λ r. r)
     (λ rest. absurd (by_cases (link_from_time a d.low l)
     (λ first. later (subst (λ (w : TimePoint). IsUpTo w source.point) (sym first) tt))
     (λ h. later (IsUpTo-transitive a h.0 source.point h.2 (greatest.greatest rest.0 d h.0 rest.1 rest.2 rest.3 h.1))))) in
-    by_cases (led_to psi (IsReached psi order reached) (Time a) (reached_next psi order reached gone_on) enters c.low chain)
+    by_cases (led_to psi (IsReachedConstraint psi order reached) (Time a) (reached_next psi order reached gone_on) enters c.low chain)
     (λ l. enters c among l)
     (λ p. reached_next psi order reached gone_on p.constraint c p.among among p.onto)
 
--- the source is put behind what is reached
-module _ (psi : List Constraint) (order : List ℕ) (reached : ℕ) (source : Source) (safe : IsSafe psi order reached) (greatest : IsGreatestSource psi order reached source) where
+-- the source is put after what is reached
+module _ (psi : List Constraint) (order : List ℕ) (reached : ℕ) (source : ConstantSource) (safe : IsSafe psi order reached) (greatest : IsGreatestSource psi order reached source) where
   reached_within : reached < length order
   reached_within = omega (arith, greatest.not_reached, greatest.within)
 
@@ -247,14 +247,14 @@ safe_none psi order is_order = record {
 
 pub not_contradictory : (psi : List Constraint) (order : List ℕ) (reached : ℕ) → IsSafe psi order reached → HasNoSource psi order reached → IsContradictory psi → ⊥
 not_contradictory psi order reached safe none k =
-    let enters : (d : Constraint) → Contains psi d → IsLink [] (Time k.greater) d.low → IsReached psi order reached d =
+    let enters : (d : Constraint) → Contains psi d → IsLink [] (Time k.greater) d.low → IsReachedConstraint psi order reached d =
     λ d among l.
     by_cases (reached_or_rest psi order reached safe.is_order d among)
     (λ r. r)
     (λ rest. absurd (by_cases (link_from_time k.greater d.low l)
     (λ first. k.out_of_order (subst (λ (w : TimePoint). IsUpTo w k.lesser) (sym first) tt))
     (λ h. none rest.0 d h.0 rest.1 rest.2 rest.3 h.1))) in
-    by_cases (led_to psi (IsReached psi order reached) (Time k.greater) (reached_next psi order reached safe.gone_on) enters (Time k.lesser) k.chain)
+    by_cases (led_to psi (IsReachedConstraint psi order reached) (Time k.greater) (reached_next psi order reached safe.gone_on) enters (Time k.lesser) k.chain)
     (λ l. k.out_of_order ((link_of_times k.greater k.lesser).0 l))
     (λ p. by_cases (link_into_time p.constraint.high k.lesser p.onto)
     (λ last. k.out_of_order (subst (λ (w : TimePoint). IsUpTo k.greater w) (sym last) (IsUpTo-PosInf k.greater)))
@@ -269,12 +269,12 @@ module _ (psi : List Constraint) (u v : Term) (order first : List ℕ) (count : 
 
   pub no_chain : (IsLink [] u v → ⊥) → (last : List ℕ) (more : ℕ) → IsSearched psi (To v) first 0 count last more → IsChain psi u v → ⊥
   no_chain unlinked last more searched chain =
-      let enters : (d : Constraint) → Contains psi d → IsLink [] u d.low → IsReached psi last more d =
+      let enters : (d : Constraint) → Contains psi d → IsLink [] u d.low → IsReachedConstraint psi last more d =
       λ d among l.
       by_cases (reached_or_rest psi first count from.is_order d among)
       (λ r. still_reached psi first last count more searched.not_fewer searched.kept d r)
       (λ rest. absurd (from.rest rest.0 d rest.1 rest.2 rest.3 l)) in
-      by_cases (led_to psi (IsReached psi last more) u (reached_next psi last more searched.gone_on) enters v chain)
+      by_cases (led_to psi (IsReachedConstraint psi last more) u (reached_next psi last more searched.gone_on) enters v chain)
       unlinked
       (λ p. searched.no_end p.among.0 p.constraint (omega arith) p.among.1 p.among.2 p.onto)
 

@@ -26,14 +26,14 @@ abbrev pub StandsAt : List Constraint → List ℕ → ℕ → Constraint → Ty
 StandsAt psi order place c = slice_get psi (slice_index order place) ≡ Some c
 
 -- it stands among the first so many
-abbrev pub IsReached : List Constraint → List ℕ → ℕ → Constraint → Type 0
-IsReached psi order count c = (place : ℕ) × (place < count) × StandsAt psi order place c
+abbrev pub IsReachedConstraint : List Constraint → List ℕ → ℕ → Constraint → Type 0
+IsReachedConstraint psi order count c = (place : ℕ) × (place < count) × StandsAt psi order place c
 
 -- what the first `done` constraints are linked to is among the first `reached`
 pub record IsGoneOnFrom (psi : List Constraint) (order : List ℕ) (done reached : ℕ) : Type 0 where
-  pub next : (place : ℕ) (c d : Constraint) → place < done → StandsAt psi order place c → Contains psi d → IsLink [] c.high d.low → IsReached psi order reached d
+  pub next : (place : ℕ) (c d : Constraint) → place < done → StandsAt psi order place c → Contains psi d → IsLink [] c.high d.low → IsReachedConstraint psi order reached d
 
--- those to which the term is linked, and that were not reached, stand behind the others that are; the rest is not linked
+-- those to which the term is linked, and that were not reached, stand after the others that are; the rest is not linked
 pub record IsReachedFrom (psi : List Constraint) (t : Term) (old : List ℕ) (reached : ℕ) (new : List ℕ) (count : ℕ) : Type 0 where
   pub is_order : IsOrder psi new
   pub not_fewer : reached ≤ count

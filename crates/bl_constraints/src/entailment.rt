@@ -6,7 +6,7 @@ ghost use Rattle.bl_constraints.specs.Sources.{IsSafe, IsGreatestSource, HasReac
 
 use crate::links::{End, is_linked};
 use crate::search::{number_places, reach_from, search};
-use crate::sources::{Source, greatest_source};
+use crate::sources::{ConstantSource, greatest_source};
 use bl_syntax::{Constraint, Term};
 
 /// The most constraints of one question.
@@ -17,11 +17,11 @@ pub fn entails(psi: &[Constraint], u: &Term, v: &Term) -> bool
     requires { length psi.now ≤ 512 }
     ensures { IsTrue result ↔ Entails psi.now u.now v.now }
 {
-    leads(psi, u, v) || is_contradictory(psi)
+    has_chain(psi, u, v) || is_contradictory(psi)
 }
 
 /// Whether a chain of links leads from `u` to `v`.
-fn leads(psi: &[Constraint], u: &Term, v: &Term) -> bool
+fn has_chain(psi: &[Constraint], u: &Term, v: &Term) -> bool
     requires { length psi.now ≤ 512 }
     ensures { IsTrue result ↔ IsChain psi.now u.now v.now }
 {
@@ -60,11 +60,11 @@ fn is_contradictory(psi: &[Constraint]) -> bool
     false
 }
 
-/// Reaches what the source leads to, and answers how many constraints are reached then; or nothing, if it leads to a
+/// Reaches what the source leads to, and returns how many constraints are reached then; or nothing, if it leads to a
 /// constant before it.
 fn reach_source(
     psi: &[Constraint],
-    source: Source,
+    source: ConstantSource,
     order: &mut [u16],
     reached: usize,
 ) -> Option<usize>

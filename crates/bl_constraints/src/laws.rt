@@ -37,7 +37,7 @@ pub fn entailed_constraints_can_be_left_out()
     ensures { (all others : List Constraint) (u v : Term) → EntailsAll others all → Entails all u v → Entails others u v }
 {}
 
-/// A moment in the place of the current time, everywhere, keeps what is entailed.
+/// A moment instead of the current time, everywhere, keeps what is entailed.
 pub fn a_moment_keeps_what_is_entailed()
     ensures { (moment : ℤ) (psi : List Constraint) (u v : Term) → Entails psi u v
         → Entails (map (constraint_at moment) psi) (term_at moment u) (term_at moment v) }

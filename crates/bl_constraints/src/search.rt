@@ -18,7 +18,7 @@ pub(crate) fn number_places(psi: &[Constraint], order: &mut [u16])
     }
 }
 
-/// Reaches the constraints that begin where the term leads and were not reached, and answers how many are reached then.
+/// Reaches the constraints that begin where the term leads and were not reached, and returns how many are reached then.
 pub(crate) fn reach_from(psi: &[Constraint], t: &Term, order: &mut [u16], reached: usize) -> usize
     requires order { IsOrder psi.now order.old }
     requires within { reached ≤ length order.old }
@@ -34,7 +34,7 @@ pub(crate) fn reach_from(psi: &[Constraint], t: &Term, order: &mut [u16], reache
     count
 }
 
-/// Goes on from the constraints that are reached, but for the first `done` from which it has gone on, and answers how
+/// Goes on from the constraints that are reached, but for the first `done` from which it has gone on, and returns how
 /// many are reached then; or nothing, if they lead to an end.
 pub(crate) fn search(
     psi: &[Constraint],

@@ -1,4 +1,4 @@
--- A moment in the place of the current time, throughout, keeps what is derivable.
+-- A moment instead of the current time, throughout, keeps what is derivable.
 use Rattle.std.proofs.Common.{◌≡◌, ℤ, List, [], ◌∷◌, ◌++◌, map, ⊎_elim, subst}
 use Rattle.std.specs.Prelude.{Contains}
 use Rattle.std.proofs.lemmas.List.Elements.{Contains-append_left, Contains-push, Contains-push_cases}
@@ -6,7 +6,7 @@ use Rattle.bl_syntax.specs.declared.terms.Sort.TheVariants.{Time}
 use Rattle.bl_syntax.specs.declared.terms.Term.{Term}
 use Rattle.bl_syntax.specs.declared.terms.StatePred.{StatePred}
 use Rattle.bl_syntax.specs.declared.terms.Constraint.{Constraint}
-use Rattle.bl_syntax.specs.Formula.{Form}
+use Rattle.bl_syntax.specs.Formula.{FormulaView}
 use Rattle.bl_syntax.specs.Terms.{term_at, constraint_at, state_at}
 use Rattle.bl_syntax.specs.Substitution.{instance_at, formula_at}
 use Rattle.bl_syntax.specs.Entailment.{Entails}
@@ -15,7 +15,7 @@ use Rattle.bl_rules.specs.Sequent.{Hypothesis, holds, claims, Known, claims_amon
 use Rattle.bl_rules.specs.Derivable.{Derivable, init, cons_r, inter_r, and_r, or_r1, or_r2, true_r, imp_r, forall_r, exists_r, says_r, at_r, cons_l, inter_l, and_l, or_l, false_l, imp_l, forall_l, exists_l, says_l, claim, at_l}
 use Rattle.bl_rules.specs.AtMoment.{hypothesis_at, view_at, known_at}
 use Rattle.bl_rules.proofs.Membership.{IsClaim, Contains-map, Contains-map_cases, Contains-claims_among, claims_among-Contains}
-use Rattle.bl_rules.proofs.MomentOfTerms.{HasSort-at, IsAtLeastAsStrong-at, instance_at-at}
+use Rattle.bl_rules.proofs.AtMomentTerms.{HasSort-at, IsAtLeastAsStrong-at, instance_at-at}
 
 -- with these in the place of its own, and the view at the moment
 abbrev pub given_at : ℤ → List Constraint → List StatePred → List Hypothesis → Known → Known
@@ -65,7 +65,7 @@ module _ (moment : ℤ) where
       let was = claims_among-Contains smaller h among in
       Contains-claims_among larger (hypothesis_at moment h) (IsClaim-at h was.1) (includes h was.0)
 
-  pub Derivable-at : {known : Known} {goal : Form} {u v : Term} → Derivable known goal u v
+  pub Derivable-at : {known : Known} {goal : FormulaView} {u v : Term} → Derivable known goal u v
       → (psi : List Constraint) (facts : List StatePred) (hs : List Hypothesis)
       → EntailsAllAt psi known.constraints → IncludesChanged (state_at moment) facts known.facts → IncludesChanged (hypothesis_at moment) hs known.hypotheses
       → Derivable (given_at moment psi facts hs known) (formula_at moment goal) (term_at moment u) (term_at moment v)
@@ -146,7 +146,7 @@ module _ (moment : ℤ) where
       (Derivable-at premise psi facts (hs ++ hypothesis_at moment located ∷ []) p e (IncludesChanged-push (hypothesis_at moment) hs known.hypotheses located h))
 
   -- the moment through the whole sequent
-  pub Derivable-known_at : (known : Known) (goal : Form) (u v : Term) → Derivable known goal u v
+  pub Derivable-known_at : (known : Known) (goal : FormulaView) (u v : Term) → Derivable known goal u v
       → Derivable (known_at moment known) (formula_at moment goal) (term_at moment u) (term_at moment v)
   Derivable-known_at known goal u v derivable =
       let now = known_at moment known in

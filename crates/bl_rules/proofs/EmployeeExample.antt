@@ -10,7 +10,7 @@ use Rattle.bl_syntax.specs.declared.terms.Perm.{Perm as Permission}
 use Rattle.bl_syntax.specs.declared.terms.Term.{Term}
 use Rattle.bl_syntax.specs.declared.terms.Term.TheVariants.{Prin, File, Perm, Time, Ctime}
 use Rattle.bl_syntax.specs.declared.terms.StatePred.{StatePred}
-use Rattle.bl_syntax.specs.Formula.{Form, atom, compare, state, both, either, implies, truth, falsity, forall_, exists_, says, on}
+use Rattle.bl_syntax.specs.Formula.{FormulaView, atom, compare, state, both, either, implies, truth, falsity, forall_, exists_, says, on}
 use Rattle.bl_syntax.specs.TimeOrder.{IsUpTo}
 use Rattle.bl_syntax.specs.Substitution.{instance_at}
 use Rattle.bl_syntax.specs.WellSorted.{may}
@@ -35,10 +35,10 @@ abbrev first_name : List Term → List ℕ
 first_name terms = name_of (first_term terms)
 
 module _ (file : NodeId) (permission : Permission) (person : List ℕ) (from to : TimePoint) where
-  abbrev policy : Form
+  abbrev policy : FormulaView
   policy = policy_for_employees file permission
 
-  abbrev granted : Term → Form
+  abbrev granted : Term → FormulaView
   granted t = atom may (t ∷ File file ∷ Perm permission ∷ [])
 
   abbrev statements_known : List Hypothesis
@@ -61,14 +61,14 @@ module _ (file : NodeId) (permission : Permission) (person : List ℕ) (from to 
       (init now now (4, omega arith, refl) (Entails-itself [] now) (Entails-itself [] now)))))
 
   -- all that can become true, in whatever view
-  data CanBeTrue : Form → Term → Term → Type 0 where
+  data CanBeTrue : FormulaView → Term → Term → Type 0 where
     policy_true : CanBeTrue policy (Time NegInf) (Time PosInf)
     rule_true : (t : Term) → CanBeTrue (implies (says (Prin hr) (employee t)) (granted t)) (Time NegInf) (Time PosInf)
     granted_true : (x y : Term) → Entails [] (Time from) x → Entails [] y (Time to) → CanBeTrue (granted (Prin person)) x y
     employee_true : CanBeTrue (employee (Prin person)) (Time from) (Time to)
 
   -- what each form says of a truth of it
-  abbrev Means : Form → Term → Term → Type 0
+  abbrev Means : FormulaView → Term → Term → Type 0
   Means (atom name terms) x y =
       ((name ≡ may) × (terms ≡ Prin person ∷ File file ∷ Perm permission ∷ []) × Entails [] (Time from) x × Entails [] y (Time to))
       ⊎ ((name ≡ codes "employee") × (terms ≡ Prin person ∷ []) × Entails [] (Time from) x × Entails [] y (Time to))
@@ -84,14 +84,14 @@ module _ (file : NodeId) (permission : Permission) (person : List ℕ) (from to 
   Means (says k a) x y = ⊥
   Means (on a u v) x y = ⊥
 
-  meant : (a : Form) (x y : Term) → CanBeTrue a x y → Means a x y
+  meant : (a : FormulaView) (x y : Term) → CanBeTrue a x y → Means a x y
   meant _ _ _ policy_true = λ t. rule_true t
   meant _ _ _ (rule_true t) = (t, refl, refl)
   meant _ _ _ (granted_true x y begins ends) = inl (refl, refl, begins, ends)
   meant _ _ _ employee_true = inr (refl, refl, Entails-itself [] (Time from), Entails-itself [] (Time to))
 
   -- what a derivation of the goal shows
-  abbrev Shows : Form → Term → Term → Type 0
+  abbrev Shows : FormulaView → Term → Term → Type 0
   Shows (atom name terms) u v = (x : Term) × (y : Term) × CanBeTrue (atom name terms) x y × Entails [] x u × Entails [] v y
   Shows (compare c) u v = Unit {0}
   Shows (state s) u v = Unit {0}
@@ -135,7 +135,7 @@ module _ (file : NodeId) (permission : Permission) (person : List ℕ) (from to 
       (granted_true x y (Entails-transitive [] (Time from) shows.0 x h.2 shows.3) (Entails-transitive [] y shows.1 (Time to) shows.4 h.3)))
       (meant (employee t) shows.0 shows.1 shows.2)
 
-  shown : {known : Known} {goal : Form} {u v : Term} → Derivable known goal u v → IsPossible known → Shows goal u v
+  shown : {known : Known} {goal : FormulaView} {u v : Term} → Derivable known goal u v → IsPossible known → Shows goal u v
   shown {known = known} (init {u = u} {v = v} first last among begins ends) possible =
       (first, last, possible.hypotheses _ among, Entails-entailed known.constraints [] first u possible.constraints begins, Entails-entailed known.constraints [] v last possible.constraints ends)
   shown (cons_r entailed) possible = tt
@@ -156,8 +156,8 @@ module _ (file : NodeId) (permission : Permission) (person : List ℕ) (from to 
   shown (false_l first last among) possible = absurd (meant falsity first last (possible.hypotheses _ among))
   shown {known = known} (imp_l a b first last x y among x_time y_time begins ends left right) possible =
       let rule : Means (implies a b) first last = meant (implies a b) first last (possible.hypotheses (holds (implies a b) first last) among) in
-      let shows : Shows (employee rule.0) x y = subst (λ (f : Form). Shows f x y) rule.1 (shown left possible) in
-      let gives : CanBeTrue b x y = subst (λ (f : Form). CanBeTrue f x y) (sym rule.2) (shown_employee rule.0 x y shows) in
+      let shows : Shows (employee rule.0) x y = subst (λ (f : FormulaView). Shows f x y) rule.1 (shown left possible) in
+      let gives : CanBeTrue b x y = subst (λ (f : FormulaView). CanBeTrue f x y) (sym rule.2) (shown_employee rule.0 x y shows) in
       shown right (IsPossible-learn (holds b x y) known gives possible)
   shown {known = known} (forall_l s a first last t among sorted premise) possible =
       shown premise (IsPossible-learn (holds (instance_at t a) first last) known (meant (forall_ s a) first last (possible.hypotheses _ among) t) possible)

@@ -5,13 +5,13 @@ use Rattle.bl_syntax.specs.declared.terms.Sort.{Sort}
 use Rattle.bl_syntax.specs.declared.terms.Sort.TheVariants as sort
 use Rattle.bl_syntax.specs.WellSorted.{HasSort}
 use Rattle.bl_syntax.specs.declared.terms.Term.{Term}
-use Rattle.bl_syntax.specs.Formula.{Form, atom, compare, state, both, either, implies, truth, falsity, forall_, exists_, says, on}
+use Rattle.bl_syntax.specs.Formula.{FormulaView, atom, compare, state, both, either, implies, truth, falsity, forall_, exists_, says, on}
 use Rattle.bl_syntax.specs.Terms.{IsAtLeastAsStrong}
 use Rattle.bl_syntax.specs.Entailment.{Entails, EntailsAll}
 use Rattle.bl_syntax.proofs.EntailmentLemmas.{Entails-entailed, Entails-constrained}
 use Rattle.bl_rules.specs.Sequent.{Hypothesis, holds, claims, View, Known, learn, speak}
 use Rattle.bl_rules.specs.Derivable.{Assumes, IsNotAfter, Derivable, init, cons_r, inter_r, and_r, or_r1, or_r2, true_r, imp_r, forall_r, exists_r, says_r, at_r, cons_l, inter_l, and_l, or_l, false_l, imp_l, forall_l, exists_l, says_l, claim, at_l}
-use Rattle.bl_rules.specs.FromClauses.{IsGuard, IsMet, IsClause, AssumesClauses, IsSimple, IsTrueOn, assumed, claimed, conditional, Follows}
+use Rattle.bl_rules.specs.FromClauses.{IsGuard, IsGuardMet, IsClause, AssumesClauses, IsSimple, IsTrueOn, assumed, claimed, conditional, FollowsFromClauses}
 use Rattle.bl_rules.specs.Richer.{Includes}
 use Rattle.bl_rules.proofs.RicherLemmas.{Derivable-richer}
 use Rattle.bl_rules.proofs.Membership.{IsClaim, Includes-push, Contains-claims_among, claims_among-Contains}
@@ -29,7 +29,7 @@ record IsFrom (source known : Known) : Type 0 where
   view : known.view ≡ source.view
   sorts : known.sorts ≡ source.sorts
 
-clause_true : (source : Known) (a : Form) (u v : Term) → AssumesClauses source → IsTrueOn source a u v → IsClause a
+clause_true : (source : Known) (a : FormulaView) (u v : Term) → AssumesClauses source → IsTrueOn source a u v → IsClause a
 clause_true source _ _ _ clauses (assumed a u v among) = clauses (holds a u v) among
 clause_true source _ _ _ clauses (claimed a u v k among strong begins ends) = clauses (claims k a u v) among
 clause_true source _ _ _ clauses (conditional a u v guard first last is_true met u_time v_time begins ends) =
@@ -53,7 +53,7 @@ IsFrom-speak k u v source known from = record {
   sorts = from.sorts;
 }
 
-IsFrom-learn : (source known : Known) (a : Form) (u v : Term) → IsFrom source known → IsTrueOn source a u v → IsFrom source (learn (holds a u v) known)
+IsFrom-learn : (source known : Known) (a : FormulaView) (u v : Term) → IsFrom source known → IsTrueOn source a u v → IsFrom source (learn (holds a u v) known)
 IsFrom-learn source known a u v from is_true = record {
   constraints = from.constraints;
   facts = from.facts;
@@ -66,14 +66,14 @@ IsFrom-learn source known a u v from is_true = record {
 }
 
 -- a claim that counts in the view of what is known counts in the source's
-claim_counts : (source known : Known) (k : Term) (a : Form) (u v : Term) → IsFrom source known → Assumes known (claims k a u v)
+claim_counts : (source known : Known) (k : Term) (a : FormulaView) (u v : Term) → IsFrom source known → Assumes known (claims k a u v)
     → IsAtLeastAsStrong k known.view.who → IsNotAfter known u known.view.from → IsNotAfter known known.view.to v → IsTrueOn source a u v
 claim_counts source known k a u v from among strong begins ends = claimed a u v k (from.hypotheses (claims k a u v) among)
     (subst (λ (view : View). IsAtLeastAsStrong k view.who) from.view strong)
     (subst (λ (view : View). Entails source.constraints u view.from) from.view (Entails-entailed known.constraints source.constraints u known.view.from from.constraints begins))
     (subst (λ (view : View). Entails source.constraints view.to v) from.view (Entails-entailed known.constraints source.constraints known.view.to v from.constraints ends))
 
-IsSimple-guard : (g : Form) → IsGuard g → IsSimple g
+IsSimple-guard : (g : FormulaView) → IsGuard g → IsSimple g
 IsSimple-guard (atom name terms) guard = absurd guard
 IsSimple-guard (compare c) guard = tt
 IsSimple-guard (state s) guard = tt
@@ -87,7 +87,7 @@ IsSimple-guard (exists_ s a) guard = absurd guard
 IsSimple-guard (says k a) guard = absurd guard
 IsSimple-guard (on a u v) guard = absurd guard
 
-IsMet-follows : (known : Known) (g : Form) (u v : Term) → IsGuard g → Follows known g u v → IsMet known.constraints known.facts g
+IsMet-follows : (known : Known) (g : FormulaView) (u v : Term) → IsGuard g → FollowsFromClauses known g u v → IsGuardMet known.constraints known.facts g
 IsMet-follows known (atom name terms) u v guard h = absurd guard
 IsMet-follows known (compare c) u v guard h = h
 IsMet-follows known (state s) u v guard h = h
@@ -101,8 +101,8 @@ IsMet-follows known (exists_ s a) u v guard h = absurd guard
 IsMet-follows known (says k a) u v guard h = absurd guard
 IsMet-follows known (on a u v) x y guard h = absurd guard
 
-Follows-from_clauses : {known : Known} {goal : Form} {u v : Term} → Derivable known goal u v
-    → (source : Known) → IsFrom source known → AssumesClauses source → IsSimple goal → Follows source goal u v
+Follows-from_clauses : {known : Known} {goal : FormulaView} {u v : Term} → Derivable known goal u v
+    → (source : Known) → IsFrom source known → AssumesClauses source → IsSimple goal → FollowsFromClauses source goal u v
 Follows-from_clauses {known = known} (init {u = u} {v = v} first last among begins ends) source from clauses simple = record {
   from = first;
   to = last;
@@ -147,7 +147,7 @@ sourced_itself : (known : Known) (h : Hypothesis) → Assumes known h → IsSour
 sourced_itself known (holds a u v) among = assumed a u v among
 sourced_itself known (claims k a u v) among = among
 
-Derivable-met : (known : Known) (g : Form) (u v : Term) → IsMet known.constraints known.facts g → Derivable known g u v
+Derivable-met : (known : Known) (g : FormulaView) (u v : Term) → IsGuardMet known.constraints known.facts g → Derivable known g u v
 Derivable-met known (atom name terms) u v met = absurd met
 Derivable-met known (compare c) u v met = cons_r met
 Derivable-met known (state s) u v met = inter_r met
@@ -162,14 +162,14 @@ Derivable-met known (says k a) u v met = absurd met
 Derivable-met known (on a from to) u v met = absurd met
 
 -- with hypotheses that include these, and all else as it was
-with_hypotheses : (known : Known) (hypotheses : List Hypothesis) (goal : Form) (u v : Term) → Includes hypotheses known.hypotheses
+with_hypotheses : (known : Known) (hypotheses : List Hypothesis) (goal : FormulaView) (u v : Term) → Includes hypotheses known.hypotheses
     → Derivable known goal u v → Derivable (record known { hypotheses = hypotheses }) goal u v
 with_hypotheses known hypotheses goal u v includes derivable =
     Derivable-richer derivable known.constraints known.facts hypotheses
     (record { each = λ c among. Entails-constrained known.constraints c among }) (λ s among. among) includes
 
 -- what is true may be used
-pub Derivable-using : (known : Known) (a : Form) (from to : Term) (goal : Form) (u v : Term) → IsTrueOn known a from to
+pub Derivable-using : (known : Known) (a : FormulaView) (from to : Term) (goal : FormulaView) (u v : Term) → IsTrueOn known a from to
     → Derivable (learn (holds a from to) known) goal u v → Derivable known goal u v
 Derivable-using known _ _ _ goal u v (assumed a from to among) derivable =
     with_hypotheses (learn (holds a from to) known) known.hypotheses goal u v
@@ -185,7 +185,7 @@ Derivable-using known _ _ _ goal u v (conditional a from to guard first last is_
     (Includes-push (known.hypotheses ++ rule ∷ []) known.hypotheses (holds a from to) (Contains-append_left known.hypotheses (rule ∷ [])))
     derivable))
 
-pub Derivable-follows : (known : Known) (goal : Form) (u v : Term) → Follows known goal u v → Derivable known goal u v
+pub Derivable-follows : (known : Known) (goal : FormulaView) (u v : Term) → FollowsFromClauses known goal u v → Derivable known goal u v
 Derivable-follows known (atom name terms) u v h =
     Derivable-using known (atom name terms) h.from h.to (atom name terms) u v h.true_on
     (init h.from h.to (Contains-push known.hypotheses (holds (atom name terms) h.from h.to)) h.begins h.ends)
@@ -201,8 +201,8 @@ Derivable-follows known (exists_ s a) u v h = absurd h
 Derivable-follows known (says k a) u v h = says_r (Derivable-follows (speak k u v known) a u v h)
 Derivable-follows known (on a from to) u v h = at_r (Derivable-follows known a from to h)
 
--- a formula is derivable from clauses exactly where it follows from them
-pub Derivable-from_clauses : (known : Known) (goal : Form) (u v : Term) → AssumesClauses known → IsSimple goal → Derivable known goal u v ↔ Follows known goal u v
+-- a formula is derivable from clauses exactly if it follows from them
+pub Derivable-from_clauses : (known : Known) (goal : FormulaView) (u v : Term) → AssumesClauses known → IsSimple goal → Derivable known goal u v ↔ FollowsFromClauses known goal u v
 Derivable-from_clauses known goal u v clauses simple = (
   λ derivable. Follows-from_clauses derivable known
       (record {

@@ -1,14 +1,14 @@
 -- What is derivable is so by a derivation of some height, and the other way round.
 use Rattle.std.proofs.Common.{◌↔◌, ◌≤◌, inl, inr, ℕ, zero, suc, max, ⊎_elim, arith}
 use Rattle.bl_syntax.specs.declared.terms.Term.{Term}
-use Rattle.bl_syntax.specs.Formula.{Form, atom, compare, state, both, either, implies, truth, falsity, forall_, exists_, says, on}
+use Rattle.bl_syntax.specs.Formula.{FormulaView, atom, compare, state, both, either, implies, truth, falsity, forall_, exists_, says, on}
 use Rattle.bl_rules.specs.Sequent.{holds, Known}
 use Rattle.bl_rules.specs.Derivable.{Assumes, Derivable, init, cons_r, inter_r, and_r, or_r1, or_r2, true_r, imp_r, forall_r, exists_r, says_r, at_r, cons_l, inter_l, and_l, or_l, false_l, imp_l, forall_l, exists_l, says_l, claim, at_l}
 use Rattle.bl_rules.specs.Height.{Shown, ByGoal, FromTruth, ByTruth, ByClaim, Derives}
 
 -- what is shown in one way is shown in the other
 abbrev IsWithin : Shown → Shown → Type 0
-IsWithin P Q = (known : Known) (goal : Form) (u v : Term) → P known goal u v → Q known goal u v
+IsWithin P Q = (known : Known) (goal : FormulaView) (u v : Term) → P known goal u v → Q known goal u v
 
 module _ (P Q : Shown) (within : IsWithin P Q) where
   ByGoal-within : IsWithin (ByGoal P) (ByGoal Q)
@@ -25,7 +25,7 @@ module _ (P Q : Shown) (within : IsWithin P Q) where
   ByGoal-within known (says k a) u v h = within _ _ _ _ h
   ByGoal-within known (on a x y) u v h = within _ _ _ _ h
 
-  FromTruth-within : (known : Known) (a : Form) (from to : Term) (goal : Form) (u v : Term) → FromTruth P known a from to goal u v → FromTruth Q known a from to goal u v
+  FromTruth-within : (known : Known) (a : FormulaView) (from to : Term) (goal : FormulaView) (u v : Term) → FromTruth P known a from to goal u v → FromTruth Q known a from to goal u v
   FromTruth-within known (atom name terms) from to goal u v h = h
   FromTruth-within known (compare c) from to goal u v h = within _ _ _ _ h
   FromTruth-within known (state s) from to goal u v h = within _ _ _ _ h
@@ -66,7 +66,7 @@ to_left n m = higher n (max n m) (omega arith)
 to_right : (n m : ℕ) → IsWithin (Derives m) (Derives (max n m))
 to_right n m = higher m (max n m) (omega arith)
 
-somehow : {known : Known} {goal : Form} {u v : Term} → Derivable known goal u v → DerivesSomehow known goal u v
+somehow : {known : Known} {goal : FormulaView} {u v : Term} → Derivable known goal u v → DerivesSomehow known goal u v
 somehow (init from to among begins ends) = (1, inl (from, to, among, begins, ends))
 somehow (cons_r entailed) = (1, inl entailed)
 somehow (inter_r among) = (1, inl among)
@@ -101,7 +101,7 @@ somehow (claim k a from to among strong begins ends premise) = let p = somehow p
 somehow (at_l a x y from to among premise) = let p = somehow premise in (suc p.0, inr (inl (on a x y, from, to, among, p.1)))
 
 module _ (P : Shown) (derivable : IsWithin P (λ known goal u v. Derivable known goal u v)) where
-  ByGoal-derivable : (known : Known) (goal : Form) (u v : Term) → ByGoal P known goal u v → Derivable known goal u v
+  ByGoal-derivable : (known : Known) (goal : FormulaView) (u v : Term) → ByGoal P known goal u v → Derivable known goal u v
   ByGoal-derivable known (atom name terms) u v h = init h.0 h.1 h.2 h.3 h.4
   ByGoal-derivable known (compare c) u v h = cons_r h
   ByGoal-derivable known (state s) u v h = inter_r h
@@ -115,7 +115,7 @@ module _ (P : Shown) (derivable : IsWithin P (λ known goal u v. Derivable known
   ByGoal-derivable known (says k a) u v h = says_r (derivable _ _ _ _ h)
   ByGoal-derivable known (on a x y) u v h = at_r (derivable _ _ _ _ h)
 
-  FromTruth-derivable : (known : Known) (a : Form) (from to : Term) (goal : Form) (u v : Term)
+  FromTruth-derivable : (known : Known) (a : FormulaView) (from to : Term) (goal : FormulaView) (u v : Term)
       → Assumes known (holds a from to) → FromTruth P known a from to goal u v → Derivable known goal u v
   FromTruth-derivable known (atom name terms) from to goal u v among h = absurd h
   FromTruth-derivable known (compare c) from to goal u v among h = cons_l c from to among (derivable _ _ _ _ h)
@@ -131,10 +131,10 @@ module _ (P : Shown) (derivable : IsWithin P (λ known goal u v. Derivable known
   FromTruth-derivable known (says k a) from to goal u v among h = says_l k a from to among (derivable _ _ _ _ h)
   FromTruth-derivable known (on a x y) from to goal u v among h = at_l a x y from to among (derivable _ _ _ _ h)
 
-  ByClaim-derivable : (known : Known) (goal : Form) (u v : Term) → ByClaim P known goal u v → Derivable known goal u v
+  ByClaim-derivable : (known : Known) (goal : FormulaView) (u v : Term) → ByClaim P known goal u v → Derivable known goal u v
   ByClaim-derivable known goal u v h = claim h.0 h.1 h.2 h.3 h.4 h.5 h.6 h.7 (derivable _ _ _ _ h.8)
 
-Derives-derivable : (n : ℕ) (known : Known) (goal : Form) (u v : Term) → Derives n known goal u v → Derivable known goal u v
+Derives-derivable : (n : ℕ) (known : Known) (goal : FormulaView) (u v : Term) → Derives n known goal u v → Derivable known goal u v
 Derives-derivable zero known goal u v h = absurd h
 Derives-derivable (suc n) known goal u v h =
     let derivable = Derives-derivable n in
@@ -144,5 +144,5 @@ Derives-derivable (suc n) known goal u v h =
     h
 
 -- the two accounts derive the same
-pub Derivable-by_height : (known : Known) (goal : Form) (u v : Term) → Derivable known goal u v ↔ ((n : ℕ) × Derives n known goal u v)
+pub Derivable-by_height : (known : Known) (goal : FormulaView) (u v : Term) → Derivable known goal u v ↔ ((n : ℕ) × Derives n known goal u v)
 Derivable-by_height known goal u v = (λ derivable. somehow derivable, λ h. Derives-derivable h.0 known goal u v h.1)

@@ -7,7 +7,7 @@ use Rattle.std.proofs.lemmas.List.Elements.{Contains-push, Contains-append_left}
 use Rattle.bl_syntax.specs.declared.terms.Sort.{Sort}
 use Rattle.bl_syntax.specs.declared.terms.Sort.TheVariants.{Time}
 use Rattle.bl_syntax.specs.declared.terms.Term.{Term}
-use Rattle.bl_syntax.specs.Formula.{Form, atom, compare, state, both, either, implies, truth, falsity, forall_, exists_, says, on}
+use Rattle.bl_syntax.specs.Formula.{FormulaView, atom, compare, state, both, either, implies, truth, falsity, forall_, exists_, says, on}
 use Rattle.bl_syntax.specs.Substitution.{put_in, instance_at}
 use Rattle.bl_syntax.proofs.EntailmentLemmas.{Entails-itself, Entails-transitive}
 use Rattle.bl_rules.specs.Sequent.{holds, claims, Known, learn, bound, declare, speak, new_parameter, new_start, new_end}
@@ -16,7 +16,7 @@ use Rattle.bl_rules.proofs.Membership.{Contains-claims_among}
 use Rattle.bl_rules.proofs.RicherLemmas.{bounded, bound_entailed}
 
 -- how deep the formula is
-abbrev depth : Form → ℕ
+abbrev depth : FormulaView → ℕ
 depth (atom name terms) = 1
 depth (compare c) = 1
 depth (state s) = 1
@@ -31,7 +31,7 @@ depth (says k a) = suc (depth a)
 depth (on a u v) = suc (depth a)
 
 -- an instance is as deep
-depth-put_in : (level : ℕ) (t : Term) (f : Form) → depth (put_in level t f) ≡ depth f
+depth-put_in : (level : ℕ) (t : Term) (f : FormulaView) → depth (put_in level t f) ≡ depth f
 depth-put_in level t (atom name terms) = refl
 depth-put_in level t (compare c) = refl
 depth-put_in level t (state s) = refl
@@ -45,10 +45,10 @@ depth-put_in level t (exists_ s a) = rw (depth-put_in (suc level) t a)
 depth-put_in level t (says k a) = rw (depth-put_in level t a)
 depth-put_in level t (on a u v) = rw (depth-put_in level t a)
 
-shallow : (n : ℕ) (t : Term) (a : Form) → depth a ≤ n → depth (instance_at t a) ≤ n
+shallow : (n : ℕ) (t : Term) (a : FormulaView) → depth a ≤ n → depth (instance_at t a) ≤ n
 shallow n t a le = rw (depth-put_in 0 t a) le
 
-positive : (f : Form) → 1 ≤ depth f
+positive : (f : FormulaView) → 1 ≤ depth f
 positive (atom name terms) = omega arith
 positive (compare c) = omega arith
 positive (state s) = omega arith
@@ -73,7 +73,7 @@ new_parameter-sort known p = declared_sort known.sorts p []
 start_is_time : (known : Known) → IsOfSort (declare Time (declare Time known)) Time (new_start known)
 start_is_time known = subst (λ (sorts : List Sort). slice_get sorts (length known.sorts) ≡ Some Time) (sym (append_assoc known.sorts (Time ∷ []) (Time ∷ []))) (declared_sort known.sorts Time (Time ∷ []))
 
-identity : (n : ℕ) (f : Form) → depth f ≤ n → (known : Known) (from to u v : Term)
+identity : (n : ℕ) (f : FormulaView) → depth f ≤ n → (known : Known) (from to u v : Term)
     → Assumes known (holds f from to) → IsNotAfter known from u → IsNotAfter known v to → Derivable known f u v
 identity zero f deep known from to u v among begins ends = absurd (omega (arith, deep, positive f))
 identity (suc n) (atom name terms) deep known from to u v among begins ends = init from to among begins ends
@@ -127,6 +127,6 @@ identity (suc n) (on a x y) deep known from to u v among begins ends =
     at_l a x y from to among (at_r
     (identity n a (omega (arith, deep)) (learn (holds a x y) known) x y x y (Contains-push known.hypotheses (holds a x y)) (Entails-itself known.constraints x) (Entails-itself known.constraints y)))
 
-pub Derivable-identity : (known : Known) (f : Form) (from to u v : Term)
+pub Derivable-identity : (known : Known) (f : FormulaView) (from to u v : Term)
     → Assumes known (holds f from to) → IsNotAfter known from u → IsNotAfter known v to → Derivable known f u v
 Derivable-identity known f = identity (depth f) f (le_refl (depth f)) known

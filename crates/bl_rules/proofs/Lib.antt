@@ -9,7 +9,7 @@ pub mod Membership
 pub mod ModelExamples
 pub mod ModelLemmas
 pub mod ModelTerms
-pub mod MomentOfTerms
+pub mod AtMomentTerms
 pub mod RicherLemmas
 pub mod SequentExamples
 pub mod SoundGrantLemmas

@@ -9,10 +9,10 @@ use Rattle.bl_syntax.specs.declared.terms.Sort.TheVariants as sorts
 use Rattle.bl_syntax.specs.declared.terms.TimePoint.TheVariants.{NegInf, PosInf}
 use Rattle.bl_syntax.specs.declared.terms.Term.{Term}
 use Rattle.bl_syntax.specs.declared.terms.Term.TheVariants.{Prin, File, Perm, Time, Text, Ctime, Param, Bound}
-use Rattle.bl_syntax.specs.Formula.{Form, either, implies, truth, falsity, forall_, exists_, says}
+use Rattle.bl_syntax.specs.Formula.{FormulaView, either, implies, truth, falsity, forall_, exists_, says}
 use Rattle.bl_rules.specs.Sequent.{holds}
-use Rattle.bl_rules.specs.Model.{Model, Values, IsTrueIn, IsTrueHypothesis, IsTrueKnown, IsHypothesisBelow, IsDeclared}
-use Rattle.bl_rules.specs.Examples.{admin_name, loc_name, hr, employee, always, Gives, rain, snow}
+use Rattle.bl_rules.specs.Model.{Model, Values, IsTrueIn, IsTrueHypothesis, IsTrueKnown, IsHypothesisBelow, AreParametersDeclared}
+use Rattle.bl_rules.specs.Examples.{admin_name, loc_name, hr, employee, always, GivesAlways, rain, snow}
 use Rattle.bl_rules.proofs.Membership.{Contains-nothing}
 use Rattle.bl_rules.proofs.ExampleLemmas.{Contains-one}
 use Rattle.bl_rules.proofs.ModelLemmas.{Derivable-true_in_models}
@@ -29,7 +29,7 @@ model_of is_true = record {
 }
 
 -- what is known of one formula is declared, and true where this is
-always_declared : (a : Form) → IsHypothesisBelow 0 (holds a (Time NegInf) (Time PosInf)) → IsDeclared (always a)
+always_declared : (a : FormulaView) → IsHypothesisBelow 0 (holds a (Time NegInf) (Time PosInf)) → AreParametersDeclared (always a)
 always_declared a below = record {
   constraints = λ c among. absurd (Contains-nothing c among);
   facts = λ s among. absurd (Contains-nothing s among);
@@ -42,7 +42,7 @@ always_declared a below = record {
 parameter : Values
 parameter n = Bound 0
 
-always_true : (m : Model) (a : Form) → IsTrueIn m parameter [] 0 a NegInf PosInf → IsTrue (m.heeds 0 (Prin admin_name) NegInf PosInf) → IsTrueKnown m parameter 0 (always a)
+always_true : (m : Model) (a : FormulaView) → IsTrueIn m parameter [] 0 a NegInf PosInf → IsTrue (m.heeds 0 (Prin admin_name) NegInf PosInf) → IsTrueKnown m parameter 0 (always a)
 always_true m a is_true heeds = record {
   sorts = λ n s sorted. absurd (omega (arith, slice_get_within {A = Sort} [] n s sorted));
   constraints = λ c among. absurd (Contains-nothing c among);
@@ -52,8 +52,8 @@ always_true m a is_true heeds = record {
 }
 
 -- what one formula gives is true in each model in which the formula is
-gives_true : (m : Model) (a b : Form) → IsHypothesisBelow 0 (holds a (Time NegInf) (Time PosInf)) → IsHypothesisBelow 0 (holds b (Time NegInf) (Time PosInf))
-    → IsTrue (m.heeds 0 (Prin admin_name) NegInf PosInf) → Gives a b → IsTrueIn m parameter [] 0 a NegInf PosInf → IsTrueIn m parameter [] 0 b NegInf PosInf
+gives_true : (m : Model) (a b : FormulaView) → IsHypothesisBelow 0 (holds a (Time NegInf) (Time PosInf)) → IsHypothesisBelow 0 (holds b (Time NegInf) (Time PosInf))
+    → IsTrue (m.heeds 0 (Prin admin_name) NegInf PosInf) → GivesAlways a b → IsTrueIn m parameter [] 0 a NegInf PosInf → IsTrueIn m parameter [] 0 b NegInf PosInf
 gives_true m a b a_below b_below heeds gives is_true =
     Derivable-true_in_models m parameter 0 (always a) b (Time NegInf) (Time PosInf) (always_declared a a_below)
     (record { formula = b_below.0; from = tt; to = tt }) gives (always_true m a is_true heeds)
@@ -62,13 +62,13 @@ gives_true m a b a_below b_below heeds gives is_true =
 abbrev snows : Model
 snows = model_of (λ name terms. bytes_eq name (codes "snow"))
 
-pub truth_gives_no_falsity : Gives truth falsity → ⊥
+pub truth_gives_no_falsity : GivesAlways truth falsity → ⊥
 truth_gives_no_falsity gives = gives_true snows truth falsity (tt, tt, tt) (tt, tt, tt) refl gives tt
 
-pub either_gives_not_the_first : Gives (either rain snow) rain → ⊥
+pub either_gives_not_the_first : GivesAlways (either rain snow) rain → ⊥
 either_gives_not_the_first gives = false≢true (gives_true snows (either rain snow) rain ((tt, tt), tt, tt) (tt, tt, tt) refl gives (inr refl))
 
-pub implication_gives_no_conclusion : Gives (implies rain rain) rain → ⊥
+pub implication_gives_no_conclusion : GivesAlways (implies rain rain) rain → ⊥
 implication_gives_no_conclusion gives = false≢true (gives_true snows (implies rain rain) rain ((tt, tt), tt, tt) (tt, tt, tt) refl gives (λ x y begins ends h. h))
 
 -- a name of two letters
@@ -94,12 +94,12 @@ of_short (Bound n ∷ terms) = false
 abbrev employs_hr : Model
 employs_hr = model_of (λ name terms. of_short terms)
 
-pub some_gives_not_this : Gives (exists_ sorts.Principal (employee (Bound 0))) (employee (Prin admin_name)) → ⊥
+pub some_gives_not_this : GivesAlways (exists_ sorts.Principal (employee (Bound 0))) (employee (Prin admin_name)) → ⊥
 some_gives_not_this gives = false≢true (
     gives_true employs_hr (exists_ sorts.Principal (employee (Bound 0))) (employee (Prin admin_name)) ((tt, tt), tt, tt) ((tt, tt), tt, tt) refl gives
     (Prin hr, record { constant = tt; sort = refl }, refl))
 
-pub one_gives_not_all : Gives (employee (Prin hr)) (forall_ sorts.Principal (employee (Bound 0))) → ⊥
+pub one_gives_not_all : GivesAlways (employee (Prin hr)) (forall_ sorts.Principal (employee (Bound 0))) → ⊥
 one_gives_not_all gives = false≢true (
     gives_true employs_hr (employee (Prin hr)) (forall_ sorts.Principal (employee (Bound 0))) ((tt, tt), tt, tt) ((tt, tt), tt, tt) refl gives
     refl (Prin admin_name) (record { constant = tt; sort = refl }))
@@ -127,6 +127,6 @@ nobody_heeds_hr = record {
       ⊎_elim (λ same. subst (λ (t : Term). IsTrue (speaks t)) (sym same) h) (λ is_loc. subst (λ (t : Term). IsTrue (speaks t)) (sym is_loc) refl) strong;
 }
 
-pub word_gives_no_truth : Gives (says (Prin hr) rain) rain → ⊥
+pub word_gives_no_truth : GivesAlways (says (Prin hr) rain) rain → ⊥
 word_gives_no_truth gives =
     false≢true (gives_true nobody_heeds_hr (says (Prin hr) rain) rain ((tt, tt), tt, tt) (tt, tt, tt) refl gives (λ other heeds. heeds))

@@ -12,7 +12,7 @@ use Rattle.bl_syntax.specs.declared.terms.Term.{Term}
 use Rattle.bl_syntax.specs.declared.terms.Term.TheVariants.{Time}
 use Rattle.bl_syntax.specs.declared.terms.StatePred.{StatePred}
 use Rattle.bl_syntax.specs.declared.terms.Constraint.{Constraint}
-use Rattle.bl_syntax.specs.Formula.{Form, atom, compare, state, both, either, implies, falsity, forall_, exists_, says, on}
+use Rattle.bl_syntax.specs.Formula.{FormulaView, atom, compare, state, both, either, implies, falsity, forall_, exists_, says, on}
 use Rattle.bl_syntax.specs.TimeOrder.{IsUpTo}
 use Rattle.bl_syntax.specs.Terms.{IsAtLeastAsStrong}
 use Rattle.bl_syntax.specs.WellSorted.{terms_of_state}
@@ -21,7 +21,7 @@ use Rattle.bl_syntax.specs.Substitution.{instance_at}
 use Rattle.bl_syntax.proofs.EntailmentLemmas.{Entails-true}
 use Rattle.bl_rules.specs.Sequent.{Hypothesis, holds, claims, Known, learn, bound, observe, declare, speak, new_parameter, new_start, new_end, suppose}
 use Rattle.bl_rules.specs.Derivable.{Assumes, IsNotAfter, Derivable, init, cons_r, inter_r, and_r, or_r1, or_r2, true_r, imp_r, forall_r, exists_r, says_r, at_r, cons_l, inter_l, and_l, or_l, false_l, imp_l, forall_l, exists_l, says_l, claim, at_l}
-use Rattle.bl_rules.specs.Model.{Model, Values, value, time_of, time_value, state_value, IsConstantOf, IsTrueIn, IsTrueHypothesis, IsTrueKnown, IsBelow, IsHypothesisBelow, IsDeclared, IsGoalDeclared}
+use Rattle.bl_rules.specs.Model.{Model, Values, value, time_of, time_value, state_value, IsConstantOf, IsTrueIn, IsTrueHypothesis, IsTrueKnown, IsParameterBelow, IsHypothesisBelow, AreParametersDeclared, IsGoalDeclared}
 use Rattle.bl_rules.proofs.Membership.{IsClaim, claims_among-Contains}
 use Rattle.bl_rules.proofs.ModelTerms.{Agree, Agree-back, value-agree, time_value-agree, state_value-agree, IsTrueIn-agree, IsTrueIn-instance, sorted_value, sorted_stands, sorted_below, IsBelow-more, All-weaker, AllTerms-weaker, instance_below}
 
@@ -29,7 +29,7 @@ use Rattle.bl_rules.proofs.ModelTerms.{Agree, Agree-back, value-agree, time_valu
 abbrev count : Known → ℕ
 count known = length known.sorts
 
-IsDeclared-learn : (known : Known) (h : Hypothesis) → IsDeclared known → IsHypothesisBelow (count known) h → IsDeclared (learn h known)
+IsDeclared-learn : (known : Known) (h : Hypothesis) → AreParametersDeclared known → IsHypothesisBelow (count known) h → AreParametersDeclared (learn h known)
 IsDeclared-learn known h declared below = record {
   constraints = declared.constraints;
   facts = declared.facts;
@@ -40,10 +40,10 @@ IsDeclared-learn known h declared below = record {
   to = declared.to;
 }
 
-IsDeclared-bound : (known : Known) (low high : Term) → IsDeclared known → IsBelow (count known) low → IsBelow (count known) high → IsDeclared (bound low high known)
+IsDeclared-bound : (known : Known) (low high : Term) → AreParametersDeclared known → IsParameterBelow (count known) low → IsParameterBelow (count known) high → AreParametersDeclared (bound low high known)
 IsDeclared-bound known low high declared low_below high_below = record {
   constraints = λ c among. ⊎_elim (λ (before : Contains known.constraints c). declared.constraints c before)
-      (λ same. subst (λ (d : Constraint). IsBelow (count known) d.low × IsBelow (count known) d.high) same (low_below, high_below))
+      (λ same. subst (λ (d : Constraint). IsParameterBelow (count known) d.low × IsParameterBelow (count known) d.high) same (low_below, high_below))
       (Contains-push_cases known.constraints (record { low = low; high = high }) c among);
   facts = declared.facts;
   hypotheses = declared.hypotheses;
@@ -52,11 +52,11 @@ IsDeclared-bound known low high declared low_below high_below = record {
   to = declared.to;
 }
 
-IsDeclared-observe : (known : Known) (s : StatePred) → IsDeclared known → AllByRecursion (IsBelow (count known)) (terms_of_state s) → IsDeclared (observe s known)
+IsDeclared-observe : (known : Known) (s : StatePred) → AreParametersDeclared known → AllByRecursion (IsParameterBelow (count known)) (terms_of_state s) → AreParametersDeclared (observe s known)
 IsDeclared-observe known s declared below = record {
   constraints = declared.constraints;
   facts = λ r among. ⊎_elim (λ (before : Contains known.facts r). declared.facts r before)
-      (λ same. subst (λ (q : StatePred). AllByRecursion (IsBelow (count known)) (terms_of_state q)) same below)
+      (λ same. subst (λ (q : StatePred). AllByRecursion (IsParameterBelow (count known)) (terms_of_state q)) same below)
       (Contains-push_cases known.facts s r among);
   hypotheses = declared.hypotheses;
   who = declared.who;
@@ -64,8 +64,8 @@ IsDeclared-observe known s declared below = record {
   to = declared.to;
 }
 
-IsDeclared-speak : (known : Known) (k u v : Term) → IsDeclared known → IsBelow (count known) k → IsBelow (count known) u → IsBelow (count known) v
-    → IsDeclared (speak k u v known)
+IsDeclared-speak : (known : Known) (k u v : Term) → AreParametersDeclared known → IsParameterBelow (count known) k → IsParameterBelow (count known) u → IsParameterBelow (count known) v
+    → AreParametersDeclared (speak k u v known)
 IsDeclared-speak known k u v declared k_below u_below v_below = record {
   constraints = declared.constraints;
   facts = declared.facts;
@@ -78,23 +78,23 @@ IsDeclared-speak known k u v declared k_below u_below v_below = record {
 count-declare : (known : Known) (s : Sort) → count (declare s known) ≡ count known + 1
 count-declare known s = omega (arith, length-append known.sorts (s ∷ []))
 
-below-declare : (known : Known) (s : Sort) (t : Term) → IsBelow (count known) t → IsBelow (count (declare s known)) t
+below-declare : (known : Known) (s : Sort) (t : Term) → IsParameterBelow (count known) t → IsParameterBelow (count (declare s known)) t
 below-declare known s t = IsBelow-more (count known) (count (declare s known)) (omega (arith, count-declare known s)) t
 
-formula_below-declare : (known : Known) (s : Sort) (a : Form) → AllTerms (IsBelow (count known)) a → AllTerms (IsBelow (count (declare s known))) a
-formula_below-declare known s a = AllTerms-weaker (IsBelow (count known)) (IsBelow (count (declare s known))) (below-declare known s) a
+formula_below-declare : (known : Known) (s : Sort) (a : FormulaView) → AllTerms (IsParameterBelow (count known)) a → AllTerms (IsParameterBelow (count (declare s known))) a
+formula_below-declare known s a = AllTerms-weaker (IsParameterBelow (count known)) (IsParameterBelow (count (declare s known))) (below-declare known s) a
 
 hypothesis_below-declare : (known : Known) (s : Sort) (h : Hypothesis) → IsHypothesisBelow (count known) h → IsHypothesisBelow (count (declare s known)) h
 hypothesis_below-declare known s (holds a u v) below = (formula_below-declare known s a below.0, below-declare known s u below.1, below-declare known s v below.2)
 hypothesis_below-declare known s (claims k a u v) below =
     (below-declare known s k below.0, formula_below-declare known s a below.1, below-declare known s u below.2, below-declare known s v below.3)
 
-IsDeclared-declare : (known : Known) (s : Sort) → IsDeclared known → IsDeclared (declare s known)
+IsDeclared-declare : (known : Known) (s : Sort) → AreParametersDeclared known → AreParametersDeclared (declare s known)
 IsDeclared-declare known s declared = record {
   constraints = λ c among.
       let below = declared.constraints c among in
       (below-declare known s c.low below.0, below-declare known s c.high below.1);
-  facts = λ p among. All-weaker (IsBelow (count known)) (IsBelow (count (declare s known))) (below-declare known s) _ (declared.facts p among);
+  facts = λ p among. All-weaker (IsParameterBelow (count known)) (IsParameterBelow (count (declare s known))) (below-declare known s) _ (declared.facts p among);
   hypotheses = λ h among. hypothesis_below-declare known s h (declared.hypotheses h among);
   who = below-declare known s known.view.who declared.who;
   from = below-declare known s known.view.from declared.from;
@@ -102,7 +102,7 @@ IsDeclared-declare known s declared = record {
 }
 
 -- the new parameter is declared then
-new_below : (known : Known) (s : Sort) → IsBelow (count (declare s known)) (new_parameter known)
+new_below : (known : Known) (s : Sort) → IsParameterBelow (count (declare s known)) (new_parameter known)
 new_below known s = omega (arith, count-declare known s)
 
 -- with one value more
@@ -192,20 +192,20 @@ module _ (m : Model) where
       (subst (λ (y : TimePoint). IsTrueIn m q [] world (says k a) (time_value m p [] u) y) (time_value-agree m n p q [] v agree below.3)
       (IsTrueIn-agree m n (says k a) p q [] world (time_value m p [] u) (time_value m p [] v) agree (below.0, below.1) is_true))
 
-  view-agree : (n : ℕ) (p q : Values) (world : ℕ) (k u v : Term) → Agree n p q → IsBelow n k → IsBelow n u → IsBelow n v
+  view-agree : (n : ℕ) (p q : Values) (world : ℕ) (k u v : Term) → Agree n p q → IsParameterBelow n k → IsParameterBelow n u → IsParameterBelow n v
       → IsTrue (m.heeds world (value m p [] k) (time_value m p [] u) (time_value m p [] v)) → IsTrue (m.heeds world (value m q [] k) (time_value m q [] u) (time_value m q [] v))
   view-agree n p q world k u v agree k_below u_below v_below heeds =
       subst (λ (who : Term). IsTrue (m.heeds world who (time_value m q [] u) (time_value m q [] v))) (value-agree m n p q [] k agree k_below)
       (subst (λ (x : TimePoint). IsTrue (m.heeds world (value m p [] k) x (time_value m q [] v))) (time_value-agree m n p q [] u agree u_below)
       (subst (λ (y : TimePoint). IsTrue (m.heeds world (value m p [] k) (time_value m p [] u) y)) (time_value-agree m n p q [] v agree v_below) heeds))
 
-  up_to-agree : (n : ℕ) (p q : Values) (u v : Term) → Agree n p q → IsBelow n u → IsBelow n v → IsUpTo (time_value m p [] u) (time_value m p [] v)
+  up_to-agree : (n : ℕ) (p q : Values) (u v : Term) → Agree n p q → IsParameterBelow n u → IsParameterBelow n v → IsUpTo (time_value m p [] u) (time_value m p [] v)
       → IsUpTo (time_value m q [] u) (time_value m q [] v)
   up_to-agree n p q u v agree u_below v_below up_to =
       subst (λ (x : TimePoint). IsUpTo x (time_value m q [] v)) (time_value-agree m n p q [] u agree u_below)
       (subst (λ (y : TimePoint). IsUpTo (time_value m p [] u) y) (time_value-agree m n p q [] v agree v_below) up_to)
 
-  IsTrueKnown-declare : (p : Values) (world : ℕ) (known : Known) (s : Sort) (t : Term) → IsTrueKnown m p world known → IsDeclared known → IsConstantOf s t
+  IsTrueKnown-declare : (p : Values) (world : ℕ) (known : Known) (s : Sort) (t : Term) → IsTrueKnown m p world known → AreParametersDeclared known → IsConstantOf s t
       → IsTrueKnown m (extended p (count known) t) world (declare s known)
   IsTrueKnown-declare p world known s t true_known declared constant =
       let q = extended p (count known) t in
@@ -227,7 +227,7 @@ module _ (m : Model) where
       }
 
   -- with values that agree on the parameters of the formula and of both times
-  moved : (n : ℕ) (p q : Values) (bounds : List Term) (world : ℕ) (a : Form) (u v : Term) → Agree n p q → AllTerms (IsBelow n) a → IsBelow n u → IsBelow n v
+  moved : (n : ℕ) (p q : Values) (bounds : List Term) (world : ℕ) (a : FormulaView) (u v : Term) → Agree n p q → AllTerms (IsParameterBelow n) a → IsParameterBelow n u → IsParameterBelow n v
       → IsTrueIn m p bounds world a (time_value m p [] u) (time_value m p [] v) → IsTrueIn m q bounds world a (time_value m q [] u) (time_value m q [] v)
   moved n p q bounds world a u v agree below u_below v_below is_true =
       subst (λ (x : TimePoint). IsTrueIn m q bounds world a x (time_value m q [] v)) (time_value-agree m n p q [] u agree u_below)
@@ -238,11 +238,11 @@ module _ (m : Model) where
   strong_values p k other = ⊎_elim (λ same. inl (ap (value m p []) same)) (λ is_loc. inr (ap (value m p []) is_loc))
 
   -- a sequent is true with these values, in this world
-  abbrev IsTrueSequent : Values → ℕ → Known → Form → Term → Term → Type 0
-  IsTrueSequent p world known goal u v = IsDeclared known → IsGoalDeclared known goal u v → IsTrueKnown m p world known → IsTrueIn m p [] world goal (time_value m p [] u) (time_value m p [] v)
+  abbrev IsTrueSequent : Values → ℕ → Known → FormulaView → Term → Term → Type 0
+  IsTrueSequent p world known goal u v = AreParametersDeclared known → IsGoalDeclared known goal u v → IsTrueKnown m p world known → IsTrueIn m p [] world goal (time_value m p [] u) (time_value m p [] v)
 
   -- the premise of an implication, at an interval within
-  implication : (p : Values) (world : ℕ) (known : Known) (a b : Form) (u v : Term)
+  implication : (p : Values) (world : ℕ) (known : Known) (a b : FormulaView) (u v : Term)
       → ((q : Values) → IsTrueSequent q world (suppose a u v known) b (new_start known) (new_end known))
       → IsTrueSequent p world known (implies a b) u v
   implication p world known a b u v premise declared goal true_known x y begins ends given =
@@ -261,8 +261,8 @@ module _ (m : Model) where
       let declared2 = IsDeclared-declare once sort.Time declared1 in
       let true1 : IsTrueKnown m p1 world once = IsTrueKnown-declare p world known sort.Time (Time x) true_known declared (record { constant = tt; sort = refl }) in
       let true2 : IsTrueKnown m p2 world twice = IsTrueKnown-declare p1 world once sort.Time (Time y) true1 declared1 (record { constant = tt; sort = refl }) in
-      let start_below : IsBelow (count twice) start = below-declare once sort.Time start (new_below known sort.Time) in
-      let end_below : IsBelow (count twice) end = new_below once sort.Time in
+      let start_below : IsParameterBelow (count twice) start = below-declare once sort.Time start (new_below known sort.Time) in
+      let end_below : IsParameterBelow (count twice) end = new_below once sort.Time in
       let u_below = below-declare once sort.Time u (below-declare known sort.Time u goal.from) in
       let v_below = below-declare once sort.Time v (below-declare known sort.Time v goal.to) in
       let a_below = formula_below-declare once sort.Time a (formula_below-declare known sort.Time a goal.formula.0) in
@@ -289,7 +289,7 @@ module _ (m : Model) where
       (subst (λ (s : Term). IsTrueIn m p2 [] world b (time_of s) (time_value m p2 [] end)) start_is concluded))
 
   -- the premise of a quantifier on the right, at each constant
-  generalization : (p : Values) (world : ℕ) (known : Known) (s : Sort) (a : Form) (u v : Term)
+  generalization : (p : Values) (world : ℕ) (known : Known) (s : Sort) (a : FormulaView) (u v : Term)
       → ((q : Values) → IsTrueSequent q world (declare s known) (instance_at (new_parameter known) a) u v)
       → IsTrueSequent p world known (forall_ s a) u v
   generalization p world known s a u v premise declared goal true_known t constant =
@@ -308,7 +308,7 @@ module _ (m : Model) where
       ((IsTrueIn-instance m q c t (λ bounds. extended_at p (count known) t) a world (time_value m q [] u) (time_value m q [] v)).0 shown)
 
   -- the premise of a quantifier on the left, for the constant that there is
-  witnessed : (p : Values) (world : ℕ) (known : Known) (s : Sort) (a : Form) (from to : Term) (goal : Form) (u v : Term)
+  witnessed : (p : Values) (world : ℕ) (known : Known) (s : Sort) (a : FormulaView) (from to : Term) (goal : FormulaView) (u v : Term)
       → Assumes known (holds (exists_ s a) from to)
       → ((q : Values) → IsTrueSequent q world (learn (holds (instance_at (new_parameter known) a) from to) (declare s known)) goal u v)
       → IsTrueSequent p world known goal u v
@@ -334,7 +334,7 @@ module _ (m : Model) where
       })
       (IsTrueKnown-learn q world (declare s known) instance (IsTrueKnown-declare p world known s t true_known declared exists.1) is_true))
 
-  true_sequent : {known : Known} {goal : Form} {u v : Term} → Derivable known goal u v → (p : Values) (world : ℕ) → IsTrueSequent p world known goal u v
+  true_sequent : {known : Known} {goal : FormulaView} {u v : Term} → Derivable known goal u v → (p : Values) (world : ℕ) → IsTrueSequent p world known goal u v
   true_sequent {known = known} (init {name = name} {terms = terms} {u = u} {v = v} from to among begins ends) p world d g k =
       m.true_within world name _ (time_value m p [] from) (time_value m p [] to) (time_value m p [] u) (time_value m p [] v) (k.hypotheses (holds (atom name terms) from to) among)
       (IsUpTo-entailed p world known from u k begins) (IsUpTo-entailed p world known v to k ends)
@@ -432,7 +432,7 @@ module _ (m : Model) where
       (IsTrueKnown-learn p world known (holds a x y) k (k.hypotheses (holds (on a x y) from to) among))
 
 -- what is derivable is true, in each model, in each world in which all that is known is
-pub Derivable-true_in_models : (m : Model) (params : Values) (world : ℕ) (known : Known) (goal : Form) (u v : Term)
-    → IsDeclared known → IsGoalDeclared known goal u v → Derivable known goal u v
+pub Derivable-true_in_models : (m : Model) (params : Values) (world : ℕ) (known : Known) (goal : FormulaView) (u v : Term)
+    → AreParametersDeclared known → IsGoalDeclared known goal u v → Derivable known goal u v
     → IsTrueKnown m params world known → IsTrueIn m params [] world goal (time_value m params [] u) (time_value m params [] v)
 Derivable-true_in_models m params world known goal u v declared goal_declared derivable = true_sequent m derivable params world declared goal_declared

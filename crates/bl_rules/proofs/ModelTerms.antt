@@ -1,4 +1,4 @@
--- What terms and formulas stand for: with other values of parameters, and with a term in the place of a bound variable.
+-- What terms and formulas stand for: with other values of parameters, and with a term instead of a bound variable.
 use Rattle.std.proofs.Common.{◌≡◌, ◌∙◌, ◌⊎◌, ◌↔◌, ◌≤◌, ◌<◌, inl, inr, ℕ, zero, suc, List, [], ◌∷◌, length, map, Bool, true, false, Some, refl, ap, ap₂, sym, subst, ⊎_elim, arith}
 use Rattle.std.proofs.lemmas.Bool.{eqb-true, eqb-false}
 use Rattle.std.specs.Prelude.{IsTrue, ◌==◌, if◌then◌else◌}
@@ -10,12 +10,12 @@ use Rattle.bl_syntax.specs.declared.terms.Term.{Term}
 use Rattle.bl_syntax.specs.declared.terms.Term.TheVariants.{Prin, File, Perm, Time, Text, Ctime, Param, Bound}
 use Rattle.bl_syntax.specs.declared.terms.StatePred.{StatePred}
 use Rattle.bl_syntax.specs.declared.terms.StatePred.TheVariants.{Owner, HasXattr, InDir}
-use Rattle.bl_syntax.specs.Formula.{Form, atom, compare, state, both, either, implies, truth, falsity, forall_, exists_, says, on}
+use Rattle.bl_syntax.specs.Formula.{FormulaView, atom, compare, state, both, either, implies, truth, falsity, forall_, exists_, says, on}
 use Rattle.bl_syntax.specs.TimeOrder.{IsUpTo}
 use Rattle.bl_syntax.specs.WellSorted.{HasSort, terms_of_state}
 use Rattle.bl_syntax.specs.Statement.{AllTerms}
 use Rattle.bl_syntax.specs.Substitution.{put_in_term, put_in_state, put_in, instance_at}
-use Rattle.bl_rules.specs.Model.{Model, Values, bound_value, value, time_of, time_value, state_value, IsConstantOf, IsTrueIn, IsBelow}
+use Rattle.bl_rules.specs.Model.{Model, Values, bound_value, value, time_of, time_value, state_value, IsConstantOf, IsTrueIn, IsParameterBelow}
 
 -- the same values below a number of parameters
 pub record Agree (count : ℕ) (p q : Values) : Type 0 where
@@ -25,7 +25,7 @@ pub Agree-back : (count : ℕ) (p q : Values) → Agree count p q → Agree coun
 Agree-back count p q agree = record { each = λ n below. sym (agree.each n below) }
 
 module _ (m : Model) (count : ℕ) where
-  pub value-agree : (p q : Values) (bounds : List Term) (t : Term) → Agree count p q → IsBelow count t → value m p bounds t ≡ value m q bounds t
+  pub value-agree : (p q : Values) (bounds : List Term) (t : Term) → Agree count p q → IsParameterBelow count t → value m p bounds t ≡ value m q bounds t
   value-agree p q bounds (Prin name) agree below = refl
   value-agree p q bounds (File number) agree below = refl
   value-agree p q bounds (Perm permission) agree below = refl
@@ -35,23 +35,23 @@ module _ (m : Model) (count : ℕ) where
   value-agree p q bounds (Param n) agree below = agree.each n below
   value-agree p q bounds (Bound n) agree below = refl
 
-  values-agree : (p q : Values) (bounds : List Term) (terms : List Term) → Agree count p q → AllByRecursion (IsBelow count) terms
+  values-agree : (p q : Values) (bounds : List Term) (terms : List Term) → Agree count p q → AllByRecursion (IsParameterBelow count) terms
       → map (value m p bounds) terms ≡ map (value m q bounds) terms
   values-agree p q bounds [] agree below = refl
   values-agree p q bounds (t ∷ terms) agree below = ap₂ ◌∷◌ (value-agree p q bounds t agree below.0) (values-agree p q bounds terms agree below.1)
 
-  pub state_value-agree : (p q : Values) (bounds : List Term) (s : StatePred) → Agree count p q → AllByRecursion (IsBelow count) (terms_of_state s)
+  pub state_value-agree : (p q : Values) (bounds : List Term) (s : StatePred) → Agree count p q → AllByRecursion (IsParameterBelow count) (terms_of_state s)
       → state_value m p bounds s ≡ state_value m q bounds s
   state_value-agree p q bounds (Owner file owner) agree below = ap₂ Owner (value-agree p q bounds file agree below.0) (value-agree p q bounds owner agree below.1.0)
   state_value-agree p q bounds (HasXattr file name text) agree below =
       rw (value-agree p q bounds file agree below.0, value-agree p q bounds name agree below.1.0, value-agree p q bounds text agree below.1.1.0)
   state_value-agree p q bounds (InDir file directory) agree below = ap₂ InDir (value-agree p q bounds file agree below.0) (value-agree p q bounds directory agree below.1.0)
 
-  pub time_value-agree : (p q : Values) (bounds : List Term) (t : Term) → Agree count p q → IsBelow count t → time_value m p bounds t ≡ time_value m q bounds t
+  pub time_value-agree : (p q : Values) (bounds : List Term) (t : Term) → Agree count p q → IsParameterBelow count t → time_value m p bounds t ≡ time_value m q bounds t
   time_value-agree p q bounds t agree below = ap time_of (value-agree p q bounds t agree below)
 
   -- a formula is as true with values that agree on its parameters
-  pub IsTrueIn-agree : (a : Form) (p q : Values) (bounds : List Term) (world : ℕ) (u v : TimePoint) → Agree count p q → AllTerms (IsBelow count) a
+  pub IsTrueIn-agree : (a : FormulaView) (p q : Values) (bounds : List Term) (world : ℕ) (u v : TimePoint) → Agree count p q → AllTerms (IsParameterBelow count) a
       → IsTrueIn m p bounds world a u v → IsTrueIn m q bounds world a u v
   IsTrueIn-agree (atom name terms) p q bounds world u v agree below h =
       subst (λ (values : List Term). IsTrue (m.is_true world name values u v)) (values-agree p q bounds terms agree below) h
@@ -136,7 +136,7 @@ module _ (m : Model) (p : Values) (t c : Term) (stands : (bounds : List Term) �
   time_value-put_in n bounds s = ap time_of (value-put_in n bounds s)
 
   -- a formula with t put in is as true as the formula where the bound variable stands for what t does
-  IsTrueIn-put_in : (a : Form) (n : ℕ) (bounds : List Term) (world : ℕ) (u v : TimePoint)
+  IsTrueIn-put_in : (a : FormulaView) (n : ℕ) (bounds : List Term) (world : ℕ) (u v : TimePoint)
       → IsTrueIn m p bounds world (put_in n t a) u v ↔ IsTrueIn m p (put n c bounds) world a u v
   IsTrueIn-put_in (atom name terms) n bounds world u v =
       let same = values-put_in n bounds terms in (
@@ -188,7 +188,7 @@ module _ (m : Model) (p : Values) (t c : Term) (stands : (bounds : List Term) �
       )
 
   -- an instance is as true as the body of the binder where its variable stands for what t does
-  pub IsTrueIn-instance : (a : Form) (world : ℕ) (u v : TimePoint) → IsTrueIn m p [] world (instance_at t a) u v ↔ IsTrueIn m p (c ∷ []) world a u v
+  pub IsTrueIn-instance : (a : FormulaView) (world : ℕ) (u v : TimePoint) → IsTrueIn m p [] world (instance_at t a) u v ↔ IsTrueIn m p (c ∷ []) world a u v
   IsTrueIn-instance a world u v = IsTrueIn-put_in a 0 [] world u v
 
 module _ (m : Model) (p : Values) (sorts : List Sort) (declared : (n : ℕ) (s : Sort) → slice_get sorts n ≡ Some s → IsConstantOf s (p n)) where
@@ -217,7 +217,7 @@ module _ (m : Model) (p : Values) (sorts : List Sort) (declared : (n : ℕ) (s :
   sorted_stands s (Bound n) sorted bounds = absurd (no_bound n s sorted)
 
 -- a term in scope has declared parameters
-pub sorted_below : (sorts : List Sort) (s : Sort) (t : Term) → HasSort sorts [] s t → IsBelow (length sorts) t
+pub sorted_below : (sorts : List Sort) (s : Sort) (t : Term) → HasSort sorts [] s t → IsParameterBelow (length sorts) t
 sorted_below sorts s (Prin name) sorted = tt
 sorted_below sorts s (File number) sorted = tt
 sorted_below sorts s (Perm permission) sorted = tt
@@ -228,7 +228,7 @@ sorted_below sorts s (Param n) sorted = slice_get_within sorts n s sorted
 sorted_below sorts s (Bound n) sorted = tt
 
 -- more parameters
-pub IsBelow-more : (count more : ℕ) → count ≤ more → (t : Term) → IsBelow count t → IsBelow more t
+pub IsBelow-more : (count more : ℕ) → count ≤ more → (t : Term) → IsParameterBelow count t → IsParameterBelow more t
 IsBelow-more count more le (Prin name) below = tt
 IsBelow-more count more le (File number) below = tt
 IsBelow-more count more le (Perm permission) below = tt
@@ -243,7 +243,7 @@ module _ (P Q : Term → Type 0) (weaker : (t : Term) → P t → Q t) where
   All-weaker [] h = tt
   All-weaker (t ∷ terms) h = (weaker t h.0, All-weaker terms h.1)
 
-  pub AllTerms-weaker : (a : Form) → AllTerms P a → AllTerms Q a
+  pub AllTerms-weaker : (a : FormulaView) → AllTerms P a → AllTerms Q a
   AllTerms-weaker (atom name terms) h = All-weaker terms h
   AllTerms-weaker (compare c) h = (weaker c.low h.0, weaker c.high h.1)
   AllTerms-weaker (state s) h = All-weaker (terms_of_state s) h
@@ -257,12 +257,12 @@ module _ (P Q : Term → Type 0) (weaker : (t : Term) → P t → Q t) where
   AllTerms-weaker (says k a) h = (weaker k h.0, AllTerms-weaker a h.1)
   AllTerms-weaker (on a u v) h = (AllTerms-weaker a h.0, (weaker u h.1.0, weaker v h.1.1))
 
-module _ (count : ℕ) (t : Term) (below : IsBelow count t) where
-  chosen_below : (k : ℕ) (test : Bool) → IsBelow count (if test then t else Bound k)
+module _ (count : ℕ) (t : Term) (below : IsParameterBelow count t) where
+  chosen_below : (k : ℕ) (test : Bool) → IsParameterBelow count (if test then t else Bound k)
   chosen_below k true = below
   chosen_below k false = tt
 
-  below-put_in : (n : ℕ) (s : Term) → IsBelow count s → IsBelow count (put_in_term n t s)
+  below-put_in : (n : ℕ) (s : Term) → IsParameterBelow count s → IsParameterBelow count (put_in_term n t s)
   below-put_in n (Prin name) h = tt
   below-put_in n (File number) h = tt
   below-put_in n (Perm permission) h = tt
@@ -272,16 +272,16 @@ module _ (count : ℕ) (t : Term) (below : IsBelow count t) where
   below-put_in n (Param k) h = h
   below-put_in n (Bound k) h = chosen_below k (k == n)
 
-  all_below-put_in : (n : ℕ) (terms : List Term) → AllByRecursion (IsBelow count) terms → AllByRecursion (IsBelow count) (map (put_in_term n t) terms)
+  all_below-put_in : (n : ℕ) (terms : List Term) → AllByRecursion (IsParameterBelow count) terms → AllByRecursion (IsParameterBelow count) (map (put_in_term n t) terms)
   all_below-put_in n [] h = tt
   all_below-put_in n (s ∷ terms) h = (below-put_in n s h.0, all_below-put_in n terms h.1)
 
-  state_below-put_in : (n : ℕ) (s : StatePred) → AllByRecursion (IsBelow count) (terms_of_state s) → AllByRecursion (IsBelow count) (terms_of_state (put_in_state n t s))
+  state_below-put_in : (n : ℕ) (s : StatePred) → AllByRecursion (IsParameterBelow count) (terms_of_state s) → AllByRecursion (IsParameterBelow count) (terms_of_state (put_in_state n t s))
   state_below-put_in n (Owner file owner) h = all_below-put_in n (file ∷ owner ∷ []) h
   state_below-put_in n (HasXattr file name text) h = all_below-put_in n (file ∷ name ∷ text ∷ []) h
   state_below-put_in n (InDir file directory) h = all_below-put_in n (file ∷ directory ∷ []) h
 
-  terms_below-put_in : (a : Form) (n : ℕ) → AllTerms (IsBelow count) a → AllTerms (IsBelow count) (put_in n t a)
+  terms_below-put_in : (a : FormulaView) (n : ℕ) → AllTerms (IsParameterBelow count) a → AllTerms (IsParameterBelow count) (put_in n t a)
   terms_below-put_in (atom name terms) n h = all_below-put_in n terms h
   terms_below-put_in (compare c) n h = (below-put_in n c.low h.0, below-put_in n c.high h.1)
   terms_below-put_in (state s) n h = state_below-put_in n s h
@@ -295,5 +295,5 @@ module _ (count : ℕ) (t : Term) (below : IsBelow count t) where
   terms_below-put_in (says k a) n h = (below-put_in n k h.0, terms_below-put_in a n h.1)
   terms_below-put_in (on a u v) n h = (terms_below-put_in a n h.0, (below-put_in n u h.1.0, below-put_in n v h.1.1))
 
-  pub instance_below : (a : Form) → AllTerms (IsBelow count) a → AllTerms (IsBelow count) (instance_at t a)
+  pub instance_below : (a : FormulaView) → AllTerms (IsParameterBelow count) a → AllTerms (IsParameterBelow count) (instance_at t a)
   instance_below a h = terms_below-put_in a 0 h

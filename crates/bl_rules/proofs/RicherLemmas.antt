@@ -10,7 +10,7 @@ use Rattle.bl_syntax.specs.TimeOrder.{IsUpTo}
 use Rattle.bl_syntax.specs.declared.terms.Term.{Term}
 use Rattle.bl_syntax.specs.declared.terms.StatePred.{StatePred}
 use Rattle.bl_syntax.specs.declared.terms.Constraint.{Constraint}
-use Rattle.bl_syntax.specs.Formula.{Form}
+use Rattle.bl_syntax.specs.Formula.{FormulaView}
 use Rattle.bl_syntax.specs.Terms.{IsAtLeastAsStrong}
 use Rattle.bl_syntax.specs.Substitution.{instance_at}
 use Rattle.bl_syntax.specs.Entailment.{Entails, EntailsAll}
@@ -124,7 +124,7 @@ abbrev pub with_sorts_of : Known → Known → Known
 with_sorts_of known richer = record richer { sorts = known.sorts }
 
 -- one master lemma: what supports what is known derives what that does, also on a shorter interval
-pub Derivable-supported : {known : Known} {goal : Form} {u v : Term} → Derivable known goal u v
+pub Derivable-supported : {known : Known} {goal : FormulaView} {u v : Term} → Derivable known goal u v
     → (richer : Known) → Supports richer known → (x y : Term) → IsNotAfter richer u x → IsNotAfter richer y v
     → Derivable (with_sorts_of known richer) goal x y
 Derivable-supported {known = known} (init {u = u} {v = v} from to among low high) richer s x y begins ends =
@@ -198,7 +198,7 @@ Derivable-supported {known = known} (at_l a t1 t2 from to among premise) richer 
     let located = holds a t1 t2 in
     at_l a t1 t2 from to (s.hypotheses _ among) (Derivable-supported premise (learn located richer) (Supports-learn richer known located s) x y begins ends)
 
-pub Derivable-richer : {known : Known} {goal : Form} {u v : Term} → Derivable known goal u v
+pub Derivable-richer : {known : Known} {goal : FormulaView} {u v : Term} → Derivable known goal u v
     → (psi : List Constraint) (facts : List StatePred) (hs : List Hypothesis)
     → EntailsAll psi known.constraints → Includes facts known.facts → Includes hs known.hypotheses
     → Derivable (given psi facts hs known) goal u v
@@ -215,7 +215,7 @@ Derivable-richer {known = known} {u = u} {v = v} derivable psi facts hs constrai
     u v (Entails-itself psi u) (Entails-itself psi v)
 
 -- on a shorter interval
-pub Derivable-within : (known : Known) (goal : Form) (u v x y : Term) → IsNotAfter known u x → IsNotAfter known y v → Derivable known goal u v → Derivable known goal x y
+pub Derivable-within : (known : Known) (goal : FormulaView) (u v x y : Term) → IsNotAfter known u x → IsNotAfter known y v → Derivable known goal u v → Derivable known goal x y
 Derivable-within known goal u v x y begins ends derivable = Derivable-supported derivable known (Supports-itself known) x y begins ends
 
 IsAtLeastAsStrong-transitive : (k other third : Term) → IsAtLeastAsStrong k other → IsAtLeastAsStrong other third → IsAtLeastAsStrong k third
@@ -224,7 +224,7 @@ IsAtLeastAsStrong-transitive k other third = ⊎_elim
     (λ is_loc strong. inr is_loc)
 
 -- in the view of a weaker principal, over a shorter interval
-pub Derivable-in_view : (known : Known) (view : View) (goal : Form) (u v : Term)
+pub Derivable-in_view : (known : Known) (view : View) (goal : FormulaView) (u v : Term)
     → IsAtLeastAsStrong known.view.who view.who → IsNotAfter known known.view.from view.from → IsNotAfter known view.to known.view.to
     → Derivable known goal u v → Derivable (record known { view = view }) goal u v
 Derivable-in_view known view goal u v weaker begins ends derivable =
@@ -239,20 +239,20 @@ Derivable-in_view known view goal u v weaker begins ends derivable =
     })
     u v (Entails-itself known.constraints u) (Entails-itself known.constraints v)
 
-pub Derivable-more : (known : Known) (constraints : List Constraint) (facts : List StatePred) (hypotheses : List Hypothesis) (goal : Form) (u v : Term)
+pub Derivable-more : (known : Known) (constraints : List Constraint) (facts : List StatePred) (hypotheses : List Hypothesis) (goal : FormulaView) (u v : Term)
     → Includes constraints known.constraints → Includes facts known.facts → Includes hypotheses known.hypotheses
     → Derivable known goal u v → Derivable (given constraints facts hypotheses known) goal u v
 Derivable-more known constraints facts hypotheses goal u v more_constraints more_facts more_hypotheses derivable =
     Derivable-richer derivable constraints facts hypotheses
     (record { each = λ c among. Entails-constrained constraints c (more_constraints c among) }) more_facts more_hypotheses
 
-pub Derivable-entailed : (known : Known) (constraints : List Constraint) (goal : Form) (u v : Term)
+pub Derivable-entailed : (known : Known) (constraints : List Constraint) (goal : FormulaView) (u v : Term)
     → EntailsAll constraints known.constraints
     → Derivable known goal u v → Derivable (given constraints known.facts known.hypotheses known) goal u v
 Derivable-entailed known constraints goal u v all derivable =
     Derivable-richer derivable constraints known.facts known.hypotheses all (λ s among. among) (λ h among. among)
 
-pub Derivable-true : (known : Known) (low high : TimePoint) (goal : Form) (u v : Term)
+pub Derivable-true : (known : Known) (low high : TimePoint) (goal : FormulaView) (u v : Term)
     → IsUpTo low high
     → Derivable (bound (Time low) (Time high) known) goal u v → Derivable known goal u v
 Derivable-true known low high goal u v up_to derivable =

@@ -3,7 +3,7 @@ use Rattle.std.proofs.Common.{ℕ, List, [], ◌∷◌, inl, refl, ap, sym, subs
 use Rattle.bl_syntax.specs.declared.terms.TimePoint.{TimePoint}
 use Rattle.bl_syntax.specs.declared.terms.Term.{Term}
 use Rattle.bl_syntax.specs.declared.terms.Term.TheVariants.{Time}
-use Rattle.bl_syntax.specs.Formula.{Form, atom, implies, says}
+use Rattle.bl_syntax.specs.Formula.{FormulaView, atom, implies, says}
 use Rattle.bl_syntax.specs.TimeOrder.{IsUpTo}
 use Rattle.bl_syntax.specs.Terms.{IsAtLeastAsStrong}
 use Rattle.bl_syntax.specs.Entailment.{Entails}
@@ -12,22 +12,22 @@ use Rattle.std.proofs.lemmas.List.Elements.{Contains-push}
 use Rattle.bl_rules.specs.Sequent.{Hypothesis, holds, claims, View, Known, speak}
 use Rattle.bl_rules.specs.Derivable.{Assumes, Derivable, init, says_r, claim}
 use Rattle.bl_rules.specs.FromClauses.{IsOfClause, AssumesClauses, IsTrueOn, assumed, claimed, conditional, IsTrueWithin}
-use Rattle.bl_rules.specs.Examples.{assuming}
+use Rattle.bl_rules.specs.Examples.{one_hypothesis}
 use Rattle.bl_rules.proofs.Membership.{IsClaim, Contains-nothing, Contains-head}
 use Rattle.bl_rules.proofs.FromClausesLemmas.{Derivable-from_clauses}
 use Rattle.bl_rules.proofs.YieldLemmas.{IsUpTo-entailed, who_claims, from_of, to_of}
 use Rattle.bl_rules.proofs.ExampleLemmas.{Contains-one}
 
 -- without hypotheses nothing is true
-nothing_true : (known : Known) (a : Form) (from to : Term) → ((h : Hypothesis) → Assumes known h → ⊥) → IsTrueOn known a from to → ⊥
+nothing_true : (known : Known) (a : FormulaView) (from to : Term) → ((h : Hypothesis) → Assumes known h → ⊥) → IsTrueOn known a from to → ⊥
 nothing_true known _ _ _ none (assumed a from to among) = none (holds a from to) among
 nothing_true known _ _ _ none (claimed a from to k among strong begins ends) = none (claims k a from to) among
 nothing_true known _ _ _ none (conditional a from to guard first last is_true met from_time to_time begins ends) = nothing_true known (implies guard a) first last none is_true
 
 -- nor where the one hypothesis is a claim that does not count in the view
-claim_uncounted : (k : Term) (a : Form) (u v : Term) (view : View)
+claim_uncounted : (k : Term) (a : FormulaView) (u v : Term) (view : View)
     → (IsAtLeastAsStrong k view.who → Entails [] u view.from → Entails [] view.to v → ⊥)
-    → (b : Form) (from to : Term) → IsTrueOn (assuming (claims k a u v) view) b from to → ⊥
+    → (b : FormulaView) (from to : Term) → IsTrueOn (one_hypothesis (claims k a u v) view) b from to → ⊥
 claim_uncounted k a u v view uncounted _ _ _ (assumed b from to among) =
     absurd (subst IsClaim (Contains-one (claims k a u v) (holds b from to) among) tt)
 claim_uncounted k a u v view uncounted _ _ _ (claimed b from to j among strong begins ends) =
@@ -39,47 +39,47 @@ claim_uncounted k a u v view uncounted _ _ _ (conditional b from to guard first 
     claim_uncounted k a u v view uncounted (implies guard b) first last is_true
 
 module _ (name : List ℕ) (terms : List Term) where
-  abbrev fact : Form
+  abbrev fact : FormulaView
   fact = atom name terms
 
-  truth_is_of_clause : (u v : Term) (view : View) → AssumesClauses (assuming (holds fact u v) view)
+  truth_is_of_clause : (u v : Term) (view : View) → AssumesClauses (one_hypothesis (holds fact u v) view)
   truth_is_of_clause u v view h among = subst IsOfClause (Contains-one (holds fact u v) h among) tt
 
-  claim_is_of_clause : (k u v : Term) (view : View) → AssumesClauses (assuming (claims k fact u v) view)
+  claim_is_of_clause : (k u v : Term) (view : View) → AssumesClauses (one_hypothesis (claims k fact u v) view)
   claim_is_of_clause k u v view h among = subst IsOfClause (Contains-one (claims k fact u v) h among) tt
 
-  pub truth_holds : (u v : Term) (view : View) → Derivable (assuming (holds fact u v) view) fact u v
+  pub truth_holds : (u v : Term) (view : View) → Derivable (one_hypothesis (holds fact u v) view) fact u v
   truth_holds u v view = init u v (Contains-head (holds fact u v) (holds fact u v) [] refl) (Entails-itself [] u) (Entails-itself [] v)
 
-  pub truth_is_not_said : (u v : Term) (view : View) (k x y : Term) → Derivable (assuming (holds fact u v) view) (says k fact) x y → ⊥
+  pub truth_is_not_said : (u v : Term) (view : View) (k x y : Term) → Derivable (one_hypothesis (holds fact u v) view) (says k fact) x y → ⊥
   truth_is_not_said u v view k x y derivable =
-      let follows : IsTrueWithin (speak k x y (assuming (holds fact u v) view)) fact x y =
-      (Derivable-from_clauses (assuming (holds fact u v) view) (says k fact) x y (truth_is_of_clause u v view) tt).0 derivable in
-      nothing_true (speak k x y (assuming (holds fact u v) view)) fact follows.from follows.to (λ h among. Contains-nothing h among) follows.true_on
+      let follows : IsTrueWithin (speak k x y (one_hypothesis (holds fact u v) view)) fact x y =
+      (Derivable-from_clauses (one_hypothesis (holds fact u v) view) (says k fact) x y (truth_is_of_clause u v view) tt).0 derivable in
+      nothing_true (speak k x y (one_hypothesis (holds fact u v) view)) fact follows.from follows.to (λ h among. Contains-nothing h among) follows.true_on
 
-  pub claim_is_said : (k u v : Term) (view : View) → Derivable (assuming (claims k fact u v) view) (says k fact) u v
+  pub claim_is_said : (k u v : Term) (view : View) → Derivable (one_hypothesis (claims k fact u v) view) (says k fact) u v
   claim_is_said k u v view =
       says_r (claim k fact u v (Contains-head (claims k fact u v) (claims k fact u v) [] refl) (inl refl) (Entails-itself [] u) (Entails-itself [] v)
       (init u v (Contains-push (claims k fact u v ∷ []) (holds fact u v)) (Entails-itself [] u) (Entails-itself [] v)))
 
   uncounted_claim : (k u v : Term) (view : View) (x y : Term)
       → (IsAtLeastAsStrong k view.who → Entails [] u view.from → Entails [] view.to v → ⊥)
-      → Derivable (assuming (claims k fact u v) view) fact x y → ⊥
+      → Derivable (one_hypothesis (claims k fact u v) view) fact x y → ⊥
   uncounted_claim k u v view x y uncounted derivable =
-      let follows : IsTrueWithin (assuming (claims k fact u v) view) fact x y =
-      (Derivable-from_clauses (assuming (claims k fact u v) view) fact x y (claim_is_of_clause k u v view) tt).0 derivable in
+      let follows : IsTrueWithin (one_hypothesis (claims k fact u v) view) fact x y =
+      (Derivable-from_clauses (one_hypothesis (claims k fact u v) view) fact x y (claim_is_of_clause k u v view) tt).0 derivable in
       claim_uncounted k fact u v view uncounted fact follows.from follows.to follows.true_on
 
   pub weak_claim : (k u v : Term) (view : View) (x y : Term) → (IsAtLeastAsStrong k view.who → ⊥)
-      → Derivable (assuming (claims k fact u v) view) fact x y → ⊥
+      → Derivable (one_hypothesis (claims k fact u v) view) fact x y → ⊥
   weak_claim k u v view x y weak = uncounted_claim k u v view x y (λ strong begins ends. weak strong)
 
   pub late_claim : (k : Term) (from to first last : TimePoint) (x y : Term) → (IsUpTo from first → ⊥)
-      → Derivable (assuming (claims k fact (Time from) (Time to)) (record { who = k; from = Time first; to = Time last })) fact x y → ⊥
+      → Derivable (one_hypothesis (claims k fact (Time from) (Time to)) (record { who = k; from = Time first; to = Time last })) fact x y → ⊥
   late_claim k from to first last x y late =
       uncounted_claim k (Time from) (Time to) (record { who = k; from = Time first; to = Time last }) x y (λ strong begins ends. late (IsUpTo-entailed from first begins))
 
   pub short_claim : (k : Term) (from to first last : TimePoint) (x y : Term) → (IsUpTo last to → ⊥)
-      → Derivable (assuming (claims k fact (Time from) (Time to)) (record { who = k; from = Time first; to = Time last })) fact x y → ⊥
+      → Derivable (one_hypothesis (claims k fact (Time from) (Time to)) (record { who = k; from = Time first; to = Time last })) fact x y → ⊥
   short_claim k from to first last x y short =
       uncounted_claim k (Time from) (Time to) (record { who = k; from = Time first; to = Time last }) x y (λ strong begins ends. short (IsUpTo-entailed last to ends))

@@ -9,13 +9,13 @@ use Rattle.bl_syntax.specs.declared.terms.Term.{Term}
 use Rattle.bl_syntax.specs.declared.terms.Term.TheVariants.{Prin, File, Perm, Time, Text, Ctime, Param, Bound}
 use Rattle.bl_syntax.specs.declared.terms.StatePred.{StatePred}
 use Rattle.bl_syntax.specs.declared.terms.StatePred.TheVariants.{Owner, HasXattr, InDir}
-use Rattle.bl_syntax.specs.Formula.{Form, atom, compare, state, both, either, implies, truth, falsity, forall_, exists_, says, on}
+use Rattle.bl_syntax.specs.Formula.{FormulaView, atom, compare, state, both, either, implies, truth, falsity, forall_, exists_, says, on}
 use Rattle.bl_syntax.specs.Terms.{IsConstant, term_at, state_at}
 use Rattle.bl_syntax.specs.WellSorted.{terms_of_state}
-use Rattle.bl_syntax.specs.Statement.{Saying, AllTerms, IsNotCtime, IsStatement}
+use Rattle.bl_syntax.specs.Statement.{StatementView, AllTerms, IsNotCtime, IsStatement}
 use Rattle.bl_syntax.specs.Substitution.{formula_at}
 use Rattle.bl_syntax.specs.Entailment.{constants}
-use Rattle.bl_syntax.specs.Grant.{Granted, IsStateCondition, HoldsAt}
+use Rattle.bl_syntax.specs.Grant.{GrantView, IsStateCondition, HoldsAt}
 use Rattle.bl_syntax.proofs.EntailmentLemmas.{Entails-link, Entails-constrained}
 use Rattle.bl_rules.specs.Sequent.{Hypothesis, claims}
 use Rattle.bl_rules.specs.Allowed.{claim_of, claims_of, Allows, SoundGrant, IsDerivableUnderConditions}
@@ -50,7 +50,7 @@ module _ (moment : ℤ) where
   state_at-not_ctime (InDir file directory) h = ap₂ InDir (term_at-not_ctime file h.0) (term_at-not_ctime directory h.1.0)
 
   -- so is a formula
-  pub formula_at-not_ctime : (f : Form) → AllTerms IsNotCtime f → formula_at moment f ≡ f
+  pub formula_at-not_ctime : (f : FormulaView) → AllTerms IsNotCtime f → formula_at moment f ≡ f
   formula_at-not_ctime (atom name terms) h = ap (atom name) (terms_at-not_ctime terms h)
   formula_at-not_ctime (compare c) h = rw (term_at-not_ctime c.low h.0, term_at-not_ctime c.high h.1)
   formula_at-not_ctime (state s) h = ap state (state_at-not_ctime s h)
@@ -80,11 +80,11 @@ all_not_ctime [] h = tt
 all_not_ctime (t ∷ terms) h = (IsNotCtime-constant t h.0, all_not_ctime terms h.1)
 
 -- a claim of a statement is the same at each moment
-claim_at : (moment : ℤ) (statement : Saying) → IsStatement statement → hypothesis_at moment (claim_of statement) ≡ claim_of statement
+claim_at : (moment : ℤ) (statement : StatementView) → IsStatement statement → hypothesis_at moment (claim_of statement) ≡ claim_of statement
 claim_at moment statement is_statement =
-    ap (λ (body : Form). claims (Prin statement.who) body (Time statement.from) (Time statement.to)) (formula_at-not_ctime moment statement.body is_statement.no_ctime)
+    ap (λ (body : FormulaView). claims (Prin statement.who) body (Time statement.from) (Time statement.to)) (formula_at-not_ctime moment statement.body is_statement.no_ctime)
 
-claims_at : (moment : ℤ) (statements : List Saying) → AllByRecursion IsStatement statements
+claims_at : (moment : ℤ) (statements : List StatementView) → AllByRecursion IsStatement statements
     → (h : Hypothesis) → Contains (claims_of statements) h → Contains (claims_of statements) (hypothesis_at moment h)
 claims_at moment statements are_statements h among =
     let was = Contains-map_cases claim_of statements h among in
@@ -92,7 +92,7 @@ claims_at moment statements are_statements h among =
     subst (λ (g : Hypothesis). Contains (claims_of statements) g) (sym same ∙ ap (hypothesis_at moment) was.2) (Contains-map claim_of statements was.0 was.1)
 
 -- the bridge from a derivation that leaves the current time open, with the grant's conditions to build on, to a sound grant
-pub SoundGrant-from_conditions : (statements : List Saying) (granted : Granted)
+pub SoundGrant-from_conditions : (statements : List StatementView) (granted : GrantView)
     → AllByRecursion IsStatement statements → AllByRecursion IsStateCondition granted.states
     → IsDerivableUnderConditions statements granted
     → SoundGrant statements granted
@@ -109,7 +109,7 @@ SoundGrant-from_conditions statements granted are_statements are_conditions deri
 }
 
 -- more statements and more facts allow no less
-pub Allows-more : (statements more : List Saying) (facts more_facts : List StatePred) (moment : ℤ) (who : List ℕ) (file : NodeId) (permission : Permission)
+pub Allows-more : (statements more : List StatementView) (facts more_facts : List StatePred) (moment : ℤ) (who : List ℕ) (file : NodeId) (permission : Permission)
     → Includes more statements → Includes more_facts facts
     → Allows statements facts moment who file permission → Allows more more_facts moment who file permission
 Allows-more statements more facts more_facts moment who file permission includes includes_facts allowed =
@@ -119,7 +119,7 @@ Allows-more statements more facts more_facts moment who file permission includes
     subst (λ (g : Hypothesis). Contains (claims_of more) g) was.2 (Contains-map claim_of more was.0 (includes was.0 was.1)))
 
 -- a sound grant stays sound among more statements
-pub SoundGrant-more : (statements more : List Saying) (granted : Granted) → Includes more statements → SoundGrant statements granted → SoundGrant more granted
+pub SoundGrant-more : (statements more : List StatementView) (granted : GrantView) → Includes more statements → SoundGrant statements granted → SoundGrant more granted
 SoundGrant-more statements more granted includes sound = record {
   allows = λ moment facts conditions.
       Allows-more statements more facts facts moment granted.goal.who granted.goal.file granted.goal.perm includes (λ s among. among) (sound.allows moment facts conditions);

@@ -1,4 +1,4 @@
--- What is known, at a moment: the moment in the place of the current time, throughout.
+-- What is known, at a moment: the moment instead of the current time, throughout.
 use Rattle.std.specs.Prelude.{ℤ, map}
 use Rattle.bl_syntax.specs.Terms.{term_at, constraint_at, state_at}
 use Rattle.bl_syntax.specs.Substitution.{formula_at}

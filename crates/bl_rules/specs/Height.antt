@@ -2,7 +2,7 @@
 use Rattle.std.specs.Prelude.{◌⊎◌, ℕ, zero, suc, Contains}
 use Rattle.bl_syntax.specs.declared.terms.Sort.TheVariants.{Time}
 use Rattle.bl_syntax.specs.declared.terms.Term.{Term}
-use Rattle.bl_syntax.specs.Formula.{Form, atom, compare, state, both, either, implies, truth, falsity, forall_, exists_, says, on}
+use Rattle.bl_syntax.specs.Formula.{FormulaView, atom, compare, state, both, either, implies, truth, falsity, forall_, exists_, says, on}
 use Rattle.bl_syntax.specs.Terms.{IsAtLeastAsStrong}
 use Rattle.bl_syntax.specs.Substitution.{instance_at}
 use Rattle.bl_rules.specs.Sequent.{holds, claims, Known, learn, bound, observe, declare, new_parameter, new_start, new_end, suppose, speak}
@@ -10,7 +10,7 @@ use Rattle.bl_rules.specs.Derivable.{Assumes, IsNotAfter, IsOfSort}
 
 -- which sequents are shown
 abbrev pub Shown : Type 1
-Shown = Known → Form → Term → Term → Type 0
+Shown = Known → FormulaView → Term → Term → Type 0
 
 -- by the goal
 abbrev pub ByGoal : Shown → Shown
@@ -28,7 +28,7 @@ ByGoal Show known (says k a) u v = Show (speak k u v known) a u v
 ByGoal Show known (on a from to) u v = Show known a from to
 
 -- by a truth of this formula on this interval, the goal staying
-abbrev pub FromTruth : Shown → Known → Form → Term → Term → Form → Term → Term → Type 0
+abbrev pub FromTruth : Shown → Known → FormulaView → Term → Term → FormulaView → Term → Term → Type 0
 FromTruth Show known (atom name terms) from to goal u v = ⊥
 FromTruth Show known (compare c) from to goal u v = Show (bound c.low c.high known) goal u v
 FromTruth Show known (state s) from to goal u v = Show (observe s known) goal u v
@@ -46,12 +46,12 @@ FromTruth Show known (on a x y) from to goal u v = Show (learn (holds a x y) kno
 
 -- by some truth that is known
 abbrev pub ByTruth : Shown → Shown
-ByTruth Show known goal u v = (a : Form) × (from : Term) × (to : Term) × Assumes known (holds a from to) × FromTruth Show known a from to goal u v
+ByTruth Show known goal u v = (a : FormulaView) × (from : Term) × (to : Term) × Assumes known (holds a from to) × FromTruth Show known a from to goal u v
 
 -- by some claim that counts
 abbrev pub ByClaim : Shown → Shown
 ByClaim Show known goal u v =
-    (k : Term) × (a : Form) × (from : Term) × (to : Term) × Assumes known (claims k a from to)
+    (k : Term) × (a : FormulaView) × (from : Term) × (to : Term) × Assumes known (claims k a from to)
     × IsAtLeastAsStrong k known.view.who × IsNotAfter known from known.view.from × IsNotAfter known known.view.to to
     × Show (learn (holds a from to) known) goal u v
 

@@ -10,7 +10,7 @@ use Rattle.bl_syntax.specs.declared.terms.Term.TheVariants.{Prin, File, Perm, Ti
 use Rattle.bl_syntax.specs.declared.terms.StatePred.{StatePred}
 use Rattle.bl_syntax.specs.declared.terms.StatePred.TheVariants.{Owner, HasXattr, InDir}
 use Rattle.bl_syntax.specs.declared.terms.Constraint.{Constraint}
-use Rattle.bl_syntax.specs.Formula.{Form, atom, compare, state, both, either, implies, truth, falsity, forall_, exists_, says, on}
+use Rattle.bl_syntax.specs.Formula.{FormulaView, atom, compare, state, both, either, implies, truth, falsity, forall_, exists_, says, on}
 use Rattle.bl_syntax.specs.TimeOrder.{IsUpTo}
 use Rattle.bl_syntax.specs.Terms.{IsConstant, IsAtLeastAsStrong, sort_of}
 use Rattle.bl_syntax.specs.WellSorted.{terms_of_state}
@@ -75,7 +75,7 @@ pub record IsConstantOf (s : Sort) (t : Term) : Type 0 where
   pub sort : sort_of [] [] t ≡ Some s
 
 -- the formula is true in the world from u to v
-abbrev pub IsTrueIn : Model → Values → List Term → ℕ → Form → TimePoint → TimePoint → Type 0
+abbrev pub IsTrueIn : Model → Values → List Term → ℕ → FormulaView → TimePoint → TimePoint → Type 0
 IsTrueIn m params bounds world (atom name terms) u v = IsTrue (m.is_true world name (map (value m params bounds) terms) u v)
 IsTrueIn m params bounds world (compare c) u v = IsUpTo (time_value m params bounds c.low) (time_value m params bounds c.high)
 IsTrueIn m params bounds world (state s) u v = IsTrue (m.is_fact (state_value m params bounds s))
@@ -105,31 +105,31 @@ pub record IsTrueKnown (m : Model) (params : Values) (world : ℕ) (known : Know
   pub view : IsTrue (m.heeds world (value m params [] known.view.who) (time_value m params [] known.view.from) (time_value m params [] known.view.to))
 
 -- its parameter, if it is one, has a lesser number
-abbrev pub IsBelow : ℕ → Term → Type 0
-IsBelow count (Prin name) = Unit {0}
-IsBelow count (File number) = Unit {0}
-IsBelow count (Perm permission) = Unit {0}
-IsBelow count (Time point) = Unit {0}
-IsBelow count (Text constant) = Unit {0}
-IsBelow count Ctime = Unit {0}
-IsBelow count (Param n) = n < count
-IsBelow count (Bound n) = Unit {0}
+abbrev pub IsParameterBelow : ℕ → Term → Type 0
+IsParameterBelow count (Prin name) = Unit {0}
+IsParameterBelow count (File number) = Unit {0}
+IsParameterBelow count (Perm permission) = Unit {0}
+IsParameterBelow count (Time point) = Unit {0}
+IsParameterBelow count (Text constant) = Unit {0}
+IsParameterBelow count Ctime = Unit {0}
+IsParameterBelow count (Param n) = n < count
+IsParameterBelow count (Bound n) = Unit {0}
 
 abbrev pub IsHypothesisBelow : ℕ → Hypothesis → Type 0
-IsHypothesisBelow count (holds a u v) = AllTerms (IsBelow count) a × IsBelow count u × IsBelow count v
-IsHypothesisBelow count (claims k a u v) = IsBelow count k × AllTerms (IsBelow count) a × IsBelow count u × IsBelow count v
+IsHypothesisBelow count (holds a u v) = AllTerms (IsParameterBelow count) a × IsParameterBelow count u × IsParameterBelow count v
+IsHypothesisBelow count (claims k a u v) = IsParameterBelow count k × AllTerms (IsParameterBelow count) a × IsParameterBelow count u × IsParameterBelow count v
 
 -- all parameters in it are declared
-pub record IsDeclared (known : Known) : Type 0 where
-  pub constraints : (c : Constraint) → Contains known.constraints c → IsBelow (length known.sorts) c.low × IsBelow (length known.sorts) c.high
-  pub facts : (s : StatePred) → Contains known.facts s → AllByRecursion (IsBelow (length known.sorts)) (terms_of_state s)
+pub record AreParametersDeclared (known : Known) : Type 0 where
+  pub constraints : (c : Constraint) → Contains known.constraints c → IsParameterBelow (length known.sorts) c.low × IsParameterBelow (length known.sorts) c.high
+  pub facts : (s : StatePred) → Contains known.facts s → AllByRecursion (IsParameterBelow (length known.sorts)) (terms_of_state s)
   pub hypotheses : (h : Hypothesis) → Contains known.hypotheses h → IsHypothesisBelow (length known.sorts) h
-  pub who : IsBelow (length known.sorts) known.view.who
-  pub from : IsBelow (length known.sorts) known.view.from
-  pub to : IsBelow (length known.sorts) known.view.to
+  pub who : IsParameterBelow (length known.sorts) known.view.who
+  pub from : IsParameterBelow (length known.sorts) known.view.from
+  pub to : IsParameterBelow (length known.sorts) known.view.to
 
 -- and so in the goal
-pub record IsGoalDeclared (known : Known) (goal : Form) (u v : Term) : Type 0 where
-  pub formula : AllTerms (IsBelow (length known.sorts)) goal
-  pub from : IsBelow (length known.sorts) u
-  pub to : IsBelow (length known.sorts) v
+pub record IsGoalDeclared (known : Known) (goal : FormulaView) (u v : Term) : Type 0 where
+  pub formula : AllTerms (IsParameterBelow (length known.sorts)) goal
+  pub from : IsParameterBelow (length known.sorts) u
+  pub to : IsParameterBelow (length known.sorts) v

@@ -10,12 +10,12 @@ use Rattle.bl_syntax.specs.declared.terms.Term.{Term}
 use Rattle.bl_syntax.specs.declared.terms.Term.TheVariants.{Param}
 use Rattle.bl_syntax.specs.declared.terms.StatePred.{StatePred}
 use Rattle.bl_syntax.specs.declared.terms.Constraint.{Constraint}
-use Rattle.bl_syntax.specs.Formula.{Form}
+use Rattle.bl_syntax.specs.Formula.{FormulaView}
 
 -- a truth, `A o [u,v]`: A holds from u to v. Or a claim, `K claims A o [u,v]`: the principal K claims that A holds from u to v
 pub data Hypothesis : Type 0 where
-  holds : Form → Term → Term → Hypothesis
-  claims : Term → Form → Term → Term → Hypothesis
+  holds : FormulaView → Term → Term → Hypothesis
+  claims : Term → FormulaView → Term → Term → Hypothesis
 
 -- whose claims count as truths, those of principals at least as strong; and for which interval
 pub record View : Type 0 where
@@ -59,7 +59,7 @@ abbrev pub new_end : Known → Term
 new_end known = new_parameter (declare Time known)
 
 -- with A on a new interval, of which it is known that it lies within that from u to v
-abbrev pub suppose : Form → Term → Term → Known → Known
+abbrev pub suppose : FormulaView → Term → Term → Known → Known
 suppose a u v known = learn (holds a (new_start known) (new_end known)) (bound (new_end known) v (bound u (new_start known) (declare Time (declare Time known))))
 
 -- the claims among the hypotheses

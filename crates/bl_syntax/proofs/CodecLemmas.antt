@@ -5,7 +5,7 @@ use Rattle.std.proofs.lemmas.Bool.{false≢true}
 use Rattle.std.proofs.lemmas.List.{drop_at, length-append}
 use Rattle.bl_syntax.specs.declared.codec_fault.CodecFault.{CodecFault}
 use Rattle.bl_syntax.specs.declared.codec_fault.CodecFault.TheVariants as faults
-use Rattle.bl_syntax.specs.Reading.{◌>>=◌, Reading, made, reading}
+use Rattle.bl_syntax.specs.Reading.{◌>>=◌, Reading, map_reading, reading}
 use Rattle.bl_syntax.specs.Codec.{AreBytes, IsCodec, ReadsFront}
 
 -- the value of a step that did not fail
@@ -24,17 +24,17 @@ done x = Ok x
 pub ok_is : {A : Type 0} (x y : A) → done x ≡ done y → x ≡ y
 ok_is x y e = cc
 
--- a step that fails for want of memory: the first, or the second
+-- a step that fails because memory runs out: the first, or the second
 pub bind_memoryless : {A B : Type 0} (r : Result A CodecFault) (f : A → Result B CodecFault) → (r ≡ Err faults.NoMemory → ⊥) → ((x : A) → f x ≡ Err faults.NoMemory → ⊥) → (r >>= f) ≡ Err faults.NoMemory → ⊥
 bind_memoryless (Ok x) f first second e = second x e
 bind_memoryless (Err d) f first second e = first cc
 
-pub made_memoryless : {A B R : Type 0} (f : A → B) (r : Result (A × R) CodecFault) → (r ≡ Err faults.NoMemory → ⊥) → made f r ≡ Err faults.NoMemory → ⊥
+pub made_memoryless : {A B R : Type 0} (f : A → B) (r : Result (A × R) CodecFault) → (r ≡ Err faults.NoMemory → ⊥) → map_reading f r ≡ Err faults.NoMemory → ⊥
 made_memoryless f (Ok x) first e = cc
 made_memoryless f (Err d) first e = first cc
 
 -- what is made of something that is read
-pub made_ok : {A B R : Type 0} (f : A → B) (r : Result (A × R) CodecFault) (y : B) (rest : R) → made f r ≡ Ok (y, rest) → (x : A) × (r ≡ Ok (x, rest)) × (f x ≡ y)
+pub made_ok : {A B R : Type 0} (f : A → B) (r : Result (A × R) CodecFault) (y : B) (rest : R) → map_reading f r ≡ Ok (y, rest) → (x : A) × (r ≡ Ok (x, rest)) × (f x ≡ y)
 made_ok {B = B} {R = R} f (Ok x) y rest e =
     let pair = ok_is (f x.0, x.1) (y, rest) e in
     (x.0, ap (λ (end : R). Ok (x.0, end)) (ap (λ (p : B × R). p.1) pair), ap (λ (p : B × R). p.0) pair)
@@ -43,7 +43,7 @@ made_ok f (Err d) y rest e = absurd cc
 pub AreBytes-rest : (byte : ℕ) (bytes : List ℕ) → AreBytes (byte ∷ bytes) → AreBytes bytes
 AreBytes-rest byte bytes h i = h (suc i)
 
--- bytes behind others
+-- bytes after others
 pub AreBytes-behind : (front rest : List ℕ) → AreBytes (front ++ rest) → AreBytes rest
 AreBytes-behind [] rest h = h
 AreBytes-behind (byte ∷ front) rest h = AreBytes-behind front rest (AreBytes-rest byte (front ++ rest) h)

@@ -15,7 +15,7 @@ use Rattle.bl_syntax.specs.TimeOrder.{IsUpTo, IsInRange}
 use Rattle.bl_syntax.specs.Terms.{IsConstant, HasTimeInRange}
 use Rattle.bl_syntax.specs.WellSorted.{terms_of_state}
 use Rattle.bl_syntax.specs.Grant.{IsCtimeOrConstant, IsTimeCondition, IsStateCondition}
-use Rattle.bl_syntax.specs.ConditionTests.{is_at_most, is_up_to, is_in_range, is_constant, is_ctime, is_time_condition, is_state_condition}
+use Rattle.bl_syntax.specs.ConditionTests.{is_at_most, is_up_to, is_in_range, is_constant_in_range, is_ctime, is_time_condition, is_state_condition}
 
 pub both_true : (x y : Bool) → (x && y) ≡ true → (x ≡ true) × (y ≡ true)
 both_true true true e = (refl, refl)
@@ -45,7 +45,7 @@ in_range (At second) e =
     record { not_before = (Decides-is_at_most _ second).0 parts.0; not_after = (Decides-is_at_most second _).0 parts.1 }
 in_range PosInf e = tt
 
-pub constant_in_range : (t : Term) → is_constant t ≡ true → IsConstant t × HasTimeInRange t
+pub constant_in_range : (t : Term) → is_constant_in_range t ≡ true → IsConstant t × HasTimeInRange t
 constant_in_range (Prin name) e = (tt, tt)
 constant_in_range (File number) e = (tt, tt)
 constant_in_range (Perm permission) e = (tt, tt)
@@ -59,16 +59,16 @@ the_current_time : (t : Term) → is_ctime t ≡ true → t ≡ Ctime
 the_current_time Ctime e = refl
 the_current_time _ e = absurd (false≢true e)
 
-ctime_or_constant : (t : Term) → (is_ctime t || is_constant t) ≡ true → IsCtimeOrConstant t × HasTimeInRange t
+ctime_or_constant : (t : Term) → (is_ctime t || is_constant_in_range t) ≡ true → IsCtimeOrConstant t × HasTimeInRange t
 ctime_or_constant t e = ⊎_elim
     (λ (ctime : is_ctime t ≡ true). let same = the_current_time t ctime in (inl same, subst HasTimeInRange (sym same) tt))
-    (λ (constant : is_constant t ≡ true). let found = constant_in_range t constant in (inr found.0, found.1))
-    (either_true (is_ctime t) (is_constant t) e)
+    (λ (constant : is_constant_in_range t ≡ true). let found = constant_in_range t constant in (inr found.0, found.1))
+    (either_true (is_ctime t) (is_constant_in_range t) e)
 
 pub IsTimeCondition-from_test : (c : Constraint) → is_time_condition c ≡ true → IsTimeCondition c
 IsTimeCondition-from_test c e =
     let parts = both_true (is_ctime c.low || is_ctime c.high) _ e in
-    let sides = both_true (is_ctime c.low || is_constant c.low) (is_ctime c.high || is_constant c.high) parts.1 in
+    let sides = both_true (is_ctime c.low || is_constant_in_range c.low) (is_ctime c.high || is_constant_in_range c.high) parts.1 in
     let low = ctime_or_constant c.low sides.0 in
     let high = ctime_or_constant c.high sides.1 in
     record {
@@ -79,10 +79,10 @@ IsTimeCondition-from_test c e =
       high_in_range = high.1;
     }
 
-constants_in_range : (terms : List Term) → list_all is_constant terms ≡ true → AllByRecursion IsConstant terms × AllByRecursion HasTimeInRange terms
+constants_in_range : (terms : List Term) → list_all is_constant_in_range terms ≡ true → AllByRecursion IsConstant terms × AllByRecursion HasTimeInRange terms
 constants_in_range [] e = (tt, tt)
 constants_in_range (t ∷ terms) e =
-    let parts = both_true (is_constant t) (list_all is_constant terms) e in
+    let parts = both_true (is_constant_in_range t) (list_all is_constant_in_range terms) e in
     let here = constant_in_range t parts.0 in
     let rest = constants_in_range terms parts.1 in
     ((here.0, rest.0), (here.1, rest.1))
@@ -113,7 +113,7 @@ Decides-is_in_range (At second) = (
 )
 Decides-is_in_range PosInf = (λ e. tt, λ h. refl)
 
-constant_told : (t : Term) → IsConstant t → HasTimeInRange t → is_constant t ≡ true
+constant_told : (t : Term) → IsConstant t → HasTimeInRange t → is_constant_in_range t ≡ true
 constant_told (Prin name) constant in_range = refl
 constant_told (File number) constant in_range = refl
 constant_told (Perm permission) constant in_range = refl
@@ -126,28 +126,28 @@ constant_told (Bound n) constant in_range = absurd constant
 ctime_told : (t : Term) → t ≡ Ctime → is_ctime t ≡ true
 ctime_told t e = ap (λ (u : Term). is_ctime u) e
 
-side_told : (t : Term) → IsCtimeOrConstant t → HasTimeInRange t → (is_ctime t || is_constant t) ≡ true
+side_told : (t : Term) → IsCtimeOrConstant t → HasTimeInRange t → (is_ctime t || is_constant_in_range t) ≡ true
 side_told t side in_range = ⊎_elim
-    (λ (ctime : t ≡ Ctime). first_of_two (is_ctime t) (is_constant t) (ctime_told t ctime))
-    (λ (constant : IsConstant t). second_of_two (is_ctime t) (is_constant t) (constant_told t constant in_range))
+    (λ (ctime : t ≡ Ctime). first_of_two (is_ctime t) (is_constant_in_range t) (ctime_told t ctime))
+    (λ (constant : IsConstant t). second_of_two (is_ctime t) (is_constant_in_range t) (constant_told t constant in_range))
     side
 
 pub Decides-time_condition : (c : Constraint) → Decides (is_time_condition c) (IsTimeCondition c)
 Decides-time_condition c = (
   IsTimeCondition-from_test c,
   λ h.
-      both (is_ctime c.low || is_ctime c.high) ((is_ctime c.low || is_constant c.low) && (is_ctime c.high || is_constant c.high))
+      both (is_ctime c.low || is_ctime c.high) ((is_ctime c.low || is_constant_in_range c.low) && (is_ctime c.high || is_constant_in_range c.high))
       (⊎_elim
       (λ (low : c.low ≡ Ctime). first_of_two (is_ctime c.low) (is_ctime c.high) (ctime_told c.low low))
       (λ (high : c.high ≡ Ctime). second_of_two (is_ctime c.low) (is_ctime c.high) (ctime_told c.high high))
       h.of_ctime)
-      (both (is_ctime c.low || is_constant c.low) (is_ctime c.high || is_constant c.high) (side_told c.low h.low h.low_in_range) (side_told c.high h.high h.high_in_range)),
+      (both (is_ctime c.low || is_constant_in_range c.low) (is_ctime c.high || is_constant_in_range c.high) (side_told c.low h.low h.low_in_range) (side_told c.high h.high h.high_in_range)),
 )
 
-constants_told : (terms : List Term) → AllByRecursion IsConstant terms → AllByRecursion HasTimeInRange terms → list_all is_constant terms ≡ true
+constants_told : (terms : List Term) → AllByRecursion IsConstant terms → AllByRecursion HasTimeInRange terms → list_all is_constant_in_range terms ≡ true
 constants_told [] constants in_range = refl
 constants_told (t ∷ terms) constants in_range =
-    both (is_constant t) (list_all is_constant terms) (constant_told t constants.0 in_range.0) (constants_told terms constants.1 in_range.1)
+    both (is_constant_in_range t) (list_all is_constant_in_range terms) (constant_told t constants.0 in_range.0) (constants_told terms constants.1 in_range.1)
 
 pub Decides-state_condition : (s : StatePred) → Decides (is_state_condition s) (IsStateCondition s)
 Decides-state_condition s = (IsStateCondition-from_test s, λ h. constants_told (terms_of_state s) h.constants h.times_in_range)

@@ -136,6 +136,6 @@ Entails-under f fixed psi u v (chained p) = chained (chain_under f fixed psi p)
 Entails-under f fixed psi u v (contradicted k) =
     contradicted (record { greater = k.greater; lesser = k.lesser; chain = rw (← fixed k.greater, ← fixed k.lesser) (chain_under f fixed psi k.chain); out_of_order = k.out_of_order })
 
--- a moment in the place of the current time keeps it
+-- a moment instead of the current time keeps it
 pub Entails-at : (moment : ℤ) (psi : List Constraint) (u v : Term) → Entails psi u v → Entails (map (constraint_at moment) psi) (term_at moment u) (term_at moment v)
 Entails-at moment = Entails-under (term_at moment) (λ t. refl)

@@ -16,8 +16,8 @@ use Rattle.bl_syntax.specs.declared.terms.Perm.TheVariants as permissions
 use Rattle.bl_syntax.specs.declared.terms.TimePoint.{TimePoint}
 use Rattle.bl_syntax.specs.declared.terms.TimePoint.TheVariants.{NegInf, At, PosInf}
 use Rattle.bl_syntax.specs.TimeOrder.{IsMoment, IsInRange}
-use Rattle.bl_syntax.specs.Spelling.{counted, permission_code, sort_code, time_spelling}
-use Rattle.bl_syntax.specs.Reading.{place, number_at, counted_at, word_at, is_moment, moment_at, time_at, permission_of, sort_of, looked_up, coded_at}
+use Rattle.bl_syntax.specs.Spelling.{with_length, permission_code, sort_code, time_spelling}
+use Rattle.bl_syntax.specs.Reading.{place, number_at, with_length_at, word_at, is_moment, moment_at, time_at, permission_of, sort_of, look_up, coded_at}
 use Rattle.bl_syntax.specs.Codec.{AreBytes}
 use Rattle.bl_syntax.proofs.CodecLemmas.{bind_ok, by_test, ok_is, bind_memoryless, AreBytes-rest}
 
@@ -87,8 +87,8 @@ number_memoryless w bytes e = test_memoryless (ltb (length bytes) (byte_len w)) 
 
 -- ---- words
 
-counted_found : (least most input : ℕ) (bytes word rest : List ℕ) → counted_at least most input bytes ≡ Ok (word, rest) → bytes ≡ counted word ++ rest
-unfolding counted_at
+counted_found : (least most input : ℕ) (bytes word rest : List ℕ) → with_length_at least most input bytes ≡ Ok (word, rest) → bytes ≡ with_length word ++ rest
+unfolding with_length_at
 counted_found least most input [] word rest e = absurd cc
 counted_found least most input (len ∷ more) word rest e =
     by_test (ltb len least) _ _ _ e (λ _ fault. absurd cc) (λ _ e1.
@@ -101,36 +101,36 @@ counted_found least most input (len ∷ more) word rest e =
     let count : length (take len more) ≡ len = omega (arith, length-take len more) in
     rw (← word-is, ← rest-is, count, take-append-drop len more) refl)))
 
-counted_again : (least most input : ℕ) (word rest : List ℕ) → least ≤ length word → length word ≤ most → counted_at least most input (counted word ++ rest) ≡ Ok (word, rest)
-unfolding counted_at
+counted_again : (least most input : ℕ) (word rest : List ℕ) → least ≤ length word → length word ≤ most → with_length_at least most input (with_length word ++ rest) ≡ Ok (word, rest)
+unfolding with_length_at
 counted_again least most input word rest low high =
     let not_less : ltb (length word) least ≡ false = le-ltb _ _ low in
     let not_more : ltb most (length word) ≡ false = le-ltb _ _ high in
     let enough : ltb (length (word ++ rest)) (length word) ≡ false = le-ltb _ _ (omega (arith, length-append word rest)) in
     rw (not_less, not_more, enough, take_at word rest (length word) refl, drop_at word rest (length word) refl) refl
 
-counted_memoryless : (least most input : ℕ) (bytes : List ℕ) → counted_at least most input bytes ≡ Err faults.NoMemory → ⊥
-unfolding counted_at
+counted_memoryless : (least most input : ℕ) (bytes : List ℕ) → with_length_at least most input bytes ≡ Err faults.NoMemory → ⊥
+unfolding with_length_at
 counted_memoryless least most input [] e = cc
 counted_memoryless least most input (len ∷ more) e =
     test_memoryless (ltb len least) _ _ (λ h. cc) (λ e1. test_memoryless (ltb most len) _ _ (λ h. cc) (λ e2. test_memoryless (ltb (length more) len) _ _ (λ h. cc) (λ h. cc) e2) e1) e
 
-pub word_found : (least most : ℕ) (is_word : List ℕ → Bool) (input : ℕ) (bytes rest word : List ℕ) → AreBytes bytes → word_at least most is_word input bytes ≡ Ok (word, rest) → IsTrue (is_word word) × (bytes ≡ counted word ++ rest)
+pub word_found : (least most : ℕ) (is_word : List ℕ → Bool) (input : ℕ) (bytes rest word : List ℕ) → AreBytes bytes → word_at least most is_word input bytes ≡ Ok (word, rest) → IsTrue (is_word word) × (bytes ≡ with_length word ++ rest)
 unfolding word_at
 word_found least most is_word input bytes rest word fits e =
-    let a = bind_ok (counted_at least most input bytes) (λ w. cond (is_word w.0) (Ok w) (Err (NotCanonical (place input bytes)))) (word, rest) e in
+    let a = bind_ok (with_length_at least most input bytes) (λ w. cond (is_word w.0) (Ok w) (Err (NotCanonical (place input bytes)))) (word, rest) e in
     by_test (is_word a.0.0) _ _ _ a.2 (λ is found.
     let pair = ok_is a.0 (word, rest) found in
-    subst (λ (p : List ℕ × List ℕ). IsTrue (is_word p.0) × (bytes ≡ counted p.0 ++ p.1)) pair (is, counted_found least most input bytes a.0.0 a.0.1 a.1)) (λ _ fault. absurd cc)
+    subst (λ (p : List ℕ × List ℕ). IsTrue (is_word p.0) × (bytes ≡ with_length p.0 ++ p.1)) pair (is, counted_found least most input bytes a.0.0 a.0.1 a.1)) (λ _ fault. absurd cc)
 
-pub word_again : (least most : ℕ) (is_word : List ℕ → Bool) (input : ℕ) (word rest : List ℕ) → least ≤ length word → length word ≤ most → IsTrue (is_word word) → word_at least most is_word input (counted word ++ rest) ≡ Ok (word, rest)
+pub word_again : (least most : ℕ) (is_word : List ℕ → Bool) (input : ℕ) (word rest : List ℕ) → least ≤ length word → length word ≤ most → IsTrue (is_word word) → word_at least most is_word input (with_length word ++ rest) ≡ Ok (word, rest)
 unfolding word_at
 word_again least most is_word input word rest low high h = rw (counted_again least most input word rest low high, h) refl
 
 pub word_memoryless : (least most : ℕ) (is_word : List ℕ → Bool) (input : ℕ) (bytes : List ℕ) → word_at least most is_word input bytes ≡ Err faults.NoMemory → ⊥
 unfolding word_at
 word_memoryless least most is_word input bytes e =
-    bind_memoryless (counted_at least most input bytes) (λ w. cond (is_word w.0) (Ok w) (Err (NotCanonical (place input bytes)))) (counted_memoryless least most input bytes)
+    bind_memoryless (with_length_at least most input bytes) (λ w. cond (is_word w.0) (Ok w) (Err (NotCanonical (place input bytes)))) (counted_memoryless least most input bytes)
     (λ w h. test_memoryless (is_word w.0) _ _ (λ k. cc) (λ k. cc) h) e
 
 -- ---- points in time
@@ -196,7 +196,7 @@ time_memoryless input (kind ∷ more) e =
 
 -- ---- bytes with a table
 
-looked_found : {A : Type 0} (o : Option A) (more rest : List ℕ) (fault : CodecFault) (x : A) → looked_up o more fault ≡ Ok (x, rest) → (o ≡ Some x) × (more ≡ rest)
+looked_found : {A : Type 0} (o : Option A) (more rest : List ℕ) (fault : CodecFault) (x : A) → look_up o more fault ≡ Ok (x, rest) → (o ≡ Some x) × (more ≡ rest)
 looked_found None more rest fault x e = absurd cc
 looked_found {A} (Some y) more rest fault x e =
     let pair = ok_is (y, more) (x, rest) e in
@@ -215,7 +215,7 @@ pub coded_again : {A : Type 0} (table : ℕ → Option A) (code : A → ℕ) →
 unfolding coded_at
 coded_again table code again input x rest = rw (again x) refl
 
-looked_memoryless : {A : Type 0} (o : Option A) (more : List ℕ) (place : ℕ) → looked_up o more (BadTag place) ≡ Err faults.NoMemory → ⊥
+looked_memoryless : {A : Type 0} (o : Option A) (more : List ℕ) (place : ℕ) → look_up o more (BadTag place) ≡ Err faults.NoMemory → ⊥
 looked_memoryless None more place e = cc
 looked_memoryless (Some y) more place e = cc
 

@@ -6,7 +6,7 @@ use Rattle.std.proofs.lemmas.List.Elements.{Contains-push_cases, Contains-append
 use Rattle.bl_syntax.specs.declared.terms.Constraint.{Constraint}
 use Rattle.bl_syntax.specs.declared.terms.StatePred.{StatePred}
 use Rattle.bl_syntax.specs.declared.grant.Goal.{Goal}
-use Rattle.bl_syntax.specs.Grant.{Granted, IsGrant, IsTimeCondition, IsStateCondition, AreDistinct}
+use Rattle.bl_syntax.specs.Grant.{GrantView, IsGrant, IsTimeCondition, IsStateCondition, AreDistinct}
 
 pub AllByRecursion-push : {X : Type 0} (P : X → Type 0) (xs : List X) (x : X) → AllByRecursion P xs → P x → AllByRecursion P (xs ++ x ∷ [])
 AllByRecursion-push P [] x all here = (here, tt)
@@ -23,7 +23,7 @@ AreDistinct-push (y ∷ ys) x distinct new = (
   AreDistinct-push ys x distinct.1 (λ h. new (Contains-append_right (y ∷ []) ys x h)),
 )
 
-abbrev pub granted : Goal → List Constraint → List StatePred → Granted
+abbrev pub granted : Goal → List Constraint → List StatePred → GrantView
 granted goal times states = record { goal = goal; times = times; states = states }
 
 pub IsGrant-push_time : (goal : Goal) (times : List Constraint) (states : List StatePred) (c : Constraint)

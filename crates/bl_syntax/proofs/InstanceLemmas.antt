@@ -10,7 +10,7 @@ use Rattle.bl_syntax.specs.declared.terms.Term.{Term}
 use Rattle.bl_syntax.specs.declared.terms.Term.TheVariants.{Prin, File, Perm, Time, Text, Ctime, Param, Bound}
 use Rattle.bl_syntax.specs.declared.terms.StatePred.{StatePred}
 use Rattle.bl_syntax.specs.declared.terms.StatePred.TheVariants.{Owner, HasXattr, InDir}
-use Rattle.bl_syntax.specs.Formula.{Form, atom, compare, state, both, either, implies, truth, falsity, forall_, exists_, says, on}
+use Rattle.bl_syntax.specs.Formula.{FormulaView, atom, compare, state, both, either, implies, truth, falsity, forall_, exists_, says, on}
 use Rattle.bl_syntax.specs.Terms.{sort_of, HasTimeInRange}
 use Rattle.bl_syntax.specs.WellSorted.{HasSort, IsInScope, HaveSorts, IsSortedState, IsWellSorted, sorts_of_may, terms_of_state, size, widest_atom}
 use Rattle.bl_syntax.specs.Statement.{AllTerms}
@@ -97,7 +97,7 @@ IsSortedState-put_in parameters inner s t sorted (InDir file directory) h =
 
 -- ---- formulas
 
-pub IsWellSorted-put_in : (parameters inner : List Sort) (s : Sort) (t : Term) → HasSort parameters [] s t → (f : Form) → IsWellSorted parameters (inner ++ s ∷ []) f → IsWellSorted parameters inner (put_in (length inner) t f)
+pub IsWellSorted-put_in : (parameters inner : List Sort) (s : Sort) (t : Term) → HasSort parameters [] s t → (f : FormulaView) → IsWellSorted parameters (inner ++ s ∷ []) f → IsWellSorted parameters inner (put_in (length inner) t f)
 IsWellSorted-put_in parameters inner s t sorted (atom name terms) h = record {
   in_scope = AreInScope-put_in parameters inner s t sorted terms h.in_scope;
   of_may = λ e. HaveSorts-put_in parameters inner s t sorted sorts_of_may terms (h.of_may e);
@@ -125,7 +125,7 @@ number_of_places depth t (Owner file owner) = refl
 number_of_places depth t (HasXattr file name value) = refl
 number_of_places depth t (InDir file directory) = refl
 
-pub size-put_in : (depth : ℕ) (t : Term) (f : Form) → size (put_in depth t f) ≡ size f
+pub size-put_in : (depth : ℕ) (t : Term) (f : FormulaView) → size (put_in depth t f) ≡ size f
 size-put_in depth t (atom name terms) = ap (λ (n : ℕ). 1 + n) (length_of_map (put_in_term depth t) terms)
 size-put_in depth t (compare c) = refl
 size-put_in depth t (state p) = ap (λ (n : ℕ). 1 + n) (number_of_places depth t p)
@@ -139,7 +139,7 @@ size-put_in depth t (exists_ s a) = ap (λ (n : ℕ). 1 + n) (size-put_in (suc d
 size-put_in depth t (says k a) = ap (λ (n : ℕ). 2 + n) (size-put_in depth t a)
 size-put_in depth t (on a u v) = ap (λ (n : ℕ). 3 + n) (size-put_in depth t a)
 
-pub widest_atom-put_in : (depth : ℕ) (t : Term) (f : Form) → widest_atom (put_in depth t f) ≡ widest_atom f
+pub widest_atom-put_in : (depth : ℕ) (t : Term) (f : FormulaView) → widest_atom (put_in depth t f) ≡ widest_atom f
 widest_atom-put_in depth t (atom name terms) = length_of_map (put_in_term depth t) terms
 widest_atom-put_in depth t (compare c) = refl
 widest_atom-put_in depth t (state p) = refl
@@ -178,7 +178,7 @@ state_in_range depth t known (Owner file owner) h = HaveTimesInRange-put_in dept
 state_in_range depth t known (HasXattr file name value) h = HaveTimesInRange-put_in depth t known (file ∷ name ∷ value ∷ []) h
 state_in_range depth t known (InDir file directory) h = HaveTimesInRange-put_in depth t known (file ∷ directory ∷ []) h
 
-pub times_in_range-put_in : (depth : ℕ) (t : Term) → HasTimeInRange t → (f : Form) → AllTerms HasTimeInRange f → AllTerms HasTimeInRange (put_in depth t f)
+pub times_in_range-put_in : (depth : ℕ) (t : Term) → HasTimeInRange t → (f : FormulaView) → AllTerms HasTimeInRange f → AllTerms HasTimeInRange (put_in depth t f)
 times_in_range-put_in depth t known (atom name terms) h = HaveTimesInRange-put_in depth t known terms h
 times_in_range-put_in depth t known (compare c) h = (HasTimeInRange-put_in depth t c.low known h.0, HasTimeInRange-put_in depth t c.high known h.1)
 times_in_range-put_in depth t known (state p) h = state_in_range depth t known p h

@@ -4,7 +4,7 @@ pub mod ConditionLemmas
 pub mod ConditionTestLemmas
 pub mod EntailmentLemmas
 pub mod EqualityLemmas
-pub mod FaultLemmas
+pub mod FirstFaultLemmas
 pub mod FieldCodecs
 pub mod FieldLemmas
 pub mod GrantLemmas
@@ -13,5 +13,5 @@ pub mod PaddingLemmas
 pub mod StatementLemmas
 pub mod StopsWithLemmas
 pub mod TermLemmas
-pub mod Undoing
+pub mod DropLemmas
 pub mod WordLemmas

@@ -2,14 +2,14 @@
 use Rattle.std.proofs.Common.{◌≡◌, ◌-◌, ℕ, List, ◌++◌, length, take, drop, refl, sym, ap, subst}
 use Rattle.std.specs.Prelude.{replicate}
 use Rattle.std.proofs.lemmas.List.{take_at, drop-replicate}
-use Rattle.bl_syntax.specs.Padding.{IsPadded, padded}
+use Rattle.bl_syntax.specs.Padding.{IsPadded, pad}
 
 padded_written : (size : ℕ) (bytes : List ℕ) → IsPadded size (bytes ++ replicate (size - length bytes) 0) (length bytes)
 padded_written size bytes =
-    let front : take (length bytes) (padded size bytes) ≡ bytes = take_at bytes (replicate (size - length bytes) 0) (length bytes) refl in
+    let front : take (length bytes) (pad size bytes) ≡ bytes = take_at bytes (replicate (size - length bytes) 0) (length bytes) refl in
     record {
       long_enough = ap length front;
-      padding = sym (ap (λ (b : List ℕ). padded size b) front);
+      padding = sym (ap (λ (b : List ℕ). pad size b) front);
     }
 
 -- the first bytes of the place were written

@@ -3,11 +3,11 @@ use Rattle.std.proofs.Common.{◌↔◌, ℕ, List, [], ◌∷◌}
 use Rattle.std.specs.List.{AllByRecursion}
 use Rattle.bl_syntax.specs.declared.terms.Term.{Term}
 use Rattle.bl_syntax.specs.declared.terms.TimePoint.{TimePoint}
-use Rattle.bl_syntax.specs.Formula.{Form, atom, compare, state, both, either, implies, truth, falsity, forall_, exists_, says, on}
+use Rattle.bl_syntax.specs.Formula.{FormulaView, atom, compare, state, both, either, implies, truth, falsity, forall_, exists_, says, on}
 use Rattle.bl_syntax.specs.TimeOrder.{IsInRange}
 use Rattle.bl_syntax.specs.Terms.{HasTimeInRange}
 use Rattle.bl_syntax.specs.WellSorted.{terms_of_state}
-use Rattle.bl_syntax.specs.Statement.{AllTerms, IsNotCtime, IsSayableFormula, IsStatement, saying}
+use Rattle.bl_syntax.specs.Statement.{AllTerms, IsNotCtime, IsSayableFormula, IsStatement, statement_view}
 
 AllByRecursion-both : {A : Type 0} (P Q : A → Type 0) (xs : List A) → AllByRecursion (λ x. P x × Q x) xs ↔ (AllByRecursion P xs × AllByRecursion Q xs)
 AllByRecursion-both P Q [] = (λ h. (tt, tt), λ h. tt)
@@ -25,7 +25,7 @@ same : {A : Type 0} → A ↔ A
 same = (λ h. h, λ h. h)
 
 -- two properties of each term
-AllTerms-both : (P Q : Term → Type 0) (f : Form) → AllTerms (λ t. P t × Q t) f ↔ (AllTerms P f × AllTerms Q f)
+AllTerms-both : (P Q : Term → Type 0) (f : FormulaView) → AllTerms (λ t. P t × Q t) f ↔ (AllTerms P f × AllTerms Q f)
 AllTerms-both P Q (atom name terms) = AllByRecursion-both P Q terms
 AllTerms-both P Q (compare c) = join same same
 AllTerms-both P Q (state s) = AllByRecursion-both P Q (terms_of_state s)
@@ -39,7 +39,7 @@ AllTerms-both P Q (exists_ s a) = AllTerms-both P Q a
 AllTerms-both P Q (says k a) = join same (AllTerms-both P Q a)
 AllTerms-both P Q (on a u v) = join (AllTerms-both P Q a) (join same same)
 
-pub IsStatement-from_parts : (who : List ℕ) (f : Form) (from to : TimePoint) → IsSayableFormula f → IsInRange from → IsInRange to → IsStatement (saying who f from to)
+pub IsStatement-from_parts : (who : List ℕ) (f : FormulaView) (from to : TimePoint) → IsSayableFormula f → IsInRange from → IsInRange to → IsStatement (statement_view who f from to)
 IsStatement-from_parts who f from to h from_in_range to_in_range =
     let terms = (AllTerms-both IsNotCtime HasTimeInRange f).0 h.1 in
     record {
@@ -50,5 +50,5 @@ IsStatement-from_parts who f from to h from_in_range to_in_range =
       to_in_range = to_in_range;
     }
 
-pub IsSayableFormula-from_statement : (who : List ℕ) (f : Form) (from to : TimePoint) → IsStatement (saying who f from to) → IsSayableFormula f
+pub IsSayableFormula-from_statement : (who : List ℕ) (f : FormulaView) (from to : TimePoint) → IsStatement (statement_view who f from to) → IsSayableFormula f
 IsSayableFormula-from_statement who f from to h = (h.body_is_formula, (AllTerms-both IsNotCtime HasTimeInRange f).1 (h.no_ctime, h.times_in_range))

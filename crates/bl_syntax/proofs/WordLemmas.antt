@@ -5,9 +5,9 @@ use Rattle.std.specs.List.{list_all}
 use Rattle.std.proofs.lemmas.Bool.{false_from_ne_true, false≢true, and_parts, leb-true}
 use Rattle.bl_syntax.specs.declared.codec_fault.CodecFault.TheVariants.{NotCanonical}
 use Rattle.bl_syntax.specs.Names.{is_identifier, is_lower_case, is_name_byte, is_principal_name, is_predicate_name, is_among, reserved_words, state_predicates, is_text, is_text_byte}
-use Rattle.bl_syntax.specs.Reading.{place, counted_at, word_at}
+use Rattle.bl_syntax.specs.Reading.{place, with_length_at, word_at}
 
-pub word_refused : (least most input : ℕ) (is_word : List ℕ → Bool) (bytes word rest : List ℕ) → counted_at least most input bytes ≡ Ok (word, rest) → (IsTrue (is_word word) → ⊥)
+pub word_refused : (least most input : ℕ) (is_word : List ℕ → Bool) (bytes word rest : List ℕ) → with_length_at least most input bytes ≡ Ok (word, rest) → (IsTrue (is_word word) → ⊥)
     → word_at least most is_word input bytes ≡ Err (NotCanonical (place input bytes))
 unfolding word_at
 word_refused least most input is_word bytes word rest found refused = rw (found, false_from_ne_true (is_word word) refused) refl

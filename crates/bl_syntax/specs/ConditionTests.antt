@@ -30,15 +30,15 @@ is_in_range (At second) = is_at_most (negsuc 62135596799) second && is_at_most s
 is_in_range PosInf = true
 
 -- whether the term is a constant, with its time in the range of moments
-abbrev pub is_constant : Term → Bool
-is_constant (Prin name) = true
-is_constant (File number) = true
-is_constant (Perm permission) = true
-is_constant (Time point) = is_in_range point
-is_constant (Text constant) = true
-is_constant Ctime = false
-is_constant (Param n) = false
-is_constant (Bound n) = false
+abbrev pub is_constant_in_range : Term → Bool
+is_constant_in_range (Prin name) = true
+is_constant_in_range (File number) = true
+is_constant_in_range (Perm permission) = true
+is_constant_in_range (Time point) = is_in_range point
+is_constant_in_range (Text constant) = true
+is_constant_in_range Ctime = false
+is_constant_in_range (Param n) = false
+is_constant_in_range (Bound n) = false
 
 -- whether the term is the current time
 abbrev pub is_ctime : Term → Bool
@@ -47,8 +47,8 @@ is_ctime _ = false
 
 -- whether a grant can keep the condition on time: it names the current time on at least one side, and otherwise constants
 abbrev pub is_time_condition : Constraint → Bool
-is_time_condition c = (is_ctime c.low || is_ctime c.high) && ((is_ctime c.low || is_constant c.low) && (is_ctime c.high || is_constant c.high))
+is_time_condition c = (is_ctime c.low || is_ctime c.high) && ((is_ctime c.low || is_constant_in_range c.low) && (is_ctime c.high || is_constant_in_range c.high))
 
 -- whether a grant can keep the condition on the state: it holds constants alone
 abbrev pub is_state_condition : StatePred → Bool
-is_state_condition s = list_all is_constant (terms_of_state s)
+is_state_condition s = list_all is_constant_in_range (terms_of_state s)

@@ -8,7 +8,7 @@ use Rattle.bl_syntax.specs.declared.terms.StatePred.{StatePred}
 use Rattle.bl_syntax.specs.declared.terms.StatePred.TheVariants.{Owner, HasXattr, InDir}
 use Rattle.bl_syntax.specs.declared.check.SyntaxFault.{SyntaxFault}
 use Rattle.bl_syntax.specs.declared.check.SyntaxFault.TheVariants.{WrongSort, WrongArity, Unbound, TooLarge}
-use Rattle.bl_syntax.specs.Formula.{Form, atom, compare, state, both, either, implies, truth, falsity, forall_, exists_, says, on}
+use Rattle.bl_syntax.specs.Formula.{FormulaView, atom, compare, state, both, either, implies, truth, falsity, forall_, exists_, says, on}
 use Rattle.bl_syntax.specs.Terms.{sort_of}
 use Rattle.bl_syntax.specs.WellSorted.{may, size, widest_atom}
 
@@ -60,7 +60,7 @@ abbrev pub times_fault : List Sort → List Sort → Term → Term → Option Sy
 times_fault parameters binders u v = first_of (term_fault parameters binders sorts.Time u) (term_fault parameters binders sorts.Time v)
 
 -- the first fault of sorts, numbers of arguments and scopes
-abbrev pub sorting_fault : List Sort → List Sort → Form → Option SyntaxFault
+abbrev pub sorting_fault : List Sort → List Sort → FormulaView → Option SyntaxFault
 sorting_fault parameters binders (atom name terms) = if bytes_eq name may then may_fault parameters binders terms else scopes_fault parameters binders terms
 sorting_fault parameters binders (compare c) = times_fault parameters binders c.low c.high
 sorting_fault parameters binders (state s) = state_fault parameters binders s
@@ -75,7 +75,7 @@ sorting_fault parameters binders (says k a) = first_of (term_fault parameters bi
 sorting_fault parameters binders (on a u v) = first_of (sorting_fault parameters binders a) (times_fault parameters binders u v)
 
 -- the first fault: of the limits, and then of the rest
-abbrev pub formula_fault : List Sort → Form → Option SyntaxFault
+abbrev pub formula_fault : List Sort → FormulaView → Option SyntaxFault
 formula_fault parameters f =
     if nat_le (size f) 512 && nat_le (widest_atom f) 8 then sorting_fault parameters [] f else Some TooLarge
 

@@ -9,31 +9,31 @@ use Rattle.bl_syntax.specs.declared.formula.Formula.{Formula}
 use Rattle.bl_syntax.specs.declared.formula.Formula.TheVariants as code
 
 -- a formula
-pub data Form : Type 0 where
-  atom : List ℕ → List Term → Form
-  compare : Constraint → Form
-  state : StatePred → Form
-  both : Form → Form → Form
-  either : Form → Form → Form
-  implies : Form → Form → Form
-  truth : Form
-  falsity : Form
-  forall_ : Sort → Form → Form
-  exists_ : Sort → Form → Form
-  says : Term → Form → Form
-  on : Form → Term → Term → Form
+pub data FormulaView : Type 0 where
+  atom : List ℕ → List Term → FormulaView
+  compare : Constraint → FormulaView
+  state : StatePred → FormulaView
+  both : FormulaView → FormulaView → FormulaView
+  either : FormulaView → FormulaView → FormulaView
+  implies : FormulaView → FormulaView → FormulaView
+  truth : FormulaView
+  falsity : FormulaView
+  forall_ : Sort → FormulaView → FormulaView
+  exists_ : Sort → FormulaView → FormulaView
+  says : Term → FormulaView → FormulaView
+  on : FormulaView → Term → Term → FormulaView
 
 -- the formula that a formula of the program stands for
-abbrev pub formula : Formula → Form
-formula (code.Atom name terms) = atom name terms
-formula (code.Cons c) = compare c
-formula (code.State s) = state s
-formula (code.And' p a q b) = both (formula a) (formula b)
-formula (code.Or' p a q b) = either (formula a) (formula b)
-formula (code.Imp' p a q b) = implies (formula a) (formula b)
-formula code.True = truth
-formula code.False = falsity
-formula (code.Forall' s p a) = forall_ s (formula a)
-formula (code.Exists' s p a) = exists_ s (formula a)
-formula (code.Says' t p a) = says t (formula a)
-formula (code.At' p a u v) = on (formula a) u v
+abbrev pub formula_view : Formula → FormulaView
+formula_view (code.Atom name terms) = atom name terms
+formula_view (code.Cons c) = compare c
+formula_view (code.State s) = state s
+formula_view (code.And' p a q b) = both (formula_view a) (formula_view b)
+formula_view (code.Or' p a q b) = either (formula_view a) (formula_view b)
+formula_view (code.Imp' p a q b) = implies (formula_view a) (formula_view b)
+formula_view code.True = truth
+formula_view code.False = falsity
+formula_view (code.Forall' s p a) = forall_ s (formula_view a)
+formula_view (code.Exists' s p a) = exists_ s (formula_view a)
+formula_view (code.Says' t p a) = says t (formula_view a)
+formula_view (code.At' p a u v) = on (formula_view a) u v

@@ -4,10 +4,10 @@ use Rattle.std.specs.List.{flat_map}
 use Rattle.bl_syntax.specs.declared.terms.StatePred.{StatePred}
 use Rattle.bl_syntax.specs.declared.terms.StatePred.TheVariants.{Owner, HasXattr, InDir}
 use Rattle.bl_syntax.specs.Names.{is_principal_name, is_predicate_name}
-use Rattle.bl_syntax.specs.Formula.{Form, atom, compare, state, both, either, implies, truth, falsity, forall_, exists_, says, on}
+use Rattle.bl_syntax.specs.Formula.{FormulaView, atom, compare, state, both, either, implies, truth, falsity, forall_, exists_, says, on}
 use Rattle.bl_syntax.specs.WellSorted.{IsWithinLimits}
-use Rattle.bl_syntax.specs.Statement.{Saying, AllTerms, IsStatement}
-use Rattle.bl_syntax.specs.Spelling.{counted, sort_code, time_spelling, term_spelling, IsSpellable}
+use Rattle.bl_syntax.specs.Statement.{StatementView, AllTerms, IsStatement}
+use Rattle.bl_syntax.specs.Spelling.{with_length, sort_code, time_spelling, term_spelling, IsSpellable}
 
 -- a predicate on the server's state: the tag of its kind, and its terms
 unfoldable pub state_spelling : StatePred → List ℕ
@@ -16,8 +16,8 @@ state_spelling (HasXattr file name value) = 19 ∷ (term_spelling file ++ (term_
 state_spelling (InDir file directory) = 20 ∷ (term_spelling file ++ term_spelling directory)
 
 -- the tag of the formula's kind, and its parts in order. An atom has its name, the number of its terms in one byte, and its terms
-unfoldable pub formula_spelling : Form → List ℕ
-formula_spelling (atom name terms) = 16 ∷ (counted name ++ length terms ∷ flat_map term_spelling terms)
+unfoldable pub formula_spelling : FormulaView → List ℕ
+formula_spelling (atom name terms) = 16 ∷ (with_length name ++ length terms ∷ flat_map term_spelling terms)
 formula_spelling (compare c) = 17 ∷ (term_spelling c.low ++ term_spelling c.high)
 formula_spelling (state s) = state_spelling s
 formula_spelling (both a b) = 21 ∷ (formula_spelling a ++ formula_spelling b)
@@ -31,7 +31,7 @@ formula_spelling (says k a) = 28 ∷ (term_spelling k ++ formula_spelling a)
 formula_spelling (on a u v) = 29 ∷ (formula_spelling a ++ (term_spelling u ++ term_spelling v))
 
 -- the names of its predicates are in the grammar
-abbrev pub AreNamed : Form → Type 0
+abbrev pub AreNamed : FormulaView → Type 0
 AreNamed (atom name terms) = IsTrue (is_predicate_name name)
 AreNamed (compare c) = Unit {0}
 AreNamed (state s) = Unit {0}
@@ -46,17 +46,17 @@ AreNamed (says k a) = AreNamed a
 AreNamed (on a u v) = AreNamed a
 
 -- the formula has a spelling: its names and terms have one, and it is within the limits
-pub record IsSpellableFormula (f : Form) : Type 0 where
+pub record IsSpellableFormula (f : FormulaView) : Type 0 where
   pub names : AreNamed f
   pub terms : AllTerms IsSpellable f
   pub within_limits : IsWithinLimits f
 
 -- a statement: who says it, the formula, and the interval
-unfoldable pub statement_spelling : Saying → List ℕ
-statement_spelling s = counted s.who ++ (formula_spelling s.body ++ (time_spelling s.from ++ time_spelling s.to))
+unfoldable pub statement_spelling : StatementView → List ℕ
+statement_spelling s = with_length s.who ++ (formula_spelling s.body ++ (time_spelling s.from ++ time_spelling s.to))
 
 -- the statement has a spelling: it may be made, and its parts have one
-pub record IsSpellableStatement (s : Saying) : Type 0 where
+pub record IsSpellableStatement (s : StatementView) : Type 0 where
   pub who : IsTrue (is_principal_name s.who)
   pub body : IsSpellableFormula s.body
   pub statement : IsStatement s

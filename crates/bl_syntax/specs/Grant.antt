@@ -11,7 +11,7 @@ use Rattle.bl_syntax.specs.Terms.{IsConstant, HasTimeInRange, AreInOrder, constr
 use Rattle.bl_syntax.specs.WellSorted.{terms_of_state}
 
 -- the goal, and the conditions in the order in which they came up
-pub record Granted : Type 0 where
+pub record GrantView : Type 0 where
   pub goal : Goal
   pub times : List Constraint
   pub states : List StatePred
@@ -39,7 +39,7 @@ AreDistinct [] = Unit {0}
 AreDistinct (x ∷ xs) = (Contains xs x → ⊥) × AreDistinct xs
 
 -- what a grant keeps: conditions of these forms, each once, at most 64 together
-pub record IsGrant (g : Granted) : Type 0 where
+pub record IsGrant (g : GrantView) : Type 0 where
   pub time_conditions : AllByRecursion IsTimeCondition g.times
   pub state_conditions : AllByRecursion IsStateCondition g.states
   pub distinct_times : AreDistinct g.times
@@ -51,6 +51,6 @@ abbrev pub HoldsAt : ℤ → Constraint → Type 0
 HoldsAt moment c = let now = constraint_at moment c in AreInOrder now.low now.high
 
 -- the grant's conditions hold at a moment over these facts of the state
-pub record Holds (g : Granted) (moment : ℤ) (facts : List StatePred) : Type 0 where
+pub record Holds (g : GrantView) (moment : ℤ) (facts : List StatePred) : Type 0 where
   pub times : AllByRecursion (HoldsAt moment) g.times
   pub states : AllByRecursion (Contains facts) g.states

@@ -1,4 +1,4 @@
--- Reading canonical bytes from the left: the value and the bytes behind it, or the first fault. The order of the faults is this project's own.
+-- Reading canonical bytes from the left: the value and the bytes after it, or the first fault. The order of the faults is this project's own.
 -- A field is a single byte with a table, a number, a point in time, or a name or text with its length byte. A field that is not there whole is Short;
 -- a whole field outside its table, grammar or range has its fault at its first byte. The length byte of a name or text, and the first byte of a point
 -- in time, are tested as soon as they are there.
@@ -16,13 +16,13 @@ use Rattle.bl_syntax.specs.declared.terms.Term.{Term}
 use Rattle.bl_syntax.specs.declared.terms.Term.TheVariants.{Prin, File, Perm, Time, Text, Ctime, Param, Bound}
 use Rattle.bl_syntax.specs.Names.{is_principal_name, is_predicate_name, is_text}
 
--- one reading, and then another of the bytes behind it, unless the first has a fault
+-- one reading, and then another of the bytes after it, unless the first has a fault
 infixl 10 ◌>>=◌
 abbrev pub ◌>>=◌ : {A B : Type 0} → Result A CodecFault → (A → Result B CodecFault) → Result B CodecFault
 (Ok x) >>= f = f x
 (Err e) >>= f = Err e
 
--- a value and the bytes behind it, or a fault
+-- a value and the bytes after it, or a fault
 abbrev pub Reading : Type 0 → Type 0
 Reading A = Result (A × List ℕ) CodecFault
 
@@ -30,18 +30,18 @@ Reading A = Result (A × List ℕ) CodecFault
 abbrev pub place : ℕ → List ℕ → ℕ
 place input rest = input - length rest
 
--- the value that f makes of what is read, and what is behind it
-abbrev pub made : {A B R : Type 0} → (A → B) → Result (A × R) CodecFault → Result (B × R) CodecFault
-made f read = read >>= λ x. Ok (f x.0, x.1)
+-- the value that f makes of what is read, and what is after it
+abbrev pub map_reading : {A B R : Type 0} → (A → B) → Result (A × R) CodecFault → Result (B × R) CodecFault
+map_reading f read = read >>= λ x. Ok (f x.0, x.1)
 
 -- a big-endian number
 abbrev pub number_at : Width → List ℕ → Reading ℕ
 number_at width bytes = if nat_lt (length bytes) (byte_len width) then Err Short else Ok (from_be_bytes width (take (byte_len width) bytes), drop (byte_len width) bytes)
 
 -- a length byte that lies between two numbers, and that many bytes
-unfoldable pub counted_at : ℕ → ℕ → ℕ → List ℕ → Reading (List ℕ)
-counted_at least most input [] = Err Short
-counted_at least most input (len ∷ rest) =
+unfoldable pub with_length_at : ℕ → ℕ → ℕ → List ℕ → Reading (List ℕ)
+with_length_at least most input [] = Err Short
+with_length_at least most input (len ∷ rest) =
     if nat_lt len least then Err (NotCanonical (place input (len ∷ rest))) else
     if nat_lt most len then Err (NotCanonical (place input (len ∷ rest))) else
     if nat_lt (length rest) len then Err Short else
@@ -50,7 +50,7 @@ counted_at least most input (len ∷ rest) =
 -- bytes of that length in a grammar
 unfoldable pub word_at : ℕ → ℕ → (List ℕ → Bool) → ℕ → List ℕ → Reading (List ℕ)
 word_at least most is_word input bytes = do
-  word ← counted_at least most input bytes
+  word ← with_length_at least most input bytes
   if is_word word.0 then Ok word else Err (NotCanonical (place input bytes))
 
 -- a principal's name
@@ -69,7 +69,7 @@ text_at input bytes = word_at 0 128 is_text input bytes
 abbrev pub is_moment : ℤ → Bool
 is_moment second = int_le (negsuc 62135596799) second && int_le second (pos 253402300799)
 
--- a second in two's complement; its first byte stands one behind that of the point in time
+-- a second in two's complement; its first byte stands one after that of the point in time
 unfoldable pub moment_at : ℕ → List ℕ → Reading TimePoint
 moment_at start bytes = do
   number ← number_at w64 bytes
@@ -105,14 +105,14 @@ sort_of code =
     None
 
 -- what a table has for a byte
-abbrev pub looked_up : {A : Type 0} → Option A → List ℕ → CodecFault → Reading A
-looked_up None rest fault = Err fault
-looked_up (Some x) rest fault = Ok (x, rest)
+abbrev pub look_up : {A : Type 0} → Option A → List ℕ → CodecFault → Reading A
+look_up None rest fault = Err fault
+look_up (Some x) rest fault = Ok (x, rest)
 
 -- a single byte with a table
 unfoldable pub coded_at : {A : Type 0} → (ℕ → Option A) → ℕ → List ℕ → Reading A
 coded_at table input [] = Err Short
-coded_at table input (code ∷ rest) = looked_up (table code) rest (BadTag (place input (code ∷ rest)))
+coded_at table input (code ∷ rest) = look_up (table code) rest (BadTag (place input (code ∷ rest)))
 
 -- a permission
 abbrev pub permission_at : ℕ → List ℕ → Reading Permission
@@ -125,14 +125,14 @@ sort_at input bytes = coded_at sort_of input bytes
 -- the field of a term with this tag, which stands at the place
 unfoldable pub field_at : ℕ → ℕ → ℕ → List ℕ → Reading Term
 field_at input start tag rest =
-    if tag == 1 then made Prin (name_at input rest) else
-    if tag == 2 then made (λ n. File (record { 0 = n })) (number_at w64 rest) else
-    if tag == 3 then made Perm (permission_at input rest) else
-    if tag == 4 then made Time (time_at input rest) else
-    if tag == 5 then made Text (text_at input rest) else
+    if tag == 1 then map_reading Prin (name_at input rest) else
+    if tag == 2 then map_reading (λ n. File (record { 0 = n })) (number_at w64 rest) else
+    if tag == 3 then map_reading Perm (permission_at input rest) else
+    if tag == 4 then map_reading Time (time_at input rest) else
+    if tag == 5 then map_reading Text (text_at input rest) else
     if tag == 6 then Ok (Ctime, rest) else
-    if tag == 7 then made Param (number_at w32 rest) else
-    if tag == 8 then made Bound (number_at w32 rest) else
+    if tag == 7 then map_reading Param (number_at w32 rest) else
+    if tag == 8 then map_reading Bound (number_at w32 rest) else
     Err (BadTag start)
 
 -- a term: its tag and its field
@@ -141,9 +141,9 @@ term_at input [] = Err Short
 term_at input (tag ∷ rest) = field_at input (place input (tag ∷ rest)) tag rest
 
 -- what a function returned, seen by view, is what is read
-abbrev pub Gives : {X Y : Type 0} → (X → Y) → Result X CodecFault → Result Y CodecFault → Type 0
-Gives view (Ok x) read = read ≡ Ok (view x)
-Gives view (Err e) read = read ≡ Err e
+abbrev pub GivesReading : {X Y : Type 0} → (X → Y) → Result X CodecFault → Result Y CodecFault → Type 0
+GivesReading view (Ok x) read = read ≡ Ok (view x)
+GivesReading view (Err e) read = read ≡ Err e
 
 -- the value that begins an input and how many bytes it takes, or the first fault
 abbrev pub reading : {A : Type 0} → (ℕ → List ℕ → Reading A) → List ℕ → Result (A × ℕ) CodecFault

@@ -13,8 +13,8 @@ use Rattle.bl_syntax.specs.Names.{is_principal_name, is_text}
 use Rattle.bl_syntax.specs.TimeOrder.{IsInRange}
 
 -- a name or a text: one byte of length, and that many bytes
-abbrev pub counted : List ℕ → List ℕ
-counted bytes = length bytes ∷ bytes
+abbrev pub with_length : List ℕ → List ℕ
+with_length bytes = length bytes ∷ bytes
 
 -- the byte of a permission
 abbrev pub permission_code : Permission → ℕ
@@ -40,11 +40,11 @@ time_spelling PosInf = 2 ∷ []
 
 -- the tag of the term's kind, and its field
 unfoldable pub term_spelling : Term → List ℕ
-term_spelling (Prin name) = 1 ∷ counted name
+term_spelling (Prin name) = 1 ∷ with_length name
 term_spelling (File node) = 2 ∷ to_be_bytes w64 node.0
 term_spelling (Perm permission) = 3 ∷ permission_code permission ∷ []
 term_spelling (Time point) = 4 ∷ time_spelling point
-term_spelling (Text text) = 5 ∷ counted text
+term_spelling (Text text) = 5 ∷ with_length text
 term_spelling Ctime = 6 ∷ []
 term_spelling (Param n) = 7 ∷ to_be_bytes w32 n
 term_spelling (Bound n) = 8 ∷ to_be_bytes w32 n

@@ -4,23 +4,23 @@ use Rattle.std.specs.List.{AllByRecursion}
 use Rattle.bl_syntax.specs.declared.terms.TimePoint.{TimePoint}
 use Rattle.bl_syntax.specs.declared.terms.Term.{Term}
 use Rattle.bl_syntax.specs.declared.terms.Term.TheVariants.{Prin, File, Perm, Time, Text, Ctime, Param, Bound}
-use Rattle.bl_syntax.specs.Formula.{Form, atom, compare, state, both, either, implies, truth, falsity, forall_, exists_, says, on}
+use Rattle.bl_syntax.specs.Formula.{FormulaView, atom, compare, state, both, either, implies, truth, falsity, forall_, exists_, says, on}
 use Rattle.bl_syntax.specs.TimeOrder.{IsInRange}
 use Rattle.bl_syntax.specs.Terms.{HasTimeInRange}
 use Rattle.bl_syntax.specs.WellSorted.{IsFormula, terms_of_state}
 
 -- who says that the formula holds from one time to another
-pub record Saying : Type 0 where
+pub record StatementView : Type 0 where
   pub who : List ℕ
-  pub body : Form
+  pub body : FormulaView
   pub from : TimePoint
   pub to : TimePoint
 
-abbrev pub saying : List ℕ → Form → TimePoint → TimePoint → Saying
-saying who body from to = record { who = who; body = body; from = from; to = to }
+abbrev pub statement_view : List ℕ → FormulaView → TimePoint → TimePoint → StatementView
+statement_view who body from to = record { who = who; body = body; from = from; to = to }
 
 -- each term of the formula has the property
-abbrev pub AllTerms : (Term → Type 0) → Form → Type 0
+abbrev pub AllTerms : (Term → Type 0) → FormulaView → Type 0
 AllTerms P (atom name terms) = AllByRecursion P terms
 AllTerms P (compare c) = P c.low × P c.high
 AllTerms P (state s) = AllByRecursion P (terms_of_state s)
@@ -50,11 +50,11 @@ abbrev pub IsSayable : Term → Type 0
 IsSayable t = IsNotCtime t × HasTimeInRange t
 
 -- the formula may stand in a statement
-abbrev pub IsSayableFormula : Form → Type 0
+abbrev pub IsSayableFormula : FormulaView → Type 0
 IsSayableFormula f = IsFormula [] f × AllTerms IsSayable f
 
 -- what may be said: a closed and well sorted formula within the limits, without parameters and the current time, with all times in the range of moments
-pub record IsStatement (s : Saying) : Type 0 where
+pub record IsStatement (s : StatementView) : Type 0 where
   pub body_is_formula : IsFormula [] s.body
   pub no_ctime : AllTerms IsNotCtime s.body
   pub times_in_range : AllTerms HasTimeInRange s.body

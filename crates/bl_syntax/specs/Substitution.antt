@@ -1,11 +1,11 @@
--- A term in the place of a bound variable, and a moment in the place of the current time (after the substitutions of BL's quantifier rules).
+-- A term instead of a bound variable, and a moment instead of the current time (after the substitutions of BL's quantifier rules).
 use Rattle.std.specs.Prelude.{ℕ, ℤ, suc, map, ◌==◌, if◌then◌else◌}
 use Rattle.bl_syntax.specs.declared.terms.Term.{Term}
 use Rattle.bl_syntax.specs.declared.terms.Term.TheVariants.{Prin, File, Perm, Time, Text, Ctime, Param, Bound}
 use Rattle.bl_syntax.specs.declared.terms.Constraint.{Constraint}
 use Rattle.bl_syntax.specs.declared.terms.StatePred.{StatePred}
 use Rattle.bl_syntax.specs.declared.terms.StatePred.TheVariants.{Owner, HasXattr, InDir}
-use Rattle.bl_syntax.specs.Formula.{Form, atom, compare, state, both, either, implies, truth, falsity, forall_, exists_, says, on}
+use Rattle.bl_syntax.specs.Formula.{FormulaView, atom, compare, state, both, either, implies, truth, falsity, forall_, exists_, says, on}
 use Rattle.bl_syntax.specs.Terms.{term_at, constraint_at, state_at}
 
 -- the term, with t for the variable of the binder that stands so many binders further out
@@ -28,7 +28,7 @@ put_in_state depth t (HasXattr file name value) = HasXattr (put_in_term depth t 
 put_in_state depth t (InDir file directory) = InDir (put_in_term depth t file) (put_in_term depth t directory)
 
 -- the formula, with t for the variable of the binder that stands so many binders further out. It is put in as it stands, and the other variables keep their numbers; a t without bound variables cannot be captured
-abbrev pub put_in : ℕ → Term → Form → Form
+abbrev pub put_in : ℕ → Term → FormulaView → FormulaView
 put_in depth t (atom name terms) = atom name (map (put_in_term depth t) terms)
 put_in depth t (compare c) = compare (put_in_constraint depth t c)
 put_in depth t (state s) = state (put_in_state depth t s)
@@ -43,11 +43,11 @@ put_in depth t (says k a) = says (put_in_term depth t k) (put_in depth t a)
 put_in depth t (on a u v) = on (put_in depth t a) (put_in_term depth t u) (put_in_term depth t v)
 
 -- the body of a binder at t
-abbrev pub instance_at : Term → Form → Form
+abbrev pub instance_at : Term → FormulaView → FormulaView
 instance_at t body = put_in 0 t body
 
--- the formula at a moment: the moment in the place of the current time
-abbrev pub formula_at : ℤ → Form → Form
+-- the formula at a moment: the moment instead of the current time
+abbrev pub formula_at : ℤ → FormulaView → FormulaView
 formula_at moment (atom name terms) = atom name (map (term_at moment) terms)
 formula_at moment (compare c) = compare (constraint_at moment c)
 formula_at moment (state s) = state (state_at moment s)

@@ -45,7 +45,7 @@ HasTimeInRange Ctime = Unit {0}
 HasTimeInRange (Param n) = Unit {0}
 HasTimeInRange (Bound n) = Unit {0}
 
--- the term at a moment: the moment in the place of the current time
+-- the term at a moment: the moment instead of the current time
 abbrev pub term_at : ℤ → Term → Term
 term_at moment (Prin name) = Prin name
 term_at moment (File number) = File number

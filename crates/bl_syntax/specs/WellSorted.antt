@@ -7,7 +7,7 @@ use Rattle.bl_syntax.specs.declared.terms.Term.{Term}
 use Rattle.bl_syntax.specs.declared.terms.Constraint.{Constraint}
 use Rattle.bl_syntax.specs.declared.terms.StatePred.{StatePred}
 use Rattle.bl_syntax.specs.declared.terms.StatePred.TheVariants.{Owner, HasXattr, InDir}
-use Rattle.bl_syntax.specs.Formula.{Form, atom, compare, state, both, either, implies, truth, falsity, forall_, exists_, says, on}
+use Rattle.bl_syntax.specs.Formula.{FormulaView, atom, compare, state, both, either, implies, truth, falsity, forall_, exists_, says, on}
 use Rattle.bl_syntax.specs.Terms.{sort_of}
 
 -- the predicate by which a policy gives a principal a permission on a file
@@ -47,7 +47,7 @@ abbrev pub IsSortedConstraint : List Sort → List Sort → Constraint → Type 
 IsSortedConstraint parameters binders c = HasSort parameters binders sorts.Time c.low × HasSort parameters binders sorts.Time c.high
 
 -- closed and well sorted, where parameters and binders (the innermost first) have these sorts
-abbrev pub IsWellSorted : List Sort → List Sort → Form → Type 0
+abbrev pub IsWellSorted : List Sort → List Sort → FormulaView → Type 0
 IsWellSorted parameters binders (atom name terms) = FitsPredicate parameters binders name terms
 IsWellSorted parameters binders (compare c) = IsSortedConstraint parameters binders c
 IsWellSorted parameters binders (state s) = IsSortedState parameters binders s
@@ -67,7 +67,7 @@ terms_of_state (HasXattr file name value) = file ∷ name ∷ value ∷ []
 terms_of_state (InDir file directory) = file ∷ directory ∷ []
 
 -- the number of its nodes: formulas and terms
-abbrev pub size : Form → ℕ
+abbrev pub size : FormulaView → ℕ
 size (atom name terms) = 1 + length terms
 size (compare c) = 3
 size (state s) = 1 + length (terms_of_state s)
@@ -82,7 +82,7 @@ size (says k a) = 2 + size a
 size (on a u v) = 3 + size a
 
 -- the greatest number of arguments of an atom in it
-abbrev pub widest_atom : Form → ℕ
+abbrev pub widest_atom : FormulaView → ℕ
 widest_atom (atom name terms) = length terms
 widest_atom (compare c) = 0
 widest_atom (state s) = 0
@@ -97,11 +97,11 @@ widest_atom (says k a) = widest_atom a
 widest_atom (on a u v) = widest_atom a
 
 -- at most 512 nodes, and no atom with more than 8 arguments
-pub record IsWithinLimits (f : Form) : Type 0 where
+pub record IsWithinLimits (f : FormulaView) : Type 0 where
   pub nodes : size f ≤ 512
   pub arguments : widest_atom f ≤ 8
 
 -- a formula that may be used where the parameters have these sorts
-pub record IsFormula (parameters : List Sort) (f : Form) : Type 0 where
+pub record IsFormula (parameters : List Sort) (f : FormulaView) : Type 0 where
   pub within_limits : IsWithinLimits f
   pub well_sorted : IsWellSorted parameters [] f

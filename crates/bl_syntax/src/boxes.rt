@@ -2,7 +2,7 @@
 //! level holds boxes alone, and leaves it to these to make the formula that a box holds.
 
 ghost use Rattle.std.specs.Prelude.{◌≡◌, IfOk};
-ghost use Rattle.bl_syntax.specs.Formula.{formula, atom, compare, state, both, either, implies, truth, falsity, forall_, exists_, says, on};
+ghost use Rattle.bl_syntax.specs.Formula.{formula_view, atom, compare, state, both, either, implies, truth, falsity, forall_, exists_, says, on};
 
 use crate::formula::Formula;
 use crate::lists::NoMemory;
@@ -13,7 +13,7 @@ use std::alloc::Global;
 /// The atom of that predicate and these arguments.
 #[inline(never)]
 pub fn atom_of(alloc: Global, name: &Word, terms: Terms) -> Result<Box<Formula>, NoMemory>
-    ensures { IfOk result (λ f. formula f.value ≡ atom name.now terms) }
+    ensures { IfOk result (λ f. formula_view f.value ≡ atom name.now terms) }
 {
     Ok(Box::new(alloc, Formula::Atom(*name, terms))?)
 }
@@ -21,7 +21,7 @@ pub fn atom_of(alloc: Global, name: &Word, terms: Terms) -> Result<Box<Formula>,
 /// The constraint as a formula.
 #[inline(never)]
 pub fn constraint_of(alloc: Global, c: &Constraint) -> Result<Box<Formula>, NoMemory>
-    ensures { IfOk result (λ f. formula f.value ≡ compare c.now) }
+    ensures { IfOk result (λ f. formula_view f.value ≡ compare c.now) }
 {
     Ok(Box::new(alloc, Formula::Cons(*c))?)
 }
@@ -29,7 +29,7 @@ pub fn constraint_of(alloc: Global, c: &Constraint) -> Result<Box<Formula>, NoMe
 /// The predicate on the server's state as a formula.
 #[inline(never)]
 pub fn state_of(alloc: Global, s: &StatePred) -> Result<Box<Formula>, NoMemory>
-    ensures { IfOk result (λ f. formula f.value ≡ state s.now) }
+    ensures { IfOk result (λ f. formula_view f.value ≡ state s.now) }
 {
     Ok(Box::new(alloc, Formula::State(*s))?)
 }
@@ -37,7 +37,7 @@ pub fn state_of(alloc: Global, s: &StatePred) -> Result<Box<Formula>, NoMemory>
 /// The conjunction of two formulas.
 #[inline(never)]
 pub fn both_of(alloc: Global, a: Box<Formula>, b: Box<Formula>) -> Result<Box<Formula>, NoMemory>
-    ensures { IfOk result (λ f. formula f.value ≡ both (formula a.value) (formula b.value)) }
+    ensures { IfOk result (λ f. formula_view f.value ≡ both (formula_view a.value) (formula_view b.value)) }
 {
     Ok(Box::new(alloc, Formula::And(a, b))?)
 }
@@ -45,7 +45,7 @@ pub fn both_of(alloc: Global, a: Box<Formula>, b: Box<Formula>) -> Result<Box<Fo
 /// The disjunction of two formulas.
 #[inline(never)]
 pub fn either_of(alloc: Global, a: Box<Formula>, b: Box<Formula>) -> Result<Box<Formula>, NoMemory>
-    ensures { IfOk result (λ f. formula f.value ≡ either (formula a.value) (formula b.value)) }
+    ensures { IfOk result (λ f. formula_view f.value ≡ either (formula_view a.value) (formula_view b.value)) }
 {
     Ok(Box::new(alloc, Formula::Or(a, b))?)
 }
@@ -53,7 +53,7 @@ pub fn either_of(alloc: Global, a: Box<Formula>, b: Box<Formula>) -> Result<Box<
 /// The implication of the second formula by the first.
 #[inline(never)]
 pub fn implies_of(alloc: Global, a: Box<Formula>, b: Box<Formula>) -> Result<Box<Formula>, NoMemory>
-    ensures { IfOk result (λ f. formula f.value ≡ implies (formula a.value) (formula b.value)) }
+    ensures { IfOk result (λ f. formula_view f.value ≡ implies (formula_view a.value) (formula_view b.value)) }
 {
     Ok(Box::new(alloc, Formula::Imp(a, b))?)
 }
@@ -61,7 +61,7 @@ pub fn implies_of(alloc: Global, a: Box<Formula>, b: Box<Formula>) -> Result<Box
 /// The formula that is always true.
 #[inline(never)]
 pub fn truth_of(alloc: Global) -> Result<Box<Formula>, NoMemory>
-    ensures { IfOk result (λ f. formula f.value ≡ truth) }
+    ensures { IfOk result (λ f. formula_view f.value ≡ truth) }
 {
     Ok(Box::new(alloc, Formula::True)?)
 }
@@ -69,7 +69,7 @@ pub fn truth_of(alloc: Global) -> Result<Box<Formula>, NoMemory>
 /// The formula that is never true.
 #[inline(never)]
 pub fn falsity_of(alloc: Global) -> Result<Box<Formula>, NoMemory>
-    ensures { IfOk result (λ f. formula f.value ≡ falsity) }
+    ensures { IfOk result (λ f. formula_view f.value ≡ falsity) }
 {
     Ok(Box::new(alloc, Formula::False)?)
 }
@@ -77,7 +77,7 @@ pub fn falsity_of(alloc: Global) -> Result<Box<Formula>, NoMemory>
 /// The formula about all of a sort.
 #[inline(never)]
 pub fn every_of(alloc: Global, sort: Sort, a: Box<Formula>) -> Result<Box<Formula>, NoMemory>
-    ensures { IfOk result (λ f. formula f.value ≡ forall_ sort (formula a.value)) }
+    ensures { IfOk result (λ f. formula_view f.value ≡ forall_ sort (formula_view a.value)) }
 {
     Ok(Box::new(alloc, Formula::Forall(sort, a))?)
 }
@@ -85,7 +85,7 @@ pub fn every_of(alloc: Global, sort: Sort, a: Box<Formula>) -> Result<Box<Formul
 /// The formula about one of a sort.
 #[inline(never)]
 pub fn some_of(alloc: Global, sort: Sort, a: Box<Formula>) -> Result<Box<Formula>, NoMemory>
-    ensures { IfOk result (λ f. formula f.value ≡ exists_ sort (formula a.value)) }
+    ensures { IfOk result (λ f. formula_view f.value ≡ exists_ sort (formula_view a.value)) }
 {
     Ok(Box::new(alloc, Formula::Exists(sort, a))?)
 }
@@ -93,7 +93,7 @@ pub fn some_of(alloc: Global, sort: Sort, a: Box<Formula>) -> Result<Box<Formula
 /// What a principal says.
 #[inline(never)]
 pub fn says_of(alloc: Global, who: &Term, a: Box<Formula>) -> Result<Box<Formula>, NoMemory>
-    ensures { IfOk result (λ f. formula f.value ≡ says who.now (formula a.value)) }
+    ensures { IfOk result (λ f. formula_view f.value ≡ says who.now (formula_view a.value)) }
 {
     Ok(Box::new(alloc, Formula::Says(*who, a))?)
 }
@@ -106,7 +106,7 @@ pub fn on_of(
     from: &Term,
     to: &Term,
 ) -> Result<Box<Formula>, NoMemory>
-    ensures { IfOk result (λ f. formula f.value ≡ on (formula a.value) from.now to.now) }
+    ensures { IfOk result (λ f. formula_view f.value ≡ on (formula_view a.value) from.now to.now) }
 {
     Ok(Box::new(alloc, Formula::At(a, *from, *to))?)
 }

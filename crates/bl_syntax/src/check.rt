@@ -3,7 +3,7 @@
 ghost use Rattle.std.specs.Prelude.{◌≡◌, ◌≤◌, ◌-◌};
 ghost use Rattle.std.specs.Option.{SomeIff};
 ghost use Rattle.bl_syntax.specs.Binders.{sorts};
-ghost use Rattle.bl_syntax.specs.Formula.{formula, atom};
+ghost use Rattle.bl_syntax.specs.Formula.{formula_view, atom};
 ghost use Rattle.bl_syntax.specs.Terms.{sort_of};
 ghost use Rattle.bl_syntax.specs.WellSorted.{size, widest_atom};
 ghost use Rattle.bl_syntax.specs.FirstFault.{Finds, formula_fault, sorting_fault, may_fault, scopes_fault, state_fault, times_fault, term_fault};
@@ -38,7 +38,7 @@ const MOST_ARGUMENTS: usize = 8;
 /// Whether the formula is closed and well sorted within the limits, where the parameters have
 /// these sorts; else its first fault, that of the limits before any other.
 pub fn check_formula(f: &Formula, scope: &[Sort]) -> Result<(), SyntaxFault>
-    ensures { Finds result (formula_fault scope.now (formula f.now)) }
+    ensures { Finds result (formula_fault scope.now (formula_view f.now)) }
 {
     match nodes_left(f, MOST_NODES) {
         Some(_) => check_sorts(f, scope, &Binders::Outermost),
@@ -49,8 +49,8 @@ pub fn check_formula(f: &Formula, scope: &[Sort]) -> Result<(), SyntaxFault>
 /// How many of so many nodes the formula leaves; none where it has more, or an atom with too many
 /// arguments. It calls itself no deeper than there are nodes left.
 fn nodes_left(f: &Formula, nodes: u16) -> Option<u16>
-    ensures { SomeIff result ((size (formula f.now) ≤ nodes) × (widest_atom (formula f.now) ≤ 8))
-        (nodes - size (formula f.now)) }
+    ensures { SomeIff result ((size (formula_view f.now) ≤ nodes) × (widest_atom (formula_view f.now) ≤ 8))
+        (nodes - size (formula_view f.now)) }
 {
     match f {
         Formula::Atom(_, terms) => {
@@ -74,7 +74,7 @@ fn nodes_left(f: &Formula, nodes: u16) -> Option<u16>
 
 /// The first fault of sorts, numbers of arguments and scopes.
 fn check_sorts(f: &Formula, scope: &[Sort], binders: &Binders<'_>) -> Result<(), SyntaxFault>
-    ensures { Finds result (sorting_fault scope.now (sorts binders.now) (formula f.now)) }
+    ensures { Finds result (sorting_fault scope.now (sorts binders.now) (formula_view f.now)) }
 {
     match f {
         Formula::Atom(name, terms) => check_atom(name, terms.as_slice(), scope, binders),

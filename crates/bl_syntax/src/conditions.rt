@@ -4,7 +4,7 @@ ghost use Rattle.std.specs.Prelude.{◌≡◌, ◌↔◌, IsTrue, MatchOption};
 ghost use Rattle.bl_syntax.specs.declared.terms.TimePoint.{TimePoint};
 ghost use Rattle.bl_syntax.specs.Terms.{term_at};
 ghost use Rattle.bl_syntax.specs.Grant.{HoldsAt, IsTimeCondition, IsStateCondition};
-ghost use Rattle.bl_syntax.specs.ConditionTests.{is_constant, is_ctime, is_time_condition, is_state_condition};
+ghost use Rattle.bl_syntax.specs.ConditionTests.{is_constant_in_range, is_ctime, is_time_condition, is_state_condition};
 
 use crate::terms::{Constraint, StatePred, Term, TimePoint};
 
@@ -31,8 +31,8 @@ fn time_at(moment: i64, t: &Term) -> Option<TimePoint>
 }
 
 /// Whether the term is a constant, with its time in the range of moments.
-pub fn is_constant(t: &Term) -> bool
-    ensures { result ≡ is_constant t.now }
+pub fn is_constant_in_range(t: &Term) -> bool
+    ensures { result ≡ is_constant_in_range t.now }
 {
     match t {
         Term::Time(point) => point.is_in_range(),
@@ -58,8 +58,8 @@ pub fn is_time_condition(c: &Constraint) -> bool
     let low_is_ctime = is_ctime(&c.low);
     let high_is_ctime = is_ctime(&c.high);
     (low_is_ctime || high_is_ctime)
-        && (low_is_ctime || is_constant(&c.low))
-        && (high_is_ctime || is_constant(&c.high))
+        && (low_is_ctime || is_constant_in_range(&c.low))
+        && (high_is_ctime || is_constant_in_range(&c.high))
 }
 
 /// Whether a grant can keep the condition on the server's state.
@@ -68,10 +68,11 @@ pub fn is_state_condition(s: &StatePred) -> bool
     ensures decides { IsTrue result ↔ IsStateCondition s.now }
 {
     match s {
-        StatePred::Owner(file, owner) => is_constant(file) && is_constant(owner),
+        StatePred::Owner(file, owner) => is_constant_in_range(file) && is_constant_in_range(owner),
         StatePred::HasXattr(file, name, value) => {
-            is_constant(file) && is_constant(name) && is_constant(value)
+            is_constant_in_range(file) && is_constant_in_range(name) && is_constant_in_range(value)
         }
-        StatePred::InDir(file, directory) => is_constant(file) && is_constant(directory),
+        StatePred::InDir(file, directory) => is_constant_in_range(file)
+            && is_constant_in_range(directory),
     }
 }

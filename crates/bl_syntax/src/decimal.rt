@@ -1,4 +1,4 @@
-//! Texts that are put behind others: words, and numbers in decimal.
+//! Texts that are put after others: words, and numbers in decimal.
 #![tactic(auto, using(crate::proofs::BeginsWithLemmas::writing))]
 
 ghost use Rattle.std.specs.Prelude.{◌≡◌, ◌++◌, OnOk, OnErr};

@@ -1,12 +1,12 @@
 //! Single fields of canonical bytes, both ways, for the formats that are made of them.
 //!
 //! Each reader reads at the front of `bytes`, the rest of an input of `input` bytes, and gives the value
-//! and the bytes behind it, or the first fault. None of them takes memory.
+//! and the bytes after it, or the first fault. None of them takes memory.
 
 ghost use Rattle.std.specs.Prelude.{◌≡◌, ◌++◌, OnOk, OnErr};
 ghost use Rattle.std.specs.Int.{w16, w32, w64, to_be_bytes, cast_unsigned};
 ghost use Rattle.bl_syntax.specs.Spelling.{permission_code, sort_code};
-ghost use Rattle.bl_syntax.specs.Reading.{Gives, place, number_at, counted_at, word_at, name_at, predicate_at, text_at, moment_at, time_at, permission_of, permission_at, sort_of, sort_at, field_at, term_at};
+ghost use Rattle.bl_syntax.specs.Reading.{GivesReading, place, number_at, with_length_at, word_at, name_at, predicate_at, text_at, moment_at, time_at, permission_of, permission_at, sort_of, sort_at, field_at, term_at};
 
 use crate::codec_fault::CodecFault;
 use crate::lists::{Bytes, NoMemory};
@@ -24,7 +24,7 @@ pub fn place(input: usize, rest: &[u8]) -> usize
 
 /// A big-endian number of two bytes.
 pub fn u16_at(bytes: &[u8]) -> Result<(u16, &[u8]), CodecFault>
-    ensures { Gives (λ x. (x.0, x.1.now)) result (number_at w16 bytes.now) }
+    ensures { GivesReading (λ x. (x.0, x.1.now)) result (number_at w16 bytes.now) }
 {
     if bytes.len() < 2 {
         return Err(CodecFault::Short);
@@ -36,7 +36,7 @@ pub fn u16_at(bytes: &[u8]) -> Result<(u16, &[u8]), CodecFault>
 
 /// A big-endian number of four bytes.
 pub fn u32_at(bytes: &[u8]) -> Result<(u32, &[u8]), CodecFault>
-    ensures { Gives (λ x. (x.0, x.1.now)) result (number_at w32 bytes.now) }
+    ensures { GivesReading (λ x. (x.0, x.1.now)) result (number_at w32 bytes.now) }
 {
     if bytes.len() < 4 {
         return Err(CodecFault::Short);
@@ -48,7 +48,7 @@ pub fn u32_at(bytes: &[u8]) -> Result<(u32, &[u8]), CodecFault>
 
 /// A big-endian number of eight bytes.
 pub fn u64_at(bytes: &[u8]) -> Result<(u64, &[u8]), CodecFault>
-    ensures { Gives (λ x. (x.0, x.1.now)) result (number_at w64 bytes.now) }
+    ensures { GivesReading (λ x. (x.0, x.1.now)) result (number_at w64 bytes.now) }
 {
     if bytes.len() < 8 {
         return Err(CodecFault::Short);
@@ -61,9 +61,14 @@ pub fn u64_at(bytes: &[u8]) -> Result<(u64, &[u8]), CodecFault>
 }
 
 /// A length byte from `least` to `most`, and that many bytes.
-#[tactic(auto, unfolding(crate::specs::Reading::counted_at))]
-fn counted_at(least: u8, most: u8, input: usize, bytes: &[u8]) -> Result<(&[u8], &[u8]), CodecFault>
-    ensures { Gives (λ x. (x.0.now, x.1.now)) result (counted_at least most input bytes.now) }
+#[tactic(auto, unfolding(crate::specs::Reading::with_length_at))]
+fn with_length_at(
+    least: u8,
+    most: u8,
+    input: usize,
+    bytes: &[u8],
+) -> Result<(&[u8], &[u8]), CodecFault>
+    ensures { GivesReading (λ x. (x.0.now, x.1.now)) result (with_length_at least most input bytes.now) }
 {
     match bytes {
         [] => Err(CodecFault::Short),
@@ -86,9 +91,9 @@ fn counted_at(least: u8, most: u8, input: usize, bytes: &[u8]) -> Result<(&[u8],
 /// A principal's name with its length byte.
 #[tactic(auto, unfolding(crate::specs::Reading::word_at))]
 pub fn name_at(input: usize, bytes: &[u8]) -> Result<(Principal, &[u8]), CodecFault>
-    ensures { Gives (λ x. (x.0, x.1.now)) result (name_at input bytes.now) }
+    ensures { GivesReading (λ x. (x.0, x.1.now)) result (name_at input bytes.now) }
 {
-    let (name, rest) = counted_at(1, 32, input, bytes)?;
+    let (name, rest) = with_length_at(1, 32, input, bytes)?;
     match Principal::new(name) {
         Some(principal) => Ok((principal, rest)),
         None => Err(CodecFault::NotCanonical(place(input, bytes))),
@@ -98,9 +103,9 @@ pub fn name_at(input: usize, bytes: &[u8]) -> Result<(Principal, &[u8]), CodecFa
 /// A predicate's name with its length byte.
 #[tactic(auto, unfolding(crate::specs::Reading::word_at))]
 pub fn predicate_at(input: usize, bytes: &[u8]) -> Result<(Word, &[u8]), CodecFault>
-    ensures { Gives (λ x. (x.0, x.1.now)) result (predicate_at input bytes.now) }
+    ensures { GivesReading (λ x. (x.0, x.1.now)) result (predicate_at input bytes.now) }
 {
-    let (name, rest) = counted_at(1, 32, input, bytes)?;
+    let (name, rest) = with_length_at(1, 32, input, bytes)?;
     match Word::new(name) {
         Some(word) => Ok((word, rest)),
         None => Err(CodecFault::NotCanonical(place(input, bytes))),
@@ -110,9 +115,9 @@ pub fn predicate_at(input: usize, bytes: &[u8]) -> Result<(Word, &[u8]), CodecFa
 /// A text constant with its length byte.
 #[tactic(auto, unfolding(crate::specs::Reading::word_at))]
 pub fn text_at(input: usize, bytes: &[u8]) -> Result<(Text, &[u8]), CodecFault>
-    ensures { Gives (λ x. (x.0, x.1.now)) result (text_at input bytes.now) }
+    ensures { GivesReading (λ x. (x.0, x.1.now)) result (text_at input bytes.now) }
 {
-    let (bytes_of_text, rest) = counted_at(0, 128, input, bytes)?;
+    let (bytes_of_text, rest) = with_length_at(0, 128, input, bytes)?;
     match Text::new(bytes_of_text) {
         Some(text) => Ok((text, rest)),
         None => Err(CodecFault::NotCanonical(place(input, bytes))),
@@ -122,7 +127,7 @@ pub fn text_at(input: usize, bytes: &[u8]) -> Result<(Text, &[u8]), CodecFault>
 /// The second of a point in time that begins at `start`.
 #[tactic(auto, unfolding(crate::specs::Reading::moment_at))]
 fn moment_at(start: usize, bytes: &[u8]) -> Result<(TimePoint, &[u8]), CodecFault>
-    ensures { Gives (λ x. (x.0, x.1.now)) result (moment_at start bytes.now) }
+    ensures { GivesReading (λ x. (x.0, x.1.now)) result (moment_at start bytes.now) }
 {
     let (number, rest) = u64_at(bytes)?;
     let second = number.cast_signed();
@@ -136,7 +141,7 @@ fn moment_at(start: usize, bytes: &[u8]) -> Result<(TimePoint, &[u8]), CodecFaul
 /// A point in time.
 #[tactic(auto, unfolding(crate::specs::Reading::time_at))]
 pub fn time_at(input: usize, bytes: &[u8]) -> Result<(TimePoint, &[u8]), CodecFault>
-    ensures { Gives (λ x. (x.0, x.1.now)) result (time_at input bytes.now) }
+    ensures { GivesReading (λ x. (x.0, x.1.now)) result (time_at input bytes.now) }
 {
     match bytes {
         [] => Err(CodecFault::Short),
@@ -163,7 +168,7 @@ fn permission_of(code: u8) -> Option<Perm>
 /// A permission.
 #[tactic(auto, unfolding(crate::specs::Reading::coded_at))]
 pub fn permission_at(input: usize, bytes: &[u8]) -> Result<(Perm, &[u8]), CodecFault>
-    ensures { Gives (λ x. (x.0, x.1.now)) result (permission_at input bytes.now) }
+    ensures { GivesReading (λ x. (x.0, x.1.now)) result (permission_at input bytes.now) }
 {
     match bytes {
         [] => Err(CodecFault::Short),
@@ -190,7 +195,7 @@ fn sort_of(code: u8) -> Option<Sort>
 /// A sort.
 #[tactic(auto, unfolding(crate::specs::Reading::coded_at))]
 pub fn sort_at(input: usize, bytes: &[u8]) -> Result<(Sort, &[u8]), CodecFault>
-    ensures { Gives (λ x. (x.0, x.1.now)) result (sort_at input bytes.now) }
+    ensures { GivesReading (λ x. (x.0, x.1.now)) result (sort_at input bytes.now) }
 {
     match bytes {
         [] => Err(CodecFault::Short),
@@ -204,7 +209,7 @@ pub fn sort_at(input: usize, bytes: &[u8]) -> Result<(Sort, &[u8]), CodecFault>
 /// The field of a term with that tag, which begins at `start`.
 #[tactic(auto, unfolding(crate::specs::Reading::field_at))]
 fn field_at(input: usize, start: usize, tag: u8, rest: &[u8]) -> Result<(Term, &[u8]), CodecFault>
-    ensures { Gives (λ x. (x.0, x.1.now)) result (field_at input start tag rest.now) }
+    ensures { GivesReading (λ x. (x.0, x.1.now)) result (field_at input start tag rest.now) }
 {
     match tag {
         1 => match name_at(input, rest) {
@@ -243,7 +248,7 @@ fn field_at(input: usize, start: usize, tag: u8, rest: &[u8]) -> Result<(Term, &
 /// A term.
 #[tactic(auto, unfolding(crate::specs::Reading::term_at))]
 pub fn term_at(input: usize, bytes: &[u8]) -> Result<(Term, &[u8]), CodecFault>
-    ensures { Gives (λ x. (x.0, x.1.now)) result (term_at input bytes.now) }
+    ensures { GivesReading (λ x. (x.0, x.1.now)) result (term_at input bytes.now) }
 {
     match bytes {
         [] => Err(CodecFault::Short),

@@ -74,18 +74,18 @@ impl Drop for Formula {
 
 impl Formula {
     ghost use Rattle.std.specs.Prelude.{◌≡◌, ◌↔◌, IfOk, IsTrue};
-    ghost use Rattle.bl_syntax.specs.Formula.{formula};
+    ghost use Rattle.bl_syntax.specs.Formula.{formula_view};
 
     /// An equal formula in memory of its own.
     pub fn copy(&self, alloc: Global) -> Result<Formula, NoMemory>
-        ensures { IfOk result (λ copied. formula copied ≡ formula self.now) }
+        ensures { IfOk result (λ copied. formula_view copied ≡ formula_view self.now) }
     {
         Ok(Box::into_inner(self.boxed_copy(alloc)?))
     }
 
     /// The same in a box. It calls itself as deep as the formula is, and holds no formula on the stack.
     pub fn boxed_copy(&self, alloc: Global) -> Result<Box<Formula>, NoMemory>
-        ensures { IfOk result (λ copied. formula copied.value ≡ formula self.now) }
+        ensures { IfOk result (λ copied. formula_view copied.value ≡ formula_view self.now) }
     {
         match self {
             Formula::Atom(name, terms) => atom_of(alloc, name, terms.copy(alloc)?),
@@ -105,7 +105,7 @@ impl Formula {
 
     /// Whether it is the same formula.
     pub fn is_same(&self, other: &Formula) -> bool
-        ensures { IsTrue result ↔ (formula self.now ≡ formula other.now) }
+        ensures { IsTrue result ↔ (formula_view self.now ≡ formula_view other.now) }
     {
         match (self, other) {
             (Formula::Atom(name, terms), Formula::Atom(other_name, other_terms)) => {

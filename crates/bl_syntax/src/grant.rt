@@ -34,9 +34,9 @@ pub struct Grant {
 }
 
 impl Model for Grant {
-    ghost use Rattle.bl_syntax.specs.Grant.{Granted, IsGrant};
+    ghost use Rattle.bl_syntax.specs.Grant.{GrantView, IsGrant};
 
-    ghost Value = { Granted };
+    ghost Value = { GrantView };
 
     ghost view = { λ g. record { goal = g.goal; times = g.times; states = g.states } };
 
@@ -81,7 +81,7 @@ impl Grant {
         self.states.as_slice()
     }
 
-    /// Adds a new condition on time behind the others.
+    /// Adds a new condition on time after the others.
     pub fn push_time(&mut self, c: Constraint) -> Result<(), NoMemory>
         requires condition { IsTimeCondition c }
         requires new { Contains self.old.times c → ⊥ }
@@ -93,7 +93,7 @@ impl Grant {
         self.times.extend(&[c])
     }
 
-    /// Adds a new condition on the server's state behind the others.
+    /// Adds a new condition on the server's state after the others.
     pub fn push_state(&mut self, s: StatePred) -> Result<(), NoMemory>
         requires condition { IsStateCondition s }
         requires new { Contains self.old.states s → ⊥ }

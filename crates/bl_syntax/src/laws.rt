@@ -10,7 +10,7 @@ ghost use Rattle.bl_syntax.specs.declared.terms.Constraint.{Constraint};
 ghost use Rattle.bl_syntax.specs.declared.terms.StatePred.{StatePred};
 ghost use Rattle.bl_syntax.specs.declared.grant.Goal.{Goal};
 ghost use Rattle.bl_syntax.specs.Equality.{principal_eq, word_eq, text_eq, node_eq, perm_eq, sort_eq, time_point_eq, term_eq, constraint_eq, state_eq, goal_eq};
-ghost use Rattle.bl_syntax.specs.Formula.{Form};
+ghost use Rattle.bl_syntax.specs.Formula.{FormulaView};
 ghost use Rattle.bl_syntax.specs.WellSorted.{HasSort, IsWellSorted, IsFormula, size, widest_atom};
 ghost use Rattle.bl_syntax.specs.Substitution.{instance_at};
 ghost use Rattle.bl_syntax.specs.Statement.{AllTerms};
@@ -18,7 +18,7 @@ ghost use Rattle.bl_syntax.specs.Terms.{HasTimeInRange};
 ghost use Rattle.bl_syntax.specs.FirstFault.{formula_fault};
 ghost use Rattle.bl_syntax.specs.TimeOrder.{IsInRange};
 ghost use Rattle.bl_syntax.specs.Names.{is_principal_name, is_predicate_name, is_text};
-ghost use Rattle.bl_syntax.specs.Spelling.{IsSpellable, counted, time_spelling, term_spelling};
+ghost use Rattle.bl_syntax.specs.Spelling.{IsSpellable, with_length, time_spelling, term_spelling};
 ghost use Rattle.bl_syntax.specs.Reading.{name_at, predicate_at, text_at, time_at, term_at};
 ghost use Rattle.bl_syntax.specs.Codec.{IsCodec};
 
@@ -37,28 +37,28 @@ pub fn equality_is_decided()
     ensures goals { (a b : Goal) → (goal_eq a b ≡ true) ↔ (a ≡ b) }
 {}
 
-/// A formula is closed and well sorted within the limits exactly where it has no first fault.
+/// A formula is closed and well sorted within the limits exactly if it has no first fault.
 pub fn no_fault_of_a_formula()
-    ensures { (parameters : List Sort) (f : Form)
+    ensures { (parameters : List Sort) (f : FormulaView)
         → (formula_fault parameters f ≡ None) ↔ IsFormula parameters f }
 {}
 
 /// An instance of a well sorted body at a term of its sort is closed and well sorted. It has as many nodes and as wide
 /// atoms as the body, and all its times are moments if those of the body and the term are.
 pub fn an_instance_is_well_sorted()
-    ensures sorted { (parameters : List Sort) (sort : Sort) (t : Term) (body : Form)
+    ensures sorted { (parameters : List Sort) (sort : Sort) (t : Term) (body : FormulaView)
         → HasSort parameters [] sort t → IsWellSorted parameters (sort ∷ []) body → IsWellSorted parameters [] (instance_at t body) }
-    ensures nodes { (t : Term) (body : Form) → size (instance_at t body) ≡ size body }
-    ensures arguments { (t : Term) (body : Form) → widest_atom (instance_at t body) ≡ widest_atom body }
-    ensures times { (t : Term) (body : Form)
+    ensures nodes { (t : Term) (body : FormulaView) → size (instance_at t body) ≡ size body }
+    ensures arguments { (t : Term) (body : FormulaView) → widest_atom (instance_at t body) ≡ widest_atom body }
+    ensures times { (t : Term) (body : FormulaView)
         → HasTimeInRange t → AllTerms HasTimeInRange body → AllTerms HasTimeInRange (instance_at t body) }
 {}
 
 /// The spelling of names, texts and points in time, and the reading of them, belong together.
 pub fn fields_are_codecs()
-    ensures names { IsCodec (λ name. IsTrue (is_principal_name name)) counted name_at }
-    ensures predicates { IsCodec (λ name. IsTrue (is_predicate_name name)) counted predicate_at }
-    ensures texts { IsCodec (λ text. IsTrue (is_text text)) counted text_at }
+    ensures names { IsCodec (λ name. IsTrue (is_principal_name name)) with_length name_at }
+    ensures predicates { IsCodec (λ name. IsTrue (is_predicate_name name)) with_length predicate_at }
+    ensures texts { IsCodec (λ text. IsTrue (is_text text)) with_length text_at }
     ensures times { IsCodec IsInRange time_spelling time_at }
 {}
 

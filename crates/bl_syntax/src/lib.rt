@@ -26,7 +26,7 @@ mod writing;
 
 pub use check::{SyntaxFault, check_formula};
 pub use codec_fault::CodecFault;
-pub use conditions::{holds_at, is_constant, is_state_condition, is_time_condition};
+pub use conditions::{holds_at, is_constant_in_range, is_state_condition, is_time_condition};
 pub use formula::Formula;
 pub use grant::{Goal, Grant};
 pub use lists::{Bytes, NoMemory, Numbers, Sequence};

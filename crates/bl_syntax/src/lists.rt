@@ -91,7 +91,7 @@ impl<T: Drop> Sequence<T> {
         Ok(())
     }
 
-    /// Keeps the first `len` items, and drops those behind them.
+    /// Keeps the first `len` items, and drops those after them.
     pub fn truncate(&mut self, len: usize)
         ensures { self.new ≡ take len self.old }
     {

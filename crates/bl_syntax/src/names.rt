@@ -55,7 +55,7 @@ impl Model for Principal {
 }
 
 impl Principal {
-    /// The principal of that name; none exactly where the bytes are no principal's name.
+    /// The principal of that name; none exactly if the bytes are no principal's name.
     pub fn new(name: &[u8]) -> Option<Self>
         ensures named { IsSome result ↔ IsTrue (is_principal_name name.now) }
         ensures same { IfSome result (λ principal. principal ≡ name.now) }
@@ -105,7 +105,7 @@ impl Model for Word {
 }
 
 impl Word {
-    /// The predicate name; none exactly where the bytes are none.
+    /// The predicate name; none exactly if the bytes are none.
     pub fn new(name: &[u8]) -> Option<Self>
         ensures named { IsSome result ↔ IsTrue (is_predicate_name name.now) }
         ensures same { IfSome result (λ word. word ≡ name.now) }
@@ -155,7 +155,7 @@ impl Model for Text {
 }
 
 impl Text {
-    /// The text constant; none exactly where the bytes are none.
+    /// The text constant; none exactly if the bytes are none.
     pub fn new(bytes: &[u8]) -> Option<Self>
         ensures fits { IsSome result ↔ IsTrue (is_text bytes.now) }
         ensures same { IfSome result (λ text. text ≡ bytes.now) }

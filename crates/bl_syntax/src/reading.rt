@@ -4,7 +4,7 @@
 ghost use Rattle.std.specs.Prelude.{◌≡◌, IsTrue};
 ghost use Rattle.bl_syntax.specs.Names.{is_principal_name, is_text};
 ghost use Rattle.bl_syntax.specs.TimeOrder.{IsInRange};
-ghost use Rattle.bl_syntax.specs.Spelling.{IsSpellable, counted, time_spelling, term_spelling};
+ghost use Rattle.bl_syntax.specs.Spelling.{IsSpellable, with_length, time_spelling, term_spelling};
 ghost use Rattle.bl_syntax.specs.Reading.{reading, name_at, text_at, time_at, term_at};
 ghost use Rattle.bl_syntax.specs.Codec.{ReadsFront, TakesNoMemory};
 
@@ -16,7 +16,7 @@ use crate::terms::{Term, TimePoint};
 /// Reads a principal's name with its length byte.
 pub fn read_name(bytes: &[u8]) -> Result<(Principal, usize), CodecFault>
     ensures exact { result ≡ reading name_at bytes.now }
-    ensures front { ReadsFront (λ name. name) (λ name. IsTrue (is_principal_name name)) counted bytes.now result }
+    ensures front { ReadsFront (λ name. name) (λ name. IsTrue (is_principal_name name)) with_length bytes.now result }
     ensures memory { TakesNoMemory result }
 {
     match name_at(bytes.len(), bytes) {
@@ -28,7 +28,7 @@ pub fn read_name(bytes: &[u8]) -> Result<(Principal, usize), CodecFault>
 /// Reads a text constant with its length byte.
 pub fn read_text(bytes: &[u8]) -> Result<(Text, usize), CodecFault>
     ensures exact { result ≡ reading text_at bytes.now }
-    ensures front { ReadsFront (λ text. text) (λ text. IsTrue (is_text text)) counted bytes.now result }
+    ensures front { ReadsFront (λ text. text) (λ text. IsTrue (is_text text)) with_length bytes.now result }
     ensures memory { TakesNoMemory result }
 {
     match text_at(bytes.len(), bytes) {

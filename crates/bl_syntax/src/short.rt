@@ -20,13 +20,13 @@ impl<const N: usize> Model for Short<N> {
 
     ghost Value = { List ℕ };
 
-    ghost use Rattle.bl_syntax.specs.Padding.{IsPadded, padded, padded_again};
+    ghost use Rattle.bl_syntax.specs.Padding.{IsPadded, pad, padded_again};
 
     ghost view = { λ s. take s.len s.bytes };
 
     ghost invariant = { λ s. IsPadded N s.bytes s.len };
 
-    ghost inverse = { λ bytes. record { bytes = padded N bytes; len = length bytes } };
+    ghost inverse = { λ bytes. record { bytes = pad N bytes; len = length bytes } };
 
     ghost inverse_ok = { λ a h. padded_again N a h };
 }

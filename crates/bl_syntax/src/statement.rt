@@ -2,9 +2,9 @@
 
 ghost use Rattle.std.specs.Prelude.{◌↔◌, ℕ, List, IsTrue};
 ghost use Rattle.std.specs.List.{AllByRecursion};
-ghost use Rattle.bl_syntax.specs.Formula.{formula};
+ghost use Rattle.bl_syntax.specs.Formula.{formula_view};
 ghost use Rattle.bl_syntax.specs.WellSorted.{terms_of_state};
-ghost use Rattle.bl_syntax.specs.Statement.{AllTerms, IsSayable, IsSayableFormula, IsStatement, saying};
+ghost use Rattle.bl_syntax.specs.Statement.{AllTerms, IsSayable, IsSayableFormula, IsStatement, statement_view};
 
 use crate::check::check_formula;
 use crate::formula::Formula;
@@ -25,28 +25,28 @@ pub struct Statement {
 }
 
 impl Model for Statement {
-    ghost use Rattle.bl_syntax.specs.Statement.{Saying, saying, IsStatement};
-    ghost use Rattle.bl_syntax.specs.Formula.{formula};
-    ghost use Rattle.bl_syntax.specs.StatementCode.{saying_code};
+    ghost use Rattle.bl_syntax.specs.Statement.{StatementView, statement_view, IsStatement};
+    ghost use Rattle.bl_syntax.specs.Formula.{formula_view};
+    ghost use Rattle.bl_syntax.specs.StatementCode.{statement_code};
 
-    ghost Value = { Saying };
+    ghost Value = { StatementView };
 
-    ghost coded = { saying_code };
+    ghost coded = { statement_code };
 
-    ghost view = { λ s. saying s.who (formula s.body) s.from s.to };
+    ghost view = { λ s. statement_view s.who (formula_view s.body) s.from s.to };
 
-    ghost invariant = { λ s. IsStatement (saying s.who (formula s.body) s.from s.to) };
+    ghost invariant = { λ s. IsStatement (statement_view s.who (formula_view s.body) s.from s.to) };
 }
 
 impl Statement {
     ghost use Rattle.std.specs.Prelude.{◌≡◌, ◌↔◌, IsSome, IfSome, IfOk, IsTrue};
-    ghost use Rattle.bl_syntax.specs.Formula.{formula};
-    ghost use Rattle.bl_syntax.specs.Statement.{saying, IsStatement};
+    ghost use Rattle.bl_syntax.specs.Formula.{formula_view};
+    ghost use Rattle.bl_syntax.specs.Statement.{statement_view, IsStatement};
 
-    /// The statement; none exactly where it may not be made. It takes no memory.
+    /// The statement; none exactly if it may not be made. It takes no memory.
     pub fn new(who: Principal, body: Formula, from: TimePoint, to: TimePoint) -> Option<Statement>
-        ensures some { IsSome result ↔ IsStatement (saying who (formula body) from to) }
-        ensures same { IfSome result (λ statement. statement ≡ saying who (formula body) from to) }
+        ensures some { IsSome result ↔ IsStatement (statement_view who (formula_view body) from to) }
+        ensures same { IfSome result (λ statement. statement ≡ statement_view who (formula_view body) from to) }
     {
         if may_be_said(&body, from, to) {
             Some(Statement {
@@ -69,7 +69,7 @@ impl Statement {
 
     /// What is said.
     pub fn body(&self) -> &Formula
-        ensures same { formula result.now ≡ self.now.body }
+        ensures same { formula_view result.now ≡ self.now.body }
         ensures kept { IsStatement self.now }
     {
         &self.body
@@ -116,20 +116,20 @@ impl Statement {
 
 /// Whether a principal may say the formula on the interval. Who it is plays no part.
 fn may_be_said(body: &Formula, from: TimePoint, to: TimePoint) -> bool
-    ensures { (who : List ℕ) → IsTrue result ↔ IsStatement (saying who (formula body.now) from to) }
+    ensures { (who : List ℕ) → IsTrue result ↔ IsStatement (statement_view who (formula_view body.now) from to) }
 {
     is_sayable_formula(body) && from.is_in_range() && to.is_in_range()
 }
 
 fn is_sayable_formula(body: &Formula) -> bool
-    ensures { IsTrue result ↔ IsSayableFormula (formula body.now) }
+    ensures { IsTrue result ↔ IsSayableFormula (formula_view body.now) }
 {
     check_formula(body, &[]).is_ok() && has_sayable_terms(body)
 }
 
 /// Whether no term is the current time, and all times are in the range of moments.
 fn has_sayable_terms(f: &Formula) -> bool
-    ensures { IsTrue result ↔ AllTerms IsSayable (formula f.now) }
+    ensures { IsTrue result ↔ AllTerms IsSayable (formula_view f.now) }
 {
     match f {
         Formula::Atom(_, terms) => terms.as_slice().iter().all(|t| is_sayable(t)),

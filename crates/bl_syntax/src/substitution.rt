@@ -1,7 +1,7 @@
-//! A term in the place of a bound variable.
+//! A term instead of a bound variable.
 
 ghost use Rattle.std.specs.Prelude.{◌≡◌, suc, IfOk, map};
-ghost use Rattle.bl_syntax.specs.Formula.{formula, atom, compare, state, says, on};
+ghost use Rattle.bl_syntax.specs.Formula.{formula_view, atom, compare, state, says, on};
 ghost use Rattle.bl_syntax.specs.Substitution.{put_in, put_in_term, put_in_constraint, put_in_state, instance_at};
 
 use crate::boxes::{
@@ -17,7 +17,7 @@ use std::alloc::{AllocError, Global};
 /// The body of a binder with the term in the place of the binder's variable. The term is not
 /// changed on the way: one in scope holds no bound variable.
 pub fn instantiate(alloc: Global, body: &Formula, t: &Term) -> Result<Box<Formula>, NoMemory>
-    ensures { IfOk result (λ instance. formula instance.value ≡ instance_at t.now (formula body.now)) }
+    ensures { IfOk result (λ instance. formula_view instance.value ≡ instance_at t.now (formula_view body.now)) }
 {
     put_in(alloc, body, 0, t)
 }
@@ -25,12 +25,12 @@ pub fn instantiate(alloc: Global, body: &Formula, t: &Term) -> Result<Box<Formul
 /// The formula with t for the variable of the binder that stands so many binders further out. It calls itself as deep
 /// as the formula is, and holds no formula and no term on the stack.
 fn put_in(alloc: Global, f: &Formula, depth: usize, t: &Term) -> Result<Box<Formula>, NoMemory>
-    ensures { IfOk result (λ changed. formula changed.value ≡ put_in depth t.now (formula f.now)) }
+    ensures { IfOk result (λ changed. formula_view changed.value ≡ put_in depth t.now (formula_view f.now)) }
 {
     match f {
         Formula::Atom(name, terms) => put_in_atom(alloc, name, terms.as_slice(), depth, t),
-        Formula::Cons(c) => put_in_compared(alloc, c, depth, t),
-        Formula::State(s) => put_in_stated(alloc, s, depth, t),
+        Formula::Cons(c) => put_in_comparison(alloc, c, depth, t),
+        Formula::State(s) => put_in_state_formula(alloc, s, depth, t),
         Formula::And(a, b) => {
             both_of(
                 alloc,
@@ -54,11 +54,15 @@ fn put_in(alloc: Global, f: &Formula, depth: usize, t: &Term) -> Result<Box<Form
         }
         Formula::True => truth_of(alloc),
         Formula::False => falsity_of(alloc),
-        Formula::Forall(sort, a) => { every_of(alloc, *sort, put_in(alloc, a, deeper(depth)?, t)?) }
-        Formula::Exists(sort, a) => { some_of(alloc, *sort, put_in(alloc, a, deeper(depth)?, t)?) }
-        Formula::Says(who, a) => put_in_said(alloc, who, put_in(alloc, a, depth, t)?, depth, t),
+        Formula::Forall(sort, a) => {
+            every_of(alloc, *sort, put_in(alloc, a, inner_depth(depth)?, t)?)
+        }
+        Formula::Exists(sort, a) => {
+            some_of(alloc, *sort, put_in(alloc, a, inner_depth(depth)?, t)?)
+        }
+        Formula::Says(who, a) => put_in_says(alloc, who, put_in(alloc, a, depth, t)?, depth, t),
         Formula::At(a, from, to) => {
-            put_in_placed(alloc, put_in(alloc, a, depth, t)?, from, to, depth, t)
+            put_in_on(alloc, put_in(alloc, a, depth, t)?, from, to, depth, t)
         }
     }
 }
@@ -71,51 +75,51 @@ fn put_in_atom(
     depth: usize,
     t: &Term,
 ) -> Result<Box<Formula>, NoMemory>
-    ensures { IfOk result (λ f. formula f.value ≡ atom name.now (map (put_in_term depth t.now) terms.now)) }
+    ensures { IfOk result (λ f. formula_view f.value ≡ atom name.now (map (put_in_term depth t.now) terms.now)) }
 {
     let terms = put_in_terms(alloc, terms, depth, t)?;
     atom_of(alloc, name, Sequence::from_vec(terms))
 }
 
 #[inline(never)]
-fn put_in_compared(
+fn put_in_comparison(
     alloc: Global,
     c: &Constraint,
     depth: usize,
     t: &Term,
 ) -> Result<Box<Formula>, NoMemory>
-    ensures { IfOk result (λ f. formula f.value ≡ compare (put_in_constraint depth t.now c.now)) }
+    ensures { IfOk result (λ f. formula_view f.value ≡ compare (put_in_constraint depth t.now c.now)) }
 {
     constraint_of(alloc, &put_in_constraint(c, depth, t))
 }
 
 #[inline(never)]
-fn put_in_stated(
+fn put_in_state_formula(
     alloc: Global,
     s: &StatePred,
     depth: usize,
     t: &Term,
 ) -> Result<Box<Formula>, NoMemory>
-    ensures { IfOk result (λ f. formula f.value ≡ state (put_in_state depth t.now s.now)) }
+    ensures { IfOk result (λ f. formula_view f.value ≡ state (put_in_state depth t.now s.now)) }
 {
     state_of(alloc, &put_in_state(s, depth, t))
 }
 
 #[inline(never)]
-fn put_in_said(
+fn put_in_says(
     alloc: Global,
     who: &Term,
     a: Box<Formula>,
     depth: usize,
     t: &Term,
 ) -> Result<Box<Formula>, NoMemory>
-    ensures { IfOk result (λ f. formula f.value ≡ says (put_in_term depth t.now who.now) (formula a.value)) }
+    ensures { IfOk result (λ f. formula_view f.value ≡ says (put_in_term depth t.now who.now) (formula_view a.value)) }
 {
     says_of(alloc, &put_in_term(who, depth, t), a)
 }
 
 #[inline(never)]
-fn put_in_placed(
+fn put_in_on(
     alloc: Global,
     a: Box<Formula>,
     from: &Term,
@@ -123,7 +127,7 @@ fn put_in_placed(
     depth: usize,
     t: &Term,
 ) -> Result<Box<Formula>, NoMemory>
-    ensures { IfOk result (λ f. formula f.value ≡ on (formula a.value) (put_in_term depth t.now from.now) (put_in_term depth t.now to.now)) }
+    ensures { IfOk result (λ f. formula_view f.value ≡ on (formula_view a.value) (put_in_term depth t.now from.now) (put_in_term depth t.now to.now)) }
 {
     on_of(
         alloc,
@@ -134,7 +138,7 @@ fn put_in_placed(
 }
 
 /// One binder further in. No memory holds a formula with so many binders that their number does not fit.
-fn deeper(depth: usize) -> Result<usize, NoMemory>
+fn inner_depth(depth: usize) -> Result<usize, NoMemory>
     ensures { IfOk result (λ next. next ≡ suc depth) }
 {
     depth.checked_add(1).ok_or(NoMemory)

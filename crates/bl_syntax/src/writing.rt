@@ -4,7 +4,7 @@ ghost use Rattle.std.specs.Prelude.{◌≡◌, ◌++◌, OnOk, OnErr, IsTrue};
 ghost use Rattle.bl_syntax.specs.Names.{is_principal_name, is_text};
 ghost use Rattle.bl_syntax.specs.TimeOrder.{IsInRange};
 ghost use Rattle.bl_syntax.specs.Terms.{HasTimeInRange};
-ghost use Rattle.bl_syntax.specs.Spelling.{IsSpellable, counted, time_spelling, term_spelling};
+ghost use Rattle.bl_syntax.specs.Spelling.{IsSpellable, with_length, time_spelling, term_spelling};
 
 use crate::fields::{permission_code, put, second_bytes, u32_bytes, u64_bytes};
 use crate::lists::{Bytes, NoMemory};
@@ -13,7 +13,7 @@ use crate::terms::{NodeId, Term, TimePoint};
 
 /// Adds a name with its length byte.
 pub fn write_name(p: &Principal, out: &mut Bytes) -> Result<(), NoMemory>
-    ensures ok { OnOk result (out.new ≡ out.old ++ counted p.now) }
+    ensures ok { OnOk result (out.new ≡ out.old ++ with_length p.now) }
     ensures spelled { OnOk result (IsTrue (is_principal_name p.now)) }
     ensures err { OnErr result (out.new ≡ out.old) }
 {
@@ -23,7 +23,7 @@ pub fn write_name(p: &Principal, out: &mut Bytes) -> Result<(), NoMemory>
 
 /// Adds a text with its length byte.
 pub fn write_text(t: &Text, out: &mut Bytes) -> Result<(), NoMemory>
-    ensures ok { OnOk result (out.new ≡ out.old ++ counted t.now) }
+    ensures ok { OnOk result (out.new ≡ out.old ++ with_length t.now) }
     ensures spelled { OnOk result (IsTrue (is_text t.now)) }
     ensures err { OnErr result (out.new ≡ out.old) }
 {

@@ -11,23 +11,23 @@ use Rattle.bl_tokens.specs.declared.tokens.Keyword.TheVariants as keywords
 use Rattle.bl_tokens.specs.declared.tokens.Token.{Token}
 use Rattle.bl_tokens.specs.declared.tokens.Token.TheVariants.{Constant, Keyword}
 use Rattle.bl_tokens.specs.declared.tokens.Token.TheVariants as tokens
-use Rattle.bl_tokens.specs.declared.tokens.Here.{Here}
-use Rattle.bl_tokens.specs.Tokens.{token_from, behind, behind_node, is_sign}
+use Rattle.bl_tokens.specs.declared.tokens.Cursor.{Cursor}
+use Rattle.bl_tokens.specs.Tokens.{token_from, cursor_after, cursor_after_node, is_sign}
 use Rattle.bl_text.specs.Scope.{Variable}
-use Rattle.bl_text.specs.Pieces.{count, expected, applied, interval, binder, speaker, simple}
+use Rattle.bl_text.specs.Pieces.{count, expect_sign, apply_predicate, interval, binder, speaker, simple_formula}
 use Rattle.bl_text.specs.Grammar.{Level, formula, conjunction, unary, primary, is_call, AreArguments}
-use Rattle.bl_text.specs.Stops.{ArgumentsStop, no_memory_for_arguments, in_first_argument, in_argument, CallStops, at_name, in_arguments, before_close, by_sorts, Stops, no_memory, in_binder, in_body, in_premise, at_implies, in_conclusion, in_first_disjunct, at_or, in_disjunct, in_first_conjunct, at_and, in_conjunct, in_speaker, in_said, in_postfix, in_primary, in_interval, too_deep, in_group, not_closed, in_call, in_simple}
+use Rattle.bl_text.specs.FirstFaults.{ArgumentsHaveFirstFault, no_memory_for_arguments, in_first_argument, in_argument, CallHasFirstFault, at_name, in_arguments, before_close, by_sorts, HasFirstFault, no_memory, in_binder, in_body, in_premise, at_implies, in_conclusion, in_first_disjunct, at_or, in_disjunct, in_first_conjunct, at_and, in_conjunct, in_speaker, in_said, in_postfix, in_primary, in_interval, too_deep, in_group, not_closed, in_call, in_simple}
 use Rattle.bl_text.specs.FirstTokens.{SameTokens}
 use Rattle.bl_text.specs.Met.{IsAt, unexpected, unknown_name, bad_date, wrong_sort, too_large, IsMetAt, there, at_close}
-use Rattle.bl_text.specs.Sentences.{AreTerms, one_term, further_term, constant, Sentence, quantified, implication, one_disjunction, or_further, one_conjunction, and_further, one_unary, saying, one_postfix, one_primary, group, called}
+use Rattle.bl_text.specs.Sentences.{AreTerms, one_term, further_term, constant, FormulaSentence, quantified, implication, one_disjunction, or_further, one_conjunction, and_further, one_unary, saying, one_postfix, one_primary, group, called}
 use Rattle.bl_text.proofs.ReadLemmas.{expected-Ok, is_at, stops_at}
-use Rattle.bl_text.proofs.Walk.{walk_from, tokens_from, one_token, same_first, IsToken, token_behind, same_more, Local, local_then, local_goes, local_peeks, behind_parts, Met, met_with, met_after, met_here, met_peeks, met_shifted, stopped_piece}
+use Rattle.bl_text.proofs.FirstTokensLemmas.{walk_from, tokens_from, one_token, same_first, IsToken, token_behind, same_more, Local, local_then, local_goes, local_peeks, behind_parts, Met, met_with, met_after, met_here, met_peeks, met_shifted, stopped_piece}
 use Rattle.bl_text.proofs.PieceLemmas.{count_errs, argument_errs, next_argument_errs, applied_unsorted, expected_errs, interval_place, piece_interval, binder_place, piece_binder, speaker_place, piece_speaker, form_place, piece_simple}
-use Rattle.bl_text.proofs.SettledLemmas.{errs_is, expected_ok, local_expected, met_expected, arguments_local, call_start, arguments_at, arguments_stop_at, call_opened, call_met, unsorted_is, OrMemory, or_met, saying_same, call_same, local_binder, local_speaker, local_is, met_full}
+use Rattle.bl_text.proofs.SameTokensLemmas.{errs_is, expected_ok, local_expected, met_expected, arguments_local, call_start, arguments_at, arguments_stop_at, call_opened, call_met, unsorted_is, OrMemory, or_met, saying_same, call_same, local_binder, local_speaker, local_is, met_full}
 use Rattle.bl_text.proofs.ViableLemmas.{between, Reads, reads_then, reads_node, reads_behind, reads_sign, joined, begins_here, Viable, viable_here, viable_at, viable_behind, viable_full, default, close_sign, binder_tokens, viable_binder, speaker_tokens, viable_speaker, viable_interval, Spelled, spelled, arguments_tokens, call_reads, viable_simple}
 
--- the fault is met behind tokens that can be completed, and depends on them, the one at which it is met, and the next
-pub record Exact (text : List ℕ) (IsOne : List Token → Type 0) (here : Here) (e : TextFault) (P : List ℕ → Type 0) : Type 0 where
+-- the fault is met after tokens that can be completed, and depends on them, the one at which it is met, and the next
+pub record Exact (text : List ℕ) (IsOne : List Token → Type 0) (here : Cursor) (e : TextFault) (P : List ℕ → Type 0) : Type 0 where
   pub ts : List Token
   pub met : IsMetAt (tokens_from text here) (length ts) e
   pub spelled : between text (length ts) here ≡ ts
@@ -51,7 +51,7 @@ at_byte wrong_sort = refl
 at_byte too_large = refl
 
 -- what is settled and what can be completed are both said of the token at the fault's place
-pub exact : {text : List ℕ} {IsOne : List Token → Type 0} {here : Here} {e : TextFault} {P : List ℕ → Type 0} → IsToken text here → Met text here e P → Viable text IsOne here e → Exact text IsOne here e P
+pub exact : {text : List ℕ} {IsOne : List Token → Type 0} {here : Cursor} {e : TextFault} {P : List ℕ → Type 0} → IsToken text here → Met text here e P → Viable text IsOne here e → Exact text IsOne here e P
 exact {text} {here = here} {e} token m v = record {
   ts = v.ts;
   met = there e v.begins.at;
@@ -61,11 +61,11 @@ exact {text} {here = here} {e} token m v = record {
   holds = λ o same. m.holds o (same_more text o here m.steps (length v.ts) token (at_byte m.at ∙ sym (at_byte v.begins.at)) same);
 }
 
-pub exact_with : {text : List ℕ} {A B : List Token → Type 0} {here : Here} {e : TextFault} {P Q : List ℕ → Type 0} → ((ts : List Token) → A ts → B ts) → ((other : List ℕ) → P other → Q other) → Exact text A here e P → Exact text B here e Q
+pub exact_with : {text : List ℕ} {A B : List Token → Type 0} {here : Cursor} {e : TextFault} {P Q : List ℕ → Type 0} → ((ts : List Token) → A ts → B ts) → ((other : List ℕ) → P other → Q other) → Exact text A here e P → Exact text B here e Q
 exact_with f g x = record { ts = x.ts; met = x.met; spelled = x.spelled; others = x.others; sentence = f (x.ts ++ x.others) x.sentence; holds = λ o same. g o (x.holds o same) }
 
--- behind what was read, with what goes on behind the part
-pub exact_after : {text : List ℕ} {A B : List Token → Type 0} {here mid : Here} {e : TextFault} {front : List Token} {P Q R : List ℕ → Type 0} (back : List Token) → IsToken text here → Local text here mid P → Reads text here mid front
+-- after what was read, with what goes on after the part
+pub exact_after : {text : List ℕ} {A B : List Token → Type 0} {here mid : Cursor} {e : TextFault} {front : List Token} {P Q R : List ℕ → Type 0} (back : List Token) → IsToken text here → Local text here mid P → Reads text here mid front
     → ((ts : List Token) → A ts → B (front ++ (ts ++ back))) → ((other : List ℕ) → P other → Q other → R other) → Exact text A mid e Q → Exact text B here e R
 exact_after {text} {A} {B} {here} {mid} {e} {front} back token l r f g x = record {
   ts = front ++ x.ts;
@@ -76,25 +76,25 @@ exact_after {text} {A} {B} {here} {mid} {e} {front} back token l r f g x = recor
   holds = λ o same. (let len = length-append front x.ts in
       let own : tokens_from text here (l.steps + length x.ts) ≡ tokens_from text mid (length x.ts) = walk_from text l.steps (length x.ts) here mid l.reach in
       let read : tokens_from text here (length (front ++ x.ts)) ≡ tokens_from text mid (length x.ts) = ap (tokens_from text here) len ∙ walk_from text (length front) (length x.ts) here mid r.reach in
-      let more = same_more text o here (l.steps + length x.ts) (length (front ++ x.ts)) token (ap (λ (h : Here). h.at) (own ∙ sym read)) same in
+      let more = same_more text o here (l.steps + length x.ts) (length (front ++ x.ts)) token (ap (λ (h : Cursor). h.at) (own ∙ sym read)) same in
       let n : l.steps + length x.ts + 1 ≡ l.steps + (length x.ts + 1) = omega arith in
       let parts = behind_parts text o l.steps (length x.ts + 1) here mid l.reach (subst (λ m. SameTokens text o m here.end) n more) in
       g o (l.holds o parts.0) (x.holds o parts.1));
 }
 
 -- what is read next
-exact_next : {text : List ℕ} {A B : List Token → Type 0} {here mid : Here} {e : TextFault} {front : List Token} {P Q R : List ℕ → Type 0} → IsToken text here → Local text here mid P → Reads text here mid front
+exact_next : {text : List ℕ} {A B : List Token → Type 0} {here mid : Cursor} {e : TextFault} {front : List Token} {P Q R : List ℕ → Type 0} → IsToken text here → Local text here mid P → Reads text here mid front
     → ((ts : List Token) → A ts → B (front ++ ts)) → ((other : List ℕ) → P other → Q other → R other) → Exact text A mid e Q → Exact text B here e R
 exact_next {B = B} {front = front} token l r f g x = exact_after [] token l r (λ ts a. subst B (ap (λ us. front ++ us) (sym (append-nil ts))) (f ts a)) g x
 
--- what is read behind the sign that follows what was read
-exact_operand : {text : List ℕ} {A B C : List Token → Type 0} {here mid : Here} {e : TextFault} {P Q R : List ℕ → Type 0} → IsToken text here → Local text here (behind_node text mid) P → (d : Spelled text A here mid)
-    → ((us : List Token) → C us → B (d.ts ++ mid.token ∷ us)) → ((other : List ℕ) → P other → Q other → R other) → Exact text C (behind_node text mid) e Q → Exact text B here e R
+-- what is read after the sign that follows what was read
+exact_operand : {text : List ℕ} {A B C : List Token → Type 0} {here mid : Cursor} {e : TextFault} {P Q R : List ℕ → Type 0} → IsToken text here → Local text here (cursor_after_node text mid) P → (d : Spelled text A here mid)
+    → ((us : List Token) → C us → B (d.ts ++ mid.token ∷ us)) → ((other : List ℕ) → P other → Q other → R other) → Exact text C (cursor_after_node text mid) e Q → Exact text B here e R
 exact_operand {text} {B = B} {mid = mid} token l d f g x =
     exact_next token l (reads_then d.reads (reads_node text mid)) (λ us c. subst B (sym (append_assoc d.ts (mid.token ∷ []) us)) (f us c)) g x
 
--- what also depends on the first token behind
-exact_peeks : {text : List ℕ} {A : List Token → Type 0} {here : Here} {e : TextFault} {P R : List ℕ → Type 0} (left : ℕ) → ((o : List ℕ) → token_from o here.end left ≡ token_from text here.end left → R o) → Exact text A here e P → Exact text A here e (λ o. R o × P o)
+-- what also depends on the first token after
+exact_peeks : {text : List ℕ} {A : List Token → Type 0} {here : Cursor} {e : TextFault} {P R : List ℕ → Type 0} (left : ℕ) → ((o : List ℕ) → token_from o here.end left ≡ token_from text here.end left → R o) → Exact text A here e P → Exact text A here e (λ o. R o × P o)
 exact_peeks {text} {here = here} left f x = record {
   ts = x.ts;
   met = x.met;
@@ -106,8 +106,8 @@ exact_peeks {text} {here = here} left f x = record {
 
 -- ---- calls
 
-exact_arguments : {text : List ℕ} {st : Bool} {scope : List Variable} {is_atom : Bool} {here : Here} {e : TextFault} → IsToken text here → ArgumentsStop text st scope is_atom here e
-    → OrMemory e (Exact text (AreTerms scope) here e (λ o. ArgumentsStop o st scope is_atom here e))
+exact_arguments : {text : List ℕ} {st : Bool} {scope : List Variable} {is_atom : Bool} {here : Cursor} {e : TextFault} → IsToken text here → ArgumentsHaveFirstFault text st scope is_atom here e
+    → OrMemory e (Exact text (AreTerms scope) here e (λ o. ArgumentsHaveFirstFault o st scope is_atom here e))
 exact_arguments token no_memory_for_arguments = inl refl
 exact_arguments {text} {st} {scope} {is_atom} {here} token (in_first_argument e h) =
     let at = errs_is (argument_errs st scope here) h in
@@ -119,13 +119,13 @@ exact_arguments {text} {st} {scope} {is_atom} {here} token (in_argument mid plac
     (viable_behind (Constant Ctime ∷ []) front.reads (reads_sign _ comma) at (further_term front.ts mid.token (Constant Ctime) front.terms (expected_ok text signs.Comma mid place comma).0 (constant Ctime))))
 
 -- a predicate's arguments are wrong, which is met at its parenthesis
-exact_by_sorts : {text : List ℕ} {st : Bool} {scope : List Variable} {here mid place : Here} {terms : List Term} {e : TextFault} (name : List ℕ) → IsToken text here → here.token ≡ tokens.Name name → count here ≡ Ok tt
-    → is_sign signs.Open (behind_node text here).token ≡ true → AreArguments text st scope (is_predicate_name name) (behind text (behind_node text here)) mid terms → expected text signs.Close mid ≡ Ok place → applied scope here.at name terms ≡ Err e
-    → Exact text (Sentence primary scope) here e (λ o. CallStops o st scope here e)
-unfolding behind
+exact_by_sorts : {text : List ℕ} {st : Bool} {scope : List Variable} {here mid place : Cursor} {terms : List Term} {e : TextFault} (name : List ℕ) → IsToken text here → here.token ≡ tokens.Name name → count here ≡ Ok tt
+    → is_sign signs.Open (cursor_after_node text here).token ≡ true → AreArguments text st scope (is_predicate_name name) (cursor_after text (cursor_after_node text here)) mid terms → expect_sign text signs.Close mid ≡ Ok place → apply_predicate scope here.at name terms ≡ Err e
+    → Exact text (FormulaSentence primary scope) here e (λ o. CallHasFirstFault o st scope here e)
+unfolding cursor_after
 exact_by_sorts {text} {st} {scope} {here} {mid} {place} {terms} {e} name token is room opened args close wrong =
     let inside = arguments_tokens args in
-    let ts : List Token = tokens.Name name ∷ (behind_node text here).token ∷ inside.ts in
+    let ts : List Token = tokens.Name name ∷ (cursor_after_node text here).token ∷ inside.ts in
     let read : Reads text here mid ts = reads_then (call_reads is) inside.reads in
     let found = expected_ok text signs.Close mid place close in
     let len : 2 + length inside.ts ≡ length ts = omega arith in
@@ -138,32 +138,32 @@ exact_by_sorts {text} {st} {scope} {here} {mid} {place} {terms} {e} name token i
       met = subst (λ n. IsMetAt (tokens_from text here) n e) len met;
       spelled = read.spelled;
       others = tokens.Sign signs.Close ∷ [];
-      sentence = called scope name (behind_node text here).token (tokens.Sign signs.Close) inside.ts opened inside.terms close_sign;
-      holds = λ o same. (let more = same_more text o here before.steps (length ts) token (ap (λ (h : Here). h.at) same_place) same in
+      sentence = called scope name (cursor_after_node text here).token (tokens.Sign signs.Close) inside.ts opened inside.terms close_sign;
+      holds = λ o same. (let more = same_more text o here before.steps (length ts) token (ap (λ (h : Cursor). h.at) same_place) same in
           let parts = behind_parts text o before.steps 1 here mid before.reach more in
           let p = before.holds o parts.0 in
           let after = one_token text o mid.end mid.left parts.1.0 in
           by_sorts name mid place terms e is room (arguments_at (sym p.0) p.1) (expected-Ok o signs.Close mid found.0 ∙ ap Ok (after ∙ sym found.1)) wrong);
     }
 
-exact_call : {text : List ℕ} {st : Bool} {scope : List Variable} {here : Here} {e : TextFault} → IsToken text here → is_call text here ≡ true → CallStops text st scope here e → OrMemory e (Exact text (Sentence primary scope) here e (λ o. CallStops o st scope here e))
+exact_call : {text : List ℕ} {st : Bool} {scope : List Variable} {here : Cursor} {e : TextFault} → IsToken text here → is_call text here ≡ true → CallHasFirstFault text st scope here e → OrMemory e (Exact text (FormulaSentence primary scope) here e (λ o. CallHasFirstFault o st scope here e))
 exact_call {text} {st} {scope} {here} token calls (at_name e full) = let at = errs_is (count_errs here) full in inr (exact token (met_here at (λ o. at_name e full)) (viable_here primary scope at))
 exact_call {text} {st} {scope} {here} token calls (in_arguments name e is room stop) =
     or_met (exact_arguments (token_behind (call_start text here)) stop)
-    (exact_after (tokens.Sign signs.Close ∷ []) token (call_start text here) (call_reads is) (λ ts terms. called scope name (behind_node text here).token (tokens.Sign signs.Close) ts (call_opened text here calls) terms close_sign)
+    (exact_after (tokens.Sign signs.Close ∷ []) token (call_start text here) (call_reads is) (λ ts terms. called scope name (cursor_after_node text here).token (tokens.Sign signs.Close) ts (call_opened text here calls) terms close_sign)
     (λ o p q. in_arguments name e is room (arguments_stop_at (sym p) q)))
 exact_call {text} {st} {scope} {here} token calls (before_close name mid terms e is room args no_comma close) =
     let inside = arguments_tokens args in
     inr (exact token (met_with (λ o p. before_close name mid terms e is room (arguments_at (sym p.0) p.1.0) no_comma p.1.1) (met_after (call_start text here) (met_after (arguments_local args).local (met_expected signs.Close close))))
     (viable_at (tokens.Sign signs.Close ∷ []) (reads_then (call_reads is) inside.reads) (errs_is (expected_errs text signs.Close mid) close)
-    (called scope name (behind_node text here).token (tokens.Sign signs.Close) inside.ts (call_opened text here calls) inside.terms close_sign)))
+    (called scope name (cursor_after_node text here).token (tokens.Sign signs.Close) inside.ts (call_opened text here calls) inside.terms close_sign)))
 exact_call {text} {st} {scope} {here} token calls (by_sorts name mid place terms e is room args close wrong) = inr (exact_by_sorts name token is room (call_opened text here calls) args close wrong)
 
 -- ---- formulas
 
-pub exact_stops : {text : List ℕ} {st : Bool} {level : Level} {scope : List Variable} {depth : ℕ} {here : Here} {e : TextFault} → IsToken text here → Stops text st level scope depth here e
-    → OrMemory e (Exact text (Sentence level scope) here e (λ o. Stops o st level scope depth here e))
-unfolding behind behind_node
+pub exact_stops : {text : List ℕ} {st : Bool} {level : Level} {scope : List Variable} {depth : ℕ} {here : Cursor} {e : TextFault} → IsToken text here → HasFirstFault text st level scope depth here e
+    → OrMemory e (Exact text (FormulaSentence level scope) here e (λ o. HasFirstFault o st level scope depth here e))
+unfolding cursor_after cursor_after_node
 exact_stops token (no_memory level scope depth here) = inl refl
 exact_stops {text} {st} token (in_binder scope depth here e q b) =
     inr (exact token (met_with (λ o p. in_binder scope depth here e q p) (stopped_piece text here 0 binder_place (λ o. binder o here) (piece_binder text here) b)) (viable_binder text scope here e q b))
@@ -230,4 +230,4 @@ exact_stops {text} {st} token (in_call scope depth here e closed calls h) =
     or_met (exact_call token calls h) (λ x. exact_with (λ ts p. p) (λ o p. in_call scope depth here e closed p.0 p.1) (exact_peeks (here.left - 1) (λ o same. call_same text o here same calls) x))
 exact_stops {text} {st} token (in_simple scope depth here e closed no_call h) =
     inr (exact token (met_with (λ o p. in_simple scope depth here e closed p.0 p.1)
-    (met_peeks (here.left - 1) (λ o same. call_same text o here same no_call) (stopped_piece text here 0 form_place (λ o. simple o st scope here) (piece_simple text st scope here) h))) (viable_simple text st scope here e h))
+    (met_peeks (here.left - 1) (λ o same. call_same text o here same no_call) (stopped_piece text here 0 form_place (λ o. simple_formula o st scope here) (piece_simple text st scope here) h))) (viable_simple text st scope here e h))

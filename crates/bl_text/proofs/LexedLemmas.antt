@@ -19,9 +19,9 @@ use Rattle.bl_tokens.specs.declared.tokens.Token.TheVariants as tokens
 use Rattle.bl_tokens.specs.declared.tokens.Lexeme.{Lexeme}
 use Rattle.bl_tokens.specs.Classes.{is_in}
 use Rattle.bl_tokens.specs.Numerals.{numeral_below}
-use Rattle.bl_tokens.specs.Dates.{begins_date, goes_on_with_time, date_second_at, day_second_at, is_moment}
+use Rattle.bl_tokens.specs.Dates.{has_date_front, has_time_of_day, date_second_at, day_second_at, is_moment}
 use Rattle.bl_tokens.specs.Words.{keyword, sort_named, constant_named, constant_or_name, sort_or_other, keyword_or_other, name_token}
-use Rattle.bl_tokens.specs.Tokens.{sized, bad, second_token, short_value, token_at_both, digits_of, integer_lexeme, negative_lexeme, time_lexeme, minus_lexeme, plus_lexeme, file_lexeme, parameter_lexeme, text_lexeme, begins_with, short_sign, sign_lexeme, begun_by, first_lexeme, word_lexeme, variable_lexeme, token_from}
+use Rattle.bl_tokens.specs.Tokens.{sized_lexeme, bad_lexeme, second_token, short_value, token_at_both, digits_of, integer_lexeme, negative_lexeme, time_lexeme, minus_lexeme, plus_lexeme, file_lexeme, parameter_lexeme, text_lexeme, has_first_byte, short_sign, sign_lexeme, other_lexeme, first_lexeme, word_lexeme, variable_lexeme, token_from}
 
 -- a constant of a text
 abbrev pub IsWritten : Term → Type 0
@@ -75,20 +75,20 @@ on_option l f (Some a) = f a
 
 abbrev sign_otherwise : Option Sign → ℕ → List ℕ → Lexeme
 sign_otherwise None first others =
-    if (first == 61) && begins_with 62 others then sized (tokens.Sign Sign.Implies) 2 else if (first == 60) && begins_with 61 others then sized (tokens.Sign Sign.UpTo) 2 else bad
-sign_otherwise (Some sign) first others = sized (tokens.Sign sign) 1
+    if (first == 61) && has_first_byte 62 others then sized_lexeme (tokens.Sign Sign.Implies) 2 else if (first == 60) && has_first_byte 61 others then sized_lexeme (tokens.Sign Sign.UpTo) 2 else bad_lexeme
+sign_otherwise (Some sign) first others = sized_lexeme (tokens.Sign sign) 1
 
 integer_lexed : (digits : List ℕ) → IsLexed (integer_lexeme digits).token
 integer_lexed digits = value (short_value digits)
   where
-    value : (o : Option ℕ) → IsLexed (on_option bad (λ n. sized (second_token (pos n)) (length digits)) o).token
+    value : (o : Option ℕ) → IsLexed (on_option bad_lexeme (λ n. sized_lexeme (second_token (pos n)) (length digits)) o).token
     value None = tt
     value (Some n) = second_lexed (pos n)
 
 negative_lexed : (digits : List ℕ) → IsLexed (negative_lexeme digits).token
 negative_lexed digits = value (short_value digits)
   where
-    value : (o : Option ℕ) → IsLexed (on_option bad (λ n. sized (second_token (neg_ℤ (pos n))) (length digits + 1)) o).token
+    value : (o : Option ℕ) → IsLexed (on_option bad_lexeme (λ n. sized_lexeme (second_token (neg_ℤ (pos n))) (length digits + 1)) o).token
     value None = tt
     value (Some n) = second_lexed (neg_ℤ (pos n))
 
@@ -103,39 +103,39 @@ both_lexed (Some date) (Some time) = second_lexed (date +ℤ pos time)
 
 time_lexed : (bytes : List ℕ) → IsLexed (time_lexeme bytes).token
 time_lexed bytes =
-    if_lexed (begins_date bytes) _ _ (if_lexed (goes_on_with_time bytes) _ _ (both_lexed (date_second_at bytes) (day_second_at bytes)) (date_lexed (date_second_at bytes))) (integer_lexed (digits_of bytes))
+    if_lexed (has_date_front bytes) _ _ (if_lexed (has_time_of_day bytes) _ _ (both_lexed (date_second_at bytes) (day_second_at bytes)) (date_lexed (date_second_at bytes))) (integer_lexed (digits_of bytes))
 
 minus_lexed : (others : List ℕ) → IsLexed (minus_lexeme others).token
-minus_lexed others = if_lexed (starts_with nat_eq others (codes "inf")) (sized (Constant (Time times.NegInf)) 4) (negative_lexeme (digits_of others)) tt (negative_lexed (digits_of others))
+minus_lexed others = if_lexed (starts_with nat_eq others (codes "inf")) (sized_lexeme (Constant (Time times.NegInf)) 4) (negative_lexeme (digits_of others)) tt (negative_lexed (digits_of others))
 
 plus_lexed : (others : List ℕ) → IsLexed (plus_lexeme others).token
-plus_lexed others = if_lexed (starts_with nat_eq others (codes "inf")) (sized (Constant (Time times.PosInf)) 4) bad tt tt
+plus_lexed others = if_lexed (starts_with nat_eq others (codes "inf")) (sized_lexeme (Constant (Time times.PosInf)) 4) bad_lexeme tt tt
 
 file_lexed : (others : List ℕ) → IsLexed (file_lexeme others).token
 file_lexed others = value (numeral_below (2 ^ 64) (digits_of others))
   where
-    value : (o : Option ℕ) → IsLexed (on_option bad (λ n. sized (Constant (File (record { 0 = n }))) (length (digits_of others) + 1)) o).token
+    value : (o : Option ℕ) → IsLexed (on_option bad_lexeme (λ n. sized_lexeme (Constant (File (record { 0 = n }))) (length (digits_of others) + 1)) o).token
     value None = tt
     value (Some n) = tt
 
 parameter_lexed : (others : List ℕ) → IsLexed (parameter_lexeme others).token
 parameter_lexed others = value (numeral_below (2 ^ 32) (digits_of others))
   where
-    value : (o : Option ℕ) → IsLexed (on_option bad (λ n. sized (Constant (Param n)) (length (digits_of others) + 1)) o).token
+    value : (o : Option ℕ) → IsLexed (on_option bad_lexeme (λ n. sized_lexeme (Constant (Param n)) (length (digits_of others) + 1)) o).token
     value None = tt
     value (Some n) = tt
 
 text_lexed : (others : List ℕ) → IsLexed (text_lexeme others).token
-text_lexed others = if_lexed _ (sized (Constant (Text (take (prefix_len (is_in classes.Text) others) others))) (prefix_len (is_in classes.Text) others + 2)) bad tt tt
+text_lexed others = if_lexed _ (sized_lexeme (Constant (Text (take (prefix_len (is_in classes.Text) others) others))) (prefix_len (is_in classes.Text) others + 2)) bad_lexeme tt tt
 
 sign_lexed : (first : ℕ) (others : List ℕ) → IsLexed (sign_lexeme first others).token
 sign_lexed first others = value (short_sign first)
   where
     value : (o : Option Sign) → IsLexed (sign_otherwise o first others).token
-    value None = if_lexed ((first == 61) && begins_with 62 others) _ _ tt (if_lexed ((first == 60) && begins_with 61 others) _ _ tt tt)
+    value None = if_lexed ((first == 61) && has_first_byte 62 others) _ _ tt (if_lexed ((first == 60) && has_first_byte 61 others) _ _ tt tt)
     value (Some sign) = tt
 
-begun_lexed : (first : ℕ) (others : List ℕ) → IsLexed (begun_by first others).token
+begun_lexed : (first : ℕ) (others : List ℕ) → IsLexed (other_lexeme first others).token
 begun_lexed first others =
     if_lexed (first == 45) _ _ (minus_lexed others) (if_lexed (first == 43) _ _ (plus_lexed others) (if_lexed (first == 35) _ _ (file_lexed others)
     (if_lexed (first == 63) _ _ (parameter_lexed others) (if_lexed (first == 34) _ _ (text_lexed others) (sign_lexed first others)))))
@@ -171,7 +171,7 @@ keyword_lexed : (word : List ℕ) (o : Option Word) → IsLexed (keyword_or_othe
 keyword_lexed word None = sort_lexed word (sort_named word)
 keyword_lexed word (Some found) = tt
 
-variable_lexed : (name : List ℕ) → IsLexed (if nat_le (length name) 32 then sized (tokens.Variable name) (length name) else bad).token
+variable_lexed : (name : List ℕ) → IsLexed (if nat_le (length name) 32 then sized_lexeme (tokens.Variable name) (length name) else bad_lexeme).token
 variable_lexed name = if_lexed (nat_le (length name) 32) _ _ tt tt
 
 first_lexed : (bytes : List ℕ) → IsLexed (first_lexeme bytes).token

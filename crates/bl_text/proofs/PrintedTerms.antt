@@ -15,13 +15,13 @@ use Rattle.bl_syntax.specs.Spelling.{IsSpellable}
 use Rattle.bl_tokens.specs.declared.tokens.Token.{Token}
 use Rattle.bl_tokens.specs.declared.tokens.Token.TheVariants as tokens
 use Rattle.bl_tokens.specs.Dates.{is_moment}
-use Rattle.bl_tokens.specs.Tokens.{sized, second_token, first_lexeme}
+use Rattle.bl_tokens.specs.Tokens.{sized_lexeme, second_token, first_lexeme}
 use Rattle.bl_text.specs.Printed.{time_text, permission_text, term_text}
 use Rattle.bl_text.specs.PrintedTokens.{EndsRun, term_token, IsInDepth}
 use Rattle.bl_text.proofs.WordLemmas.{word_lexed, name_lexed, file_lexed, parameter_lexed, variable_lexed, second_lexed, negative_lexed, text_lexed}
 
-same_size : (t : Token) (m n : ℕ) → m ≡ n → sized t m ≡ sized t n
-same_size t m n h = ap (sized t) h
+same_size : (t : Token) (m n : ℕ) → m ≡ n → sized_lexeme t m ≡ sized_lexeme t n
+same_size t m n h = ap (sized_lexeme t) h
 
 true-from_T : (b : Bool) → T b → b ≡ true
 true-from_T true t = refl
@@ -41,23 +41,23 @@ moment_token second h = chosen (is_moment second) (moment_true second h)
 few_seconds : (n m : ℕ) → nat_le n m ≡ true → m < 10 ^ 18 → n < 10 ^ 18
 few_seconds n m h small = grind (arith, nat_tests)
 
-time_lexed : (point : TimePoint) (rest : List ℕ) → IsInRange point → EndsRun rest → first_lexeme (time_text point ++ rest) ≡ sized (tokens.Constant (Time point)) (length (time_text point))
+time_lexed : (point : TimePoint) (rest : List ℕ) → IsInRange point → EndsRun rest → first_lexeme (time_text point ++ rest) ≡ sized_lexeme (tokens.Constant (Time point)) (length (time_text point))
 time_lexed times.NegInf rest h ends = refl
 time_lexed times.PosInf rest h ends = refl
 time_lexed (times.At (pos n)) rest h ends =
-    second_lexed n rest (few_seconds n 253402300799 (moment_true (pos n) h) (omega arith)) ends ∙ ap (λ t. sized t (length (decimal n))) (moment_token (pos n) h)
+    second_lexed n rest (few_seconds n 253402300799 (moment_true (pos n) h) (omega arith)) ends ∙ ap (λ t. sized_lexeme t (length (decimal n))) (moment_token (pos n) h)
 time_lexed (times.At (negsuc n)) rest h ends =
     let few : n < 62135596800 = (let le = moment_true (negsuc n) h in grind (arith, nat_tests)) in
-    negative_lexed (suc n) rest (omega arith) ends ∙ ap (λ t. sized t (length (decimal (suc n)) + 1)) (moment_token (negsuc n) h) ∙ same_size _ _ _ (omega arith)
+    negative_lexed (suc n) rest (omega arith) ends ∙ ap (λ t. sized_lexeme t (length (decimal (suc n)) + 1)) (moment_token (negsuc n) h) ∙ same_size _ _ _ (omega arith)
 
-permission_lexed : (permission : Permission) (rest : List ℕ) → EndsRun rest → first_lexeme (permission_text permission ++ rest) ≡ sized (tokens.Constant (Perm permission)) (length (permission_text permission))
+permission_lexed : (permission : Permission) (rest : List ℕ) → EndsRun rest → first_lexeme (permission_text permission ++ rest) ≡ sized_lexeme (tokens.Constant (Perm permission)) (length (permission_text permission))
 permission_lexed permissions.Read rest ends = word_lexed 114 (101 ∷ 97 ∷ 100 ∷ []) rest refl refl ends
 permission_lexed permissions.Write rest ends = word_lexed 119 (114 ∷ 105 ∷ 116 ∷ 101 ∷ []) rest refl refl ends
 permission_lexed permissions.Execute rest ends = word_lexed 101 (120 ∷ 101 ∷ 99 ∷ 117 ∷ 116 ∷ 101 ∷ []) rest refl refl ends
 permission_lexed permissions.Identity rest ends = word_lexed 105 (100 ∷ 101 ∷ 110 ∷ 116 ∷ 105 ∷ 116 ∷ 121 ∷ []) rest refl refl ends
 permission_lexed permissions.Govern rest ends = word_lexed 103 (111 ∷ 118 ∷ 101 ∷ 114 ∷ 110 ∷ []) rest refl refl ends
 
-pub term_lexed : (depth : ℕ) (t : Term) (rest : List ℕ) → IsSpellable t → IsInDepth depth t → EndsRun rest → first_lexeme (term_text depth t ++ rest) ≡ sized (term_token depth t) (length (term_text depth t))
+pub term_lexed : (depth : ℕ) (t : Term) (rest : List ℕ) → IsSpellable t → IsInDepth depth t → EndsRun rest → first_lexeme (term_text depth t ++ rest) ≡ sized_lexeme (term_token depth t) (length (term_text depth t))
 term_lexed depth (Prin name) rest h inside ends = name_lexed name rest h ends
 term_lexed depth (File number) rest h inside ends = file_lexed number.0 rest h ends ∙ same_size _ _ _ (omega arith)
 term_lexed depth (Perm permission) rest h inside ends = permission_lexed permission rest ends

@@ -3,7 +3,7 @@ use Rattle.std.proofs.Common.{◌≡◌, ℕ, zero, suc, ◌+◌, ◌≤◌, Boo
 use Rattle.std.specs.Prelude.{nat_lt, if◌then◌else◌}
 use Rattle.bl_syntax.specs.declared.terms.Sort.{Sort}
 use Rattle.bl_syntax.specs.declared.terms.Term.{Term}
-use Rattle.bl_syntax.specs.Formula.{Form, both, either, implies, forall_, exists_, says, on}
+use Rattle.bl_syntax.specs.Formula.{FormulaView, both, either, implies, forall_, exists_, says, on}
 use Rattle.bl_syntax.specs.Names.{is_predicate_name}
 use Rattle.bl_tokens.specs.declared.faults.TextFault.{TextFault}
 use Rattle.bl_tokens.specs.declared.faults.TextFault.TheVariants.{TooLarge, NoMemory}
@@ -11,34 +11,34 @@ use Rattle.bl_tokens.specs.declared.tokens.Sign.TheVariants as signs
 use Rattle.bl_tokens.specs.declared.tokens.Keyword.TheVariants as keywords
 use Rattle.bl_tokens.specs.declared.tokens.Token.{Token}
 use Rattle.bl_tokens.specs.declared.tokens.Token.TheVariants.{Name}
-use Rattle.bl_tokens.specs.declared.tokens.Here.{Here}
-use Rattle.bl_tokens.specs.Tokens.{behind, behind_node, is_sign, is_word}
+use Rattle.bl_tokens.specs.declared.tokens.Cursor.{Cursor}
+use Rattle.bl_tokens.specs.Tokens.{cursor_after, cursor_after_node, is_sign, is_word}
 use Rattle.bl_text.specs.Scope.{Variable}
-use Rattle.bl_text.specs.Pieces.{◌>>=◌, count, expected, argument, next_argument, interval, binder, speaker, applied, simple}
+use Rattle.bl_text.specs.Pieces.{◌>>=◌, count, expect_sign, argument, next_argument, interval, binder, speaker, apply_predicate, simple_formula}
 use Rattle.bl_text.specs.Grammar.{Level, formula, disjunction, conjunction, unary, postfix, primary, is_quantifier, is_saying, is_call}
 
 -- ---- arguments
 
 abbrev pub Read : Type 0
-Read = Result (Form × Here) TextFault
+Read = Result (FormulaView × Cursor) TextFault
 
 abbrev pub ReadTerms : Type 0
-ReadTerms = Result (List Term × Here) TextFault
+ReadTerms = Result (List Term × Cursor) TextFault
 
-abbrev pub further_terms : List ℕ → Bool → List Variable → Bool → ℕ → List Term → Here → ReadTerms
+abbrev pub further_terms : List ℕ → Bool → List Variable → Bool → ℕ → List Term → Cursor → ReadTerms
 further_terms text in_statement scope is_atom zero terms mid = Err NoMemory
 further_terms text in_statement scope is_atom (suc n) terms mid =
-    if is_sign signs.Comma mid.token then (next_argument in_statement scope is_atom (length terms) (behind text mid) >>= (λ t. further_terms text in_statement scope is_atom n (terms ++ t ∷ []) (behind_node text (behind text mid))))
+    if is_sign signs.Comma mid.token then (next_argument in_statement scope is_atom (length terms) (cursor_after text mid) >>= (λ t. further_terms text in_statement scope is_atom n (terms ++ t ∷ []) (cursor_after_node text (cursor_after text mid))))
     else Ok (terms, mid)
 
-abbrev pub all_terms : List ℕ → Bool → List Variable → Bool → ℕ → Here → ReadTerms
-all_terms text in_statement scope is_atom n here = argument in_statement scope here >>= (λ t. further_terms text in_statement scope is_atom n (t ∷ []) (behind_node text here))
+abbrev pub all_terms : List ℕ → Bool → List Variable → Bool → ℕ → Cursor → ReadTerms
+all_terms text in_statement scope is_atom n here = argument in_statement scope here >>= (λ t. further_terms text in_statement scope is_atom n (t ∷ []) (cursor_after_node text here))
 
-abbrev pub named : List ℕ → Bool → List Variable → ℕ → Here → List ℕ → Read
+abbrev pub named : List ℕ → Bool → List Variable → ℕ → Cursor → List ℕ → Read
 named text in_statement scope n here name =
-    count here >>= (λ _. all_terms text in_statement scope (is_predicate_name name) n (behind text (behind_node text here)) >>= (λ r. expected text signs.Close r.1 >>= (λ there. applied scope here.at name r.0 >>= (λ f. Ok (f, there)))))
+    count here >>= (λ _. all_terms text in_statement scope (is_predicate_name name) n (cursor_after text (cursor_after_node text here)) >>= (λ r. expect_sign text signs.Close r.1 >>= (λ there. apply_predicate scope here.at name r.0 >>= (λ f. Ok (f, there)))))
 
-abbrev pub called_by : List ℕ → Bool → List Variable → ℕ → Here → Token → Read
+abbrev pub called_by : List ℕ → Bool → List Variable → ℕ → Cursor → Token → Read
 called_by text in_statement scope n here (Name name) = named text in_statement scope n here name
 called_by text in_statement scope n here _ = Err NoMemory
 
@@ -46,10 +46,10 @@ called_by text in_statement scope n here _ = Err NoMemory
 
 -- to read at a level, or to go on with what was read there
 pub data Task : Type 0 where
-  at : Level → List Variable → ℕ → Here → Task
-  more : Level → List Variable → ℕ → Here → Form → Task
+  at : Level → List Variable → ℕ → Cursor → Task
+  more : Level → List Variable → ℕ → Cursor → FormulaView → Task
 
-abbrev pub quantify : Token → Sort → Form → Form
+abbrev pub quantify : Token → Sort → FormulaView → FormulaView
 quantify token s a = if is_word keywords.Forall token then forall_ s a else exists_ s a
 
 abbrev pub run : List ℕ → Bool → ℕ → Task → Read
@@ -65,16 +65,16 @@ run text in_statement (suc n) (at unary scope depth here) =
 run text in_statement (suc n) (at postfix scope depth here) = run text in_statement n (at primary scope depth here) >>= (λ r. run text in_statement n (more postfix scope depth r.1 r.0))
 run text in_statement (suc n) (at primary scope depth here) =
     if is_sign signs.Open here.token then
-    (if nat_lt depth 512 then (run text in_statement n (at formula scope (depth + 1) (behind text here)) >>= (λ r. expected text signs.Close r.1 >>= (λ there. Ok (r.0, there)))) else Err (TooLarge here.at))
-    else (if is_call text here then called_by text in_statement scope n here here.token else simple text in_statement scope here)
+    (if nat_lt depth 512 then (run text in_statement n (at formula scope (depth + 1) (cursor_after text here)) >>= (λ r. expect_sign text signs.Close r.1 >>= (λ there. Ok (r.0, there)))) else Err (TooLarge here.at))
+    else (if is_call text here then called_by text in_statement scope n here here.token else simple_formula text in_statement scope here)
 run text in_statement (suc n) (more formula scope depth mid a) =
-    if is_sign signs.Implies mid.token then (count mid >>= (λ _. run text in_statement n (at formula scope depth (behind_node text mid)) >>= (λ r. Ok (implies a r.0, r.1))))
+    if is_sign signs.Implies mid.token then (count mid >>= (λ _. run text in_statement n (at formula scope depth (cursor_after_node text mid)) >>= (λ r. Ok (implies a r.0, r.1))))
     else Ok (a, mid)
 run text in_statement (suc n) (more disjunction scope depth mid a) =
-    if is_sign signs.Or mid.token then (count mid >>= (λ _. run text in_statement n (at conjunction scope depth (behind_node text mid)) >>= (λ r. run text in_statement n (more disjunction scope depth r.1 (either a r.0)))))
+    if is_sign signs.Or mid.token then (count mid >>= (λ _. run text in_statement n (at conjunction scope depth (cursor_after_node text mid)) >>= (λ r. run text in_statement n (more disjunction scope depth r.1 (either a r.0)))))
     else Ok (a, mid)
 run text in_statement (suc n) (more conjunction scope depth mid a) =
-    if is_sign signs.And mid.token then (count mid >>= (λ _. run text in_statement n (at unary scope depth (behind_node text mid)) >>= (λ r. run text in_statement n (more conjunction scope depth r.1 (both a r.0)))))
+    if is_sign signs.And mid.token then (count mid >>= (λ _. run text in_statement n (at unary scope depth (cursor_after_node text mid)) >>= (λ r. run text in_statement n (more conjunction scope depth r.1 (both a r.0)))))
     else Ok (a, mid)
 run text in_statement (suc n) (more unary scope depth mid a) = Ok (a, mid)
 run text in_statement (suc n) (more postfix scope depth mid a) =

@@ -4,10 +4,10 @@ use Rattle.std.specs.Prelude.{nat_lt, ◌&&◌, ◌||◌, ◌==◌}
 use Rattle.std.proofs.lemmas.Bool.{false≢true}
 use Rattle.bl_syntax.specs.declared.terms.Term.{Term}
 use Rattle.bl_syntax.specs.declared.terms.Term.TheVariants.{Time}
-use Rattle.bl_syntax.specs.Formula.{Form}
+use Rattle.bl_syntax.specs.Formula.{FormulaView}
 use Rattle.bl_syntax.specs.Formula as forms
 use Rattle.bl_syntax.specs.Names.{is_predicate_name}
-use Rattle.bl_syntax.specs.Statement.{Saying}
+use Rattle.bl_syntax.specs.Statement.{StatementView}
 use Rattle.bl_syntax.specs.Statement as statements
 use Rattle.bl_tokens.specs.declared.faults.TextFault.{TextFault}
 use Rattle.bl_tokens.specs.declared.faults.TextFault.TheVariants.{Unexpected, UnknownName, BadDate, Sort, TooLarge, NoMemory}
@@ -17,22 +17,22 @@ use Rattle.bl_tokens.specs.declared.tokens.Keyword.{Keyword as Word}
 use Rattle.bl_tokens.specs.declared.tokens.Keyword.TheVariants as keywords
 use Rattle.bl_tokens.specs.declared.tokens.Token.{Token}
 use Rattle.bl_tokens.specs.declared.tokens.Token.TheVariants as tokens
-use Rattle.bl_tokens.specs.declared.tokens.Here.{Here}
-use Rattle.bl_tokens.specs.Tokens.{token_from, behind, behind_node, is_sign, is_word, sign_code}
+use Rattle.bl_tokens.specs.declared.tokens.Cursor.{Cursor}
+use Rattle.bl_tokens.specs.Tokens.{token_from, cursor_after, cursor_after_node, is_sign, is_word, sign_code}
 use Rattle.bl_text.specs.Scope.{Variable}
-use Rattle.bl_text.specs.Pieces.{count, expected, argument, next_argument, interval, binder, speaker, applied, simple}
+use Rattle.bl_text.specs.Pieces.{count, expect_sign, argument, next_argument, interval, binder, speaker, apply_predicate, simple_formula}
 use Rattle.bl_text.specs.Grammar.{Level, formula, disjunction, conjunction, unary, postfix, primary, is_quantifier, is_saying, is_call, AreArguments, one, further, call, Is}
 use Rattle.bl_text.specs.Grammar as g
-use Rattle.bl_text.specs.Stops.{ArgumentsStop, in_first_argument, in_argument, at_name, in_arguments, by_sorts, Stops}
-use Rattle.bl_text.specs.Stops as s
+use Rattle.bl_text.specs.FirstFaults.{ArgumentsHaveFirstFault, in_first_argument, in_argument, at_name, in_arguments, by_sorts, HasFirstFault}
+use Rattle.bl_text.specs.FirstFaults as s
 use Rattle.bl_text.specs.Texts.{beginning, is_end, IsFormulaText, whole, FormulaFault, in_formula, opening, span, whole_saying, IsStatementText, StatementFault}
 use Rattle.bl_text.specs.Texts as texts
 use Rattle.bl_text.specs.FirstTokens.{behind_tokens, token_number}
-use Rattle.bl_text.specs.Sentences.{IsTerm, principal, constant, variable, IsSpeaker, named, bound, AreTerms, one_term, further_term, Sentence, quantified, implication, one_disjunction, or_further, one_conjunction, and_further, one_unary, saying, one_postfix, on_interval, one_primary, group, called, alone, compared, truth, falsity, IsSentence, IsStatementSentence, statement, first_tokens, IsSentenceText}
-use Rattle.bl_text.proofs.Walk.{bare_token}
-use Rattle.bl_text.proofs.Determined.{other_sign}
-use Rattle.bl_text.proofs.PieceAnswers.{Any, resolved}
-use Rattle.bl_text.proofs.Outcomes.{by_test, quantified_reads, stated}
+use Rattle.bl_text.specs.Sentences.{IsTerm, principal, constant, variable, IsSpeaker, named, bound, AreTerms, one_term, further_term, FormulaSentence, quantified, implication, one_disjunction, or_further, one_conjunction, and_further, one_unary, saying, one_postfix, on_interval, one_primary, group, called, alone, compared, truth, falsity, IsSentence, IsStatementSentence, statement, first_tokens, IsSentenceText}
+use Rattle.bl_text.proofs.FirstTokensLemmas.{bare_token}
+use Rattle.bl_text.proofs.OneFaultLemmas.{other_sign}
+use Rattle.bl_text.proofs.PieceTotalLemmas.{Any, resolved}
+use Rattle.bl_text.proofs.TotalLemmas.{by_test, quantified_reads, stated}
 use Rattle.bl_text.proofs.SentencePieces.{StandAt, stand_behind, stand_node, sign_stands, IsLimit, count_limited, expected_found, argument_limited, next_argument_limited, applied_limited, interval_limited, BinderRead, binder_limited, speaker_limited, true_limited, false_limited, alone_limited, compared_limited, opening_found, span_found}
 
 -- ---- what a token is not
@@ -90,29 +90,29 @@ term_closed (principal name) = refl
 term_closed (constant c) = refl
 term_closed (variable name some) = refl
 
-closed_at : {t : Token} (here : Here) → here.token ≡ t → is_sign signs.Open t ≡ false → is_sign signs.Open here.token ≡ false
+closed_at : {t : Token} (here : Cursor) → here.token ≡ t → is_sign signs.Open t ≡ false → is_sign signs.Open here.token ≡ false
 closed_at here is h = ap (is_sign signs.Open) is ∙ h
 
 -- ---- calls and `says`, by the first two tokens
 
-name_calls : (text : List ℕ) (here : Here) (name : List ℕ) → here.token ≡ tokens.Name name → is_sign signs.Open (behind_node text here).token ≡ true → is_call text here ≡ true
-unfolding is_call behind_node
+name_calls : (text : List ℕ) (here : Cursor) (name : List ℕ) → here.token ≡ tokens.Name name → is_sign signs.Open (cursor_after_node text here).token ≡ true → is_call text here ≡ true
+unfolding is_call cursor_after_node
 name_calls text here name is h = rw is h
 
-calls_not : (text : List ℕ) (here : Here) → is_sign signs.Open (behind_node text here).token ≡ false → is_call text here ≡ false
+calls_not : (text : List ℕ) (here : Cursor) → is_sign signs.Open (cursor_after_node text here).token ≡ false → is_call text here ≡ false
 unfolding is_call
 calls_not text here h = and_false _ _ h
 
-speaker_says : {scope : List Variable} {who : Token} (text : List ℕ) (here : Here) → IsSpeaker scope who → here.token ≡ who → is_word keywords.Says (behind_node text here).token ≡ true → is_saying text here ≡ true
-unfolding is_saying behind_node
+speaker_says : {scope : List Variable} {who : Token} (text : List ℕ) (here : Cursor) → IsSpeaker scope who → here.token ≡ who → is_word keywords.Says (cursor_after_node text here).token ≡ true → is_saying text here ≡ true
+unfolding is_saying cursor_after_node
 speaker_says text here (named name) is h = rw is h
 speaker_says text here (bound name some) is h = rw is h
 
-says_not : (text : List ℕ) (here : Here) → is_word keywords.Says (behind_node text here).token ≡ false → is_saying text here ≡ false
+says_not : (text : List ℕ) (here : Cursor) → is_word keywords.Says (cursor_after_node text here).token ≡ false → is_saying text here ≡ false
 unfolding is_saying
 says_not text here h = and_false _ _ h
 
-sign_says_not : (text : List ℕ) (here : Here) (sign : Sign') (t : Token) → here.token ≡ t → is_sign sign t ≡ true → is_saying text here ≡ false
+sign_says_not : (text : List ℕ) (here : Cursor) (sign : Sign') (t : Token) → here.token ≡ t → is_sign sign t ≡ true → is_saying text here ≡ false
 unfolding is_saying is_sign
 sign_says_not text here sign (tokens.Sign found) is h = rw is refl
 sign_says_not text here sign _ is h = absurd (false≢true h)
@@ -140,7 +140,7 @@ unfolding is_sign is_word
 end_next tokens.End h = (refl, refl)
 end_next _ h = absurd (false≢true h)
 
-next_at : (text : List ℕ) (here : Here) (rest : List Token) → Follow rest → StandAt text here rest → IsNext here.token
+next_at : (text : List ℕ) (here : Cursor) (rest : List Token) → Follow rest → StandAt text here rest → IsNext here.token
 next_at text here [] f h = absurd f
 next_at text here (t ∷ ts) f h = (ap (is_sign signs.Open) h.0 ∙ f.0, ap (is_word keywords.Says) h.0 ∙ f.1)
 
@@ -163,7 +163,7 @@ IsNarrow postfix = Unit {0}
 IsNarrow primary = Unit {0}
 
 -- no quantifier stands first below the widest level
-plain : {level : Level} {scope : List Variable} {ts : List Token} → Sentence level scope ts → IsNarrow level → IsPlain ts
+plain : {level : Level} {scope : List Variable} {ts : List Token} → FormulaSentence level scope ts → IsNarrow level → IsPlain ts
 plain (quantified scope word colon dot name s ts q c d a) n = absurd n
 plain (implication scope ts us sign a is b) n = absurd n
 plain (one_disjunction scope ts a) n = absurd n
@@ -182,11 +182,11 @@ plain (compared scope low sign high lows is highs) n = term_plain lows
 plain (truth scope) n = true_plain
 plain (falsity scope) n = false_plain
 
-plain_at : (text : List ℕ) (here : Here) (ts rest : List Token) → IsPlain ts → StandAt text here (ts ++ rest) → is_quantifier here.token ≡ false
+plain_at : (text : List ℕ) (here : Cursor) (ts rest : List Token) → IsPlain ts → StandAt text here (ts ++ rest) → is_quantifier here.token ≡ false
 plain_at text here [] rest p h = absurd p
 plain_at text here (t ∷ ts) rest p h = ap is_quantifier h.0 ∙ p
 
-regroup : (text : List ℕ) (here : Here) (ts us rest : List Token) → StandAt text here ((ts ++ us) ++ rest) → StandAt text here (ts ++ (us ++ rest))
+regroup : (text : List ℕ) (here : Cursor) (ts us rest : List Token) → StandAt text here ((ts ++ us) ++ rest) → StandAt text here (ts ++ (us ++ rest))
 regroup text here ts us rest h = subst (λ vs. StandAt text here vs) (append_assoc ts us rest) h
 
 abbrev IsTight : Level → Type 0
@@ -195,7 +195,7 @@ IsTight primary = Unit {0}
 IsTight _ = ⊥
 
 -- nobody says what stands at a narrow level
-not_said : {level : Level} {scope : List Variable} {ts : List Token} → Sentence level scope ts → IsTight level → (text : List ℕ) (here : Here) (rest : List Token) → StandAt text here (ts ++ rest) → Follow rest → is_saying text here ≡ false
+not_said : {level : Level} {scope : List Variable} {ts : List Token} → FormulaSentence level scope ts → IsTight level → (text : List ℕ) (here : Cursor) (rest : List Token) → StandAt text here (ts ++ rest) → Follow rest → is_saying text here ≡ false
 not_said (quantified scope word colon dot name s ts q c d a) n text here rest h f = absurd n
 not_said (implication scope ts us sign a is b) n text here rest h f = absurd n
 not_said (one_disjunction scope ts a) n text here rest h f = absurd n
@@ -211,40 +211,40 @@ not_said (one_primary scope ts a) n text here rest h f = not_said a tt text here
 not_said (group scope open_ close ts opens a closes) n text here rest h f = sign_says_not text here signs.Open open_ h.0 opens
 not_said (called scope name open_ close ts opens args closes) n text here rest h f =
     says_not text here (ap (is_word keywords.Says) (stand_node text here (tokens.Name name) (open_ ∷ ((ts ++ close ∷ []) ++ rest)) h).0 ∙ sign_no_word signs.Open keywords.Says open_ opens)
-not_said (alone scope name) n text here rest h f = says_not text here (next_at text (behind_node text here) rest f (stand_node text here (tokens.Name name) rest h)).1
+not_said (alone scope name) n text here rest h f = says_not text here (next_at text (cursor_after_node text here) rest f (stand_node text here (tokens.Name name) rest h)).1
 not_said (compared scope low sign high lows is highs) n text here rest h f =
     says_not text here (ap (is_word keywords.Says) (stand_node text here low (sign ∷ high ∷ rest) h).0 ∙ sign_no_word signs.UpTo keywords.Says sign is)
-not_said (truth scope) n text here rest h f = says_not text here (next_at text (behind_node text here) rest f (stand_node text here (tokens.Keyword keywords.True) rest h)).1
-not_said (falsity scope) n text here rest h f = says_not text here (next_at text (behind_node text here) rest f (stand_node text here (tokens.Keyword keywords.False) rest h)).1
+not_said (truth scope) n text here rest h f = says_not text here (next_at text (cursor_after_node text here) rest f (stand_node text here (tokens.Keyword keywords.True) rest h)).1
+not_said (falsity scope) n text here rest h f = says_not text here (next_at text (cursor_after_node text here) rest f (stand_node text here (tokens.Keyword keywords.False) rest h)).1
 
 -- ---- what is read
 
 -- what stands at that place is read up to where the other tokens stand, or stops for sorts or for want of room
-pub data Completed (text : List ℕ) (st : Bool) (level : Level) (scope : List Variable) (depth : ℕ) (here : Here) (rest : List Token) : Type 0 where
-  completed : (place : Here) (f : Form) → Is text st level scope depth here place f → StandAt text place rest → Completed text st level scope depth here rest
-  limited : (e : TextFault) → Stops text st level scope depth here e → IsLimit e → Completed text st level scope depth here rest
+pub data Completed (text : List ℕ) (st : Bool) (level : Level) (scope : List Variable) (depth : ℕ) (here : Cursor) (rest : List Token) : Type 0 where
+  completed : (place : Cursor) (f : FormulaView) → Is text st level scope depth here place f → StandAt text place rest → Completed text st level scope depth here rest
+  limited : (e : TextFault) → HasFirstFault text st level scope depth here e → IsLimit e → Completed text st level scope depth here rest
 
-completed_by : {text : List ℕ} {st : Bool} {level : Level} {scope : List Variable} {depth : ℕ} {here : Here} {rest : List Token} {V : Type 0} → Completed text st level scope depth here rest
-    → ((place : Here) (f : Form) → Is text st level scope depth here place f → StandAt text place rest → V) → ((e : TextFault) → Stops text st level scope depth here e → IsLimit e → V) → V
+completed_by : {text : List ℕ} {st : Bool} {level : Level} {scope : List Variable} {depth : ℕ} {here : Cursor} {rest : List Token} {V : Type 0} → Completed text st level scope depth here rest
+    → ((place : Cursor) (f : FormulaView) → Is text st level scope depth here place f → StandAt text place rest → V) → ((e : TextFault) → HasFirstFault text st level scope depth here e → IsLimit e → V) → V
 completed_by (completed place f d h) read stopped = read place f d h
 completed_by (limited e h l) read stopped = stopped e h l
 
 abbrev Never : TextFault → Type 0
 Never e = ⊥
 
-terms_completed : {V : Type 0} {scope : List Variable} {ts : List Token} → AreTerms scope ts → (text : List ℕ) (st is_atom : Bool) (here : Here) (rest : List Token) → StandAt text here (ts ++ rest)
-    → ((mid : Here) (terms : List Term) → AreArguments text st scope is_atom here mid terms → StandAt text mid rest → V) → ((e : TextFault) → ArgumentsStop text st scope is_atom here e → IsLimit e → V) → V
+terms_completed : {V : Type 0} {scope : List Variable} {ts : List Token} → AreTerms scope ts → (text : List ℕ) (st is_atom : Bool) (here : Cursor) (rest : List Token) → StandAt text here (ts ++ rest)
+    → ((mid : Cursor) (terms : List Term) → AreArguments text st scope is_atom here mid terms → StandAt text mid rest → V) → ((e : TextFault) → ArgumentsHaveFirstFault text st scope is_atom here e → IsLimit e → V) → V
 terms_completed {scope = scope} (one_term t is) text st is_atom here rest h read stopped =
     resolved IsLimit Any (argument st scope here) (argument_limited st here is h.0)
-    (λ x found _. read (behind_node text here) (x ∷ []) (one x found) (stand_node text here t rest h)) (λ e bad l. stopped e (in_first_argument e bad) l)
+    (λ x found _. read (cursor_after_node text here) (x ∷ []) (one x found) (stand_node text here t rest h)) (λ e bad l. stopped e (in_first_argument e bad) l)
 terms_completed {scope = scope} (further_term ts comma t args commas is) text st is_atom here rest h read stopped =
     terms_completed args text st is_atom here (comma ∷ t ∷ rest) (regroup text here ts (comma ∷ t ∷ []) rest h)
-    (λ mid terms a stands. resolved Never (λ place. StandAt text place (t ∷ rest)) (expected text signs.Comma mid) (expected_found Never text signs.Comma mid comma (t ∷ rest) commas stands)
+    (λ mid terms a stands. resolved Never (λ place. StandAt text place (t ∷ rest)) (expect_sign text signs.Comma mid) (expected_found Never text signs.Comma mid comma (t ∷ rest) commas stands)
     (λ place close next. resolved IsLimit Any (next_argument st scope is_atom (length terms) place) (next_argument_limited st is_atom (length terms) place is next.0)
-    (λ x found _. read (behind_node text place) (terms ++ x ∷ []) (further mid place terms x a close found) (stand_node text place t rest next)) (λ e bad l. stopped e (in_argument mid place terms e a close bad) l))
+    (λ x found _. read (cursor_after_node text place) (terms ++ x ∷ []) (further mid place terms x a close found) (stand_node text place t rest next)) (λ e bad l. stopped e (in_argument mid place terms e a close bad) l))
     (λ e bad never. absurd never)) stopped
 
-complete : {level : Level} {scope : List Variable} {ts : List Token} → Sentence level scope ts → (text : List ℕ) (st : Bool) (depth : ℕ) (here : Here) (rest : List Token) → StandAt text here (ts ++ rest) → Follow rest
+complete : {level : Level} {scope : List Variable} {ts : List Token} → FormulaSentence level scope ts → (text : List ℕ) (st : Bool) (depth : ℕ) (here : Cursor) (rest : List Token) → StandAt text here (ts ++ rest) → Follow rest
     → Completed text st level scope depth here rest
 complete (quantified scope word colon dot name sort ts q colons dots a) text st depth here rest h f =
     let quantifies = ap is_quantifier h.0 ∙ q in
@@ -262,7 +262,7 @@ complete (implication scope ts us sign a is b) text st depth here rest h f =
     (λ mid x d stands.
     let there = sign_stands signs.Implies mid is stands.0 in
     resolved IsLimit Any (count mid) (count_limited mid)
-    (λ u room _. completed_by (complete b text st depth (behind_node text mid) rest (stand_node text mid sign (us ++ rest) stands) f)
+    (λ u room _. completed_by (complete b text st depth (cursor_after_node text mid) rest (stand_node text mid sign (us ++ rest) stands) f)
     (λ place y d' last. completed place (forms.implies x y) (g.implication scope depth here mid place x y none d there room d') last)
     (λ e stop l. limited e (s.in_conclusion scope depth here mid x e none d there room stop) l))
     (λ e full l. limited e (s.at_implies scope depth here mid x e none d there full) l))
@@ -275,7 +275,7 @@ complete (or_further scope ts us sign a is b) text st depth here rest h f =
     (λ mid x d stands.
     let there = sign_stands signs.Or mid is stands.0 in
     resolved IsLimit Any (count mid) (count_limited mid)
-    (λ u room _. completed_by (complete b text st depth (behind_node text mid) rest (stand_node text mid sign (us ++ rest) stands) f)
+    (λ u room _. completed_by (complete b text st depth (cursor_after_node text mid) rest (stand_node text mid sign (us ++ rest) stands) f)
     (λ place y d' last. completed place (forms.either x y) (g.or_further scope depth here mid place x y d there room d') last)
     (λ e stop l. limited e (s.in_disjunct scope depth here mid x e d there room stop) l))
     (λ e full l. limited e (s.at_or scope depth here mid x e d there full) l))
@@ -287,7 +287,7 @@ complete (and_further scope ts us sign a is b) text st depth here rest h f =
     (λ mid x d stands.
     let there = sign_stands signs.And mid is stands.0 in
     resolved IsLimit Any (count mid) (count_limited mid)
-    (λ u room _. completed_by (complete b text st depth (behind_node text mid) rest (stand_node text mid sign (us ++ rest) stands) f)
+    (λ u room _. completed_by (complete b text st depth (cursor_after_node text mid) rest (stand_node text mid sign (us ++ rest) stands) f)
     (λ place y d' last. completed place (forms.both x y) (g.and_further scope depth here mid place x y d there room d') last)
     (λ e stop l. limited e (s.in_conjunct scope depth here mid x e d there room stop) l))
     (λ e full l. limited e (s.at_and scope depth here mid x e d there full) l))
@@ -317,8 +317,8 @@ complete (one_primary scope ts a) text st depth here rest h f =
 complete (group scope open_ close ts opens a closes) text st depth here rest h f =
     let there = sign_stands signs.Open here opens h.0 in
     by_test (nat_lt depth 512)
-    (λ room. completed_by (complete a text st (depth + 1) (behind text here) (close ∷ rest) (regroup text (behind text here) ts (close ∷ []) rest (stand_behind text here open_ ((ts ++ close ∷ []) ++ rest) h)) (sign_next signs.Close close closes refl))
-    (λ mid x d stands. resolved Never (λ place. StandAt text place rest) (expected text signs.Close mid) (expected_found Never text signs.Close mid close rest closes stands)
+    (λ room. completed_by (complete a text st (depth + 1) (cursor_after text here) (close ∷ rest) (regroup text (cursor_after text here) ts (close ∷ []) rest (stand_behind text here open_ ((ts ++ close ∷ []) ++ rest) h)) (sign_next signs.Close close closes refl))
+    (λ mid x d stands. resolved Never (λ place. StandAt text place rest) (expect_sign text signs.Close mid) (expected_found Never text signs.Close mid close rest closes stands)
     (λ place closed last. completed place x (g.group scope depth here mid place x there room d closed) last)
     (λ e bad never. absurd never))
     (λ e stop l. limited e (s.in_group scope depth here e there room stop) l))
@@ -326,12 +326,12 @@ complete (group scope open_ close ts opens a closes) text st depth here rest h f
 complete (called scope name open_ close ts opens args closes) text st depth here rest h f =
     let next = stand_node text here (tokens.Name name) (open_ ∷ ((ts ++ close ∷ []) ++ rest)) h in
     let closed = closed_at here h.0 (name_closed name) in
-    let calls = name_calls text here name h.0 (sign_stands signs.Open (behind_node text here) opens next.0) in
+    let calls = name_calls text here name h.0 (sign_stands signs.Open (cursor_after_node text here) opens next.0) in
     resolved IsLimit Any (count here) (count_limited here)
-    (λ u room _. terms_completed args text st (is_predicate_name name) (behind text (behind_node text here)) (close ∷ rest)
-    (regroup text (behind text (behind_node text here)) ts (close ∷ []) rest (stand_behind text (behind_node text here) open_ ((ts ++ close ∷ []) ++ rest) next))
-    (λ mid terms a stands. resolved Never (λ place. StandAt text place rest) (expected text signs.Close mid) (expected_found Never text signs.Close mid close rest closes stands)
-    (λ place ends last. resolved IsLimit Any (applied scope here.at name terms) (applied_limited scope here.at name terms)
+    (λ u room _. terms_completed args text st (is_predicate_name name) (cursor_after text (cursor_after_node text here)) (close ∷ rest)
+    (regroup text (cursor_after text (cursor_after_node text here)) ts (close ∷ []) rest (stand_behind text (cursor_after_node text here) open_ ((ts ++ close ∷ []) ++ rest) next))
+    (λ mid terms a stands. resolved Never (λ place. StandAt text place rest) (expect_sign text signs.Close mid) (expected_found Never text signs.Close mid close rest closes stands)
+    (λ place ends last. resolved IsLimit Any (apply_predicate scope here.at name terms) (applied_limited scope here.at name terms)
     (λ x is _. completed place x (g.called scope depth here place x closed calls (call name mid place terms x h.0 room a ends is)) last)
     (λ e wrong l. limited e (s.in_call scope depth here e closed calls (by_sorts name mid place terms e h.0 room a ends wrong)) l))
     (λ e bad never. absurd never))
@@ -339,33 +339,33 @@ complete (called scope name open_ close ts opens args closes) text st depth here
     (λ e full l. limited e (s.in_call scope depth here e closed calls (at_name e full)) l)
 complete (alone scope name) text st depth here rest h f =
     let closed = closed_at here h.0 (name_closed name) in
-    let no_call = calls_not text here (next_at text (behind_node text here) rest f (stand_node text here (tokens.Name name) rest h)).0 in
-    resolved IsLimit (λ v. StandAt text v.1 rest) (simple text st scope here) (alone_limited text st scope name here rest h)
+    let no_call = calls_not text here (next_at text (cursor_after_node text here) rest f (stand_node text here (tokens.Name name) rest h)).0 in
+    resolved IsLimit (λ v. StandAt text v.1 rest) (simple_formula text st scope here) (alone_limited text st scope name here rest h)
     (λ v is last. completed v.1 v.0 (g.one_simple scope depth here v.1 v.0 closed no_call is) last) (λ e bad l. limited e (s.in_simple scope depth here e closed no_call bad) l)
 complete (compared scope low sign high lows is highs) text st depth here rest h f =
     let closed = closed_at here h.0 (term_closed lows) in
     let no_call = calls_not text here (ap (is_sign signs.Open) (stand_node text here low (sign ∷ high ∷ rest) h).0 ∙ other_sign signs.UpTo signs.Open sign is refl) in
-    resolved IsLimit (λ v. StandAt text v.1 rest) (simple text st scope here) (compared_limited text st here rest lows is highs h)
+    resolved IsLimit (λ v. StandAt text v.1 rest) (simple_formula text st scope here) (compared_limited text st here rest lows is highs h)
     (λ v found last. completed v.1 v.0 (g.one_simple scope depth here v.1 v.0 closed no_call found) last) (λ e bad l. limited e (s.in_simple scope depth here e closed no_call bad) l)
 complete (truth scope) text st depth here rest h f =
     let closed = closed_at here h.0 (keyword_closed keywords.True) in
-    let no_call = calls_not text here (next_at text (behind_node text here) rest f (stand_node text here (tokens.Keyword keywords.True) rest h)).0 in
-    resolved IsLimit (λ v. StandAt text v.1 rest) (simple text st scope here) (true_limited text st scope here rest h)
+    let no_call = calls_not text here (next_at text (cursor_after_node text here) rest f (stand_node text here (tokens.Keyword keywords.True) rest h)).0 in
+    resolved IsLimit (λ v. StandAt text v.1 rest) (simple_formula text st scope here) (true_limited text st scope here rest h)
     (λ v is last. completed v.1 v.0 (g.one_simple scope depth here v.1 v.0 closed no_call is) last) (λ e bad l. limited e (s.in_simple scope depth here e closed no_call bad) l)
 complete (falsity scope) text st depth here rest h f =
     let closed = closed_at here h.0 (keyword_closed keywords.False) in
-    let no_call = calls_not text here (next_at text (behind_node text here) rest f (stand_node text here (tokens.Keyword keywords.False) rest h)).0 in
-    resolved IsLimit (λ v. StandAt text v.1 rest) (simple text st scope here) (false_limited text st scope here rest h)
+    let no_call = calls_not text here (next_at text (cursor_after_node text here) rest f (stand_node text here (tokens.Keyword keywords.False) rest h)).0 in
+    resolved IsLimit (λ v. StandAt text v.1 rest) (simple_formula text st scope here) (false_limited text st scope here rest h)
     (λ v is last. completed v.1 v.0 (g.one_simple scope depth here v.1 v.0 closed no_call is) last) (λ e bad l. limited e (s.in_simple scope depth here e closed no_call bad) l)
 
 -- ---- whole texts
 
 number_stands : (text : List ℕ) (n from left : ℕ) → StandAt text (token_from text from left) (first_tokens text n from ++ (token_from text (behind_tokens text n from) 0).token ∷ [])
-number_stands text zero from left = (ap (λ (h : Here). h.token) (bare_token text from left), tt)
+number_stands text zero from left = (ap (λ (h : Cursor). h.token) (bare_token text from left), tt)
 number_stands text (suc n) from left = (
-  ap (λ (h : Here). h.token) (bare_token text from left),
+  ap (λ (h : Cursor). h.token) (bare_token text from left),
   subst (λ k. StandAt text (token_from text k 0) (first_tokens text n (token_from text from 0).end ++ (token_from text (behind_tokens text n (token_from text from 0).end) 0).token ∷ []))
-      (sym (ap (λ (h : Here). h.end) (bare_token text from left))) (number_stands text n (token_from text from 0).end 0),
+      (sym (ap (λ (h : Cursor). h.end) (bare_token text from left))) (number_stands text n (token_from text from 0).end 0),
 )
 
 -- such a fault is one of two
@@ -377,23 +377,23 @@ told P (UnknownName at) l h = absurd l
 told P (BadDate at) l h = absurd l
 told P NoMemory l h = absurd l
 
-pub sentence_is_formula : {text : List ℕ} → IsSentenceText IsSentence text → ((f : Form) × IsFormulaText text f) ⊎ ((at : ℕ) × (FormulaFault text (Sort at) ⊎ FormulaFault text (TooLarge at)))
+pub sentence_is_formula : {text : List ℕ} → IsSentenceText IsSentence text → ((f : FormulaView) × IsFormulaText text f) ⊎ ((at : ℕ) × (FormulaFault text (Sort at) ⊎ FormulaFault text (TooLarge at)))
 sentence_is_formula {text} h =
     completed_by (complete h.sentence text false 0 (beginning text) ((token_number text h.number).token ∷ []) (number_stands text h.number 0 512) (end_next (token_number text h.number).token h.end))
     (λ place f d last. inl (f, whole place d (ap is_end last.0 ∙ h.end)))
     (λ e stop l. inr (told (FormulaFault text) e l (in_formula e stop)))
 
 statement_completed : {us : List Token} → IsStatementSentence us → (text : List ℕ) (last : Token) → is_end last ≡ true → StandAt text (beginning text) (us ++ last ∷ [])
-    → ((t : Saying) × IsStatementText text t) ⊎ ((at : ℕ) × (StatementFault text (Sort at) ⊎ StatementFault text (TooLarge at)))
+    → ((t : StatementView) × IsStatementText text t) ⊎ ((at : ℕ) × (StatementFault text (Sort at) ⊎ StatementFault text (TooLarge at)))
 statement_completed (statement who says from_word to_word ts from to is_says body is_from is_to) text last end h =
     let words : List Token = from_word ∷ tokens.Constant (Time from) ∷ to_word ∷ tokens.Constant (Time to) ∷ [] in
     resolved Never (λ v. StandAt text v.1 ((ts ++ words) ++ last ∷ [])) (opening text (beginning text)) (opening_found Never text (beginning text) who ((ts ++ words) ++ last ∷ []) is_says h)
     (λ o opens stands. completed_by (complete body text true 0 o.1 (words ++ last ∷ []) (regroup text o.1 ts words (last ∷ []) stands) (from_next from_word is_from))
     (λ place f d rest. resolved Never Any (span text place) (span_found Never text place from to is_from is_to end rest)
-    (λ times is _. inl (statements.saying o.0 f times.0 times.1, stated (whole_saying o.0 o.1 place f times.0 times.1 opens d is)))
+    (λ times is _. inl (statements.statement_view o.0 f times.0 times.1, stated (whole_saying o.0 o.1 place f times.0 times.1 opens d is)))
     (λ e bad never. absurd never))
     (λ e stop l. inr (told (StatementFault text) e l (texts.in_body o.0 o.1 e opens stop))))
     (λ e bad never. absurd never)
 
-pub sentence_is_statement : {text : List ℕ} → IsSentenceText IsStatementSentence text → ((t : Saying) × IsStatementText text t) ⊎ ((at : ℕ) × (StatementFault text (Sort at) ⊎ StatementFault text (TooLarge at)))
+pub sentence_is_statement : {text : List ℕ} → IsSentenceText IsStatementSentence text → ((t : StatementView) × IsStatementText text t) ⊎ ((at : ℕ) × (StatementFault text (Sort at) ⊎ StatementFault text (TooLarge at)))
 sentence_is_statement {text} h = statement_completed h.sentence text (token_number text h.number).token h.end (number_stands text h.number 0 512)

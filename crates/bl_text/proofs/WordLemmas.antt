@@ -16,10 +16,10 @@ use Rattle.bl_tokens.specs.declared.classes.Class.TheVariants as classes
 use Rattle.bl_tokens.specs.declared.tokens.Token.TheVariants as tokens
 use Rattle.bl_tokens.specs.declared.tokens.Lexeme.{Lexeme}
 use Rattle.bl_tokens.specs.Classes.{is_in, is_word_byte}
-use Rattle.bl_tokens.specs.Dates.{begins_date, has_two, has_byte}
+use Rattle.bl_tokens.specs.Dates.{has_date_front, has_two, has_byte}
 use Rattle.bl_tokens.specs.Numerals.{is_numeral, numeral_below}
 use Rattle.bl_tokens.specs.Words.{keyword, sort_named, constant_named, constant_or_name, sort_or_other, keyword_or_other, word_token}
-use Rattle.bl_tokens.specs.Tokens.{sized, bad, second_token, short_value, digits_of, integer_lexeme, negative_lexeme, time_lexeme, begins_with, first_lexeme}
+use Rattle.bl_tokens.specs.Tokens.{sized_lexeme, bad_lexeme, second_token, short_value, digits_of, integer_lexeme, negative_lexeme, time_lexeme, has_first_byte, first_lexeme}
 use Rattle.bl_text.specs.PrintedTokens.{EndsRun}
 use Rattle.bl_tokens.proofs.NumeralLemmas.{is_numeral_model}
 
@@ -72,9 +72,9 @@ stops_digit (byte ∷ more) ends =
 -- ---- words
 
 pub word_lexed : (first : ℕ) (others rest : List ℕ) → is_lower_case first ≡ true → list_all is_name_byte (first ∷ others) ≡ true → EndsRun rest
-    → first_lexeme (first ∷ (others ++ rest)) ≡ sized (word_token (first ∷ others)) (length (first ∷ others))
+    → first_lexeme (first ∷ (others ++ rest)) ≡ sized_lexeme (word_token (first ∷ others)) (length (first ∷ others))
 word_lexed first others rest low all ends =
-    cond_true (is_lower_case first) _ _ low ∙ ap (λ ws. sized (word_token ws) (length ws)) (run_is (is_in classes.Name) (first ∷ others) rest all (stops_name rest ends))
+    cond_true (is_lower_case first) _ _ low ∙ ap (λ ws. sized_lexeme (word_token ws) (length ws)) (run_is (is_in classes.Name) (first ∷ others) rest all (stops_name rest ends))
 
 bytes_eq_sym : (xs ys : List ℕ) → bytes_eq xs ys ≡ false → bytes_eq ys xs ≡ false
 bytes_eq_sym xs ys h = other (bytes_eq ys xs) refl
@@ -107,13 +107,13 @@ name_word word name =
     let no_constant : constant_named word ≡ None = next _ r.1.1.1.1.1.1.1.0 (next _ c.0 (next _ c.1.0 (next _ c.1.1.0 (next _ c.1.1.1.0 (next _ c.1.1.1.1.0 refl))))) in
     ap (keyword_or_other word) no_keyword ∙ ap (sort_or_other word) no_sort ∙ ap (constant_or_name word) no_constant ∙ cond_true (is_principal_name word) _ _ name
 
-pub name_lexed : (word rest : List ℕ) → is_principal_name word ≡ true → EndsRun rest → first_lexeme (word ++ rest) ≡ sized (tokens.Name word) (length word)
+pub name_lexed : (word rest : List ℕ) → is_principal_name word ≡ true → EndsRun rest → first_lexeme (word ++ rest) ≡ sized_lexeme (tokens.Name word) (length word)
 name_lexed [] rest name ends = absurd (false≢true name)
 name_lexed (first ∷ others) rest name ends =
     let parts = and_parts (is_identifier (first ∷ others)) (not (is_among reserved_words (first ∷ others))) name in
     let long = and_parts (is_lower_case first && list_all is_name_byte others) (nat_le (length others) 31) parts.0 in
     let low = and_parts (is_lower_case first) (list_all is_name_byte others) long.0 in
-    word_lexed first others rest low.0 (name_bytes first others low.0 low.1) ends ∙ ap (λ t. sized t (length (first ∷ others))) (name_word (first ∷ others) name)
+    word_lexed first others rest low.0 (name_bytes first others low.0 low.1) ends ∙ ap (λ t. sized_lexeme t (length (first ∷ others))) (name_word (first ∷ others) name)
   where
     name_bytes : (byte : ℕ) (more : List ℕ) → is_lower_case byte ≡ true → list_all is_name_byte more ≡ true → list_all is_name_byte (byte ∷ more) ≡ true
     name_bytes byte more low all = both (is_lower_case byte) (is_digit byte) (byte == 95) (list_all is_name_byte more) low all
@@ -161,24 +161,24 @@ numeral_found limit n small below =
     joined true b ha hb = hb
     joined false b ha hb = absurd (false≢true ha)
 
-pub file_lexed : (n : ℕ) (rest : List ℕ) → n < 2 ^ 64 → EndsRun rest → first_lexeme (35 ∷ (decimal n ++ rest)) ≡ sized (tokens.Constant (terms.File (record { 0 = n }))) (length (decimal n) + 1)
+pub file_lexed : (n : ℕ) (rest : List ℕ) → n < 2 ^ 64 → EndsRun rest → first_lexeme (35 ∷ (decimal n ++ rest)) ≡ sized_lexeme (tokens.Constant (terms.File (record { 0 = n }))) (length (decimal n) + 1)
 file_lexed n rest small ends =
-    ap (λ ds. on_option bad (λ m. sized (tokens.Constant (terms.File (record { 0 = m }))) (length ds + 1)) (numeral_below (2 ^ 64) ds)) (digits_found n rest small ends)
-    ∙ ap (on_option bad (λ m. sized (tokens.Constant (terms.File (record { 0 = m }))) (length (decimal n) + 1))) (numeral_found (2 ^ 64) n small small)
+    ap (λ ds. on_option bad_lexeme (λ m. sized_lexeme (tokens.Constant (terms.File (record { 0 = m }))) (length ds + 1)) (numeral_below (2 ^ 64) ds)) (digits_found n rest small ends)
+    ∙ ap (on_option bad_lexeme (λ m. sized_lexeme (tokens.Constant (terms.File (record { 0 = m }))) (length (decimal n) + 1))) (numeral_found (2 ^ 64) n small small)
 
-pub parameter_lexed : (n : ℕ) (rest : List ℕ) → n < 2 ^ 32 → EndsRun rest → first_lexeme (63 ∷ (decimal n ++ rest)) ≡ sized (tokens.Constant (terms.Param n)) (length (decimal n) + 1)
+pub parameter_lexed : (n : ℕ) (rest : List ℕ) → n < 2 ^ 32 → EndsRun rest → first_lexeme (63 ∷ (decimal n ++ rest)) ≡ sized_lexeme (tokens.Constant (terms.Param n)) (length (decimal n) + 1)
 parameter_lexed n rest below ends =
     let small : n < 2 ^ 64 = omega arith in
-    ap (λ ds. on_option bad (λ m. sized (tokens.Constant (terms.Param m)) (length ds + 1)) (numeral_below (2 ^ 32) ds)) (digits_found n rest small ends)
-    ∙ ap (on_option bad (λ m. sized (tokens.Constant (terms.Param m)) (length (decimal n) + 1))) (numeral_found (2 ^ 32) n small below)
+    ap (λ ds. on_option bad_lexeme (λ m. sized_lexeme (tokens.Constant (terms.Param m)) (length ds + 1)) (numeral_below (2 ^ 32) ds)) (digits_found n rest small ends)
+    ∙ ap (on_option bad_lexeme (λ m. sized_lexeme (tokens.Constant (terms.Param m)) (length (decimal n) + 1))) (numeral_found (2 ^ 32) n small below)
 
 -- the variable of a binder
-pub variable_lexed : (n : ℕ) (rest : List ℕ) → n < 1000 → EndsRun rest → first_lexeme (88 ∷ (decimal n ++ rest)) ≡ sized (tokens.Variable (88 ∷ decimal n)) (length (88 ∷ decimal n))
+pub variable_lexed : (n : ℕ) (rest : List ℕ) → n < 1000 → EndsRun rest → first_lexeme (88 ∷ (decimal n ++ rest)) ≡ sized_lexeme (tokens.Variable (88 ∷ decimal n)) (length (88 ∷ decimal n))
 variable_lexed n rest few ends =
     let small : n < 2 ^ 64 = omega arith in
     let short = length-decimal-le 3 n (omega arith) few small in
     let fits : nat_le (length (88 ∷ decimal n)) 32 ≡ true = grind (arith, nat_tests) in
-    ap (λ ws. if nat_le (length ws) 32 then sized (tokens.Variable ws) (length ws) else bad)
+    ap (λ ws. if nat_le (length ws) 32 then sized_lexeme (tokens.Variable ws) (length ws) else bad_lexeme)
     (run_is (is_in classes.Word) (88 ∷ decimal n) rest (all_as is_digit is_word_byte (decimal n) digit_word (digits_digits n small)) (stops_word rest ends))
     ∙ cond_true (nat_le (length (88 ∷ decimal n)) 32) _ _ fits
 
@@ -225,16 +225,16 @@ not_digit_end byte h =
 digit_no_minus : (byte : ℕ) → is_digit byte ≡ true → (byte == 45) ≡ false
 digit_no_minus byte h = grind (arith, nat_tests)
 
-too_short : (bytes : List ℕ) → nat_le 10 (length bytes) ≡ false → begins_date bytes ≡ false
+too_short : (bytes : List ℕ) → nat_le 10 (length bytes) ≡ false → has_date_front bytes ≡ false
 too_short bytes h = date_1 (nat_le 10 (length bytes)) (has_two bytes 0) (has_two bytes 2) (has_byte bytes 4 45) (has_two bytes 5) (has_byte bytes 7 45) (has_two bytes 8) h
 
-no_first : (bytes : List ℕ) → has_two bytes 0 ≡ false → begins_date bytes ≡ false
+no_first : (bytes : List ℕ) → has_two bytes 0 ≡ false → has_date_front bytes ≡ false
 no_first bytes h = date_2 (nat_le 10 (length bytes)) (has_two bytes 0) (has_two bytes 2) (has_byte bytes 4 45) (has_two bytes 5) (has_byte bytes 7 45) (has_two bytes 8) h
 
-no_second : (bytes : List ℕ) → has_two bytes 2 ≡ false → begins_date bytes ≡ false
+no_second : (bytes : List ℕ) → has_two bytes 2 ≡ false → has_date_front bytes ≡ false
 no_second bytes h = date_3 (nat_le 10 (length bytes)) (has_two bytes 0) (has_two bytes 2) (has_byte bytes 4 45) (has_two bytes 5) (has_byte bytes 7 45) (has_two bytes 8) h
 
-no_minus : (bytes : List ℕ) → has_byte bytes 4 45 ≡ false → begins_date bytes ≡ false
+no_minus : (bytes : List ℕ) → has_byte bytes 4 45 ≡ false → has_date_front bytes ≡ false
 no_minus bytes h = date_4 (nat_le 10 (length bytes)) (has_two bytes 0) (has_two bytes 2) (has_byte bytes 4 45) (has_two bytes 5) (has_byte bytes 7 45) (has_two bytes 8) h
 
 two_left : (bytes : List ℕ) (place : ℕ) → is_digit (slice_index bytes place) ≡ false → has_two bytes place ≡ false
@@ -244,7 +244,7 @@ two_right : (bytes : List ℕ) (place : ℕ) → is_digit (slice_index bytes (pl
 two_right bytes place h = and_right_false (is_digit (slice_index bytes place)) (is_digit (slice_index bytes (place + 1))) h
 
 -- digits with another end than `-` are no date
-no_date : (ds rest : List ℕ) → list_all is_digit ds ≡ true → EndsRun rest → begins_date (ds ++ rest) ≡ false
+no_date : (ds rest : List ℕ) → list_all is_digit ds ≡ true → EndsRun rest → has_date_front (ds ++ rest) ≡ false
 no_date [] [] all ends = too_short [] refl
 no_date [] (r ∷ rs) all ends = no_first (r ∷ rs) (two_left (r ∷ rs) 0 (not_digit_end r ends.0))
 no_date (a ∷ []) [] all ends = too_short (a ∷ []) refl
@@ -271,15 +271,15 @@ short_found n few =
     let fits : (nat_le 1 (length (decimal n)) && nat_le (length (decimal n)) 18) ≡ true = grind (arith, nat_tests) in
     cond_true (nat_le 1 (length (decimal n)) && nat_le (length (decimal n)) 18) _ _ fits ∙ ap Some (decimal_is_IsNumeral n small).1
 
-integer_found : (n : ℕ) (rest : List ℕ) → n < 10 ^ 18 → EndsRun rest → integer_lexeme (digits_of (decimal n ++ rest)) ≡ sized (second_token (pos n)) (length (decimal n))
+integer_found : (n : ℕ) (rest : List ℕ) → n < 10 ^ 18 → EndsRun rest → integer_lexeme (digits_of (decimal n ++ rest)) ≡ sized_lexeme (second_token (pos n)) (length (decimal n))
 integer_found n rest few ends =
     let small : n < 2 ^ 64 = omega arith in
-    ap integer_lexeme (digits_found n rest small ends) ∙ ap (on_option bad (λ m. sized (second_token (pos m)) (length (decimal n)))) (short_found n few)
+    ap integer_lexeme (digits_found n rest small ends) ∙ ap (on_option bad_lexeme (λ m. sized_lexeme (second_token (pos m)) (length (decimal n)))) (short_found n few)
 
-negative_found : (n : ℕ) (rest : List ℕ) → n < 10 ^ 18 → EndsRun rest → negative_lexeme (digits_of (decimal n ++ rest)) ≡ sized (second_token (neg_ℤ (pos n))) (length (decimal n) + 1)
+negative_found : (n : ℕ) (rest : List ℕ) → n < 10 ^ 18 → EndsRun rest → negative_lexeme (digits_of (decimal n ++ rest)) ≡ sized_lexeme (second_token (neg_ℤ (pos n))) (length (decimal n) + 1)
 negative_found n rest few ends =
     let small : n < 2 ^ 64 = omega arith in
-    ap negative_lexeme (digits_found n rest small ends) ∙ ap (on_option bad (λ m. sized (second_token (neg_ℤ (pos m))) (length (decimal n) + 1))) (short_found n few)
+    ap negative_lexeme (digits_found n rest small ends) ∙ ap (on_option bad_lexeme (λ m. sized_lexeme (second_token (neg_ℤ (pos m))) (length (decimal n) + 1))) (short_found n few)
 
 -- what begins with a digit is a time
 digit_begins : (ds rest : List ℕ) → list_all is_digit ds ≡ true → 0 < length ds → first_lexeme (ds ++ rest) ≡ time_lexeme (ds ++ rest)
@@ -294,11 +294,11 @@ digit_begins (d ∷ more) rest all some =
     digit_no_upper : (byte : ℕ) → is_digit byte ≡ true → is_upper_case byte ≡ false
     digit_no_upper byte h = grind (arith, nat_tests)
 
-pub second_lexed : (n : ℕ) (rest : List ℕ) → n < 10 ^ 18 → EndsRun rest → first_lexeme (decimal n ++ rest) ≡ sized (second_token (pos n)) (length (decimal n))
+pub second_lexed : (n : ℕ) (rest : List ℕ) → n < 10 ^ 18 → EndsRun rest → first_lexeme (decimal n ++ rest) ≡ sized_lexeme (second_token (pos n)) (length (decimal n))
 second_lexed n rest few ends =
     let small : n < 2 ^ 64 = omega arith in
     digit_begins (decimal n) rest (digits_digits n small) (decimal_nonempty n small)
-    ∙ cond_false (begins_date (decimal n ++ rest)) _ _ (no_date (decimal n) rest (digits_digits n small) ends) ∙ integer_found n rest few ends
+    ∙ cond_false (has_date_front (decimal n ++ rest)) _ _ (no_date (decimal n) rest (digits_digits n small) ends) ∙ integer_found n rest few ends
 
 no_inf : (ds rest : List ℕ) → list_all is_digit ds ≡ true → 0 < length ds → starts_with nat_eq (ds ++ rest) (codes "inf") ≡ false
 no_inf [] rest all some = absurd (omega arith)
@@ -307,7 +307,7 @@ no_inf (d ∷ more) rest all some = let digit = (and_parts (is_digit d) (list_al
     digit_no_letter : (byte : ℕ) → is_digit byte ≡ true → nat_eq 105 byte ≡ false
     digit_no_letter byte h = grind (arith, nat_tests)
 
-pub negative_lexed : (n : ℕ) (rest : List ℕ) → n < 10 ^ 18 → EndsRun rest → first_lexeme (45 ∷ (decimal n ++ rest)) ≡ sized (second_token (neg_ℤ (pos n))) (length (decimal n) + 1)
+pub negative_lexed : (n : ℕ) (rest : List ℕ) → n < 10 ^ 18 → EndsRun rest → first_lexeme (45 ∷ (decimal n ++ rest)) ≡ sized_lexeme (second_token (neg_ℤ (pos n))) (length (decimal n) + 1)
 negative_lexed n rest few ends =
     let small : n < 2 ^ 64 = omega arith in
     cond_false (starts_with nat_eq (decimal n ++ rest) (codes "inf")) _ _ (no_inf (decimal n) rest (digits_digits n small) (decimal_nonempty n small)) ∙ negative_found n rest few ends
@@ -318,14 +318,14 @@ text_stops : (bytes : List ℕ) → list_all is_text_byte bytes ≡ true → (re
 text_stops bytes all rest = run_len (is_in classes.Text) bytes (34 ∷ rest) all refl
 
 abbrev text_of : ℕ → List ℕ → Lexeme
-text_of len others = if begins_with 34 (drop len others) && is_text (take len others) then sized (tokens.Constant (terms.Text (take len others))) (len + 2) else bad
+text_of len others = if has_first_byte 34 (drop len others) && is_text (take len others) then sized_lexeme (tokens.Constant (terms.Text (take len others))) (len + 2) else bad_lexeme
 
-pub text_lexed : (bytes rest : List ℕ) → is_text bytes ≡ true → first_lexeme (34 ∷ (bytes ++ 34 ∷ rest)) ≡ sized (tokens.Constant (terms.Text bytes)) (length bytes + 2)
+pub text_lexed : (bytes rest : List ℕ) → is_text bytes ≡ true → first_lexeme (34 ∷ (bytes ++ 34 ∷ rest)) ≡ sized_lexeme (tokens.Constant (terms.Text bytes)) (length bytes + 2)
 text_lexed bytes rest text =
     let parts = and_parts (list_all is_text_byte bytes) (nat_le (length bytes) 128) text in
     ap (λ len. text_of len (bytes ++ 34 ∷ rest)) (text_stops bytes parts.0 rest)
-    ∙ ap (λ bs. if begins_with 34 (drop (length bytes) (bytes ++ 34 ∷ rest)) && is_text bs then sized (tokens.Constant (terms.Text bs)) (length bytes + 2) else bad) (take-append_seam bytes (34 ∷ rest))
-    ∙ cond_true _ _ _ (joined (begins_with 34 (drop (length bytes) (bytes ++ 34 ∷ rest))) (is_text bytes) (ap (begins_with 34) (drop-append_seam bytes (34 ∷ rest))) text)
+    ∙ ap (λ bs. if has_first_byte 34 (drop (length bytes) (bytes ++ 34 ∷ rest)) && is_text bs then sized_lexeme (tokens.Constant (terms.Text bs)) (length bytes + 2) else bad_lexeme) (take-append_seam bytes (34 ∷ rest))
+    ∙ cond_true _ _ _ (joined (has_first_byte 34 (drop (length bytes) (bytes ++ 34 ∷ rest))) (is_text bytes) (ap (has_first_byte 34) (drop-append_seam bytes (34 ∷ rest))) text)
   where
     joined : (a b : Bool) → a ≡ true → b ≡ true → (a && b) ≡ true
     joined true b ha hb = hb

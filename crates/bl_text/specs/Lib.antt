@@ -6,10 +6,10 @@ pub mod Pieces
 pub mod Printed
 pub mod PrintedTokens
 pub mod Read
-pub mod Readable
+pub mod RoundTrip
 pub mod Scope
 pub mod Sentences
-pub mod Soonest
-pub mod Stops
+pub mod ViablePrefix
+pub mod FirstFaults
 pub mod Texts
 pub mod Written

@@ -5,7 +5,7 @@ use Rattle.bl_tokens.specs.declared.faults.TextFault.{TextFault}
 use Rattle.bl_tokens.specs.declared.faults.TextFault.TheVariants.{Unexpected, UnknownName, BadDate, Sort, TooLarge}
 use Rattle.bl_tokens.specs.declared.tokens.Sign.TheVariants as signs
 use Rattle.bl_tokens.specs.declared.tokens.Token.TheVariants as tokens
-use Rattle.bl_tokens.specs.declared.tokens.Here.{Here}
+use Rattle.bl_tokens.specs.declared.tokens.Cursor.{Cursor}
 use Rattle.bl_tokens.specs.Tokens.{is_sign}
 
 -- the fault is at that byte
@@ -16,8 +16,8 @@ pub data IsAt (at : ℕ) : TextFault → Type 0 where
   wrong_sort : IsAt at (Sort at)
   too_large : IsAt at (TooLarge at)
 
--- of these tokens one is a predicate's name before `(`, and the other the first `)` behind it
-pub record IsCallOf (tokens_of : ℕ → Here) (first last : ℕ) : Type 0 where
+-- of these tokens one is a predicate's name before `(`, and the other the first `)` after it
+pub record IsCallOf (tokens_of : ℕ → Cursor) (first last : ℕ) : Type 0 where
   pub name : List ℕ
   pub named : (tokens_of first).token ≡ tokens.Name name
   pub opened : is_sign signs.Open (tokens_of (first + 1)).token ≡ true
@@ -26,6 +26,6 @@ pub record IsCallOf (tokens_of : ℕ → Here) (first last : ℕ) : Type 0 where
   pub ordered : first < last
 
 -- the fault is met at the token with that number
-pub data IsMetAt (tokens_of : ℕ → Here) (number : ℕ) : TextFault → Type 0 where
+pub data IsMetAt (tokens_of : ℕ → Cursor) (number : ℕ) : TextFault → Type 0 where
   there : (e : TextFault) → IsAt (tokens_of number).at e → IsMetAt tokens_of number e
   at_close : (first : ℕ) → IsCallOf tokens_of first number → IsMetAt tokens_of number (Sort (tokens_of first).at)

@@ -14,8 +14,8 @@ use Rattle.bl_syntax.specs.declared.terms.Term.TheVariants as terms
 use Rattle.bl_syntax.specs.declared.terms.StatePred.{StatePred}
 use Rattle.bl_syntax.specs.declared.terms.StatePred.TheVariants.{Owner, HasXattr, InDir}
 use Rattle.bl_syntax.specs.declared.terms.Constraint.{Constraint}
-use Rattle.bl_syntax.specs.Formula.{Form, atom, compare, state, both, either, implies, truth, falsity, forall_, exists_, says, on}
-use Rattle.bl_syntax.specs.Statement.{Saying}
+use Rattle.bl_syntax.specs.Formula.{FormulaView, atom, compare, state, both, either, implies, truth, falsity, forall_, exists_, says, on}
+use Rattle.bl_syntax.specs.Statement.{StatementView}
 
 abbrev pub time_text : TimePoint → List ℕ
 time_text times.NegInf = codes "-inf"
@@ -47,7 +47,7 @@ term_text depth terms.Ctime = codes "ctime"
 term_text depth (terms.Param n) = codes "?" ++ decimal n
 term_text depth (terms.Bound n) = codes "X" ++ decimal (depth - n - 1)
 
--- terms behind a first one
+-- terms after a first one
 abbrev pub terms_text : ℕ → List Term → List ℕ
 terms_text depth others = flat_map (λ t. codes "," ++ term_text depth t) others
 
@@ -65,8 +65,8 @@ state_text depth (HasXattr file name value) = codes "has_xattr(" ++ (term_text d
 state_text depth (InDir file directory) = codes "in_dir(" ++ (term_text depth file ++ (codes "," ++ (term_text depth directory ++ codes ")")))
 
 -- one binder more. The count stands still at the end of 64 bits, which no formula within the limits comes near
-abbrev pub deeper : ℕ → ℕ
-deeper depth = min (depth + 1) 18_446_744_073_709_551_615
+abbrev pub inner_depth : ℕ → ℕ
+inner_depth depth = min (depth + 1) 18_446_744_073_709_551_615
 
 -- a binder, by its word with the `X`
 abbrev pub binder_text : List ℕ → ℕ → Sort → List ℕ
@@ -76,7 +76,7 @@ abbrev pub interval_text : ℕ → Term → Term → List ℕ
 interval_text depth from to = codes " @ [" ++ (term_text depth from ++ (codes "," ++ (term_text depth to ++ codes "]")))
 
 -- how tightly the outermost sign binds
-abbrev pub rank : Form → ℕ
+abbrev pub rank : FormulaView → ℕ
 rank (atom name terms) = 5
 rank (compare c) = 5
 rank (state s) = 5
@@ -95,7 +95,7 @@ abbrev pub operand : ℕ → ℕ → List ℕ → List ℕ
 operand lowest ranked text = if nat_le lowest ranked then text else codes "(" ++ (text ++ codes ")")
 
 -- a formula within so many binders
-abbrev pub formula_text : ℕ → Form → List ℕ
+abbrev pub formula_text : ℕ → FormulaView → List ℕ
 formula_text depth (atom name terms) = name ++ arguments_text depth terms
 formula_text depth (compare c) = constraint_text depth c
 formula_text depth (state s) = state_text depth s
@@ -104,16 +104,16 @@ formula_text depth (either a b) = operand 1 (rank a) (formula_text depth a) ++ (
 formula_text depth (implies a b) = operand 1 (rank a) (formula_text depth a) ++ (codes " => " ++ operand 0 (rank b) (formula_text depth b))
 formula_text depth truth = codes "true"
 formula_text depth falsity = codes "false"
-formula_text depth (forall_ s a) = binder_text (codes "forall X") depth s ++ operand 0 (rank a) (formula_text (deeper depth) a)
-formula_text depth (exists_ s a) = binder_text (codes "exists X") depth s ++ operand 0 (rank a) (formula_text (deeper depth) a)
+formula_text depth (forall_ s a) = binder_text (codes "forall X") depth s ++ operand 0 (rank a) (formula_text (inner_depth depth) a)
+formula_text depth (exists_ s a) = binder_text (codes "exists X") depth s ++ operand 0 (rank a) (formula_text (inner_depth depth) a)
 formula_text depth (says k a) = term_text depth k ++ (codes " says " ++ operand 3 (rank a) (formula_text depth a))
 formula_text depth (on a u v) = operand 4 (rank a) (formula_text depth a) ++ interval_text depth u v
 
-abbrev pub said_text : Form → List ℕ
+abbrev pub said_text : FormulaView → List ℕ
 said_text body = codes " says " ++ formula_text 0 body
 
 abbrev pub span_text : TimePoint → TimePoint → List ℕ
 span_text from to = codes " from " ++ (time_text from ++ (codes " to " ++ time_text to))
 
-abbrev pub statement_text : Saying → List ℕ
+abbrev pub statement_text : StatementView → List ℕ
 statement_text s = s.who ++ (said_text s.body ++ span_text s.from s.to)

@@ -39,18 +39,18 @@ term_sort scope Ctime = Some sorts.Time
 term_sort scope (Param n) = None
 term_sort scope (Bound n) = sort_of_place scope n
 
-abbrev pub same_sort : Sort → Sort → Bool
-same_sort sorts.Principal sorts.Principal = true
-same_sort sorts.File sorts.File = true
-same_sort sorts.Perm sorts.Perm = true
-same_sort sorts.Time sorts.Time = true
-same_sort sorts.Text sorts.Text = true
-same_sort wanted found = false
+abbrev pub is_same_sort : Sort → Sort → Bool
+is_same_sort sorts.Principal sorts.Principal = true
+is_same_sort sorts.File sorts.File = true
+is_same_sort sorts.Perm sorts.Perm = true
+is_same_sort sorts.Time sorts.Time = true
+is_same_sort sorts.Text sorts.Text = true
+is_same_sort wanted found = false
 
-abbrev fits_sort : Sort → Option Sort → Bool
-fits_sort wanted None = true
-fits_sort wanted (Some found) = same_sort wanted found
+abbrev is_wanted_sort : Sort → Option Sort → Bool
+is_wanted_sort wanted None = true
+is_wanted_sort wanted (Some found) = is_same_sort wanted found
 
 -- whether the term may stand where that sort is wanted
-abbrev pub fits : List Variable → Sort → Term → Bool
-fits scope wanted t = fits_sort wanted (term_sort scope t)
+abbrev pub is_of_wanted_sort : List Variable → Sort → Term → Bool
+is_of_wanted_sort scope wanted t = is_wanted_sort wanted (term_sort scope t)

@@ -1,28 +1,30 @@
 //! Formulas are read by recursive descent: a function for each level of the grammar. It goes no
 //! deeper than there are nodes left and parentheses may be open. Each token is read once: the one
-//! behind a formula's first token tells how it goes on, and is handed down as `ahead`: one place for
+//! after a formula's first token tells how it goes on, and is handed down as `ahead`: one place for
 //! all levels. Functions that call themselves hold boxes and places alone, and drop no formula
 //! themselves, so that the deepest text takes little of the stack.
 
 ghost use Rattle.std.specs.Prelude.{◌≡◌, ℕ, ◌+◌, ◌-◌, ◌≤◌, List, length, true, false, Err, IfOk, IfErr};
-ghost use Rattle.bl_syntax.specs.Formula.{formula};
+ghost use Rattle.bl_syntax.specs.Formula.{formula_view};
 ghost use Rattle.bl_tokens.specs.declared.faults.TextFault.{TextFault};
 ghost use Rattle.bl_text.specs.Scope.{variables};
-ghost use Rattle.bl_tokens.specs.Tokens.{behind_node, is_sign, is_word};
+ghost use Rattle.bl_tokens.specs.Tokens.{cursor_after_node, is_sign, is_word};
 ghost use Rattle.bl_text.specs.Grammar.{is_quantifier, is_saying, is_call};
 ghost use Rattle.bl_text.specs.Grammar as grammar;
-ghost use Rattle.bl_text.specs.Stops.{Stops, ArgumentsStop, CallStops};
-ghost use Rattle.bl_text.specs.Read.{Reads, ReadsArguments, ReadsCall, PutsOn, IntervalStops};
+ghost use Rattle.bl_text.specs.FirstFaults.{HasFirstFault, ArgumentsHaveFirstFault, CallHasFirstFault};
+ghost use Rattle.bl_text.specs.Read.{ReadsFormula, ReadsArguments, ReadsCall, PutsOn, IntervalHasFirstFault};
 
-use crate::applied::{applied, is_atom};
 use crate::pieces::{
-    argument, binder, count, expected, go_behind, interval, look_ahead, next_argument, simple,
-    speaker, step_into, step_node,
+    argument, binder, count, expect_sign, go_behind, interval, look_ahead, next_argument,
+    simple_formula, speaker, step_into, step_node,
 };
+use crate::predicates::{apply_predicate, is_atom};
 use crate::scope::Scope;
 use bl_syntax::boxes::{both_of, either_of, every_of, implies_of, on_of, says_of, some_of};
 use bl_syntax::{Formula, Principal, Sequence, Terms};
-use bl_tokens::{Here, Keyword, Sign, TextFault, Token, behind, behind_node, is_sign, is_word};
+use bl_tokens::{
+    Cursor, Keyword, Sign, TextFault, Token, cursor_after, cursor_after_node, is_sign, is_word,
+};
 use std::alloc::Global;
 
 /// Drops what was read so far; the fault is the answer. No caller has room for a formula.
@@ -33,7 +35,7 @@ fn refuse(_read: Box<Formula>, fault: TextFault) -> Result<Box<Formula>, TextFau
     Err(fault)
 }
 
-/// The formula on the interval behind the sign `@` at that place. It goes behind the interval.
+/// The formula on the interval after the sign `@` at that place. It goes past the interval.
 #[inline(never)]
 fn on_interval(
     alloc: Global,
@@ -41,12 +43,12 @@ fn on_interval(
     in_statement: bool,
     scope: &Scope<'_>,
     a: Box<Formula>,
-    here: &mut Here,
+    here: &mut Cursor,
 ) -> Result<Box<Formula>, TextFault>
     requires scope { length (variables scope.now) ≤ 512 }
     requires within { here.old.end ≤ length text.now }
-    ensures read { IfOk result (λ f. PutsOn text.now in_statement (variables scope.now) here.old here.new (formula a.value) (formula f.value)) }
-    ensures fault { IfErr result (λ e. IntervalStops text.now in_statement (variables scope.now) here.old e) }
+    ensures read { IfOk result (λ f. PutsOn text.now in_statement (variables scope.now) here.old here.new (formula_view a.value) (formula_view f.value)) }
+    ensures fault { IfErr result (λ e. IntervalHasFirstFault text.now in_statement (variables scope.now) here.old e) }
 {
     let (from, to) = interval(text, in_statement, scope, here)?;
     Ok(on_of(alloc, a, &from, &to)?)
@@ -54,8 +56,8 @@ fn on_interval(
 
 /// Whether a principal or a variable stands there, before `says`.
 #[tactic(auto, unfolding(crate::specs::Grammar::is_saying))]
-fn is_saying(here: &Here, ahead: &Here) -> bool
-    ensures { (text : List ℕ) → ahead.now ≡ behind_node text here.now → result ≡ is_saying text here.now }
+fn is_saying(here: &Cursor, ahead: &Cursor) -> bool
+    ensures { (text : List ℕ) → ahead.now ≡ cursor_after_node text here.now → result ≡ is_saying text here.now }
 {
     match &here.token {
         Token::Name(_) | Token::Variable(_) => is_word(Keyword::Says, &ahead.token),
@@ -65,8 +67,8 @@ fn is_saying(here: &Here, ahead: &Here) -> bool
 
 /// Whether a name stands there, before `(`.
 #[tactic(auto, unfolding(crate::specs::Grammar::is_call))]
-fn is_call(here: &Here, ahead: &Here) -> bool
-    ensures { (text : List ℕ) → ahead.now ≡ behind_node text here.now → result ≡ is_call text here.now }
+fn is_call(here: &Cursor, ahead: &Cursor) -> bool
+    ensures { (text : List ℕ) → ahead.now ≡ cursor_after_node text here.now → result ≡ is_call text here.now }
 {
     match &here.token {
         Token::Name(_) => is_sign(Sign::Open, &ahead.token),
@@ -81,22 +83,22 @@ fn arguments(
     in_statement: bool,
     scope: &Scope<'_>,
     is_atom: bool,
-    here: &Here,
-) -> Result<(Terms, Here), TextFault>
+    here: &Cursor,
+) -> Result<(Terms, Cursor), TextFault>
     requires scope { length (variables scope.now) ≤ 512 }
     requires within { here.now.end ≤ length text.now }
     ensures read { IfOk result (λ r. ReadsArguments text.now in_statement (variables scope.now) is_atom here.now r.1 r.0) }
-    ensures fault { IfErr result (λ e. ArgumentsStop text.now in_statement (variables scope.now) is_atom here.now e) }
+    ensures fault { IfErr result (λ e. ArgumentsHaveFirstFault text.now in_statement (variables scope.now) is_atom here.now e) }
 {
     let first = argument(in_statement, scope, here)?;
     let mut terms = Sequence::new(alloc);
     terms.extend(&[first])?;
-    let mut there = behind_node(text, here);
+    let mut there = cursor_after_node(text, here);
     'further: while is_sign(Sign::Comma, &there.token) {
-        let place = behind(text, &there);
+        let place = cursor_after(text, &there);
         let next = next_argument(in_statement, scope, is_atom, terms.len(), &place)?;
         terms.extend(&[next])?;
-        there = behind_node(text, &place);
+        there = cursor_after_node(text, &place);
     }
     Ok((terms, there))
 }
@@ -108,17 +110,17 @@ fn named_call(
     in_statement: bool,
     scope: &Scope<'_>,
     name: &Principal,
-    here: &Here,
-    ahead: &Here,
-) -> Result<(Formula, Here), TextFault>
+    here: &Cursor,
+    ahead: &Cursor,
+) -> Result<(Formula, Cursor), TextFault>
     requires scope { length (variables scope.now) ≤ 512 }
     requires within { here.now.end ≤ length text.now }
-    requires ahead { ahead.now ≡ behind_node text.now here.now }
+    requires ahead { ahead.now ≡ cursor_after_node text.now here.now }
     requires ahead_within { ahead.now.end ≤ length text.now }
     requires ahead_left { ahead.now.left ≡ here.now.left - 1 }
     requires name { here.now.token ≡ Token.Name name.now }
-    ensures read { IfOk result (λ r. ReadsCall text.now in_statement (variables scope.now) here.now r.1 (formula r.0)) }
-    ensures fault { IfErr result (λ e. CallStops text.now in_statement (variables scope.now) here.now e) }
+    ensures read { IfOk result (λ r. ReadsCall text.now in_statement (variables scope.now) here.now r.1 (formula_view r.0)) }
+    ensures fault { IfErr result (λ e. CallHasFirstFault text.now in_statement (variables scope.now) here.now e) }
 {
     count(here)?;
     let (terms, mid) = arguments(
@@ -127,10 +129,10 @@ fn named_call(
         in_statement,
         scope,
         is_atom(name),
-        &behind(text, ahead),
+        &cursor_after(text, ahead),
     )?;
-    let there = expected(text, Sign::Close, &mid)?;
-    let f = applied(scope, here.at, name, terms)?;
+    let there = expect_sign(text, Sign::Close, &mid)?;
+    let f = apply_predicate(scope, here.at, name, terms)?;
     Ok((f, there))
 }
 
@@ -140,17 +142,17 @@ fn call(
     text: &[u8],
     in_statement: bool,
     scope: &Scope<'_>,
-    here: &Here,
-    ahead: &Here,
-) -> Result<(Formula, Here), TextFault>
+    here: &Cursor,
+    ahead: &Cursor,
+) -> Result<(Formula, Cursor), TextFault>
     requires scope { length (variables scope.now) ≤ 512 }
     requires within { here.now.end ≤ length text.now }
-    requires ahead { ahead.now ≡ behind_node text.now here.now }
+    requires ahead { ahead.now ≡ cursor_after_node text.now here.now }
     requires ahead_within { ahead.now.end ≤ length text.now }
     requires ahead_left { ahead.now.left ≡ here.now.left - 1 }
     requires call { is_call text.now here.now ≡ true }
-    ensures read { IfOk result (λ r. ReadsCall text.now in_statement (variables scope.now) here.now r.1 (formula r.0)) }
-    ensures fault { IfErr result (λ e. CallStops text.now in_statement (variables scope.now) here.now e) }
+    ensures read { IfOk result (λ r. ReadsCall text.now in_statement (variables scope.now) here.now r.1 (formula_view r.0)) }
+    ensures fault { IfErr result (λ e. CallHasFirstFault text.now in_statement (variables scope.now) here.now e) }
 {
     match &here.token {
         Token::Name(name) => named_call(alloc, text, in_statement, scope, name, here, ahead),
@@ -158,57 +160,57 @@ fn call(
     }
 }
 
-/// A formula without parentheses at that place, and goes behind it.
+/// A formula without parentheses at that place, and goes past it.
 #[inline(never)]
 fn simple_here(
     alloc: Global,
     text: &[u8],
     in_statement: bool,
     scope: &Scope<'_>,
-    here: &mut Here,
-    ahead: &Here,
+    here: &mut Cursor,
+    ahead: &Cursor,
 ) -> Result<Box<Formula>, TextFault>
     requires scope { length (variables scope.now) ≤ 512 }
     requires within { here.old.end ≤ length text.now }
-    requires ahead { ahead.now ≡ behind_node text.now here.old }
+    requires ahead { ahead.now ≡ cursor_after_node text.now here.old }
     requires ahead_within { ahead.now.end ≤ length text.now }
     requires ahead_left { ahead.now.left ≡ here.old.left - 1 }
     requires not_open { is_sign Sign.Open here.old.token ≡ false }
     requires no_call { is_call text.now here.old ≡ false }
-    ensures read { IfOk result (λ f. (depth : ℕ) → Reads text.now in_statement grammar.primary (variables scope.now) depth here.old here.new (formula f.value)) }
-    ensures fault { IfErr result (λ e. (depth : ℕ) → Stops text.now in_statement grammar.primary (variables scope.now) depth here.old e) }
+    ensures read { IfOk result (λ f. (depth : ℕ) → ReadsFormula text.now in_statement grammar.primary (variables scope.now) depth here.old here.new (formula_view f.value)) }
+    ensures fault { IfErr result (λ e. (depth : ℕ) → HasFirstFault text.now in_statement grammar.primary (variables scope.now) depth here.old e) }
 {
-    let (f, there) = simple(alloc, text, in_statement, scope, here, ahead)?;
+    let (f, there) = simple_formula(alloc, text, in_statement, scope, here, ahead)?;
     *here = there;
     Ok(Box::new(alloc, f)?)
 }
 
-/// A predicate with arguments at that place, and goes behind it.
+/// A predicate with arguments at that place, and goes past it.
 #[inline(never)]
 fn call_here(
     alloc: Global,
     text: &[u8],
     in_statement: bool,
     scope: &Scope<'_>,
-    here: &mut Here,
-    ahead: &Here,
+    here: &mut Cursor,
+    ahead: &Cursor,
 ) -> Result<Box<Formula>, TextFault>
     requires scope { length (variables scope.now) ≤ 512 }
     requires within { here.old.end ≤ length text.now }
-    requires ahead { ahead.now ≡ behind_node text.now here.old }
+    requires ahead { ahead.now ≡ cursor_after_node text.now here.old }
     requires ahead_within { ahead.now.end ≤ length text.now }
     requires ahead_left { ahead.now.left ≡ here.old.left - 1 }
     requires not_open { is_sign Sign.Open here.old.token ≡ false }
     requires call { is_call text.now here.old ≡ true }
-    ensures read { IfOk result (λ f. (depth : ℕ) → Reads text.now in_statement grammar.primary (variables scope.now) depth here.old here.new (formula f.value)) }
-    ensures fault { IfErr result (λ e. (depth : ℕ) → Stops text.now in_statement grammar.primary (variables scope.now) depth here.old e) }
+    ensures read { IfOk result (λ f. (depth : ℕ) → ReadsFormula text.now in_statement grammar.primary (variables scope.now) depth here.old here.new (formula_view f.value)) }
+    ensures fault { IfErr result (λ e. (depth : ℕ) → HasFirstFault text.now in_statement grammar.primary (variables scope.now) depth here.old e) }
 {
     let (f, there) = call(alloc, text, in_statement, scope, here, ahead)?;
     *here = there;
     Ok(Box::new(alloc, f)?)
 }
 
-/// Reads the formula at that place, and goes behind it.
+/// Reads the formula at that place, and goes past it.
 #[cycle(descent)]
 pub fn formula_at(
     alloc: Global,
@@ -216,13 +218,13 @@ pub fn formula_at(
     in_statement: bool,
     scope: &Scope<'_>,
     depth: u16,
-    here: &mut Here,
-    ahead: &mut Here,
+    here: &mut Cursor,
+    ahead: &mut Cursor,
 ) -> Result<Box<Formula>, TextFault>
     requires scope { length (variables scope.now) + here.old.left ≤ 512 }
     requires within { here.old.end ≤ length text.now }
-    ensures read { IfOk result (λ f. Reads text.now in_statement grammar.formula (variables scope.now) depth here.old here.new (formula f.value)) }
-    ensures fault { IfErr result (λ e. Stops text.now in_statement grammar.formula (variables scope.now) depth here.old e) }
+    ensures read { IfOk result (λ f. ReadsFormula text.now in_statement grammar.formula (variables scope.now) depth here.old here.new (formula_view f.value)) }
+    ensures fault { IfErr result (λ e. HasFirstFault text.now in_statement grammar.formula (variables scope.now) depth here.old e) }
 {
     if is_word(Keyword::Forall, &here.token) {
         for_every(alloc, text, in_statement, scope, depth, here, ahead)
@@ -242,14 +244,14 @@ fn for_every(
     in_statement: bool,
     scope: &Scope<'_>,
     depth: u16,
-    here: &mut Here,
-    ahead: &mut Here,
+    here: &mut Cursor,
+    ahead: &mut Cursor,
 ) -> Result<Box<Formula>, TextFault>
     requires scope { length (variables scope.now) + here.old.left ≤ 512 }
     requires within { here.old.end ≤ length text.now }
     requires word { is_word Keyword.Forall here.old.token ≡ true }
-    ensures read { IfOk result (λ f. Reads text.now in_statement grammar.formula (variables scope.now) depth here.old here.new (formula f.value)) }
-    ensures fault { IfErr result (λ e. Stops text.now in_statement grammar.formula (variables scope.now) depth here.old e) }
+    ensures read { IfOk result (λ f. ReadsFormula text.now in_statement grammar.formula (variables scope.now) depth here.old here.new (formula_view f.value)) }
+    ensures fault { IfErr result (λ e. HasFirstFault text.now in_statement grammar.formula (variables scope.now) depth here.old e) }
 {
     let (name, sort) = binder(text, here)?;
     let inner = Scope::Inside(name, sort, &*scope);
@@ -266,14 +268,14 @@ fn for_some(
     in_statement: bool,
     scope: &Scope<'_>,
     depth: u16,
-    here: &mut Here,
-    ahead: &mut Here,
+    here: &mut Cursor,
+    ahead: &mut Cursor,
 ) -> Result<Box<Formula>, TextFault>
     requires scope { length (variables scope.now) + here.old.left ≤ 512 }
     requires within { here.old.end ≤ length text.now }
     requires word { is_word Keyword.Exists here.old.token ≡ true }
-    ensures read { IfOk result (λ f. Reads text.now in_statement grammar.formula (variables scope.now) depth here.old here.new (formula f.value)) }
-    ensures fault { IfErr result (λ e. Stops text.now in_statement grammar.formula (variables scope.now) depth here.old e) }
+    ensures read { IfOk result (λ f. ReadsFormula text.now in_statement grammar.formula (variables scope.now) depth here.old here.new (formula_view f.value)) }
+    ensures fault { IfErr result (λ e. HasFirstFault text.now in_statement grammar.formula (variables scope.now) depth here.old e) }
 {
     let (name, sort) = binder(text, here)?;
     let inner = Scope::Inside(name, sort, &*scope);
@@ -289,14 +291,14 @@ fn implication(
     in_statement: bool,
     scope: &Scope<'_>,
     depth: u16,
-    here: &mut Here,
-    ahead: &mut Here,
+    here: &mut Cursor,
+    ahead: &mut Cursor,
 ) -> Result<Box<Formula>, TextFault>
     requires scope { length (variables scope.now) + here.old.left ≤ 512 }
     requires within { here.old.end ≤ length text.now }
     requires no_quantifier { is_quantifier here.old.token ≡ false }
-    ensures read { IfOk result (λ f. Reads text.now in_statement grammar.formula (variables scope.now) depth here.old here.new (formula f.value)) }
-    ensures fault { IfErr result (λ e. Stops text.now in_statement grammar.formula (variables scope.now) depth here.old e) }
+    ensures read { IfOk result (λ f. ReadsFormula text.now in_statement grammar.formula (variables scope.now) depth here.old here.new (formula_view f.value)) }
+    ensures fault { IfErr result (λ e. HasFirstFault text.now in_statement grammar.formula (variables scope.now) depth here.old e) }
 {
     let a = disjunction(alloc, text, in_statement, scope, depth, here, ahead)?;
     if !is_sign(Sign::Implies, &here.token) {
@@ -322,13 +324,13 @@ fn disjunction(
     in_statement: bool,
     scope: &Scope<'_>,
     depth: u16,
-    here: &mut Here,
-    ahead: &mut Here,
+    here: &mut Cursor,
+    ahead: &mut Cursor,
 ) -> Result<Box<Formula>, TextFault>
     requires scope { length (variables scope.now) + here.old.left ≤ 512 }
     requires within { here.old.end ≤ length text.now }
-    ensures read { IfOk result (λ f. Reads text.now in_statement grammar.disjunction (variables scope.now) depth here.old here.new (formula f.value)) }
-    ensures fault { IfErr result (λ e. Stops text.now in_statement grammar.disjunction (variables scope.now) depth here.old e) }
+    ensures read { IfOk result (λ f. ReadsFormula text.now in_statement grammar.disjunction (variables scope.now) depth here.old here.new (formula_view f.value)) }
+    ensures fault { IfErr result (λ e. HasFirstFault text.now in_statement grammar.disjunction (variables scope.now) depth here.old e) }
 {
     let first = conjunction(alloc, text, in_statement, scope, depth, here, ahead)?;
     let mut a = first;
@@ -355,13 +357,13 @@ fn conjunction(
     in_statement: bool,
     scope: &Scope<'_>,
     depth: u16,
-    here: &mut Here,
-    ahead: &mut Here,
+    here: &mut Cursor,
+    ahead: &mut Cursor,
 ) -> Result<Box<Formula>, TextFault>
     requires scope { length (variables scope.now) + here.old.left ≤ 512 }
     requires within { here.old.end ≤ length text.now }
-    ensures read { IfOk result (λ f. Reads text.now in_statement grammar.conjunction (variables scope.now) depth here.old here.new (formula f.value)) }
-    ensures fault { IfErr result (λ e. Stops text.now in_statement grammar.conjunction (variables scope.now) depth here.old e) }
+    ensures read { IfOk result (λ f. ReadsFormula text.now in_statement grammar.conjunction (variables scope.now) depth here.old here.new (formula_view f.value)) }
+    ensures fault { IfErr result (λ e. HasFirstFault text.now in_statement grammar.conjunction (variables scope.now) depth here.old e) }
 {
     let first = unary(alloc, text, in_statement, scope, depth, here, ahead)?;
     let mut a = first;
@@ -388,17 +390,17 @@ fn unary(
     in_statement: bool,
     scope: &Scope<'_>,
     depth: u16,
-    here: &mut Here,
-    ahead: &mut Here,
+    here: &mut Cursor,
+    ahead: &mut Cursor,
 ) -> Result<Box<Formula>, TextFault>
     requires scope { length (variables scope.now) + here.old.left ≤ 512 }
     requires within { here.old.end ≤ length text.now }
-    ensures read { IfOk result (λ f. Reads text.now in_statement grammar.unary (variables scope.now) depth here.old here.new (formula f.value)) }
-    ensures fault { IfErr result (λ e. Stops text.now in_statement grammar.unary (variables scope.now) depth here.old e) }
+    ensures read { IfOk result (λ f. ReadsFormula text.now in_statement grammar.unary (variables scope.now) depth here.old here.new (formula_view f.value)) }
+    ensures fault { IfErr result (λ e. HasFirstFault text.now in_statement grammar.unary (variables scope.now) depth here.old e) }
 {
     look_ahead(text, here, ahead);
     if is_saying(here, ahead) {
-        said(alloc, text, in_statement, scope, depth, here, ahead)
+        says_formula(alloc, text, in_statement, scope, depth, here, ahead)
     } else {
         postfix(alloc, text, in_statement, scope, depth, here, ahead)
     }
@@ -407,23 +409,23 @@ fn unary(
 /// Reads a formula that the principal at that place says.
 #[inline(never)]
 #[cycle(descent)]
-fn said(
+fn says_formula(
     alloc: Global,
     text: &[u8],
     in_statement: bool,
     scope: &Scope<'_>,
     depth: u16,
-    here: &mut Here,
-    ahead: &mut Here,
+    here: &mut Cursor,
+    ahead: &mut Cursor,
 ) -> Result<Box<Formula>, TextFault>
     requires scope { length (variables scope.now) + here.old.left ≤ 512 }
     requires within { here.old.end ≤ length text.now }
-    requires ahead { ahead.old ≡ behind_node text.now here.old }
+    requires ahead { ahead.old ≡ cursor_after_node text.now here.old }
     requires ahead_within { ahead.old.end ≤ length text.now }
     requires ahead_left { ahead.old.left ≡ here.old.left - 1 }
     requires saying { is_saying text.now here.old ≡ true }
-    ensures read { IfOk result (λ f. Reads text.now in_statement grammar.unary (variables scope.now) depth here.old here.new (formula f.value)) }
-    ensures fault { IfErr result (λ e. Stops text.now in_statement grammar.unary (variables scope.now) depth here.old e) }
+    ensures read { IfOk result (λ f. ReadsFormula text.now in_statement grammar.unary (variables scope.now) depth here.old here.new (formula_view f.value)) }
+    ensures fault { IfErr result (λ e. HasFirstFault text.now in_statement grammar.unary (variables scope.now) depth here.old e) }
 {
     let who = speaker(text, scope, here, ahead)?;
     let a = unary(alloc, text, in_statement, scope, depth, here, ahead)?;
@@ -438,16 +440,16 @@ fn postfix(
     in_statement: bool,
     scope: &Scope<'_>,
     depth: u16,
-    here: &mut Here,
-    ahead: &mut Here,
+    here: &mut Cursor,
+    ahead: &mut Cursor,
 ) -> Result<Box<Formula>, TextFault>
     requires scope { length (variables scope.now) + here.old.left ≤ 512 }
     requires within { here.old.end ≤ length text.now }
-    requires ahead { ahead.old ≡ behind_node text.now here.old }
+    requires ahead { ahead.old ≡ cursor_after_node text.now here.old }
     requires ahead_within { ahead.old.end ≤ length text.now }
     requires ahead_left { ahead.old.left ≡ here.old.left - 1 }
-    ensures read { IfOk result (λ f. Reads text.now in_statement grammar.postfix (variables scope.now) depth here.old here.new (formula f.value)) }
-    ensures fault { IfErr result (λ e. Stops text.now in_statement grammar.postfix (variables scope.now) depth here.old e) }
+    ensures read { IfOk result (λ f. ReadsFormula text.now in_statement grammar.postfix (variables scope.now) depth here.old here.new (formula_view f.value)) }
+    ensures fault { IfErr result (λ e. HasFirstFault text.now in_statement grammar.postfix (variables scope.now) depth here.old e) }
 {
     let first = primary(alloc, text, in_statement, scope, depth, here, ahead)?;
     let mut a = first;
@@ -465,16 +467,16 @@ fn primary(
     in_statement: bool,
     scope: &Scope<'_>,
     depth: u16,
-    here: &mut Here,
-    ahead: &mut Here,
+    here: &mut Cursor,
+    ahead: &mut Cursor,
 ) -> Result<Box<Formula>, TextFault>
     requires scope { length (variables scope.now) + here.old.left ≤ 512 }
     requires within { here.old.end ≤ length text.now }
-    requires ahead { ahead.old ≡ behind_node text.now here.old }
+    requires ahead { ahead.old ≡ cursor_after_node text.now here.old }
     requires ahead_within { ahead.old.end ≤ length text.now }
     requires ahead_left { ahead.old.left ≡ here.old.left - 1 }
-    ensures read { IfOk result (λ f. Reads text.now in_statement grammar.primary (variables scope.now) depth here.old here.new (formula f.value)) }
-    ensures fault { IfErr result (λ e. Stops text.now in_statement grammar.primary (variables scope.now) depth here.old e) }
+    ensures read { IfOk result (λ f. ReadsFormula text.now in_statement grammar.primary (variables scope.now) depth here.old here.new (formula_view f.value)) }
+    ensures fault { IfErr result (λ e. HasFirstFault text.now in_statement grammar.primary (variables scope.now) depth here.old e) }
 {
     if is_sign(Sign::Open, &here.token) {
         group(alloc, text, in_statement, scope, depth, here, ahead)
@@ -493,17 +495,17 @@ fn group(
     in_statement: bool,
     scope: &Scope<'_>,
     depth: u16,
-    here: &mut Here,
-    ahead: &mut Here,
+    here: &mut Cursor,
+    ahead: &mut Cursor,
 ) -> Result<Box<Formula>, TextFault>
     requires scope { length (variables scope.now) + here.old.left ≤ 512 }
     requires within { here.old.end ≤ length text.now }
-    requires ahead { ahead.old ≡ behind_node text.now here.old }
+    requires ahead { ahead.old ≡ cursor_after_node text.now here.old }
     requires ahead_within { ahead.old.end ≤ length text.now }
     requires ahead_left { ahead.old.left ≡ here.old.left - 1 }
     requires open { is_sign Sign.Open here.old.token ≡ true }
-    ensures read { IfOk result (λ f. Reads text.now in_statement grammar.primary (variables scope.now) depth here.old here.new (formula f.value)) }
-    ensures fault { IfErr result (λ e. Stops text.now in_statement grammar.primary (variables scope.now) depth here.old e) }
+    ensures read { IfOk result (λ f. ReadsFormula text.now in_statement grammar.primary (variables scope.now) depth here.old here.new (formula_view f.value)) }
+    ensures fault { IfErr result (λ e. HasFirstFault text.now in_statement grammar.primary (variables scope.now) depth here.old e) }
 {
     if depth >= 512 {
         return Err(TextFault::TooLarge(here.at));

@@ -4,17 +4,17 @@
 //! writes none has one first fault, with its place.
 #![tactic(auto)]
 
-mod applied;
 mod formulas;
 pub mod laws;
 mod parse;
 mod pieces;
+mod predicates;
 mod print;
 mod scope;
 
 pub use bl_tokens::{TextFault, parse_time};
 pub use parse::{parse_formula, parse_statement};
-pub use pieces::{sorted, term_of};
+pub use pieces::{require_sort, term_of};
 pub use print::{
     print_constraint, print_formula, print_number, print_state, print_statement, print_term,
 };

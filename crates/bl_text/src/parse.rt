@@ -1,16 +1,16 @@
 //! The texts of formulas and of statements.
 
 ghost use Rattle.std.specs.Prelude.{◌≡◌, ◌≤◌, length, Ok, Err, IfOk, IfErr, OnOk, MatchResult};
-ghost use Rattle.bl_syntax.specs.Formula.{Form, formula};
-ghost use Rattle.bl_syntax.specs.Statement.{Saying};
+ghost use Rattle.bl_syntax.specs.Formula.{FormulaView, formula_view};
+ghost use Rattle.bl_syntax.specs.Statement.{StatementView};
 ghost use Rattle.bl_tokens.specs.declared.faults.TextFault.{TextFault};
-ghost use Rattle.bl_text.specs.Texts.{IsFormulaText, FormulaFault, IsStatementText, StatementFault, AreOneFault, beginning, is_end, word_expected, time_constant, principal_name, opening, ended, span};
+ghost use Rattle.bl_text.specs.Texts.{IsFormulaText, FormulaFault, IsStatementText, StatementFault, AreOneFault, beginning, is_end, expect_word, time_constant, principal_name, opening, at_end, span};
 
 use crate::formulas::formula_at;
 use crate::pieces::step;
 use crate::scope::Scope;
 use bl_syntax::{Formula, Principal, Statement, Term, TimePoint};
-use bl_tokens::{Here, Keyword, TextFault, Token, is_word, token_from};
+use bl_tokens::{Cursor, Keyword, TextFault, Token, is_word, token_from};
 use std::alloc::Global;
 
 /// The greatest number of nodes of a formula.
@@ -18,10 +18,10 @@ const MOST_NODES: u16 = 512;
 
 /// The formula that the text writes, or the first fault of the text; or `NoMemory`.
 pub fn parse_formula(alloc: Global, text: &[u8]) -> Result<Formula, TextFault>
-    ensures read { IfOk result (λ f. IsFormulaText text.now (formula f)) }
+    ensures read { IfOk result (λ f. IsFormulaText text.now (formula_view f)) }
     ensures fault { IfErr result (FormulaFault text.now) }
-    ensures every_formula { (f : Form) → IsFormulaText text.now f
-        → MatchResult result (λ g. formula g ≡ f) (λ e. e ≡ TextFault.NoMemory) }
+    ensures every_formula { (f : FormulaView) → IsFormulaText text.now f
+        → MatchResult result (λ g. formula_view g ≡ f) (λ e. e ≡ TextFault.NoMemory) }
     ensures every_fault { (e : TextFault) → FormulaFault text.now e
         → MatchResult result (λ _. e ≡ TextFault.NoMemory) (λ d. AreOneFault d e) }
 {
@@ -29,7 +29,7 @@ pub fn parse_formula(alloc: Global, text: &[u8]) -> Result<Formula, TextFault>
 }
 
 fn read_formula(alloc: Global, text: &[u8]) -> Result<Formula, TextFault>
-    ensures read { IfOk result (λ f. IsFormulaText text.now (formula f)) }
+    ensures read { IfOk result (λ f. IsFormulaText text.now (formula_view f)) }
     ensures fault { IfErr result (FormulaFault text.now) }
 {
     let mut here = beginning(text);
@@ -51,7 +51,7 @@ fn read_formula(alloc: Global, text: &[u8]) -> Result<Formula, TextFault>
 }
 
 /// The place of the first token.
-fn beginning(text: &[u8]) -> Here
+fn beginning(text: &[u8]) -> Cursor
     ensures same { result ≡ beginning text.now }
     ensures within { result.end ≤ length text.now }
     ensures left { result.left ≡ 512 }
@@ -68,11 +68,11 @@ fn is_end(token: &Token) -> bool
     }
 }
 
-/// Goes to the place behind the word, where it is there.
-#[tactic(auto, unfolding(crate::specs::Texts::word_expected))]
-fn go_behind_word(text: &[u8], word: Keyword, here: &mut Here) -> Result<(), TextFault>
+/// Goes to the place after the word, where it is there.
+#[tactic(auto, unfolding(crate::specs::Texts::expect_word))]
+fn go_behind_word(text: &[u8], word: Keyword, here: &mut Cursor) -> Result<(), TextFault>
     requires { here.old.end ≤ length text.now }
-    ensures value { MatchResult result (λ _. word_expected text.now word here.old ≡ Ok here.new) (λ e. word_expected text.now word here.old ≡ Err e) }
+    ensures value { MatchResult result (λ _. expect_word text.now word here.old ≡ Ok here.new) (λ e. expect_word text.now word here.old ≡ Err e) }
     ensures within { OnOk result (here.new.end ≤ length text.now) }
     ensures left { OnOk result (here.new.left ≡ here.old.left) }
 {
@@ -85,7 +85,7 @@ fn go_behind_word(text: &[u8], word: Keyword, here: &mut Here) -> Result<(), Tex
 }
 
 #[tactic(auto, unfolding(crate::specs::Texts::time_constant))]
-fn time_constant(here: &Here) -> Result<TimePoint, TextFault>
+fn time_constant(here: &Cursor) -> Result<TimePoint, TextFault>
     ensures { result ≡ time_constant here.now }
 {
     match &here.token {
@@ -96,7 +96,7 @@ fn time_constant(here: &Here) -> Result<TimePoint, TextFault>
 }
 
 #[tactic(auto, unfolding(crate::specs::Texts::principal_name))]
-fn principal_name(here: &Here) -> Result<Principal, TextFault>
+fn principal_name(here: &Cursor) -> Result<Principal, TextFault>
     ensures { result ≡ principal_name here.now }
 {
     match &here.token {
@@ -105,9 +105,9 @@ fn principal_name(here: &Here) -> Result<Principal, TextFault>
     }
 }
 
-/// The principal before the first `says`. It goes behind that word.
+/// The principal before the first `says`. It goes past that word.
 #[tactic(auto, unfolding(crate::specs::Texts::opening))]
-fn opening(text: &[u8], here: &mut Here) -> Result<Principal, TextFault>
+fn opening(text: &[u8], here: &mut Cursor) -> Result<Principal, TextFault>
     requires { here.old.end ≤ length text.now }
     ensures value { MatchResult result (λ who. opening text.now here.old ≡ Ok (who, here.new)) (λ e. opening text.now here.old ≡ Err e) }
     ensures within { OnOk result (here.new.end ≤ length text.now) }
@@ -119,9 +119,9 @@ fn opening(text: &[u8], here: &mut Here) -> Result<Principal, TextFault>
     Ok(who)
 }
 
-#[tactic(auto, unfolding(crate::specs::Texts::ended))]
-fn ended(here: &Here) -> Result<(), TextFault>
-    ensures { result ≡ ended here.now }
+#[tactic(auto, unfolding(crate::specs::Texts::at_end))]
+fn at_end(here: &Cursor) -> Result<(), TextFault>
+    ensures { result ≡ at_end here.now }
 {
     if is_end(&here.token) {
         Ok(())
@@ -130,9 +130,9 @@ fn ended(here: &Here) -> Result<(), TextFault>
     }
 }
 
-/// The times behind `from` and `to`, with nothing behind them.
+/// The times after `from` and `to`, with nothing after them.
 #[tactic(auto, unfolding(crate::specs::Texts::span))]
-fn span(text: &[u8], here: &mut Here) -> Result<(TimePoint, TimePoint), TextFault>
+fn span(text: &[u8], here: &mut Cursor) -> Result<(TimePoint, TimePoint), TextFault>
     requires { here.old.end ≤ length text.now }
     ensures { result ≡ span text.now here.old }
 {
@@ -142,7 +142,7 @@ fn span(text: &[u8], here: &mut Here) -> Result<(TimePoint, TimePoint), TextFaul
     go_behind_word(text, Keyword::To, here)?;
     let to = time_constant(here)?;
     step(text, here);
-    ended(here)?;
+    at_end(here)?;
     Ok((from, to))
 }
 
@@ -150,7 +150,7 @@ fn span(text: &[u8], here: &mut Here) -> Result<(TimePoint, TimePoint), TextFaul
 pub fn parse_statement(alloc: Global, text: &[u8]) -> Result<Statement, TextFault>
     ensures read { IfOk result (IsStatementText text.now) }
     ensures fault { IfErr result (StatementFault text.now) }
-    ensures every_statement { (s : Saying) → IsStatementText text.now s
+    ensures every_statement { (s : StatementView) → IsStatementText text.now s
         → MatchResult result (λ t. t ≡ s) (λ e. e ≡ TextFault.NoMemory) }
     ensures every_fault { (e : TextFault) → StatementFault text.now e
         → MatchResult result (λ _. e ≡ TextFault.NoMemory) (λ d. AreOneFault d e) }

@@ -4,18 +4,20 @@
 ghost use Rattle.std.specs.Prelude.{◌≡◌, ◌+◌, ◌-◌, ◌≤◌, ℕ, List, length, Ok, Err, OnOk, IfOk, MatchResult, if◌then◌else◌};
 ghost use Rattle.bl_syntax.specs.Formula.{truth, falsity};
 ghost use Rattle.bl_text.specs.Scope.{variables};
-ghost use Rattle.bl_tokens.specs.Tokens.{behind, behind_node};
-ghost use Rattle.bl_text.specs.Pieces.{count, expected, term_of, sayable, sorted, argument, next_argument, time_argument, interval, variable_name, sort_at, binder, speaker, less_sign, comparison, bare, named_time, name_alone, constant_formula, simple, GivesWith};
+ghost use Rattle.bl_tokens.specs.Tokens.{cursor_after, cursor_after_node};
+ghost use Rattle.bl_text.specs.Pieces.{count, expect_sign, term_of, require_sayable, require_sort, argument, next_argument, time_argument, interval, variable_name, sort_at, binder, speaker, less_sign, comparison, bare_predicate, named_time, name_alone, constant_formula, simple_formula, GivesPieceWith};
 
-use crate::applied::applied;
+use crate::predicates::apply_predicate;
 use crate::scope::Scope;
 use bl_syntax::{Constraint, Formula, Principal, Sequence, Short, Sort, Term};
-use bl_tokens::{Here, Keyword, Sign, TextFault, Token, behind, behind_node, is_sign};
+use bl_tokens::{
+    Cursor, Keyword, Sign, TextFault, Token, cursor_after, cursor_after_node, is_sign,
+};
 use std::alloc::Global;
 
 /// Takes a node for the token, where one is left.
 #[tactic(auto, unfolding(crate::specs::Pieces::count))]
-pub fn count(here: &Here) -> Result<(), TextFault>
+pub fn count(here: &Cursor) -> Result<(), TextFault>
     ensures value { result ≡ count here.now }
     ensures some { OnOk result (1 ≤ here.now.left) }
 {
@@ -26,76 +28,76 @@ pub fn count(here: &Here) -> Result<(), TextFault>
     }
 }
 
-/// What stands behind the sign, where it is there.
-#[tactic(auto, unfolding(crate::specs::Pieces::expected))]
-pub fn expected(text: &[u8], sign: Sign, here: &Here) -> Result<Here, TextFault>
+/// What stands after the sign, where it is there.
+#[tactic(auto, unfolding(crate::specs::Pieces::expect_sign))]
+pub fn expect_sign(text: &[u8], sign: Sign, here: &Cursor) -> Result<Cursor, TextFault>
     requires { here.now.end ≤ length text.now }
-    ensures value { result ≡ expected text.now sign here.now }
+    ensures value { result ≡ expect_sign text.now sign here.now }
     ensures within { IfOk result (λ there. there.end ≤ length text.now) }
     ensures left { IfOk result (λ there. there.left ≡ here.now.left) }
 {
     if is_sign(sign, &here.token) {
-        Ok(behind(text, here))
+        Ok(cursor_after(text, here))
     } else {
         Err(TextFault::Unexpected(here.at))
     }
 }
 
-/// Goes to the place behind a token that is no node of the formula.
-pub fn step(text: &[u8], here: &mut Here)
+/// Goes to the place after a token that is no node of the formula.
+pub fn step(text: &[u8], here: &mut Cursor)
     requires { here.old.end ≤ length text.now }
-    ensures same { here.new ≡ behind text.now here.old }
+    ensures same { here.new ≡ cursor_after text.now here.old }
     ensures within { here.new.end ≤ length text.now }
     ensures left { here.new.left ≡ here.old.left }
 {
-    *here = behind(text, here);
+    *here = cursor_after(text, here);
 }
 
-/// Goes to the place behind a token that is no node of the formula, by what was read ahead.
-#[tactic(auto, unfolding(bl_tokens::specs::Tokens::behind, bl_tokens::specs::Tokens::behind_node, bl_tokens::specs::Tokens::token_from))]
+/// Goes to the place after a token that is no node of the formula, by what was read ahead.
+#[tactic(auto, unfolding(bl_tokens::specs::Tokens::cursor_after, bl_tokens::specs::Tokens::cursor_after_node, bl_tokens::specs::Tokens::token_from))]
 #[inline(never)]
-pub fn step_into(text: &[u8], here: &mut Here, ahead: &Here)
-    requires ahead { ahead.now ≡ behind_node text.now here.old }
+pub fn step_into(text: &[u8], here: &mut Cursor, ahead: &Cursor)
+    requires ahead { ahead.now ≡ cursor_after_node text.now here.old }
     requires ahead_within { ahead.now.end ≤ length text.now }
     requires ahead_left { ahead.now.left ≡ here.old.left - 1 }
-    ensures same { here.new ≡ behind text.now here.old }
+    ensures same { here.new ≡ cursor_after text.now here.old }
     ensures within { here.new.end ≤ length text.now }
     ensures left { here.new.left ≡ here.old.left }
 {
-    *here = Here {
+    *here = Cursor {
         left: here.left,
         ..*ahead
     };
 }
 
-/// Reads the token behind one that is a node of the formula, into `ahead`.
+/// Reads the token after one that is a node of the formula, into `ahead`.
 #[inline(never)]
-pub fn look_ahead(text: &[u8], here: &Here, ahead: &mut Here)
+pub fn look_ahead(text: &[u8], here: &Cursor, ahead: &mut Cursor)
     requires { here.now.end ≤ length text.now }
-    ensures same { ahead.new ≡ behind_node text.now here.now }
+    ensures same { ahead.new ≡ cursor_after_node text.now here.now }
     ensures within { ahead.new.end ≤ length text.now }
     ensures left { ahead.new.left ≡ here.now.left - 1 }
 {
-    *ahead = behind_node(text, here);
+    *ahead = cursor_after_node(text, here);
 }
 
-/// Goes to the place behind a token that is a node of the formula.
+/// Goes to the place after a token that is a node of the formula.
 #[inline(never)]
-pub fn step_node(text: &[u8], here: &mut Here)
+pub fn step_node(text: &[u8], here: &mut Cursor)
     requires { here.old.end ≤ length text.now }
-    ensures same { here.new ≡ behind_node text.now here.old }
+    ensures same { here.new ≡ cursor_after_node text.now here.old }
     ensures within { here.new.end ≤ length text.now }
     ensures left { here.new.left ≡ here.old.left - 1 }
 {
-    *here = behind_node(text, here);
+    *here = cursor_after_node(text, here);
 }
 
-/// Goes to the place behind the sign, where it is there.
-#[tactic(auto, unfolding(crate::specs::Pieces::expected))]
+/// Goes to the place after the sign, where it is there.
+#[tactic(auto, unfolding(crate::specs::Pieces::expect_sign))]
 #[inline(never)]
-pub fn go_behind(text: &[u8], sign: Sign, here: &mut Here) -> Result<(), TextFault>
+pub fn go_behind(text: &[u8], sign: Sign, here: &mut Cursor) -> Result<(), TextFault>
     requires { here.old.end ≤ length text.now }
-    ensures value { MatchResult result (λ _. expected text.now sign here.old ≡ Ok here.new) (λ e. expected text.now sign here.old ≡ Err e) }
+    ensures value { MatchResult result (λ _. expect_sign text.now sign here.old ≡ Ok here.new) (λ e. expect_sign text.now sign here.old ≡ Err e) }
     ensures within { OnOk result (here.new.end ≤ length text.now) }
     ensures left { OnOk result (here.new.left ≡ here.old.left) }
 {
@@ -109,7 +111,7 @@ pub fn go_behind(text: &[u8], sign: Sign, here: &mut Here) -> Result<(), TextFau
 
 /// The term that the token is.
 #[tactic(auto, unfolding(crate::specs::Pieces::term_of))]
-pub fn term_of(scope: &Scope<'_>, here: &Here) -> Result<Term, TextFault>
+pub fn term_of(scope: &Scope<'_>, here: &Cursor) -> Result<Term, TextFault>
     requires { length (variables scope.now) ≤ 512 }
     ensures { result ≡ term_of (variables scope.now) here.now }
 {
@@ -126,9 +128,9 @@ pub fn term_of(scope: &Scope<'_>, here: &Here) -> Result<Term, TextFault>
 }
 
 /// A statement may not speak of the current time, nor of a parameter.
-#[tactic(auto, unfolding(crate::specs::Pieces::sayable))]
-fn sayable(in_statement: bool, at: usize, term: &Term) -> Result<(), TextFault>
-    ensures { result ≡ sayable in_statement at term.now }
+#[tactic(auto, unfolding(crate::specs::Pieces::require_sayable))]
+fn require_sayable(in_statement: bool, at: usize, term: &Term) -> Result<(), TextFault>
+    ensures { result ≡ require_sayable in_statement at term.now }
 {
     match term {
         Term::Ctime | Term::Param(_) => {
@@ -143,11 +145,16 @@ fn sayable(in_statement: bool, at: usize, term: &Term) -> Result<(), TextFault>
 }
 
 /// The term may stand where that sort is wanted.
-#[tactic(auto, unfolding(crate::specs::Pieces::sorted))]
-pub fn sorted(scope: &Scope<'_>, wanted: Sort, at: usize, term: &Term) -> Result<(), TextFault>
-    ensures { result ≡ sorted (variables scope.now) wanted at term.now }
+#[tactic(auto, unfolding(crate::specs::Pieces::require_sort))]
+pub fn require_sort(
+    scope: &Scope<'_>,
+    wanted: Sort,
+    at: usize,
+    term: &Term,
+) -> Result<(), TextFault>
+    ensures { result ≡ require_sort (variables scope.now) wanted at term.now }
 {
-    if scope.fits(wanted, term) {
+    if scope.is_of_wanted_sort(wanted, term) {
         Ok(())
     } else {
         Err(TextFault::Sort(at))
@@ -156,25 +163,25 @@ pub fn sorted(scope: &Scope<'_>, wanted: Sort, at: usize, term: &Term) -> Result
 
 /// A term as an argument of a predicate.
 #[tactic(auto, unfolding(crate::specs::Pieces::argument))]
-pub fn argument(in_statement: bool, scope: &Scope<'_>, here: &Here) -> Result<Term, TextFault>
+pub fn argument(in_statement: bool, scope: &Scope<'_>, here: &Cursor) -> Result<Term, TextFault>
     requires { length (variables scope.now) ≤ 512 }
     ensures value { result ≡ argument in_statement (variables scope.now) here.now }
     ensures some { OnOk result (1 ≤ here.now.left) }
 {
     let term = term_of(scope, here)?;
-    sayable(in_statement, here.at, &term)?;
+    require_sayable(in_statement, here.at, &term)?;
     count(here)?;
     Ok(term)
 }
 
-/// A further argument behind so many others. An atom takes no ninth one.
+/// A further argument after so many others. An atom takes no ninth one.
 #[tactic(auto, unfolding(crate::specs::Pieces::next_argument))]
 pub fn next_argument(
     in_statement: bool,
     scope: &Scope<'_>,
     is_atom: bool,
     others: usize,
-    here: &Here,
+    here: &Cursor,
 ) -> Result<Term, TextFault>
     requires { length (variables scope.now) ≤ 512 }
     ensures value { result ≡ next_argument in_statement (variables scope.now) is_atom others here.now }
@@ -190,26 +197,26 @@ pub fn next_argument(
 
 /// A term as a time.
 #[tactic(auto, unfolding(crate::specs::Pieces::time_argument))]
-fn time_argument(in_statement: bool, scope: &Scope<'_>, here: &Here) -> Result<Term, TextFault>
+fn time_argument(in_statement: bool, scope: &Scope<'_>, here: &Cursor) -> Result<Term, TextFault>
     requires { length (variables scope.now) ≤ 512 }
     ensures value { result ≡ time_argument in_statement (variables scope.now) here.now }
     ensures some { OnOk result (1 ≤ here.now.left) }
 {
     let term = term_of(scope, here)?;
-    sayable(in_statement, here.at, &term)?;
-    sorted(scope, Sort::Time, here.at, &term)?;
+    require_sayable(in_statement, here.at, &term)?;
+    require_sort(scope, Sort::Time, here.at, &term)?;
     count(here)?;
     Ok(term)
 }
 
-/// The times of the interval behind the sign `@` at that place. It goes behind the interval.
+/// The times of the interval after the sign `@` at that place. It goes past the interval.
 #[tactic(auto, unfolding(crate::specs::Pieces::interval))]
 #[inline(never)]
 pub fn interval(
     text: &[u8],
     in_statement: bool,
     scope: &Scope<'_>,
-    here: &mut Here,
+    here: &mut Cursor,
 ) -> Result<(Term, Term), TextFault>
     requires scope { length (variables scope.now) ≤ 512 }
     requires within { here.old.end ≤ length text.now }
@@ -230,7 +237,7 @@ pub fn interval(
 }
 
 #[tactic(auto, unfolding(crate::specs::Pieces::variable_name))]
-fn variable_name(here: &Here) -> Result<Short<32>, TextFault>
+fn variable_name(here: &Cursor) -> Result<Short<32>, TextFault>
     ensures { result ≡ variable_name here.now }
 {
     match &here.token {
@@ -240,7 +247,7 @@ fn variable_name(here: &Here) -> Result<Short<32>, TextFault>
 }
 
 #[tactic(auto, unfolding(crate::specs::Pieces::sort_at))]
-fn sort_at(here: &Here) -> Result<Sort, TextFault>
+fn sort_at(here: &Cursor) -> Result<Sort, TextFault>
     ensures { result ≡ sort_at here.now }
 {
     match &here.token {
@@ -254,10 +261,10 @@ fn sort_at(here: &Here) -> Result<Sort, TextFault>
     }
 }
 
-/// The variable and the sort of a binder whose word stands at that place. It goes behind the dot.
+/// The variable and the sort of a binder whose word stands at that place. It goes past the dot.
 #[tactic(auto, unfolding(crate::specs::Pieces::binder))]
 #[inline(never)]
-pub fn binder(text: &[u8], here: &mut Here) -> Result<(Short<32>, Sort), TextFault>
+pub fn binder(text: &[u8], here: &mut Cursor) -> Result<(Short<32>, Sort), TextFault>
     requires { here.old.end ≤ length text.now }
     ensures value { MatchResult result (λ r. binder text.now here.old ≡ Ok (r.0, r.1, here.new)) (λ e. binder text.now here.old ≡ Err e) }
     ensures within { OnOk result (here.new.end ≤ length text.now) }
@@ -274,17 +281,17 @@ pub fn binder(text: &[u8], here: &mut Here) -> Result<(Short<32>, Sort), TextFau
     Ok((name, sort))
 }
 
-/// The principal at that place, before `says`. It goes behind that word.
+/// The principal at that place, before `says`. It goes past that word.
 #[tactic(auto, unfolding(crate::specs::Pieces::speaker))]
 #[inline(never)]
 pub fn speaker(
     text: &[u8],
     scope: &Scope<'_>,
-    here: &mut Here,
-    ahead: &Here,
+    here: &mut Cursor,
+    ahead: &Cursor,
 ) -> Result<Term, TextFault>
     requires scope { length (variables scope.now) ≤ 512 }
-    requires ahead { ahead.now ≡ behind_node text.now here.old }
+    requires ahead { ahead.now ≡ cursor_after_node text.now here.old }
     requires ahead_within { ahead.now.end ≤ length text.now }
     requires ahead_left { ahead.now.left ≡ here.old.left - 1 }
     ensures value { MatchResult result (λ who. speaker text.now (variables scope.now) here.old ≡ Ok (who, here.new)) (λ e. speaker text.now (variables scope.now) here.old ≡ Err e) }
@@ -295,7 +302,7 @@ pub fn speaker(
     let who = term_of(scope, here)?;
     count(here)?;
     *here = *ahead;
-    sorted(scope, Sort::Principal, at, &who)?;
+    require_sort(scope, Sort::Principal, at, &who)?;
     count(here)?;
     step_node(text, here);
     Ok(who)
@@ -303,7 +310,7 @@ pub fn speaker(
 
 /// The sign `<=`.
 #[tactic(auto, unfolding(crate::specs::Pieces::less_sign))]
-fn less_sign(here: &Here) -> Result<(), TextFault>
+fn less_sign(here: &Cursor) -> Result<(), TextFault>
     ensures { result ≡ less_sign here.now }
 {
     if is_sign(Sign::UpTo, &here.token) {
@@ -319,54 +326,54 @@ fn comparison(
     text: &[u8],
     in_statement: bool,
     scope: &Scope<'_>,
-    here: &Here,
-    ahead: &Here,
-) -> Result<(Formula, Here), TextFault>
+    here: &Cursor,
+    ahead: &Cursor,
+) -> Result<(Formula, Cursor), TextFault>
     requires scope { length (variables scope.now) ≤ 512 }
-    requires ahead { ahead.now ≡ behind_node text.now here.now }
+    requires ahead { ahead.now ≡ cursor_after_node text.now here.now }
     requires ahead_within { ahead.now.end ≤ length text.now }
     requires ahead_left { ahead.now.left ≡ here.now.left - 1 }
-    ensures value { GivesWith result (comparison text.now in_statement (variables scope.now) here.now) }
+    ensures value { GivesPieceWith result (comparison text.now in_statement (variables scope.now) here.now) }
     ensures within { IfOk result (λ r. r.1.end ≤ length text.now) }
     ensures left { IfOk result (λ r. r.1.left + 1 ≤ here.now.left) }
 {
     let low = term_of(scope, here)?;
     count(here)?;
     less_sign(ahead)?;
-    sayable(in_statement, here.at, &low)?;
-    sorted(scope, Sort::Time, here.at, &low)?;
+    require_sayable(in_statement, here.at, &low)?;
+    require_sort(scope, Sort::Time, here.at, &low)?;
     count(ahead)?;
-    let place = behind_node(text, ahead);
+    let place = cursor_after_node(text, ahead);
     let high = time_argument(in_statement, scope, &place)?;
     let f = Formula::Cons(Constraint { low, high });
-    Ok((f, behind_node(text, &place)))
+    Ok((f, cursor_after_node(text, &place)))
 }
 
 /// A predicate without arguments.
-#[tactic(auto, unfolding(crate::specs::Pieces::bare))]
-fn bare(
+#[tactic(auto, unfolding(crate::specs::Pieces::bare_predicate))]
+fn bare_predicate(
     alloc: Global,
     text: &[u8],
     scope: &Scope<'_>,
     name: &Principal,
-    here: &Here,
-    ahead: &Here,
-) -> Result<(Formula, Here), TextFault>
-    requires ahead { ahead.now ≡ behind_node text.now here.now }
+    here: &Cursor,
+    ahead: &Cursor,
+) -> Result<(Formula, Cursor), TextFault>
+    requires ahead { ahead.now ≡ cursor_after_node text.now here.now }
     requires ahead_within { ahead.now.end ≤ length text.now }
     requires ahead_left { ahead.now.left ≡ here.now.left - 1 }
-    ensures value { GivesWith result (bare text.now (variables scope.now) name.now here.now) }
+    ensures value { GivesPieceWith result (bare_predicate text.now (variables scope.now) name.now here.now) }
     ensures within { IfOk result (λ r. r.1.end ≤ length text.now) }
     ensures left { IfOk result (λ r. r.1.left + 1 ≤ here.now.left) }
 {
-    let f = applied(scope, here.at, name, Sequence::new(alloc))?;
+    let f = apply_predicate(scope, here.at, name, Sequence::new(alloc))?;
     count(here)?;
     Ok((f, *ahead))
 }
 
 /// A principal in the place of a time.
 #[tactic(auto, unfolding(crate::specs::Pieces::named_time))]
-fn named_time(here: &Here) -> TextFault
+fn named_time(here: &Cursor) -> TextFault
     ensures { named_time here.now ≡ Err result }
 {
     match count(here) {
@@ -382,28 +389,32 @@ fn name_alone(
     text: &[u8],
     scope: &Scope<'_>,
     name: &Principal,
-    here: &Here,
-    ahead: &Here,
-) -> Result<(Formula, Here), TextFault>
-    requires ahead { ahead.now ≡ behind_node text.now here.now }
+    here: &Cursor,
+    ahead: &Cursor,
+) -> Result<(Formula, Cursor), TextFault>
+    requires ahead { ahead.now ≡ cursor_after_node text.now here.now }
     requires ahead_within { ahead.now.end ≤ length text.now }
     requires ahead_left { ahead.now.left ≡ here.now.left - 1 }
-    ensures value { GivesWith result (name_alone text.now (variables scope.now) name.now here.now) }
+    ensures value { GivesPieceWith result (name_alone text.now (variables scope.now) name.now here.now) }
     ensures within { IfOk result (λ r. r.1.end ≤ length text.now) }
     ensures left { IfOk result (λ r. r.1.left + 1 ≤ here.now.left) }
 {
     if is_sign(Sign::UpTo, &ahead.token) {
         Err(named_time(here))
     } else {
-        bare(alloc, text, scope, name, here, ahead)
+        bare_predicate(alloc, text, scope, name, here, ahead)
     }
 }
 
 /// `true` or `false`.
 #[tactic(auto, unfolding(crate::specs::Pieces::constant_formula))]
-fn constant_formula(holds: bool, here: &Here, ahead: &Here) -> Result<(Formula, Here), TextFault>
+fn constant_formula(
+    holds: bool,
+    here: &Cursor,
+    ahead: &Cursor,
+) -> Result<(Formula, Cursor), TextFault>
     requires ahead_left { ahead.now.left ≡ here.now.left - 1 }
-    ensures value { (text : List ℕ) → ahead.now ≡ behind_node text here.now → GivesWith result (constant_formula text (if holds then truth else falsity) here.now) }
+    ensures value { (text : List ℕ) → ahead.now ≡ cursor_after_node text here.now → GivesPieceWith result (constant_formula text (if holds then truth else falsity) here.now) }
     ensures ahead { IfOk result (λ r. r.1 ≡ ahead.now) }
     ensures left { IfOk result (λ r. r.1.left + 1 ≤ here.now.left) }
 {
@@ -413,20 +424,20 @@ fn constant_formula(holds: bool, here: &Here, ahead: &Here) -> Result<(Formula, 
 }
 
 /// A formula without parentheses at that place, and what follows it.
-#[tactic(auto, unfolding(crate::specs::Pieces::simple))]
-pub fn simple(
+#[tactic(auto, unfolding(crate::specs::Pieces::simple_formula))]
+pub fn simple_formula(
     alloc: Global,
     text: &[u8],
     in_statement: bool,
     scope: &Scope<'_>,
-    here: &Here,
-    ahead: &Here,
-) -> Result<(Formula, Here), TextFault>
+    here: &Cursor,
+    ahead: &Cursor,
+) -> Result<(Formula, Cursor), TextFault>
     requires scope { length (variables scope.now) ≤ 512 }
-    requires ahead { ahead.now ≡ behind_node text.now here.now }
+    requires ahead { ahead.now ≡ cursor_after_node text.now here.now }
     requires ahead_within { ahead.now.end ≤ length text.now }
     requires ahead_left { ahead.now.left ≡ here.now.left - 1 }
-    ensures value { GivesWith result (simple text.now in_statement (variables scope.now) here.now) }
+    ensures value { GivesPieceWith result (simple_formula text.now in_statement (variables scope.now) here.now) }
     ensures within { IfOk result (λ r. r.1.end ≤ length text.now) }
     ensures left { IfOk result (λ r. r.1.left + 1 ≤ here.now.left) }
 {

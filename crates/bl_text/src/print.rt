@@ -3,9 +3,9 @@
 
 ghost use Rattle.std.specs.Prelude.{◌≡◌, ◌++◌, ◌∷◌, [], ℕ, OnOk, OnErr};
 ghost use Rattle.std.specs.Fmt.{decimal, signed_decimal};
-ghost use Rattle.bl_syntax.specs.Formula.{formula};
+ghost use Rattle.bl_syntax.specs.Formula.{formula_view};
 ghost use Rattle.bl_text.specs.Written.{BeginsWith};
-ghost use Rattle.bl_text.specs.Printed.{time_text, permission_text, sort_text, term_text, terms_text, arguments_text, constraint_text, state_text, deeper, binder_text, interval_text, rank, operand, formula_text, said_text, span_text, statement_text};
+ghost use Rattle.bl_text.specs.Printed.{time_text, permission_text, sort_text, term_text, terms_text, arguments_text, constraint_text, state_text, inner_depth, binder_text, interval_text, rank, operand, formula_text, said_text, span_text, statement_text};
 
 use bl_syntax::{
     Bytes, Constraint, Formula, NoMemory, Perm, Sort, StatePred, Statement, Term, TimePoint,
@@ -65,7 +65,7 @@ pub fn print_state(s: &StatePred, out: &mut Bytes) -> Result<(), NoMemory>
 
 /// Writes a formula, all of it or nothing. A variable is `X` and the number of binders outside its own.
 pub fn print_formula(f: &Formula, out: &mut Bytes) -> Result<(), NoMemory>
-    ensures ok { OnOk result (out.new ≡ out.old ++ formula_text 0 (formula f.now)) }
+    ensures ok { OnOk result (out.new ≡ out.old ++ formula_text 0 (formula_view f.now)) }
     ensures err { OnErr result (out.new ≡ out.old) }
 {
     let len = out.len();
@@ -99,7 +99,7 @@ fn write_statement(out: &mut Bytes, s: &Statement) -> Result<(), NoMemory>
 }
 
 fn write_said(out: &mut Bytes, body: &Formula) -> Result<(), NoMemory>
-    ensures ok { OnOk result (out.new ≡ out.old ++ said_text (formula body.now)) }
+    ensures ok { OnOk result (out.new ≡ out.old ++ said_text (formula_view body.now)) }
     ensures err { OnErr result (BeginsWith out.new out.old) }
 {
     write(out, " says ")?;
@@ -118,7 +118,7 @@ fn write_span(out: &mut Bytes, from: &TimePoint, to: &TimePoint) -> Result<(), N
 
 /// How tightly the sign that was put on last binds.
 fn rank(f: &Formula) -> u8
-    ensures { result ≡ rank (formula f.now) }
+    ensures { result ≡ rank (formula_view f.now) }
 {
     match f {
         Formula::Forall(..) | Formula::Exists(..) | Formula::Imp(..) => 0,
@@ -133,7 +133,7 @@ fn rank(f: &Formula) -> u8
 /// Writes a formula within this many binders.
 #[cycle(write)]
 fn write_formula(out: &mut Bytes, depth: u64, f: &Formula) -> Result<(), NoMemory>
-    ensures ok { OnOk result (out.new ≡ out.old ++ formula_text depth (formula f.now)) }
+    ensures ok { OnOk result (out.new ≡ out.old ++ formula_text depth (formula_view f.now)) }
     ensures err { OnErr result (BeginsWith out.new out.old) }
 {
     match f {
@@ -162,11 +162,11 @@ fn write_formula(out: &mut Bytes, depth: u64, f: &Formula) -> Result<(), NoMemor
         Formula::False => write(out, "false"),
         Formula::Forall(sort, a) => {
             write_binder(out, "forall X", depth, *sort)?;
-            write_operand(out, 0, deeper(depth), a)
+            write_operand(out, 0, inner_depth(depth), a)
         }
         Formula::Exists(sort, a) => {
             write_binder(out, "exists X", depth, *sort)?;
-            write_operand(out, 0, deeper(depth), a)
+            write_operand(out, 0, inner_depth(depth), a)
         }
         Formula::Says(who, a) => {
             write_term(out, depth, who)?;
@@ -183,7 +183,7 @@ fn write_formula(out: &mut Bytes, depth: u64, f: &Formula) -> Result<(), NoMemor
 /// Writes a formula in a place that this rank and higher ones may take without parentheses.
 #[cycle(write)]
 fn write_operand(out: &mut Bytes, lowest: u8, depth: u64, f: &Formula) -> Result<(), NoMemory>
-    ensures ok { OnOk result (out.new ≡ out.old ++ operand lowest (rank (formula f.now)) (formula_text depth (formula f.now))) }
+    ensures ok { OnOk result (out.new ≡ out.old ++ operand lowest (rank (formula_view f.now)) (formula_text depth (formula_view f.now))) }
     ensures err { OnErr result (BeginsWith out.new out.old) }
 {
     if lowest <= rank(f) {
@@ -196,8 +196,8 @@ fn write_operand(out: &mut Bytes, lowest: u8, depth: u64, f: &Formula) -> Result
 }
 
 /// One binder more. The count stands still at its type's end.
-fn deeper(depth: u64) -> u64
-    ensures { result ≡ deeper depth }
+fn inner_depth(depth: u64) -> u64
+    ensures { result ≡ inner_depth depth }
 {
     depth.saturating_add(1)
 }

@@ -1,7 +1,7 @@
 //! The variables that are in scope at a place of a text. They lie on the stack and take no memory.
 
 ghost use Rattle.std.specs.Prelude.{◌≡◌, ◌≤◌, ◌<◌, length, IfSome};
-ghost use Rattle.bl_text.specs.Scope.{variables, place_of, sort_of_place, term_sort, same_sort, fits};
+ghost use Rattle.bl_text.specs.Scope.{variables, place_of, sort_of_place, term_sort, is_same_sort, is_of_wanted_sort};
 
 use bl_syntax::{Short, Sort, Term};
 
@@ -66,18 +66,18 @@ impl Scope<'_> {
     }
 
     /// Whether the term may stand where that sort is wanted.
-    pub fn fits(&self, wanted: Sort, term: &Term) -> bool
-        ensures { result ≡ fits (variables self.now) wanted term.now }
+    pub fn is_of_wanted_sort(&self, wanted: Sort, term: &Term) -> bool
+        ensures { result ≡ is_of_wanted_sort (variables self.now) wanted term.now }
     {
         match self.term_sort(term) {
             None => true,
-            Some(sort) => same_sort(wanted, sort),
+            Some(sort) => is_same_sort(wanted, sort),
         }
     }
 }
 
-fn same_sort(wanted: Sort, found: Sort) -> bool
-    ensures { result ≡ same_sort wanted found }
+fn is_same_sort(wanted: Sort, found: Sort) -> bool
+    ensures { result ≡ is_same_sort wanted found }
 {
     match (wanted, found) {
         (Sort::Principal, Sort::Principal) => true,

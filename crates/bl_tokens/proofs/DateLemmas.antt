@@ -7,25 +7,25 @@ use Rattle.std.proofs.lemmas.Bool.Decides.{nat_tests}
 use Rattle.jiff.specs.Words.{epoch_day, IsDate, IsYmd}
 use Rattle.jiff_core.specs.Calendar.{days_in_month, days_from_civil}
 use Rattle.jiff_core.specs.declared.civil.date.Date.{Date}
-use Rattle.bl_tokens.specs.Dates.{has_two, begins_date, goes_on_with_time, is_date, date_second}
+use Rattle.bl_tokens.specs.Dates.{has_two, has_date_front, has_time_of_day, is_date, date_second}
 
 pub both_true : (a b : Bool) → IsTrue (a && b) → IsTrue a × IsTrue b
 both_true true b h = (refl, h)
 both_true false b h = absurd (false≢true h)
 
-pub month_digits : (bytes : List ℕ) → IsTrue (begins_date bytes) → IsTrue (has_two bytes 5)
+pub month_digits : (bytes : List ℕ) → IsTrue (has_date_front bytes) → IsTrue (has_two bytes 5)
 month_digits bytes h = (both_true _ _ (both_true _ _ (both_true _ _ h).0).0).1
 
-pub day_digits : (bytes : List ℕ) → IsTrue (begins_date bytes) → IsTrue (has_two bytes 8)
+pub day_digits : (bytes : List ℕ) → IsTrue (has_date_front bytes) → IsTrue (has_two bytes 8)
 day_digits bytes h = (both_true _ _ h).1
 
-pub hour_digits : (bytes : List ℕ) → IsTrue (goes_on_with_time bytes) → IsTrue (has_two bytes 11)
+pub hour_digits : (bytes : List ℕ) → IsTrue (has_time_of_day bytes) → IsTrue (has_two bytes 11)
 hour_digits bytes h = (both_true _ _ (both_true _ _ (both_true _ _ (both_true _ _ (both_true _ _ (both_true _ _ h).0).0).0).0).0).1
 
-pub minute_digits : (bytes : List ℕ) → IsTrue (goes_on_with_time bytes) → IsTrue (has_two bytes 14)
+pub minute_digits : (bytes : List ℕ) → IsTrue (has_time_of_day bytes) → IsTrue (has_two bytes 14)
 minute_digits bytes h = (both_true _ _ (both_true _ _ (both_true _ _ (both_true _ _ h).0).0).0).1
 
-pub second_digits : (bytes : List ℕ) → IsTrue (goes_on_with_time bytes) → IsTrue (has_two bytes 17)
+pub second_digits : (bytes : List ℕ) → IsTrue (has_time_of_day bytes) → IsTrue (has_two bytes 17)
 second_digits bytes h = (both_true _ _ (both_true _ _ h).0).1
 
 pub ruleset parts_of_forms = (month_digits, day_digits, hour_digits, minute_digits, second_digits)

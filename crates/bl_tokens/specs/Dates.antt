@@ -12,12 +12,12 @@ abbrev pub has_byte : List ℕ → ℕ → ℕ → Bool
 has_byte bytes place byte = slice_index bytes place == byte
 
 -- whether the bytes begin as `yyyy-mm-dd`
-abbrev pub begins_date : List ℕ → Bool
-begins_date bytes = nat_le 10 (length bytes) && has_two bytes 0 && has_two bytes 2 && has_byte bytes 4 45 && has_two bytes 5 && has_byte bytes 7 45 && has_two bytes 8
+abbrev pub has_date_front : List ℕ → Bool
+has_date_front bytes = nat_le 10 (length bytes) && has_two bytes 0 && has_two bytes 2 && has_byte bytes 4 45 && has_two bytes 5 && has_byte bytes 7 45 && has_two bytes 8
 
 -- whether the bytes go on from the tenth as `Thh:mm:ssZ`
-abbrev pub goes_on_with_time : List ℕ → Bool
-goes_on_with_time bytes = nat_le 20 (length bytes) && has_byte bytes 10 84 && has_two bytes 11 && has_byte bytes 13 58 && has_two bytes 14 && has_byte bytes 16 58 && has_two bytes 17 && has_byte bytes 19 90
+abbrev pub has_time_of_day : List ℕ → Bool
+has_time_of_day bytes = nat_le 20 (length bytes) && has_byte bytes 10 84 && has_two bytes 11 && has_byte bytes 13 58 && has_two bytes 14 && has_byte bytes 16 58 && has_two bytes 17 && has_byte bytes 19 90
 
 -- the number that two digits write
 abbrev pub two_at : List ℕ → ℕ → ℕ
@@ -42,7 +42,7 @@ day_second hour minute second = if nat_le hour 23 && nat_le minute 59 && nat_le 
 abbrev pub date_second_at : List ℕ → Option ℤ
 date_second_at bytes = date_second (year_at bytes) (two_at bytes 5) (two_at bytes 8)
 
--- the second of the time of day that stands behind the date
+-- the second of the time of day that stands after the date
 abbrev pub day_second_at : List ℕ → Option ℕ
 day_second_at bytes = day_second (two_at bytes 11) (two_at bytes 14) (two_at bytes 17)
 

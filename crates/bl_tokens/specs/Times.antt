@@ -8,7 +8,7 @@ use Rattle.bl_tokens.specs.declared.faults.TextFault.TheVariants as faults
 use Rattle.bl_tokens.specs.declared.tokens.Token.{Token}
 use Rattle.bl_tokens.specs.declared.tokens.Token.TheVariants.{Constant, End}
 use Rattle.bl_tokens.specs.declared.tokens.Token.TheVariants as tokens
-use Rattle.bl_tokens.specs.declared.tokens.Here.{Here}
+use Rattle.bl_tokens.specs.declared.tokens.Cursor.{Cursor}
 use Rattle.bl_tokens.specs.Tokens.{token_from}
 
 -- the token at that place is a time
@@ -17,18 +17,18 @@ time_at at (Constant (Time point)) = Ok point
 time_at at tokens.BadDate = Err (faults.BadDate at)
 time_at at _ = Err (Unexpected at)
 
--- nothing stands behind it
-abbrev pub ended : ℕ → Token → TimePoint → Result TimePoint TextFault
-ended at End point = Ok point
-ended at _ point = Err (Unexpected at)
+-- nothing stands after it
+abbrev pub at_end : ℕ → Token → TimePoint → Result TimePoint TextFault
+at_end at End point = Ok point
+at_end at _ point = Err (Unexpected at)
 
 abbrev whole : List ℕ → ℕ → Result TimePoint TextFault → Result TimePoint TextFault
-whole text end (Ok point) = ended (token_from text end 0).at (token_from text end 0).token point
+whole text end (Ok point) = at_end (token_from text end 0).at (token_from text end 0).token point
 whole text end (Err fault) = Err fault
 
-abbrev from_first : List ℕ → Here → Result TimePoint TextFault
+abbrev from_first : List ℕ → Cursor → Result TimePoint TextFault
 from_first text first = whole text first.end (time_at first.at first.token)
 
--- what the text says: one time token, and nothing behind it but spaces
+-- what the text says: one time token, and nothing after it but spaces
 abbrev pub time_reading : List ℕ → Result TimePoint TextFault
 time_reading text = from_first text (token_from text 0 0)

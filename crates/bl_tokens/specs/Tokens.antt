@@ -12,20 +12,20 @@ use Rattle.bl_tokens.specs.declared.tokens.Keyword.TheVariants as words
 use Rattle.bl_tokens.specs.declared.tokens.Token.{Token}
 use Rattle.bl_tokens.specs.declared.tokens.Token.TheVariants as tokens
 use Rattle.bl_tokens.specs.declared.tokens.Lexeme.{Lexeme}
-use Rattle.bl_tokens.specs.declared.tokens.Here.{Here}
+use Rattle.bl_tokens.specs.declared.tokens.Cursor.{Cursor}
 use Rattle.bl_tokens.specs.declared.classes.Class.TheVariants as classes
 use Rattle.bl_tokens.specs.Classes.{is_in}
 use Rattle.bl_tokens.specs.Numerals.{numeral_below}
-use Rattle.bl_tokens.specs.Dates.{begins_date, goes_on_with_time, date_second_at, day_second_at, is_moment}
+use Rattle.bl_tokens.specs.Dates.{has_date_front, has_time_of_day, date_second_at, day_second_at, is_moment}
 use Rattle.bl_tokens.specs.Words.{word_token}
 
 -- a token of so many bytes
-abbrev pub sized : Token → ℕ → Lexeme
-sized token size = record { token = token; size = size }
+abbrev pub sized_lexeme : Token → ℕ → Lexeme
+sized_lexeme token size = record { token = token; size = size }
 
 -- what begins no token
-abbrev pub bad : Lexeme
-bad = sized tokens.Bad 0
+abbrev pub bad_lexeme : Lexeme
+bad_lexeme = sized_lexeme tokens.Bad 0
 
 -- the time constant of a second, where it is a moment
 abbrev pub second_token : ℤ → Token
@@ -38,17 +38,17 @@ abbrev pub short_value : List ℕ → Option ℕ
 short_value digits = if nat_le 1 (length digits) && nat_le (length digits) 18 then Some (digits_value 10 digits) else None
 
 abbrev sized_integer : ℕ → Option ℕ → Lexeme
-sized_integer size None = bad
-sized_integer size (Some value) = sized (second_token (pos value)) size
+sized_integer size None = bad_lexeme
+sized_integer size (Some value) = sized_lexeme (second_token (pos value)) size
 
 abbrev pub integer_lexeme : List ℕ → Lexeme
 integer_lexeme digits = sized_integer (length digits) (short_value digits)
 
 abbrev sized_negative : ℕ → Option ℕ → Lexeme
-sized_negative size None = bad
-sized_negative size (Some value) = sized (second_token (neg_ℤ (pos value))) size
+sized_negative size None = bad_lexeme
+sized_negative size (Some value) = sized_lexeme (second_token (neg_ℤ (pos value))) size
 
--- of the digits behind a `-`
+-- of the digits after a `-`
 abbrev pub negative_lexeme : List ℕ → Lexeme
 negative_lexeme digits = sized_negative (length digits + 1) (short_value digits)
 
@@ -76,56 +76,56 @@ digits_of bytes = take_while (is_in classes.Digit) bytes
 -- a date with a time of day, a date, or an integer
 abbrev pub time_lexeme : List ℕ → Lexeme
 time_lexeme bytes =
-    if begins_date bytes then (if goes_on_with_time bytes then sized (date_time_token bytes) 20 else sized (date_token bytes) 10)
+    if has_date_front bytes then (if has_time_of_day bytes then sized_lexeme (date_time_token bytes) 20 else sized_lexeme (date_token bytes) 10)
     else integer_lexeme (digits_of bytes)
 
--- what stands behind a `-`
+-- what stands after a `-`
 abbrev pub minus_lexeme : List ℕ → Lexeme
-minus_lexeme others = if starts_with nat_eq others (codes "inf") then sized (tokens.Constant (terms.Time times.NegInf)) 4 else negative_lexeme (digits_of others)
+minus_lexeme others = if starts_with nat_eq others (codes "inf") then sized_lexeme (tokens.Constant (terms.Time times.NegInf)) 4 else negative_lexeme (digits_of others)
 
--- what stands behind a `+`
+-- what stands after a `+`
 abbrev pub plus_lexeme : List ℕ → Lexeme
-plus_lexeme others = if starts_with nat_eq others (codes "inf") then sized (tokens.Constant (terms.Time times.PosInf)) 4 else bad
+plus_lexeme others = if starts_with nat_eq others (codes "inf") then sized_lexeme (tokens.Constant (terms.Time times.PosInf)) 4 else bad_lexeme
 
 -- ---- words, numbers and texts
 
 abbrev sized_word : List ℕ → Lexeme
-sized_word word = sized (word_token word) (length word)
+sized_word word = sized_lexeme (word_token word) (length word)
 
 abbrev pub word_lexeme : List ℕ → Lexeme
 word_lexeme bytes = sized_word (take_while (is_in classes.Name) bytes)
 
 abbrev sized_variable : List ℕ → Lexeme
-sized_variable name = if nat_le (length name) 32 then sized (tokens.Variable name) (length name) else bad
+sized_variable name = if nat_le (length name) 32 then sized_lexeme (tokens.Variable name) (length name) else bad_lexeme
 
 abbrev pub variable_lexeme : List ℕ → Lexeme
 variable_lexeme bytes = sized_variable (take_while (is_in classes.Word) bytes)
 
 abbrev sized_file : ℕ → Option ℕ → Lexeme
-sized_file size None = bad
-sized_file size (Some number) = sized (tokens.Constant (terms.File (record { 0 = number }))) size
+sized_file size None = bad_lexeme
+sized_file size (Some number) = sized_lexeme (tokens.Constant (terms.File (record { 0 = number }))) size
 
--- what stands behind a `#`
+-- what stands after a `#`
 abbrev pub file_lexeme : List ℕ → Lexeme
 file_lexeme others = sized_file (length (digits_of others) + 1) (numeral_below (2 ^ 64) (digits_of others))
 
 abbrev sized_parameter : ℕ → Option ℕ → Lexeme
-sized_parameter size None = bad
-sized_parameter size (Some number) = sized (tokens.Constant (terms.Param number)) size
+sized_parameter size None = bad_lexeme
+sized_parameter size (Some number) = sized_lexeme (tokens.Constant (terms.Param number)) size
 
--- what stands behind a `?`
+-- what stands after a `?`
 abbrev pub parameter_lexeme : List ℕ → Lexeme
 parameter_lexeme others = sized_parameter (length (digits_of others) + 1) (numeral_below (2 ^ 32) (digits_of others))
 
 -- whether the first byte is this one
-abbrev pub begins_with : ℕ → List ℕ → Bool
-begins_with byte [] = false
-begins_with byte (first ∷ others) = first == byte
+abbrev pub has_first_byte : ℕ → List ℕ → Bool
+has_first_byte byte [] = false
+has_first_byte byte (first ∷ others) = first == byte
 
 abbrev sized_text : ℕ → List ℕ → List ℕ → Lexeme
-sized_text len text behind = if begins_with 34 behind && is_text text then sized (tokens.Constant (terms.Text text)) (len + 2) else bad
+sized_text len text cursor_after = if has_first_byte 34 cursor_after && is_text text then sized_lexeme (tokens.Constant (terms.Text text)) (len + 2) else bad_lexeme
 
--- what stands behind a `"`
+-- what stands after a `"`
 abbrev pub text_lexeme : List ℕ → Lexeme
 text_lexeme others = let len = prefix_len (is_in classes.Text) others in sized_text len (take len others) (drop len others)
 
@@ -147,20 +147,20 @@ short_sign first =
 
 abbrev long_sign : ℕ → List ℕ → Lexeme
 long_sign first others =
-    if (first == 61) && begins_with 62 others then sized (tokens.Sign signs.Implies) 2 else
-    if (first == 60) && begins_with 61 others then sized (tokens.Sign signs.UpTo) 2 else
-    bad
+    if (first == 61) && has_first_byte 62 others then sized_lexeme (tokens.Sign signs.Implies) 2 else
+    if (first == 60) && has_first_byte 61 others then sized_lexeme (tokens.Sign signs.UpTo) 2 else
+    bad_lexeme
 
 abbrev sign_or_long : Option Sign → ℕ → List ℕ → Lexeme
 sign_or_long None first others = long_sign first others
-sign_or_long (Some sign) first others = sized (tokens.Sign sign) 1
+sign_or_long (Some sign) first others = sized_lexeme (tokens.Sign sign) 1
 
 abbrev pub sign_lexeme : ℕ → List ℕ → Lexeme
 sign_lexeme first others = sign_or_long (short_sign first) first others
 
 -- what begins with a byte that is neither a letter nor a digit
-abbrev pub begun_by : ℕ → List ℕ → Lexeme
-begun_by first others =
+abbrev pub other_lexeme : ℕ → List ℕ → Lexeme
+other_lexeme first others =
     if first == 45 then minus_lexeme others else
     if first == 43 then plus_lexeme others else
     if first == 35 then file_lexeme others else
@@ -170,27 +170,27 @@ begun_by first others =
 
 -- the token with which the bytes begin
 abbrev pub first_lexeme : List ℕ → Lexeme
-first_lexeme [] = sized tokens.End 0
+first_lexeme [] = sized_lexeme tokens.End 0
 first_lexeme (first ∷ others) =
     if is_lower_case first then word_lexeme (first ∷ others) else
     if is_upper_case first then variable_lexeme (first ∷ others) else
     if is_digit first then time_lexeme (first ∷ others) else
-    begun_by first others
+    other_lexeme first others
 
-abbrev placed : ℕ → ℕ → Lexeme → Here
-placed at left found = record { at = at; token = found.token; end = at + found.size; left = left }
+abbrev lexeme_cursor : ℕ → ℕ → Lexeme → Cursor
+lexeme_cursor at left found = record { at = at; token = found.token; end = at + found.size; left = left }
 
--- the place of the first token from that byte of the text on, behind spaces, where so many nodes are left
-unfoldable pub token_from : List ℕ → ℕ → ℕ → Here
-token_from text from left = let at = from + prefix_len (is_in classes.Space) (drop from text) in placed at left (first_lexeme (drop at text))
+-- the place of the first token from that byte of the text on, after spaces, where so many nodes are left
+unfoldable pub token_from : List ℕ → ℕ → ℕ → Cursor
+token_from text from left = let at = from + prefix_len (is_in classes.Space) (drop from text) in lexeme_cursor at left (first_lexeme (drop at text))
 
--- the place behind a token that is no node of the formula
-unfoldable pub behind : List ℕ → Here → Here
-behind text here = token_from text here.end here.left
+-- the place after a token that is no node of the formula
+unfoldable pub cursor_after : List ℕ → Cursor → Cursor
+cursor_after text here = token_from text here.end here.left
 
--- the place behind a token that is a node of the formula
-unfoldable pub behind_node : List ℕ → Here → Here
-behind_node text here = token_from text here.end (here.left - 1)
+-- the place after a token that is a node of the formula
+unfoldable pub cursor_after_node : List ℕ → Cursor → Cursor
+cursor_after_node text here = token_from text here.end (here.left - 1)
 
 -- ---- which sign or word a token is
 

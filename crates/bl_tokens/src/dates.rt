@@ -2,7 +2,7 @@
 
 ghost use Rattle.std.specs.Prelude.{◌≡◌, ◌+◌, ◌<◌, ◌≤◌, pos, ◌+ℤ◌, ◌*ℤ◌, ◌≤ℤ◌, negsuc, length, IsTrue, IfSome};
 ghost use Rattle.jiff.specs.Words.{epoch_day};
-ghost use Rattle.bl_tokens.specs.Dates.{has_two, has_byte, begins_date, goes_on_with_time, two_at, year_at, date_second, day_second, date_second_at, day_second_at};
+ghost use Rattle.bl_tokens.specs.Dates.{has_two, has_byte, has_date_front, has_time_of_day, two_at, year_at, date_second, day_second, date_second_at, day_second_at};
 
 use bl_syntax::byte_classes::is_digit;
 use jiff::civil::Date;
@@ -22,8 +22,8 @@ fn has_byte(bytes: &[u8], place: usize, byte: u8) -> bool
 }
 
 /// Whether the bytes begin as `yyyy-mm-dd`.
-pub fn begins_date(bytes: &[u8]) -> bool
-    ensures { result ≡ begins_date bytes.now }
+pub fn has_date_front(bytes: &[u8]) -> bool
+    ensures { result ≡ has_date_front bytes.now }
 {
     10 <= bytes.len()
         && has_two(bytes, 0)
@@ -35,8 +35,8 @@ pub fn begins_date(bytes: &[u8]) -> bool
 }
 
 /// Whether the bytes go on from the tenth as `Thh:mm:ssZ`.
-pub fn goes_on_with_time(bytes: &[u8]) -> bool
-    ensures { result ≡ goes_on_with_time bytes.now }
+pub fn has_time_of_day(bytes: &[u8]) -> bool
+    ensures { result ≡ has_time_of_day bytes.now }
 {
     20 <= bytes.len()
         && has_byte(bytes, 10, b'T')
@@ -60,7 +60,7 @@ fn two_at(bytes: &[u8], place: usize) -> u8
 
 /// The year with which the bytes begin.
 fn year_at(bytes: &[u8]) -> u16
-    requires { IsTrue (begins_date bytes.now) }
+    requires { IsTrue (has_date_front bytes.now) }
     ensures value { result ≡ year_at bytes.now }
     ensures few { result < 10000 }
 {
@@ -109,17 +109,17 @@ fn day_second(hour: u8, minute: u8, second: u8) -> Option<u32>
 /// The second of the date with which the bytes begin.
 #[tactic(auto, using(crate::proofs::DateLemmas::parts_of_forms))]
 pub fn date_second_at(bytes: &[u8]) -> Option<i64>
-    requires { IsTrue (begins_date bytes.now) }
+    requires { IsTrue (has_date_front bytes.now) }
     ensures value { result ≡ date_second_at bytes.now }
     ensures range { IfSome result (λ s. (negsuc 1_000_000_000_000 ≤ℤ s) × (s ≤ℤ pos 1_000_000_000_000)) }
 {
     date_second(year_at(bytes), two_at(bytes, 5), two_at(bytes, 8))
 }
 
-/// The second of the time of day that stands behind the date.
+/// The second of the time of day that stands after the date.
 #[tactic(auto, using(crate::proofs::DateLemmas::parts_of_forms))]
 pub fn day_second_at(bytes: &[u8]) -> Option<u32>
-    requires { IsTrue (goes_on_with_time bytes.now) }
+    requires { IsTrue (has_time_of_day bytes.now) }
     ensures value { result ≡ day_second_at bytes.now }
     ensures range { IfSome result (λ s. s < 86_400) }
 {

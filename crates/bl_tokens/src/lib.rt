@@ -16,6 +16,6 @@ pub use faults::TextFault;
 pub use numerals::smallest_numeral;
 pub use times::parse_time;
 pub use tokens::{
-    Here, Keyword, Lexeme, Sign, Token, behind, behind_node, digits_of, is_sign, is_word,
-    token_from,
+    Cursor, Keyword, Lexeme, Sign, Token, cursor_after, cursor_after_node, digits_of, is_sign,
+    is_word, token_from,
 };

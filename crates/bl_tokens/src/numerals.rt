@@ -7,7 +7,7 @@ ghost use Rattle.std.specs.Str.Parse.{digits_value};
 ghost use Rattle.bl_syntax.specs.Names.{is_digit};
 ghost use Rattle.bl_tokens.specs.Numerals.{is_numeral, numeral_below};
 
-/// One more digit behind a number.
+/// One more digit after a number.
 fn with_digit(value: u64, digit: u8) -> Option<u64>
     ensures { SomeIff result (value * 10 + digit < 2 ^ 64) (value * 10 + digit) }
 {

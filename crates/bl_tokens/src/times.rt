@@ -1,10 +1,10 @@
 //! The text of a point in time.
 
 ghost use Rattle.std.specs.Prelude.{◌≡◌};
-ghost use Rattle.bl_tokens.specs.Times.{time_at, ended, time_reading};
+ghost use Rattle.bl_tokens.specs.Times.{time_at, at_end, time_reading};
 
 use crate::faults::TextFault;
-use crate::tokens::{Here, Token, token_from};
+use crate::tokens::{Cursor, Token, token_from};
 use bl_syntax::{Term, TimePoint};
 
 /// The point in time that the text writes: `-inf`, `+inf`, a second in up to 18 digits, a date
@@ -14,12 +14,12 @@ pub fn parse_time(text: &[u8]) -> Result<TimePoint, TextFault>
 {
     let first = token_from(text, 0, 0);
     match time_at(&first) {
-        Ok(point) => ended(point, &token_from(text, first.end, 0)),
+        Ok(point) => at_end(point, &token_from(text, first.end, 0)),
         Err(fault) => Err(fault),
     }
 }
 
-fn time_at(here: &Here) -> Result<TimePoint, TextFault>
+fn time_at(here: &Cursor) -> Result<TimePoint, TextFault>
     ensures { result ≡ time_at here.now.at here.now.token }
 {
     match &here.token {
@@ -29,9 +29,9 @@ fn time_at(here: &Here) -> Result<TimePoint, TextFault>
     }
 }
 
-/// The point, where nothing stands behind it.
-fn ended(point: TimePoint, behind: &Here) -> Result<TimePoint, TextFault>
-    ensures { result ≡ ended behind.now.at behind.now.token point }
+/// The point, where nothing stands after it.
+fn at_end(point: TimePoint, behind: &Cursor) -> Result<TimePoint, TextFault>
+    ensures { result ≡ at_end behind.now.at behind.now.token point }
 {
     match &behind.token {
         Token::End => Ok(point),

@@ -4,12 +4,12 @@
 ghost use Rattle.std.specs.Prelude.{◌≡◌, ◌+◌, ◌-◌, ◌≤◌, ◌<◌, ◌^◌, length, IsTrue, IfSome};
 ghost use Rattle.std.specs.List.{list_all};
 ghost use Rattle.bl_syntax.specs.Names.{is_digit};
-ghost use Rattle.bl_tokens.specs.Dates.{begins_date, goes_on_with_time};
+ghost use Rattle.bl_tokens.specs.Dates.{has_date_front, has_time_of_day};
 ghost use Rattle.bl_tokens.specs.Ranges.{IsTokenInRange};
-ghost use Rattle.bl_tokens.specs.Tokens.{bad, sized, second_token, short_value, integer_lexeme, negative_lexeme, date_token, date_time_token, time_lexeme, digits_of, minus_lexeme, plus_lexeme, word_lexeme, variable_lexeme, file_lexeme, parameter_lexeme, text_lexeme, begins_with, short_sign, sign_lexeme, begun_by, first_lexeme, token_from, behind, behind_node, sign_code, word_code, is_sign, is_word};
+ghost use Rattle.bl_tokens.specs.Tokens.{bad_lexeme, sized_lexeme, second_token, short_value, integer_lexeme, negative_lexeme, date_token, date_time_token, time_lexeme, digits_of, minus_lexeme, plus_lexeme, word_lexeme, variable_lexeme, file_lexeme, parameter_lexeme, text_lexeme, has_first_byte, short_sign, sign_lexeme, other_lexeme, first_lexeme, token_from, cursor_after, cursor_after_node, sign_code, word_code, is_sign, is_word};
 
 use crate::classes::{Class, run_len};
-use crate::dates::{begins_date, date_second_at, day_second_at, goes_on_with_time, second_within};
+use crate::dates::{date_second_at, day_second_at, has_date_front, has_time_of_day, second_within};
 use crate::numerals::{digits_value, long_numeral, short_numeral};
 use crate::words::word_token;
 use bl_syntax::byte_classes::{is_digit, is_lower_case, is_upper_case};
@@ -76,21 +76,21 @@ pub struct Lexeme {
 /// A place in a text: the token there, its first byte and where it ends, and how many nodes are
 /// left for the formula from there on.
 #[derive(Clone, Copy, Debug)]
-pub struct Here {
+pub struct Cursor {
     pub at: usize,
     pub token: Token,
     pub end: usize,
     pub left: u16,
 }
 
-fn bad() -> Lexeme
-    ensures { result ≡ bad }
+fn bad_lexeme() -> Lexeme
+    ensures { result ≡ bad_lexeme }
 {
-    sized(Token::Bad, 0)
+    sized_lexeme(Token::Bad, 0)
 }
 
-fn sized(token: Token, size: usize) -> Lexeme
-    ensures { result ≡ sized token size }
+fn sized_lexeme(token: Token, size: usize) -> Lexeme
+    ensures { result ≡ sized_lexeme token size }
 {
     Lexeme { token, size }
 }
@@ -112,8 +112,8 @@ fn integer_lexeme(digits: &[u8]) -> Lexeme
     ensures ranged { IsTokenInRange result.token }
 {
     match short_value(digits) {
-        Some(value) => sized(second_token(value as i64), digits.len()),
-        None => bad(),
+        Some(value) => sized_lexeme(second_token(value as i64), digits.len()),
+        None => bad_lexeme(),
     }
 }
 
@@ -123,8 +123,8 @@ fn negative_lexeme(digits: &[u8]) -> Lexeme
     ensures ranged { IsTokenInRange result.token }
 {
     match short_value(digits) {
-        Some(value) => sized(second_token(-(value as i64)), digits.len() + 1),
-        None => bad(),
+        Some(value) => sized_lexeme(second_token(-(value as i64)), digits.len() + 1),
+        None => bad_lexeme(),
     }
 }
 
@@ -142,7 +142,7 @@ fn short_value(digits: &[u8]) -> Option<u64>
 }
 
 fn date_token(bytes: &[u8]) -> Token
-    requires { IsTrue (begins_date bytes.now) }
+    requires { IsTrue (has_date_front bytes.now) }
     ensures same { result ≡ date_token bytes.now }
     ensures ranged { IsTokenInRange result }
 {
@@ -153,8 +153,8 @@ fn date_token(bytes: &[u8]) -> Token
 }
 
 fn date_time_token(bytes: &[u8]) -> Token
-    requires date { IsTrue (begins_date bytes.now) }
-    requires time { IsTrue (goes_on_with_time bytes.now) }
+    requires date { IsTrue (has_date_front bytes.now) }
+    requires time { IsTrue (has_time_of_day bytes.now) }
     ensures same { result ≡ date_time_token bytes.now }
     ensures ranged { IsTokenInRange result }
 {
@@ -170,11 +170,11 @@ fn time_lexeme(bytes: &[u8]) -> Lexeme
     ensures within { result.size ≤ length bytes.now }
     ensures ranged { IsTokenInRange result.token }
 {
-    if begins_date(bytes) {
-        if goes_on_with_time(bytes) {
-            sized(date_time_token(bytes), 20)
+    if has_date_front(bytes) {
+        if has_time_of_day(bytes) {
+            sized_lexeme(date_time_token(bytes), 20)
         } else {
-            sized(date_token(bytes), 10)
+            sized_lexeme(date_token(bytes), 10)
         }
     } else {
         integer_lexeme(digits_of(bytes))
@@ -190,29 +190,29 @@ pub fn digits_of(bytes: &[u8]) -> &[u8]
     &bytes[..run_len(Class::Digit, bytes)]
 }
 
-/// What begins with `-`, by what stands behind it.
+/// What begins with `-`, by what stands after it.
 fn minus_lexeme(others: &[u8]) -> Lexeme
     ensures same { result ≡ minus_lexeme others.now }
     ensures within { result.size ≤ length others.now + 1 }
     ensures ranged { IsTokenInRange result.token }
 {
     if others.starts_with(b"inf") {
-        sized(Token::Constant(Term::Time(TimePoint::NegInf)), 4)
+        sized_lexeme(Token::Constant(Term::Time(TimePoint::NegInf)), 4)
     } else {
         negative_lexeme(digits_of(others))
     }
 }
 
-/// What begins with `+`, by what stands behind it.
+/// What begins with `+`, by what stands after it.
 fn plus_lexeme(others: &[u8]) -> Lexeme
     ensures same { result ≡ plus_lexeme others.now }
     ensures within { result.size ≤ length others.now + 1 }
     ensures ranged { IsTokenInRange result.token }
 {
     if others.starts_with(b"inf") {
-        sized(Token::Constant(Term::Time(TimePoint::PosInf)), 4)
+        sized_lexeme(Token::Constant(Term::Time(TimePoint::PosInf)), 4)
     } else {
-        bad()
+        bad_lexeme()
     }
 }
 
@@ -223,7 +223,7 @@ fn word_lexeme(bytes: &[u8]) -> Lexeme
     ensures ranged { IsTokenInRange result.token }
 {
     let word = &bytes[..run_len(Class::Name, bytes)];
-    sized(word_token(word), word.len())
+    sized_lexeme(word_token(word), word.len())
 }
 
 /// What begins with an upper-case letter.
@@ -234,13 +234,13 @@ fn variable_lexeme(bytes: &[u8]) -> Lexeme
 {
     let name = &bytes[..run_len(Class::Word, bytes)];
     if name.len() <= 32 {
-        sized(Token::Variable(Short::new(name)), name.len())
+        sized_lexeme(Token::Variable(Short::new(name)), name.len())
     } else {
-        bad()
+        bad_lexeme()
     }
 }
 
-/// What begins with `#`, by what stands behind it.
+/// What begins with `#`, by what stands after it.
 fn file_lexeme(others: &[u8]) -> Lexeme
     ensures same { result ≡ file_lexeme others.now }
     ensures within { result.size ≤ length others.now + 1 }
@@ -248,15 +248,15 @@ fn file_lexeme(others: &[u8]) -> Lexeme
 {
     let digits = digits_of(others);
     match long_numeral(digits) {
-        Some(number) => sized(
+        Some(number) => sized_lexeme(
             Token::Constant(Term::File(NodeId(number))),
             digits.len() + 1,
         ),
-        None => bad(),
+        None => bad_lexeme(),
     }
 }
 
-/// What begins with `?`, by what stands behind it.
+/// What begins with `?`, by what stands after it.
 fn parameter_lexeme(others: &[u8]) -> Lexeme
     ensures same { result ≡ parameter_lexeme others.now }
     ensures within { result.size ≤ length others.now + 1 }
@@ -264,30 +264,30 @@ fn parameter_lexeme(others: &[u8]) -> Lexeme
 {
     let digits = digits_of(others);
     match short_numeral(digits) {
-        Some(number) => sized(Token::Constant(Term::Param(number)), digits.len() + 1),
-        None => bad(),
+        Some(number) => sized_lexeme(Token::Constant(Term::Param(number)), digits.len() + 1),
+        None => bad_lexeme(),
     }
 }
 
-/// What begins with `"`, by what stands behind it.
+/// What begins with `"`, by what stands after it.
 fn text_lexeme(others: &[u8]) -> Lexeme
     ensures same { result ≡ text_lexeme others.now }
     ensures within { result.size ≤ length others.now + 1 }
     ensures ranged { IsTokenInRange result.token }
 {
     let len = run_len(Class::Text, others);
-    if begins_with(&others[len..], b'"') {
+    if has_first_byte(&others[len..], b'"') {
         match Text::new(&others[..len]) {
-            Some(text) => sized(Token::Constant(Term::Text(text)), len + 2),
-            None => bad(),
+            Some(text) => sized_lexeme(Token::Constant(Term::Text(text)), len + 2),
+            None => bad_lexeme(),
         }
     } else {
-        bad()
+        bad_lexeme()
     }
 }
 
-fn begins_with(bytes: &[u8], byte: u8) -> bool
-    ensures { result ≡ begins_with byte bytes.now }
+fn has_first_byte(bytes: &[u8], byte: u8) -> bool
+    ensures { result ≡ has_first_byte byte bytes.now }
 {
     match bytes {
         [] => false,
@@ -321,22 +321,22 @@ fn sign_lexeme(first: u8, others: &[u8]) -> Lexeme
     ensures ranged { IsTokenInRange result.token }
 {
     match short_sign(first) {
-        Some(sign) => sized(Token::Sign(sign), 1),
+        Some(sign) => sized_lexeme(Token::Sign(sign), 1),
         None => {
-            if first == b'=' && begins_with(others, b'>') {
-                sized(Token::Sign(Sign::Implies), 2)
-            } else if first == b'<' && begins_with(others, b'=') {
-                sized(Token::Sign(Sign::UpTo), 2)
+            if first == b'=' && has_first_byte(others, b'>') {
+                sized_lexeme(Token::Sign(Sign::Implies), 2)
+            } else if first == b'<' && has_first_byte(others, b'=') {
+                sized_lexeme(Token::Sign(Sign::UpTo), 2)
             } else {
-                bad()
+                bad_lexeme()
             }
         }
     }
 }
 
 /// What begins with this byte and goes on with the others.
-fn begun_by(first: u8, others: &[u8]) -> Lexeme
-    ensures same { result ≡ begun_by first others.now }
+fn other_lexeme(first: u8, others: &[u8]) -> Lexeme
+    ensures same { result ≡ other_lexeme first others.now }
     ensures within { result.size ≤ length others.now + 1 }
     ensures ranged { IsTokenInRange result.token }
 {
@@ -362,7 +362,7 @@ fn first_lexeme(bytes: &[u8]) -> Lexeme
     ensures ranged { IsTokenInRange result.token }
 {
     match bytes {
-        [] => sized(Token::End, 0),
+        [] => sized_lexeme(Token::End, 0),
         [first, others @ ..] => {
             if is_lower_case(*first) {
                 word_lexeme(bytes)
@@ -371,15 +371,15 @@ fn first_lexeme(bytes: &[u8]) -> Lexeme
             } else if is_digit(*first) {
                 time_lexeme(bytes)
             } else {
-                begun_by(*first, others)
+                other_lexeme(*first, others)
             }
         }
     }
 }
 
-/// The first token from that byte of the text on, behind spaces.
+/// The first token from that byte of the text on, after spaces.
 #[tactic(auto, unfolding(crate::specs::Tokens::token_from))]
-pub fn token_from(text: &[u8], from: usize, left: u16) -> Here
+pub fn token_from(text: &[u8], from: usize, left: u16) -> Cursor
     requires { from ≤ length text.now }
     ensures same { result ≡ token_from text.now from left }
     ensures within { result.end ≤ length text.now }
@@ -388,7 +388,7 @@ pub fn token_from(text: &[u8], from: usize, left: u16) -> Here
 {
     let at = from + run_len(Class::Space, &text[from..]);
     let found = first_lexeme(&text[at..]);
-    Here {
+    Cursor {
         at,
         token: found.token,
         end: at + found.size,
@@ -396,22 +396,22 @@ pub fn token_from(text: &[u8], from: usize, left: u16) -> Here
     }
 }
 
-/// The place behind a token that is no node of the formula.
-#[tactic(auto, unfolding(crate::specs::Tokens::behind))]
-pub fn behind(text: &[u8], here: &Here) -> Here
+/// The place after a token that is no node of the formula.
+#[tactic(auto, unfolding(crate::specs::Tokens::cursor_after))]
+pub fn cursor_after(text: &[u8], here: &Cursor) -> Cursor
     requires { here.now.end ≤ length text.now }
-    ensures same { result ≡ behind text.now here.now }
+    ensures same { result ≡ cursor_after text.now here.now }
     ensures within { result.end ≤ length text.now }
     ensures left { result.left ≡ here.now.left }
 {
     token_from(text, here.end, here.left)
 }
 
-/// The place behind a token that is a node of the formula.
-#[tactic(auto, unfolding(crate::specs::Tokens::behind_node))]
-pub fn behind_node(text: &[u8], here: &Here) -> Here
+/// The place after a token that is a node of the formula.
+#[tactic(auto, unfolding(crate::specs::Tokens::cursor_after_node))]
+pub fn cursor_after_node(text: &[u8], here: &Cursor) -> Cursor
     requires { here.now.end ≤ length text.now }
-    ensures same { result ≡ behind_node text.now here.now }
+    ensures same { result ≡ cursor_after_node text.now here.now }
     ensures within { result.end ≤ length text.now }
     ensures left { result.left ≡ here.now.left - 1 }
 {

@@ -14,7 +14,7 @@ use Rattle.bl_syntax.specs.declared.terms.Constraint.{Constraint}
 use Rattle.bl_syntax.specs.Terms.{AreInOrder, in_order, term_at}
 use Rattle.bl_syntax.specs.TimeOrder.{IsUpTo, IsMoment, IsInRange}
 use Rattle.bl_syntax.specs.Grant.{HoldsAt}
-use Rattle.condition_set.specs.Window.{LiesBetween, Meets, IsWindow}
+use Rattle.condition_set.specs.Window.{LiesBetween, MeetsConditions, IsWindow}
 
 IsUpTo-trans : (u v w : TimePoint) → IsUpTo u v → IsUpTo v w → IsUpTo u w
 IsUpTo-trans NegInf v w p q = tt
@@ -110,7 +110,7 @@ greatest_end first PosInf s h (At x) upper =
 greatest_end first PosInf s h NegInf upper = upper s h
 
 -- conditions that hold exactly from one time of the range to another, and at some second, have these as their window
-pub is_window : (conditions : List Constraint) (first last : TimePoint) → ((s : ℤ) → Meets conditions s ↔ LiesBetween first last s)
+pub is_window : (conditions : List Constraint) (first last : TimePoint) → ((s : ℤ) → MeetsConditions conditions s ↔ LiesBetween first last s)
     → IsInRange first → IsInRange last → ((s : ℤ) × LiesBetween first last s) → IsWindow conditions first last
 is_window conditions first last between first_in_range last_in_range some =
     let moment = moment_between first last first_in_range last_in_range some.0 some.1 in
@@ -128,7 +128,7 @@ all_pushed P [] x all = (tt, all.0)
 all_pushed P (y ∷ ys) x all = let rest = all_pushed P ys x all.1 in ((all.0, rest.0), rest.1)
 
 -- one more condition
-Meets-more : (items : List Constraint) (i : ℕ) (c : Constraint) (s : ℤ) → i < length items → c ≡ get_or items i c → Meets (take (i + 1) items) s ↔ (Meets (take i items) s × HoldsAt s c)
+Meets-more : (items : List Constraint) (i : ℕ) (c : Constraint) (s : ℤ) → i < length items → c ≡ get_or items i c → MeetsConditions (take (i + 1) items) s ↔ (MeetsConditions (take i items) s × HoldsAt s c)
 Meets-more items i c s lt is =
     let whole : take (i + 1) items ≡ take i items ++ c ∷ [] = take_more items i c lt ∙ ap (λ (x : Constraint). take i items ++ x ∷ []) (sym is) in (
       λ meets. all_pushed (HoldsAt s) (take i items) c (subst (AllByRecursion (HoldsAt s)) whole meets),
@@ -137,17 +137,17 @@ Meets-more items i c s lt is =
 
 -- all conditions were looked at
 pub at_end : (items : List Constraint) (i : ℕ) → length items ≤ i → (first last : TimePoint)
-    → ((s : ℤ) → Meets (take i items) s ↔ LiesBetween first last s) → (s : ℤ) → Meets items s ↔ LiesBetween first last s
-at_end items i end first last so_far = subst (λ (xs : List Constraint). (s : ℤ) → Meets xs s ↔ LiesBetween first last s) (take_all i items end) so_far
+    → ((s : ℤ) → MeetsConditions (take i items) s ↔ LiesBetween first last s) → (s : ℤ) → MeetsConditions items s ↔ LiesBetween first last s
+at_end items i end first last so_far = subst (λ (xs : List Constraint). (s : ℤ) → MeetsConditions xs s ↔ LiesBetween first last s) (take_all i items end) so_far
 
 -- the span that two spans share
 pub shared_span : (items : List Constraint) (i : ℕ) (c : Constraint) → i < length items → c ≡ get_or items i c
     → (first last from to first' last' : TimePoint)
-    → ((s : ℤ) → Meets (take i items) s ↔ LiesBetween first last s)
+    → ((s : ℤ) → MeetsConditions (take i items) s ↔ LiesBetween first last s)
     → ((s : ℤ) → HoldsAt s c ↔ LiesBetween from to s)
     → ((w : TimePoint) → IsUpTo first' w ↔ (IsUpTo first w × IsUpTo from w))
     → ((w : TimePoint) → IsUpTo w last' ↔ (IsUpTo w last × IsUpTo w to))
-    → (s : ℤ) → Meets (take (i + 1) items) s ↔ LiesBetween first' last' s
+    → (s : ℤ) → MeetsConditions (take (i + 1) items) s ↔ LiesBetween first' last' s
 shared_span items i c lt is first last from to first' last' so_far here later earlier s =
     let more = Meets-more items i c s lt is in (
       λ meets.

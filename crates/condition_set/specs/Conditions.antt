@@ -3,14 +3,14 @@ use Rattle.std.specs.Prelude.{◌≡◌, ◌+◌, List, [], ◌∷◌, ◌++◌,
 use Rattle.bl_syntax.specs.declared.terms.Constraint.{Constraint}
 use Rattle.bl_syntax.specs.declared.terms.StatePred.{StatePred}
 use Rattle.bl_syntax.specs.declared.grant.Goal.{Goal}
-use Rattle.bl_syntax.specs.Grant.{Granted}
+use Rattle.bl_syntax.specs.Grant.{GrantView}
 
 -- the goal without conditions
-abbrev pub without_conditions : Goal → Granted
+abbrev pub without_conditions : Goal → GrantView
 without_conditions goal = record { goal = goal; times = []; states = [] }
 
 -- it holds as many conditions as a grant may, those on time and those on the state together
-abbrev pub IsFull : Granted → Type 0
+abbrev pub IsFull : GrantView → Type 0
 IsFull g = length g.times + length g.states ≡ 64
 
 -- what a list of things, each kept once, becomes when one comes up: it stays where that one is there, and else has it at its end
@@ -19,13 +19,13 @@ pub data KeepsOnce {A : Type 0} (old : List A) (x : A) (new : List A) : Type 0 w
   unknown : (Contains old x → ⊥) → new ≡ old ++ x ∷ [] → KeepsOnce old x new
 
 -- a condition on time came up
-pub record AddsTime (old : Granted) (c : Constraint) (new : Granted) : Type 0 where
+pub record AddsTime (old : GrantView) (c : Constraint) (new : GrantView) : Type 0 where
   pub same_goal : new.goal ≡ old.goal
   pub times : KeepsOnce old.times c new.times
   pub same_states : new.states ≡ old.states
 
 -- a condition on the state came up
-pub record AddsState (old : Granted) (s : StatePred) (new : Granted) : Type 0 where
+pub record AddsState (old : GrantView) (s : StatePred) (new : GrantView) : Type 0 where
   pub same_goal : new.goal ≡ old.goal
   pub same_times : new.times ≡ old.times
   pub states : KeepsOnce old.states s new.states

@@ -13,21 +13,21 @@ pub record LiesBetween (first last : TimePoint) (second : ℤ) : Type 0 where
   pub not_after : IsUpTo (At second) last
 
 -- all of the conditions hold at the second
-abbrev pub Meets : List Constraint → ℤ → Type 0
-Meets conditions second = AllByRecursion (HoldsAt second) conditions
+abbrev pub MeetsConditions : List Constraint → ℤ → Type 0
+MeetsConditions conditions second = AllByRecursion (HoldsAt second) conditions
 
 -- some moment meets the conditions
-pub record IsMet (conditions : List Constraint) : Type 0 where
+pub record AreSatisfiable (conditions : List Constraint) : Type 0 where
   pub moment : ℤ
   pub in_range : IsMoment moment
-  pub meets : Meets conditions moment
+  pub meets : MeetsConditions conditions moment
 
 -- the conditions hold exactly from the first time to the last, which are the least and the greatest such ends: no later
 -- time comes before all seconds that meet the conditions, and no earlier one after all of them
 pub record IsWindow (conditions : List Constraint) (first last : TimePoint) : Type 0 where
-  pub between : (second : ℤ) → Meets conditions second ↔ LiesBetween first last second
-  pub least : (time : TimePoint) → ((second : ℤ) → Meets conditions second → IsUpTo time (At second)) → IsUpTo time first
-  pub greatest : (time : TimePoint) → ((second : ℤ) → Meets conditions second → IsUpTo (At second) time) → IsUpTo last time
-  pub is_met : IsMet conditions
+  pub between : (second : ℤ) → MeetsConditions conditions second ↔ LiesBetween first last second
+  pub least : (time : TimePoint) → ((second : ℤ) → MeetsConditions conditions second → IsUpTo time (At second)) → IsUpTo time first
+  pub greatest : (time : TimePoint) → ((second : ℤ) → MeetsConditions conditions second → IsUpTo (At second) time) → IsUpTo last time
+  pub is_met : AreSatisfiable conditions
   pub first_in_range : IsInRange first
   pub last_in_range : IsInRange last

@@ -1,7 +1,7 @@
 //! Conditions as they come up: each is kept once, in the order of its first appearance.
 
 ghost use Rattle.std.specs.Prelude.{◌≡◌, ◌↔◌, List, Contains, IsOk, IsTrue, IsErrOf, OnOk, OnErr};
-ghost use Rattle.bl_syntax.specs.Grant.{Granted, IsTimeCondition, IsStateCondition};
+ghost use Rattle.bl_syntax.specs.Grant.{GrantView, IsTimeCondition, IsStateCondition};
 ghost use Rattle.condition_set.specs.Conditions.{without_conditions, IsFull, AddsTime, AddsState};
 ghost use Rattle.condition_set.specs.declared.collect.CollectFault.TheVariants.{NoMemory as OutOfMemory};
 
@@ -31,13 +31,13 @@ impl From<NoMemory> for CollectFault {
 /// Collects the conditions under which a goal is granted.
 pub trait Collect {
     // the goal, and the conditions in the order in which they came up
-    ghost granted: { Self → Granted };
+    ghost granted: { Self → GrantView };
 
     /// The goal without conditions. It takes no memory.
     fn collect(alloc: Global, goal: Goal) -> Self
         ensures { granted result ≡ without_conditions goal };
 
-    /// Adds a condition on time behind the others. One that is there changes nothing and takes no memory.
+    /// Adds a condition on time after the others. One that is there changes nothing and takes no memory.
     fn add_time(&mut self, c: Constraint) -> Result<(), CollectFault>
         requires { IsTimeCondition c }
         ensures ok { OnOk result (AddsTime (granted self.old) c (granted self.new)) }
@@ -45,7 +45,7 @@ pub trait Collect {
         ensures full { IsErrOf result CollectFault.Full ↔ (IsFull (granted self.old) × (Contains (granted self.old).times c → ⊥)) }
         ensures err { OnErr result (granted self.new ≡ granted self.old) };
 
-    /// Adds a condition on the server's state behind the others. One that is there changes nothing and takes no memory.
+    /// Adds a condition on the server's state after the others. One that is there changes nothing and takes no memory.
     fn add_state(&mut self, s: StatePred) -> Result<(), CollectFault>
         requires { IsStateCondition s }
         ensures ok { OnOk result (AddsState (granted self.old) s (granted self.new)) }

@@ -21,7 +21,7 @@ pub trait Facts {
 }
 
 /// The place, from 0, of the first condition on time that does not hold at the moment `t` (whole seconds from
-/// 1970-01-01T00:00:00Z); none exactly where all hold. It takes no memory.
+/// 1970-01-01T00:00:00Z); none exactly if all hold. It takes no memory.
 pub fn first_failing_time(g: &Grant, t: i64) -> Option<usize>
     ensures none { IsNone result ↔ AllByRecursion (HoldsAt t) g.now.times }
     ensures first { IfSome result (FailsFirst (HoldsAt t) g.now.times) }
@@ -34,7 +34,7 @@ pub fn first_failing_time(g: &Grant, t: i64) -> Option<usize>
     None
 }
 
-/// The place, from 0, of the first condition on the server's state that is not true there; none exactly where all
+/// The place, from 0, of the first condition on the server's state that is not true there; none exactly if all
 /// are. It takes no memory.
 pub fn first_failing_state<X: Facts>(g: &Grant, facts: &X) -> Option<usize>
     ensures none { IsNone result ↔ AllByRecursion (Contains (X.facts facts.now)) g.now.states }

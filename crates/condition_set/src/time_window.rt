@@ -4,24 +4,24 @@ ghost use Rattle.std.specs.Prelude.{◌≡◌, ◌↔◌, ◌⊎◌, ℤ, IsTrue
 ghost use Rattle.bl_syntax.specs.declared.terms.TimePoint.{TimePoint};
 ghost use Rattle.bl_syntax.specs.TimeOrder.{IsUpTo, IsInRange};
 ghost use Rattle.bl_syntax.specs.Grant.{HoldsAt, IsTimeCondition};
-ghost use Rattle.condition_set.specs.Window.{LiesBetween, Meets, IsWindow};
+ghost use Rattle.condition_set.specs.Window.{LiesBetween, MeetsConditions, IsWindow};
 
 use bl_syntax::{Constraint, Grant, Term, TimePoint};
 
-/// The least and the greatest time between which all conditions on time hold; none exactly where no second meets
+/// The least and the greatest time between which all conditions on time hold; none exactly if no second meets
 /// them. It takes no memory.
 ///
 /// Without a condition the window reaches from `-inf` to `+inf`. A condition that compares the current time with a
 /// constant of another sort, with `+inf` from above or with `-inf` from below, is never met.
 pub fn window(g: &Grant) -> Option<(TimePoint, TimePoint)>
-    ensures { MatchOption result ((second : ℤ) → Meets g.now.times second → ⊥) (λ w. IsWindow g.now.times w.0 w.1) }
+    ensures { MatchOption result ((second : ℤ) → MeetsConditions g.now.times second → ⊥) (λ w. IsWindow g.now.times w.0 w.1) }
 {
     let mut first = TimePoint::NegInf;
     let mut last = TimePoint::PosInf;
     for c in g.times() {
         let (from, to) = span_of(c);
-        first = later(first, from);
-        last = earlier(last, to);
+        first = later_time(first, from);
+        last = earlier_time(last, to);
     }
     if has_second(first, last) {
         Some((first, last))
@@ -46,7 +46,7 @@ fn span_of(c: &Constraint) -> (TimePoint, TimePoint)
 }
 
 /// The later one of two times.
-fn later(u: TimePoint, v: TimePoint) -> TimePoint
+fn later_time(u: TimePoint, v: TimePoint) -> TimePoint
     ensures bound { (w : TimePoint) → IsUpTo result w ↔ (IsUpTo u w × IsUpTo v w) }
     ensures either { (result ≡ u) ⊎ (result ≡ v) }
 {
@@ -54,7 +54,7 @@ fn later(u: TimePoint, v: TimePoint) -> TimePoint
 }
 
 /// The earlier one of two times.
-fn earlier(u: TimePoint, v: TimePoint) -> TimePoint
+fn earlier_time(u: TimePoint, v: TimePoint) -> TimePoint
     ensures bound { (w : TimePoint) → IsUpTo w result ↔ (IsUpTo w u × IsUpTo w v) }
     ensures either { (result ≡ u) ⊎ (result ≡ v) }
 {

@@ -5,8 +5,8 @@ use Rattle.std.proofs.lemmas.Bool.{cond-true, cond-false, true≢false, eq-eqb, 
 use Rattle.std.proofs.lemmas.Option.{none-some, same_Some}
 use Rattle.file_world.specs.declared.operation.Kind.{Kind}
 use Rattle.file_world.specs.declared.operation.Kind.TheVariants.{Directory}
-use Rattle.file_world.specs.Tree.{Place, Node, Nodes, FileTree, node_at, number_at, is_place, IsReached, at_root, below, root, IsTree}
-use Rattle.file_world.specs.TreeEffect.{is_directory_kind, is_directory, at, child_of, new_node, with_contents, with_place, revised, changed_tree, add, remove, move}
+use Rattle.file_world.specs.Tree.{Place, Node, Nodes, FileTree, node_at, number_at, is_place, ReachesRoot, at_root, below, root, IsTree}
+use Rattle.file_world.specs.TreeEffect.{is_directory_kind, is_directory, at, child_of, new_node, with_contents, with_place, revise, changed_tree, add, remove, move}
 use Rattle.file_world.proofs.RowLemmas.{split, lookup-append_found, lookup-append_none, lookup-revised_same, lookup-revised_other, map-revised, lookup-removed_same, lookup-removed_other}
 use Rattle.file_world.proofs.PlaceLemmas.{is_place-same, Stands, stands_at, number_of_place}
 use Rattle.file_world.proofs.TreeLemmas.{CanAdd, CanRemove, CanMove, found-push, found-revised, IsTree-add, IsTree-remove, IsTree-move}
@@ -41,7 +41,7 @@ number_same tree after place is then back forth =
 pub holder_of : (tree : FileTree) (directory number : ℕ) (name : List ℕ) → IsTree tree → 1 ≤ directory → Stands tree.rows number (at directory name) → (holder : Node) × (node_at tree.rows directory ≡ Some holder) × (holder.kind ≡ Directory)
 holder_of tree directory number name is above stands = by number stands (is.sound number stands.node stands.found).reached
   where
-    by : (n : ℕ) → Stands tree.rows n (at directory name) → IsReached tree.rows n → (holder : Node) × (node_at tree.rows directory ≡ Some holder) × (holder.kind ≡ Directory)
+    by : (n : ℕ) → Stands tree.rows n (at directory name) → ReachesRoot tree.rows n → (holder : Node) × (node_at tree.rows directory ≡ Some holder) × (holder.kind ≡ Directory)
     by n s at_root =
         let root_is : root ≡ s.node = same_Some _ _ (sym is.has_root ∙ s.found) in
         let zero_is : 0 ≡ directory = ap (λ (m : Node). m.place.directory) root_is ∙ ap (λ (p : Place). p.directory) s.there in
@@ -106,26 +106,26 @@ child-added_elsewhere tree kind place is can directory name apart =
 
 -- ---- a revised node
 
-kind-revised : (number : ℕ) (revision : Node → Node) → ((n : Node) → (revision n).kind ≡ n.kind) → (rows : Nodes) (directory : ℕ) → is_directory (node_at (revised number revision rows) directory) ≡ is_directory (node_at rows directory)
+kind-revised : (number : ℕ) (revision : Node → Node) → ((n : Node) → (revision n).kind ≡ n.kind) → (rows : Nodes) (directory : ℕ) → is_directory (node_at (revise number revision rows) directory) ≡ is_directory (node_at rows directory)
 kind-revised number revision same [] directory = refl
 kind-revised number revision same (row ∷ rows) directory =
     split (nat_eq number row.0)
-    (λ t. ap (λ (r : Nodes). is_directory (node_at r directory)) (cond-true (nat_eq number row.0) ((row.0, revision row.1) ∷ rows) (row ∷ revised number revision rows) t)
+    (λ t. ap (λ (r : Nodes). is_directory (node_at r directory)) (cond-true (nat_eq number row.0) ((row.0, revision row.1) ∷ rows) (row ∷ revise number revision rows) t)
     ∙ split (nat_eq directory row.0)
     (λ s. ap is_directory (cond-true (nat_eq directory row.0) (Some (revision row.1)) (node_at rows directory) s)
     ∙ (ap is_directory_kind (same row.1) ∙ sym (ap is_directory (cond-true (nat_eq directory row.0) (Some row.1) (node_at rows directory) s))))
     (λ s. ap is_directory (cond-false (nat_eq directory row.0) (Some (revision row.1)) (node_at rows directory) s)
     ∙ sym (ap is_directory (cond-false (nat_eq directory row.0) (Some row.1) (node_at rows directory) s))))
-    (λ f. ap (λ (r : Nodes). is_directory (node_at r directory)) (cond-false (nat_eq number row.0) ((row.0, revision row.1) ∷ rows) (row ∷ revised number revision rows) f)
+    (λ f. ap (λ (r : Nodes). is_directory (node_at r directory)) (cond-false (nat_eq number row.0) ((row.0, revision row.1) ∷ rows) (row ∷ revise number revision rows) f)
     ∙ split (nat_eq directory row.0)
-    (λ s. ap is_directory (cond-true (nat_eq directory row.0) (Some row.1) (node_at (revised number revision rows) directory) s)
+    (λ s. ap is_directory (cond-true (nat_eq directory row.0) (Some row.1) (node_at (revise number revision rows) directory) s)
     ∙ sym (ap is_directory (cond-true (nat_eq directory row.0) (Some row.1) (node_at rows directory) s)))
-    (λ s. ap is_directory (cond-false (nat_eq directory row.0) (Some row.1) (node_at (revised number revision rows) directory) s)
+    (λ s. ap is_directory (cond-false (nat_eq directory row.0) (Some row.1) (node_at (revise number revision rows) directory) s)
     ∙ (kind-revised number revision same rows directory ∙ sym (ap is_directory (cond-false (nat_eq directory row.0) (Some row.1) (node_at rows directory) s)))))
 
-pub child-filled : (rows : Nodes) (number : ℕ) (contents : List ℕ) (directory : ℕ) (name : List ℕ) → child_of (revised number (with_contents contents) rows) directory name ≡ child_of rows directory name
+pub child-filled : (rows : Nodes) (number : ℕ) (contents : List ℕ) (directory : ℕ) (name : List ℕ) → child_of (revise number (with_contents contents) rows) directory name ≡ child_of rows directory name
 child-filled rows number contents directory name =
-    ap (λ (b : Bool). cond b (number_at (revised number (with_contents contents) rows) (at directory name)) None) (kind-revised number (with_contents contents) (λ _. refl) rows directory)
+    ap (λ (b : Bool). cond b (number_at (revise number (with_contents contents) rows) (at directory name)) None) (kind-revised number (with_contents contents) (λ _. refl) rows directory)
     ∙ ap (λ (places : List (Place × ℕ)). cond (is_directory (node_at rows directory)) (lookup (is_place (at directory name)) places) None)
     (map-revised {Y = Place × ℕ} (λ row. (row.1.place, row.0)) number (with_contents contents) (λ _ _. refl) rows)
 
@@ -174,14 +174,14 @@ child-removed_elsewhere tree number place is can there directory name apart othe
 
 pub child-moved_here : (tree : FileTree) (number : ℕ) (place : Place) → IsTree tree → (can : CanMove tree number place) → child_of (changed_tree (move number place) tree).rows place.directory place.name ≡ Some number
 child-moved_here tree number place is can =
-    let after : Nodes = revised number (with_place place) tree.rows in
+    let after : Nodes = revise number (with_place place) tree.rows in
     cond-true (is_directory (node_at after place.directory)) _ _ (kind-revised number (with_place place) (λ _. refl) tree.rows place.directory ∙ (ap is_directory can.held ∙ ap is_directory_kind can.is_directory))
     ∙ number_from (changed_tree (move number place) tree) place number (IsTree-move tree number place is can)
     (record { node = with_place place can.node; found = lookup-revised_same number (with_place place) tree.rows can.node can.found; there = refl })
 
 pub child-moved_from : (tree : FileTree) (number : ℕ) (from place : Place) → IsTree tree → (can : CanMove tree number place) → can.node.place ≡ from → is_place from place ≡ false → child_of (changed_tree (move number place) tree).rows from.directory from.name ≡ None
 child-moved_from tree number from place is can there apart =
-    let after : Nodes = revised number (with_place place) tree.rows in
+    let after : Nodes = revise number (with_place place) tree.rows in
     let then = IsTree-move tree number place is can in
     let none : number_at after from ≡ None =
     option_none (number_at after from)
@@ -198,7 +198,7 @@ child-moved_from tree number from place is can there apart =
 
 pub child-moved_elsewhere : (tree : FileTree) (number : ℕ) (from place : Place) → IsTree tree → (can : CanMove tree number place) → can.node.place ≡ from → (directory : ℕ) (name : List ℕ) → is_place from (at directory name) ≡ false → is_place place (at directory name) ≡ false → child_of (changed_tree (move number place) tree).rows directory name ≡ child_of tree.rows directory name
 child-moved_elsewhere tree number from place is can there directory name apart other =
-    let after : Nodes = revised number (with_place place) tree.rows in
+    let after : Nodes = revise number (with_place place) tree.rows in
     let then = IsTree-move tree number place is can in
     let same : number_at after (at directory name) ≡ number_at tree.rows (at directory name) =
     number_same tree (changed_tree (move number place) tree) (at directory name) is then

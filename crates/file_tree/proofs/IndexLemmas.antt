@@ -13,10 +13,10 @@ use Rattle.std.proofs.lemmas.Map.Text.{is_eq-slice_cmp}
 use Rattle.std.proofs.lemmas.Slice.Eq.{bytes_eq-Decides}
 use Rattle.std.proofs.lemmas.Option.{same_Some}
 use Rattle.file_world.specs.Tree.{Place, Node, Nodes, node_at, is_place}
-use Rattle.file_world.specs.TreeEffect.{at, revised}
+use Rattle.file_world.specs.TreeEffect.{at, revise}
 use Rattle.file_world.proofs.RowLemmas.{split, cond_at_true, cond_at_false, lookup-append_none, above_found, rising_head, rising_tail}
-use Rattle.file_tree.specs.declared.node.Node.{Node as Kept}
-use Rattle.file_tree.specs.Index.{Entries, shown, rows_of, kept_at, number_in, held_at, Puts, Keeps, IsBelow}
+use Rattle.file_tree.specs.declared.node.KeptNode.{KeptNode as Kept}
+use Rattle.file_tree.specs.Index.{Entries, node_shown, rows_of, kept_at, number_in, reserved_at, Puts, Keeps, AreNumbersBelow}
 
 -- ---- tests of numbers and names
 
@@ -39,44 +39,44 @@ same_found (entry ∷ entries) number =
 
 -- ---- rows
 
-pub node_at-rows : (entries : Entries) (number : ℕ) → node_at (rows_of entries) number ≡ option_map shown (kept_at entries number)
+pub node_at-rows : (entries : Entries) (number : ℕ) → node_at (rows_of entries) number ≡ option_map node_shown (kept_at entries number)
 node_at-rows [] number = refl
 node_at-rows (entry ∷ entries) number =
     split (nat_eq number entry.0)
-    (λ t. cond-true (nat_eq number entry.0) _ _ t ∙ sym (ap (option_map shown) (cond-true (is_at (nat_cmp number) entry.0) _ _ (same_test number entry.0 ∙ t))))
-    (λ f. cond-false (nat_eq number entry.0) _ _ f ∙ (node_at-rows entries number ∙ sym (ap (option_map shown) (cond-false (is_at (nat_cmp number) entry.0) _ _ (same_test number entry.0 ∙ f)))))
+    (λ t. cond-true (nat_eq number entry.0) _ _ t ∙ sym (ap (option_map node_shown) (cond-true (is_at (nat_cmp number) entry.0) _ _ (same_test number entry.0 ∙ t))))
+    (λ f. cond-false (nat_eq number entry.0) _ _ f ∙ (node_at-rows entries number ∙ sym (ap (option_map node_shown) (cond-false (is_at (nat_cmp number) entry.0) _ _ (same_test number entry.0 ∙ f)))))
 
 -- a kept node shows as a row
-pub node_at-kept : (entries : Entries) (number : ℕ) (kept : Kept) → kept_at entries number ≡ Some kept → node_at (rows_of entries) number ≡ Some (shown kept)
-node_at-kept entries number kept e = node_at-rows entries number ∙ ap (option_map shown) e
+pub node_at-kept : (entries : Entries) (number : ℕ) (kept : Kept) → kept_at entries number ≡ Some kept → node_at (rows_of entries) number ≡ Some (node_shown kept)
+node_at-kept entries number kept e = node_at-rows entries number ∙ ap (option_map node_shown) e
 
 pub node_at-missing : (entries : Entries) (number : ℕ) → kept_at entries number ≡ None → node_at (rows_of entries) number ≡ None
-node_at-missing entries number e = node_at-rows entries number ∙ ap (option_map shown) e
+node_at-missing entries number e = node_at-rows entries number ∙ ap (option_map node_shown) e
 
 -- a value that is set shows as a revised row
-pub rows-set_value : (entries : Entries) (number : ℕ) (revision : Node → Node) (old new : Kept) → kept_at entries number ≡ Some old → shown new ≡ revision (shown old) → rows_of (set_value (is_at (nat_cmp number)) entries new) ≡ revised number revision (rows_of entries)
+pub rows-set_value : (entries : Entries) (number : ℕ) (revision : Node → Node) (old new : Kept) → kept_at entries number ≡ Some old → node_shown new ≡ revision (node_shown old) → rows_of (set_value (is_at (nat_cmp number)) entries new) ≡ revise number revision (rows_of entries)
 rows-set_value [] number revision old new e same = refl
 rows-set_value (entry ∷ entries) number revision old new e same =
     split (nat_eq number entry.0)
     (λ t. let s = same_test number entry.0 ∙ t in
     let was : entry.1 ≡ old = same_Some _ _ (cond_at_true (is_at (nat_cmp number) entry.0) _ _ _ s e) in
     ap rows_of (cond-true (is_at (nat_cmp number) entry.0) _ _ s)
-    ∙ (ap (λ (n : Node). (entry.0, n) ∷ rows_of entries) (same ∙ ap (λ (k : Kept). revision (shown k)) (sym was))
-    ∙ sym (cond-true (nat_eq number entry.0) ((entry.0, revision (shown entry.1)) ∷ rows_of entries) _ t)))
+    ∙ (ap (λ (n : Node). (entry.0, n) ∷ rows_of entries) (same ∙ ap (λ (k : Kept). revision (node_shown k)) (sym was))
+    ∙ sym (cond-true (nat_eq number entry.0) ((entry.0, revision (node_shown entry.1)) ∷ rows_of entries) _ t)))
     (λ f. let s = same_test number entry.0 ∙ f in
     ap rows_of (cond-false (is_at (nat_cmp number) entry.0) _ _ s)
-    ∙ (ap (λ (rows : Nodes). (entry.0, shown entry.1) ∷ rows) (rows-set_value entries number revision old new (cond_at_false (is_at (nat_cmp number) entry.0) _ _ _ s e) same)
+    ∙ (ap (λ (rows : Nodes). (entry.0, node_shown entry.1) ∷ rows) (rows-set_value entries number revision old new (cond_at_false (is_at (nat_cmp number) entry.0) _ _ _ s e) same)
     ∙ sym (cond-false (nat_eq number entry.0) _ _ f)))
 
 -- one that shows the same leaves the rows
-pub rows-set_value_same : (entries : Entries) (number : ℕ) (old new : Kept) → kept_at entries number ≡ Some old → shown new ≡ shown old → rows_of (set_value (is_at (nat_cmp number)) entries new) ≡ rows_of entries
+pub rows-set_value_same : (entries : Entries) (number : ℕ) (old new : Kept) → kept_at entries number ≡ Some old → node_shown new ≡ node_shown old → rows_of (set_value (is_at (nat_cmp number)) entries new) ≡ rows_of entries
 rows-set_value_same [] number old new e same = refl
 rows-set_value_same (entry ∷ entries) number old new e same =
     split (is_at (nat_cmp number) entry.0)
     (λ s. let was : entry.1 ≡ old = same_Some _ _ (cond_at_true (is_at (nat_cmp number) entry.0) _ _ _ s e) in
-    ap rows_of (cond-true (is_at (nat_cmp number) entry.0) _ _ s) ∙ ap (λ (n : Node). (entry.0, n) ∷ rows_of entries) (same ∙ ap shown (sym was)))
+    ap rows_of (cond-true (is_at (nat_cmp number) entry.0) _ _ s) ∙ ap (λ (n : Node). (entry.0, n) ∷ rows_of entries) (same ∙ ap node_shown (sym was)))
     (λ s. ap rows_of (cond-false (is_at (nat_cmp number) entry.0) _ _ s)
-    ∙ ap (λ (rows : Nodes). (entry.0, shown entry.1) ∷ rows) (rows-set_value_same entries number old new (cond_at_false (is_at (nat_cmp number) entry.0) _ _ _ s e) same))
+    ∙ ap (λ (rows : Nodes). (entry.0, node_shown entry.1) ∷ rows) (rows-set_value_same entries number old new (cond_at_false (is_at (nat_cmp number) entry.0) _ _ _ s e) same))
 
 pub rows-remove_entry : (entries : Entries) (number : ℕ) → rows_of (remove_entry (is_at (nat_cmp number)) entries) ≡ remove_entry (nat_eq number) (rows_of entries)
 rows-remove_entry [] number = refl
@@ -84,7 +84,7 @@ rows-remove_entry (entry ∷ entries) number =
     split (nat_eq number entry.0)
     (λ t. ap rows_of (cond-true (is_at (nat_cmp number) entry.0) _ _ (same_test number entry.0 ∙ t)) ∙ sym (cond-true (nat_eq number entry.0) _ _ t))
     (λ f. ap rows_of (cond-false (is_at (nat_cmp number) entry.0) _ _ (same_test number entry.0 ∙ f))
-    ∙ (ap (λ (rows : Nodes). (entry.0, shown entry.1) ∷ rows) (rows-remove_entry entries number) ∙ sym (cond-false (nat_eq number entry.0) _ _ f)))
+    ∙ (ap (λ (rows : Nodes). (entry.0, node_shown entry.1) ∷ rows) (rows-remove_entry entries number) ∙ sym (cond-false (nat_eq number entry.0) _ _ f)))
 
 -- ---- names
 
@@ -100,7 +100,7 @@ other_name place name e =
 -- a directory's names with one changed
 pub record ChangesName (old new : Kept) (name : List ℕ) (number : Option ℕ) : Type 0 where
   pub names : (other : List ℕ) → number_in (Some new) other ≡ cond (is_at (slice_cmp nat_cmp name) other) number (number_in (Some old) other)
-  pub same : shown new ≡ shown old
+  pub same : node_shown new ≡ node_shown old
 
 -- what the map of the nodes says of a value that is set
 pub record SetsValue (old new : Entries) (number : ℕ) (value : Kept) : Type 0 where
@@ -127,24 +127,24 @@ Puts-from_set old new place number was now there sets changes =
           ∙ (changes.names place.name ∙ cond-true (is_at (slice_cmp nat_cmp place.name) place.name) _ _ (is_name_itself place.name));
       elsewhere = λ directory name apart. elim (cases_eq directory place.directory) [
         | inl same ↦ let e : is_place place (at place.directory name) ≡ false = ap (λ (d : ℕ). is_place place (at d name)) (sym same) ∙ apart in
-            ap (λ (d : ℕ). held_at new d name) same
+            ap (λ (d : ℕ). reserved_at new d name) same
             ∙ (ap (λ (k : Option Kept). number_in k name) (kept-set old new place.directory now sets)
             ∙ (changes.names name
             ∙ (cond-false (is_at (slice_cmp nat_cmp place.name) name) _ _ (other_name place name e)
             ∙ (ap (λ (k : Option Kept). number_in k name) (sym there)
-            ∙ ap (λ (d : ℕ). held_at old d name) (sym same)))))
+            ∙ ap (λ (d : ℕ). reserved_at old d name) (sym same)))))
         | inr other ↦ ap (λ (k : Option Kept). number_in k name) (kept-unset old new place.directory now sets directory other)
       ];
       same_rows = ap rows_of sets.entries ∙ rows-set_value_same old place.directory was now there changes.same;
     }
 
 -- a value that is set with the same names leaves all names
-pub held-set : (old new : Entries) (number : ℕ) (was now : Kept) → kept_at old number ≡ Some was → SetsValue old new number now → ((name : List ℕ) → number_in (Some now) name ≡ number_in (Some was) name) → (directory : ℕ) (name : List ℕ) → held_at new directory name ≡ held_at old directory name
+pub held-set : (old new : Entries) (number : ℕ) (was now : Kept) → kept_at old number ≡ Some was → SetsValue old new number now → ((name : List ℕ) → number_in (Some now) name ≡ number_in (Some was) name) → (directory : ℕ) (name : List ℕ) → reserved_at new directory name ≡ reserved_at old directory name
 held-set old new number was now there sets same directory name =
     elim (cases_eq directory number) [
-      | inl e ↦ ap (λ (d : ℕ). held_at new d name) e
+      | inl e ↦ ap (λ (d : ℕ). reserved_at new d name) e
           ∙ (ap (λ (k : Option Kept). number_in k name) (kept-set old new number now sets)
-          ∙ (same name ∙ (ap (λ (k : Option Kept). number_in k name) (sym there) ∙ ap (λ (d : ℕ). held_at old d name) (sym e))))
+          ∙ (same name ∙ (ap (λ (k : Option Kept). number_in k name) (sym there) ∙ ap (λ (d : ℕ). reserved_at old d name) (sym e))))
       | inr other ↦ ap (λ (k : Option Kept). number_in k name) (kept-unset old new number now sets directory other)
     ]
 
@@ -157,7 +157,7 @@ pub SetsValue-from_map : (m n : BTreeMap ℕ Kept) (number : ℕ) (was now : Kep
 SetsValue-from_map m n number was now there h =
     record { entries = h.0; found = (h.3 (some_from_value (kept_at m.entries number) was there)).0 }
 
--- what is told of a map's value behind a `&mut`
+-- what is told of a map's value after a `&mut`
 pub found_behind : {A : Type 0} (result : Option (MutBor A)) (found : Option A) (node : MutBor A) → option_copied_mut result ≡ found → result ≡ Some node → found ≡ Some node.now
 found_behind result found node value is = sym value ∙ ap option_copied_mut is
 
@@ -165,18 +165,18 @@ pub found_at : {A : Type 0} (result : Option (Bor A)) (found : Option A) (node :
 found_at result found node value is = sym value ∙ ap option_copied is
 
 -- a name that is entered
-pub ChangesName-entered : (was now : Kept) (name : List ℕ) (number : Option ℕ) → Updates (slice_cmp nat_cmp) was.names now.names name number → shown now ≡ shown was → ChangesName was now name number
+pub ChangesName-entered : (was now : Kept) (name : List ℕ) (number : Option ℕ) → Updates (slice_cmp nat_cmp) was.names now.names name number → node_shown now ≡ node_shown was → ChangesName was now name number
 ChangesName-entered was now name number updates same = record { names = updates.0; same = same }
 
 -- a name that is taken out
-pub ChangesName-removed : (was now : Kept) (name : List ℕ) → UpdatesBy (slice_cmp nat_cmp) (slice_cmp nat_cmp name) was.names now.names None → shown now ≡ shown was → ChangesName was now name None
+pub ChangesName-removed : (was now : Kept) (name : List ℕ) → UpdatesBy (slice_cmp nat_cmp) (slice_cmp nat_cmp name) was.names now.names None → node_shown now ≡ node_shown was → ChangesName was now name None
 ChangesName-removed was now name updates same = record { names = updates.0; same = same }
 
 -- a look-up among names with the same entries
 pub same_names : (was now : Kept) → now.names.entries ≡ was.names.entries → (name : List ℕ) → number_in (Some now) name ≡ number_in (Some was) name
 same_names was now e name = ap (λ (entries : List (List ℕ × ℕ)). lookup (is_at (slice_cmp nat_cmp name)) entries) e
 
-pub Keeps-from_set : (old new : Entries) (number : ℕ) (was now : Kept) → kept_at old number ≡ Some was → SetsValue old new number now → ((name : List ℕ) → number_in (Some now) name ≡ number_in (Some was) name) → shown now ≡ shown was → Keeps old new
+pub Keeps-from_set : (old new : Entries) (number : ℕ) (was now : Kept) → kept_at old number ≡ Some was → SetsValue old new number now → ((name : List ℕ) → number_in (Some now) name ≡ number_in (Some was) name) → node_shown now ≡ node_shown was → Keeps old new
 Keeps-from_set old new number was now there sets names same =
     record { same_held = held-set old new number was now there sets names; same_rows = ap rows_of sets.entries ∙ rows-set_value_same old number was now there same }
 
@@ -195,9 +195,9 @@ pub kept_at-last : (entries : Entries) (next : ℕ) (kept : Kept) → kept_at en
 kept_at-last entries next kept missing =
     lookup-append_none (is_at (nat_cmp next)) entries ((next, kept) ∷ []) missing ∙ cond-true (is_at (nat_cmp next) next) _ _ (same_test next next ∙ eq-eqb next next refl)
 
-pub rows-append : (entries : Entries) (next : ℕ) (kept : Kept) → rows_of (entries ++ (next, kept) ∷ []) ≡ rows_of entries ++ (next, shown kept) ∷ []
+pub rows-append : (entries : Entries) (next : ℕ) (kept : Kept) → rows_of (entries ++ (next, kept) ∷ []) ≡ rows_of entries ++ (next, node_shown kept) ∷ []
 rows-append [] next kept = refl
-rows-append (entry ∷ entries) next kept = ap (λ (rows : Nodes). (entry.0, shown entry.1) ∷ rows) (rows-append entries next kept)
+rows-append (entry ∷ entries) next kept = ap (λ (rows : Nodes). (entry.0, node_shown entry.1) ∷ rows) (rows-append entries next kept)
 
 pub take-append_one : (entries : Entries) (entry : ℕ × Kept) → take (length (entries ++ entry ∷ []) - 1) (entries ++ entry ∷ []) ≡ entries
 take-append_one entries entry =
@@ -205,7 +205,7 @@ take-append_one entries entry =
     ap (λ (n : ℕ). take n (entries ++ entry ∷ [])) e ∙ (take-append-le (length entries) entries (entry ∷ []) (le_refl (length entries)) ∙ take_all (length entries) entries (le_refl (length entries)))
 
 -- a key above all others goes to the end
-pub insert-last : (entries : Entries) (next : ℕ) (kept : Kept) → IsStrictlySortedBy nat_cmp (keys_of entries) → IsBelow entries next → insert_entry nat_cmp entries next kept ≡ entries ++ (next, kept) ∷ []
+pub insert-last : (entries : Entries) (next : ℕ) (kept : Kept) → IsStrictlySortedBy nat_cmp (keys_of entries) → AreNumbersBelow entries next → insert_entry nat_cmp entries next kept ≡ entries ++ (next, kept) ∷ []
 insert-last [] next kept rising below = refl
 insert-last (entry ∷ entries) next kept rising below =
     let lt : entry.0 < next = below entry.0 entry.1 (cond-true (is_at (nat_cmp entry.0) entry.0) _ _ (same_test entry.0 entry.0 ∙ eq-eqb entry.0 entry.0 refl)) in

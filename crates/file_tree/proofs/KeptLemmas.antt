@@ -11,30 +11,30 @@ use Rattle.file_world.specs.Tree.{Place, Node, Nodes, FileTree, node_at, is_plac
 use Rattle.file_world.specs.TreeEffect.{is_directory, at, child_of, new_node, contents_of}
 use Rattle.file_world.proofs.RowLemmas.{split, cond_at_true, cond_at_false, weight-le-sum_by}
 use Rattle.file_world.proofs.PlaceLemmas.{is_place-true}
-use Rattle.file_tree.specs.declared.node.Node.{Node as Kept}
+use Rattle.file_tree.specs.declared.node.KeptNode.{KeptNode as Kept}
 use Rattle.file_tree.specs.declared.ready.Spot.{Spot}
 use Rattle.file_tree.specs.declared.ready.Ready.TheVariants.{Nothing, Contents, Made, Gone, Moved}
-use Rattle.file_tree.specs.Index.{Entries, shown, rows_of, kept_at, number_in, held_at, place_of, expected, tree_in, HasRoom, IsKept, Puts, Keeps, IsBelow, AddsLast, Prepares, Stays}
+use Rattle.file_tree.specs.Index.{Entries, node_shown, rows_of, kept_at, number_in, reserved_at, place_of, expected_number, tree_in, HasContentsRoom, IsTreeIndex, Puts, Keeps, AreNumbersBelow, AddsLast, Prepares, Stays}
 use Rattle.file_tree.proofs.IndexLemmas.{same_test, node_at-kept, node_at-missing, kept_at-append, kept_at-last, take-append_one}
 use Rattle.file_tree.proofs.ChildLemmas.{stands_in}
 
 -- ---- the tree that is kept while nothing is ready
 
-pub kept_there : (entries : Entries) (number : ℕ) (node : Node) → node_at (rows_of entries) number ≡ Some node → (kept : Kept) × (kept_at entries number ≡ Some kept) × (shown kept ≡ node)
+pub kept_there : (entries : Entries) (number : ℕ) (node : Node) → node_at (rows_of entries) number ≡ Some node → (kept : Kept) × (kept_at entries number ≡ Some kept) × (node_shown kept ≡ node)
 kept_there entries number node e = by (kept_at entries number) refl
   where
-    by : (was : Option Kept) → kept_at entries number ≡ was → (kept : Kept) × (kept_at entries number ≡ Some kept) × (shown kept ≡ node)
+    by : (was : Option Kept) → kept_at entries number ≡ was → (kept : Kept) × (kept_at entries number ≡ Some kept) × (node_shown kept ≡ node)
     by None h = absurd (none-some _ (sym (node_at-missing entries number h) ∙ e))
     by (Some kept) h = (kept, h, same_Some _ _ (sym (node_at-kept entries number kept h) ∙ e))
 
 pub some_kept : (entries : Entries) (number : ℕ) (node : Node) → node_at (rows_of entries) number ≡ Some node → IsSome (kept_at entries number)
 some_kept entries number node e = ap is_some (kept_there entries number node e).1
 
-pub below_next_kept : (entries : Entries) (next : ℕ) → IsTree (tree_in None entries next) → IsBelow entries next
-below_next_kept entries next is number kept e = (is.sound number (shown kept) (node_at-kept entries number kept e)).below_next
+pub below_next_kept : (entries : Entries) (next : ℕ) → IsTree (tree_in None entries next) → AreNumbersBelow entries next
+below_next_kept entries next is number kept e = (is.sound number (node_shown kept) (node_at-kept entries number kept e)).below_next
 
 -- nothing is ready, and the rows and names are those of the tree
-pub IsKept-from : (new : Entries) (tree : FileTree) → IsTree tree → rows_of new ≡ tree.rows → ((directory : ℕ) (name : List ℕ) → held_at new directory name ≡ child_of tree.rows directory name) → IsKept new tree.next None
+pub IsKept-from : (new : Entries) (tree : FileTree) → IsTree tree → rows_of new ≡ tree.rows → ((directory : ℕ) (name : List ℕ) → reserved_at new directory name ≡ child_of tree.rows directory name) → IsTreeIndex new tree.next None
 IsKept-from new tree is rows held =
     record {
       tree = subst (λ (r : Nodes). IsTree (record { rows = r; next = tree.next })) (sym rows) is;
@@ -70,7 +70,7 @@ child_short tree directory name number is e =
     ])
     (λ f. absurd (none-some _ (cond_at_false (is_directory (node_at tree.rows directory)) _ _ _ f e)))
 
-pub child_found : (entries : Entries) (next directory : ℕ) (name : List ℕ) → IsKept entries next None → cond (nat_le (length name) 64) (held_at entries directory name) None ≡ child_of (rows_of entries) directory name
+pub child_found : (entries : Entries) (next directory : ℕ) (name : List ℕ) → IsTreeIndex entries next None → cond (nat_le (length name) 64) (reserved_at entries directory name) None ≡ child_of (rows_of entries) directory name
 child_found entries next directory name kept =
     elim (cases_lt 64 (length name)) [
       | inl long ↦ cond-false (nat_le (length name) 64) _ _ (lt-leb (length name) 64 long) ∙ none_for_long (child_of (rows_of entries) directory name) refl long
@@ -99,14 +99,14 @@ length_in_sum rows number = by (node_at rows number) refl
 
 -- ---- what is prepared
 
-pub Stays-from_Keeps : (old new : Entries) (next : ℕ) → IsKept old next None → Keeps old new → Stays old new next
+pub Stays-from_Keeps : (old new : Entries) (next : ℕ) → IsTreeIndex old next None → Keeps old new → Stays old new next
 Stays-from_Keeps old new next kept keeps =
     record {
       kept = IsKept-from new (tree_in None old next) kept.tree keeps.same_rows (λ directory name. keeps.same_held directory name ∙ kept.index directory name);
       same_rows = keeps.same_rows;
     }
 
-pub Prepares-contents : (old new : Entries) (next number len : ℕ) → IsKept old next None → Keeps old new → HasRoom new number len → Prepares old new next (Contents number len)
+pub Prepares-contents : (old new : Entries) (next number len : ℕ) → IsTreeIndex old next None → Keeps old new → HasContentsRoom new number len → Prepares old new next (Contents number len)
 Prepares-contents old new next number len kept keeps room =
     let stays = Stays-from_Keeps old new next kept keeps in
     record {
@@ -115,19 +115,19 @@ Prepares-contents old new next number len kept keeps room =
     }
 
 -- one name is held
-expected-put : (old new : Entries) (next : ℕ) (spot : Spot) → IsKept old next None → Puts old new (place_of spot) (Some 0) → (directory : ℕ) (name : List ℕ) → held_at new directory name ≡ expected (Some spot) (rows_of old) directory name
+expected-put : (old new : Entries) (next : ℕ) (spot : Spot) → IsTreeIndex old next None → Puts old new (place_of spot) (Some 0) → (directory : ℕ) (name : List ℕ) → reserved_at new directory name ≡ expected_number (Some spot) (rows_of old) directory name
 expected-put old new next spot kept puts directory name =
     split (is_place (place_of spot) (at directory name))
     (λ t. let same = is_place-true (place_of spot) (at directory name) t in
-    ap (λ (p : Place). held_at new p.directory p.name) (sym same) ∙ (puts.here ∙ sym (cond-true (is_place (place_of spot) (at directory name)) _ _ t)))
+    ap (λ (p : Place). reserved_at new p.directory p.name) (sym same) ∙ (puts.here ∙ sym (cond-true (is_place (place_of spot) (at directory name)) _ _ t)))
     (λ f. puts.elsewhere directory name f ∙ (kept.index directory name ∙ sym (cond-false (is_place (place_of spot) (at directory name)) _ _ f)))
 
-pub Prepares-moved : (old new : Entries) (next number : ℕ) (from to : Spot) → IsKept old next None → Puts old new (place_of to) (Some 0) → child_of (rows_of old) to.directory to.name ≡ None → Prepares old new next (Moved number from to)
+pub Prepares-moved : (old new : Entries) (next number : ℕ) (from to : Spot) → IsTreeIndex old next None → Puts old new (place_of to) (Some 0) → child_of (rows_of old) to.directory to.name ≡ None → Prepares old new next (Moved number from to)
 Prepares-moved old new next number from to kept puts free =
     record {
       kept = record {
         tree = subst (λ (r : Nodes). IsTree (record { rows = r; next = next })) (sym puts.same_rows) kept.tree;
-        index = λ directory name. expected-put old new next to kept puts directory name ∙ ap (λ (r : Nodes). expected (Some to) r directory name) (sym puts.same_rows);
+        index = λ directory name. expected-put old new next to kept puts directory name ∙ ap (λ (r : Nodes). expected_number (Some to) r directory name) (sym puts.same_rows);
         free = ap (λ (r : Nodes). child_of r to.directory to.name) puts.same_rows ∙ free;
         prepared = tt;
       };
@@ -135,28 +135,28 @@ Prepares-moved old new next number from to kept puts free =
     }
 
 -- one more node without names at the end leaves all names
-held-append : (entries : Entries) (next : ℕ) (kept : Kept) → kept_at entries next ≡ None → kept.names.entries ≡ [] → (directory : ℕ) (name : List ℕ) → held_at (entries ++ (next, kept) ∷ []) directory name ≡ held_at entries directory name
+held-append : (entries : Entries) (next : ℕ) (kept : Kept) → kept_at entries next ≡ None → kept.names.entries ≡ [] → (directory : ℕ) (name : List ℕ) → reserved_at (entries ++ (next, kept) ∷ []) directory name ≡ reserved_at entries directory name
 held-append entries next kept missing none directory name =
     elim (cases_eq directory next) [
-      | inl e ↦ ap (λ (d : ℕ). held_at (entries ++ (next, kept) ∷ []) d name) e
+      | inl e ↦ ap (λ (d : ℕ). reserved_at (entries ++ (next, kept) ∷ []) d name) e
           ∙ (ap (λ (k : Option Kept). number_in k name) (kept_at-last entries next kept missing)
           ∙ (ap (λ (es : List (List ℕ × ℕ)). lookup (is_at (slice_cmp nat_cmp name)) es) none
-          ∙ (sym (ap (λ (k : Option Kept). number_in k name) missing) ∙ ap (λ (d : ℕ). held_at entries d name) (sym e))))
+          ∙ (sym (ap (λ (k : Option Kept). number_in k name) missing) ∙ ap (λ (d : ℕ). reserved_at entries d name) (sym e))))
       | inr other ↦ ap (λ (k : Option Kept). number_in k name) (kept_at-append entries next kept directory other)
     ]
 
-missing_next : (entries : Entries) (next : ℕ) → IsBelow entries next → kept_at entries next ≡ None
+missing_next : (entries : Entries) (next : ℕ) → AreNumbersBelow entries next → kept_at entries next ≡ None
 missing_next entries next below = by (kept_at entries next) refl
   where
     by : (was : Option Kept) → kept_at entries next ≡ was → kept_at entries next ≡ None
     by None h = h
     by (Some kept) h = absurd (let lt : next < next = below next kept h in omega (arith, lt))
 
-pub below_after_put : (old mid : Entries) (next : ℕ) (place : Place) (number : Option ℕ) → IsKept old next None → Puts old mid place number → IsBelow mid next
+pub below_after_put : (old mid : Entries) (next : ℕ) (place : Place) (number : Option ℕ) → IsTreeIndex old next None → Puts old mid place number → AreNumbersBelow mid next
 below_after_put old mid next place number kept puts =
     below_next_kept mid next (subst (λ (r : Nodes). IsTree (record { rows = r; next = next })) (sym puts.same_rows) kept.tree)
 
-pub Prepares-made : (old mid new : Entries) (next : ℕ) (kind : Kind) (spot : Spot) → IsKept old next None → Puts old mid (place_of spot) (Some 0) → AddsLast mid new next (new_node kind (place_of spot)) → child_of (rows_of old) spot.directory spot.name ≡ None → Prepares old new next (Made kind spot)
+pub Prepares-made : (old mid new : Entries) (next : ℕ) (kind : Kind) (spot : Spot) → IsTreeIndex old next None → Puts old mid (place_of spot) (Some 0) → AddsLast mid new next (new_node kind (place_of spot)) → child_of (rows_of old) spot.directory spot.name ≡ None → Prepares old new next (Made kind spot)
 Prepares-made old mid new next kind spot kept puts adds free =
     let below = below_after_put old mid next (place_of spot) (Some 0) kept puts in
     let settled_is : take (length new - 1) new ≡ mid = ap (λ (es : Entries). take (length es - 1) es) adds.last ∙ take-append_one mid (next, adds.kept) in
@@ -165,9 +165,9 @@ Prepares-made old mid new next kind spot kept puts adds free =
       kept = record {
         tree = subst (λ (r : Nodes). IsTree (record { rows = r; next = next })) (sym rows) kept.tree;
         index = λ directory name.
-            ap (λ (es : Entries). held_at es directory name) adds.last
+            ap (λ (es : Entries). reserved_at es directory name) adds.last
             ∙ (held-append mid next adds.kept (missing_next mid next below) adds.no_names directory name
-            ∙ (expected-put old mid next spot kept puts directory name ∙ ap (λ (r : Nodes). expected (Some spot) r directory name) (sym rows)));
+            ∙ (expected-put old mid next spot kept puts directory name ∙ ap (λ (r : Nodes). expected_number (Some spot) r directory name) (sym rows)));
         free = ap (λ (r : Nodes). child_of r spot.directory spot.name) rows ∙ free;
         prepared = record { before = mid; kept = adds.kept; last = adds.last; new = adds.shows; no_names = adds.no_names };
       };
@@ -175,24 +175,24 @@ Prepares-made old mid new next kind spot kept puts adds free =
     }
 
 -- a name that was held is given up
-released : (mid new : Entries) (tree : FileTree) (spot : Spot) → IsTree tree → rows_of mid ≡ tree.rows → ((directory : ℕ) (name : List ℕ) → held_at mid directory name ≡ expected (Some spot) tree.rows directory name) → child_of tree.rows spot.directory spot.name ≡ None → Puts mid new (place_of spot) None → IsKept new tree.next None × (rows_of new ≡ tree.rows)
+released : (mid new : Entries) (tree : FileTree) (spot : Spot) → IsTree tree → rows_of mid ≡ tree.rows → ((directory : ℕ) (name : List ℕ) → reserved_at mid directory name ≡ expected_number (Some spot) tree.rows directory name) → child_of tree.rows spot.directory spot.name ≡ None → Puts mid new (place_of spot) None → IsTreeIndex new tree.next None × (rows_of new ≡ tree.rows)
 released mid new tree spot is rows held free puts =
     let same : rows_of new ≡ tree.rows = puts.same_rows ∙ rows in (
       IsKept-from new tree is same
           (λ directory name.
           split (is_place (place_of spot) (at directory name))
           (λ t. let e = is_place-true (place_of spot) (at directory name) t in
-          ap (λ (p : Place). held_at new p.directory p.name) (sym e) ∙ (puts.here ∙ (sym free ∙ ap (λ (p : Place). child_of tree.rows p.directory p.name) e)))
+          ap (λ (p : Place). reserved_at new p.directory p.name) (sym e) ∙ (puts.here ∙ (sym free ∙ ap (λ (p : Place). child_of tree.rows p.directory p.name) e)))
           (λ f. puts.elsewhere directory name f ∙ (held directory name ∙ cond-false (is_place (place_of spot) (at directory name)) _ _ f))),
       same,
     )
 
-pub Stays-released : (old mid same new : Entries) (next : ℕ) (spot : Spot) → IsKept old next None → Puts old mid (place_of spot) (Some 0) → same ≡ mid → Puts same new (place_of spot) None → child_of (rows_of old) spot.directory spot.name ≡ None → Stays old new next
+pub Stays-released : (old mid same new : Entries) (next : ℕ) (spot : Spot) → IsTreeIndex old next None → Puts old mid (place_of spot) (Some 0) → same ≡ mid → Puts same new (place_of spot) None → child_of (rows_of old) spot.directory spot.name ≡ None → Stays old new next
 Stays-released old mid same new next spot kept puts e gone free =
     let r = released mid new (tree_in None old next) spot kept.tree puts.same_rows (expected-put old mid next spot kept puts) free (subst (λ (es : Entries). Puts es new (place_of spot) None) e gone) in
     record { kept = r.0; same_rows = r.1 }
 
-pub forgets_moved : (old new : Entries) (next number : ℕ) (from to : Spot) → IsKept old next (Some (Moved number from to)) → Puts old new (place_of to) None → IsKept new next None × (rows_of new ≡ rows_of old)
+pub forgets_moved : (old new : Entries) (next number : ℕ) (from to : Spot) → IsTreeIndex old next (Some (Moved number from to)) → Puts old new (place_of to) None → IsTreeIndex new next None × (rows_of new ≡ rows_of old)
 forgets_moved old new next number from to kept puts = released old new (tree_in None old next) to kept.tree refl kept.index kept.free puts
 
 removed_last : (before : Entries) (next : ℕ) (kept : Kept) → kept_at before next ≡ None → remove_entry (is_at (nat_cmp next)) (before ++ (next, kept) ∷ []) ≡ before
@@ -202,7 +202,7 @@ removed_last (entry ∷ before) next kept missing =
     (λ t. absurd (none-some _ (sym (cond_at_true (is_at (nat_cmp next) entry.0) _ _ _ t missing))))
     (λ f. cond-false (is_at (nat_cmp next) entry.0) _ _ f ∙ ap (λ (rest : Entries). entry ∷ rest) (removed_last before next kept (cond_at_false (is_at (nat_cmp next) entry.0) _ _ _ f missing)))
 
-pub forgets_made : (old mid new : Entries) (next : ℕ) (kind : Kind) (spot : Spot) → IsKept old next (Some (Made kind spot)) → mid ≡ remove_entry (is_at (nat_cmp next)) old → Puts mid new (place_of spot) None → IsKept new next None × (rows_of new ≡ rows_of (take (length old - 1) old))
+pub forgets_made : (old mid new : Entries) (next : ℕ) (kind : Kind) (spot : Spot) → IsTreeIndex old next (Some (Made kind spot)) → mid ≡ remove_entry (is_at (nat_cmp next)) old → Puts mid new (place_of spot) None → IsTreeIndex new next None × (rows_of new ≡ rows_of (take (length old - 1) old))
 forgets_made old mid new next kind spot kept e puts =
     let last = kept.prepared in
     let settled_is : take (length old - 1) old ≡ last.before = ap (λ (es : Entries). take (length es - 1) es) last.last ∙ take-append_one last.before (next, last.kept) in
@@ -212,24 +212,24 @@ forgets_made old mid new next kind spot kept e puts =
     let r = released last.before new (tree_in None last.before next) spot is refl
     (λ directory name.
     sym (held-append last.before next last.kept missing last.no_names directory name)
-    ∙ (ap (λ (es : Entries). held_at es directory name) (sym last.last)
-    ∙ (kept.index directory name ∙ ap (λ (es : Entries). expected (Some spot) (rows_of es) directory name) settled_is)))
+    ∙ (ap (λ (es : Entries). reserved_at es directory name) (sym last.last)
+    ∙ (kept.index directory name ∙ ap (λ (es : Entries). expected_number (Some spot) (rows_of es) directory name) settled_is)))
     (ap (λ (es : Entries). child_of (rows_of es) spot.directory spot.name) (sym settled_is) ∙ kept.free)
     (subst (λ (es : Entries). Puts es new (place_of spot) None) mid_is puts) in
     (r.0, r.1 ∙ ap rows_of (sym settled_is))
 
-pub forgets_nothing : (entries : Entries) (next : ℕ) → IsKept entries next (Some Nothing) → IsKept entries next None
+pub forgets_nothing : (entries : Entries) (next : ℕ) → IsTreeIndex entries next (Some Nothing) → IsTreeIndex entries next None
 forgets_nothing entries next kept = record { tree = kept.tree; index = kept.index; free = tt; prepared = tt }
 
-pub forgets_contents : (entries : Entries) (next number len : ℕ) → IsKept entries next (Some (Contents number len)) → IsKept entries next None
+pub forgets_contents : (entries : Entries) (next number len : ℕ) → IsTreeIndex entries next (Some (Contents number len)) → IsTreeIndex entries next None
 forgets_contents entries next number len kept = record { tree = kept.tree; index = kept.index; free = tt; prepared = tt }
 
-pub forgets_gone : (entries : Entries) (next number : ℕ) (spot : Spot) → IsKept entries next (Some (Gone number spot)) → IsKept entries next None
+pub forgets_gone : (entries : Entries) (next number : ℕ) (spot : Spot) → IsTreeIndex entries next (Some (Gone number spot)) → IsTreeIndex entries next None
 forgets_gone entries next number spot kept = record { tree = kept.tree; index = kept.index; free = tt; prepared = tt }
 
 -- what is ready without a name or a room of its own
-pub Prepares-nothing : (entries : Entries) (next : ℕ) → IsKept entries next None → Prepares entries entries next Nothing
+pub Prepares-nothing : (entries : Entries) (next : ℕ) → IsTreeIndex entries next None → Prepares entries entries next Nothing
 Prepares-nothing entries next kept = record { kept = record { tree = kept.tree; index = kept.index; free = tt; prepared = tt }; same_rows = refl }
 
-pub Prepares-gone : (entries : Entries) (next number : ℕ) (spot : Spot) → IsKept entries next None → Prepares entries entries next (Gone number spot)
+pub Prepares-gone : (entries : Entries) (next number : ℕ) (spot : Spot) → IsTreeIndex entries next None → Prepares entries entries next (Gone number spot)
 Prepares-gone entries next number spot kept = record { kept = record { tree = kept.tree; index = kept.index; free = tt; prepared = tt }; same_rows = refl }

@@ -7,11 +7,11 @@ use Rattle.std.proofs.lemmas.Bool.{cond-true, false≢true}
 use Rattle.file_world.specs.Tree.{Nodes, node_at, number_at}
 use Rattle.file_world.specs.TreeEffect.{is_directory, at, names_in}
 use Rattle.file_world.proofs.ListingLemmas.{pairs_of, same_pairs, names_found, names_sorted, names_again}
-use Rattle.file_tree.specs.declared.node.Node.{Node as Kept}
-use Rattle.file_tree.specs.Index.{Entries, rows_of, kept_at, number_in, named_node, IsKept}
+use Rattle.file_tree.specs.declared.node.KeptNode.{KeptNode as Kept}
+use Rattle.file_tree.specs.Index.{Entries, rows_of, kept_at, number_in, named_node, IsTreeIndex}
 use Rattle.file_tree.proofs.IndexLemmas.{node_at-missing}
 
-pub listed_names : (entries : Entries) (next directory : ℕ) (node : Kept) → IsKept entries next None → is_directory (node_at (rows_of entries) directory) ≡ true → kept_at entries directory ≡ Some node → IsStrictlySortedBy (slice_cmp nat_cmp) (keys_of node.names.entries) → map named_node node.names.entries ≡ names_in (rows_of entries) directory
+pub listed_names : (entries : Entries) (next directory : ℕ) (node : Kept) → IsTreeIndex entries next None → is_directory (node_at (rows_of entries) directory) ≡ true → kept_at entries directory ≡ Some node → IsStrictlySortedBy (slice_cmp nat_cmp) (keys_of node.names.entries) → map named_node node.names.entries ≡ names_in (rows_of entries) directory
 listed_names entries next directory node kept holds found sorted =
     let rows : Nodes = rows_of entries in
     let same : node.names.entries ≡ pairs_of (names_in rows directory) =

@@ -4,7 +4,7 @@ use borrow.Rule.Slice.PartMut.{post_of}
 use Rattle.std.proofs.lemmas.Bool.{cases_lt}
 use Rattle.std.proofs.lemmas.List.{take-append-le, take-replicate, length-replicate}
 use Rattle.std.proofs.Math.Seq.{take-append-add}
-use Rattle.file_world.specs.TreeEffect.{written, part_of}
+use Rattle.file_world.specs.TreeEffect.{write_at, part_of}
 
 pub none_of_none : (offset len : ℕ) → part_of [] offset len ≡ []
 none_of_none zero zero = refl
@@ -26,7 +26,7 @@ whole_written len new items same all =
     ∙ (ap (take len) (append-nil new) ∙ take_all len new (omega (arith, same, all)))
 
 -- what is written over a part that is there
-written_over : (old : List ℕ) (offset : ℕ) (bytes : List ℕ) → 0 < length bytes → offset + length bytes ≤ length old → take offset old ++ bytes ++ drop (offset + length bytes) old ≡ written old offset bytes
+written_over : (old : List ℕ) (offset : ℕ) (bytes : List ℕ) → 0 < length bytes → offset + length bytes ≤ length old → take offset old ++ bytes ++ drop (offset + length bytes) old ≡ write_at old offset bytes
 written_over old offset [] some fits = absurd (omega (arith, some))
 written_over old offset (byte ∷ bytes) some fits =
     let none : offset - length old ≡ 0 = omega (arith, fits) in
@@ -47,7 +47,7 @@ front_filled old offset more fits =
     ]
 
 -- what is written at the end of contents that were filled up
-written_filled : (old : List ℕ) (offset : ℕ) (bytes : List ℕ) → 0 < length bytes → length old < offset + length bytes → (filled : List ℕ) → filled ≡ take (offset + length bytes) old ++ replicate (offset + length bytes - length old) 0 → take offset filled ++ bytes ++ drop (offset + length bytes) filled ≡ written old offset bytes
+written_filled : (old : List ℕ) (offset : ℕ) (bytes : List ℕ) → 0 < length bytes → length old < offset + length bytes → (filled : List ℕ) → filled ≡ take (offset + length bytes) old ++ replicate (offset + length bytes - length old) 0 → take offset filled ++ bytes ++ drop (offset + length bytes) filled ≡ write_at old offset bytes
 written_filled old offset [] some short filled e = absurd (omega (arith, some))
 written_filled old offset (byte ∷ bytes) some short filled e =
     let more : List ℕ = byte ∷ bytes in
@@ -60,9 +60,9 @@ written_filled old offset (byte ∷ bytes) some short filled e =
     ap (λ (start : List ℕ). start ++ more ++ drop end filled) front
     ∙ ap (λ (rest : List ℕ). take offset old ++ replicate (offset - length old) 0 ++ more ++ rest) (none ∙ sym none_old)
 
-pub put_over : (old : List ℕ) (offset : ℕ) (bytes new : List ℕ) → (length bytes ≡ 0 → ⊥) → length old < offset + length bytes → (filled : List ℕ) → filled ≡ take (offset + length bytes) old ++ replicate (offset + length bytes - length old) 0 → new ≡ take offset filled ++ bytes ++ drop (offset + length bytes) filled → new ≡ written old offset bytes
+pub put_over : (old : List ℕ) (offset : ℕ) (bytes new : List ℕ) → (length bytes ≡ 0 → ⊥) → length old < offset + length bytes → (filled : List ℕ) → filled ≡ take (offset + length bytes) old ++ replicate (offset + length bytes - length old) 0 → new ≡ take offset filled ++ bytes ++ drop (offset + length bytes) filled → new ≡ write_at old offset bytes
 put_over old offset bytes new some short filled e new_is = new_is ∙ written_filled old offset bytes (omega (arith, some)) short filled e
 
-pub put_within : (old : List ℕ) (offset : ℕ) (bytes new : List ℕ) → (length bytes ≡ 0 → ⊥) → offset + length bytes ≤ length old → (items : List ℕ) → items ≡ old → new ≡ take offset items ++ bytes ++ drop (offset + length bytes) items → new ≡ written old offset bytes
+pub put_within : (old : List ℕ) (offset : ℕ) (bytes new : List ℕ) → (length bytes ≡ 0 → ⊥) → offset + length bytes ≤ length old → (items : List ℕ) → items ≡ old → new ≡ take offset items ++ bytes ++ drop (offset + length bytes) items → new ≡ write_at old offset bytes
 put_within old offset bytes new some fits items same new_is =
     new_is ∙ (ap (λ (i : List ℕ). take offset i ++ bytes ++ drop (offset + length bytes) i) same ∙ written_over old offset bytes (omega (arith, some)) fits)

@@ -7,27 +7,27 @@ use Rattle.std.specs.Cmp.Lexicographic.{slice_cmp}
 use Rattle.std.proofs.lemmas.Bool.{cond-true, cond-false, false≢true, eq-eqb, ne_eqb, eqb-true, or_left, or_right, or_cases, false_from_ne_true}
 use Rattle.std.proofs.lemmas.Option.{none-some, same_Some}
 use Rattle.file_world.specs.Tree.{Place, Node, Nodes, FileTree, node_at, IsTree}
-use Rattle.file_world.specs.TreeEffect.{is_directory, is_directory_kind, at, child_of, has_names, leads_past, leads_on, length_after}
+use Rattle.file_world.specs.TreeEffect.{is_directory, is_directory_kind, at, child_of, has_names, has_way_past, has_way_on, length_after}
 use Rattle.file_world.proofs.RowLemmas.{split, cond_at_true, cond_at_false, lookup_here, lookup_later, above_found, AreRising, rising_head, rising_tail}
 use Rattle.file_world.proofs.PlaceLemmas.{Stands}
-use Rattle.file_tree.specs.declared.node.Node.{Node as Kept}
-use Rattle.file_tree.specs.Index.{Entries, rows_of, kept_at, number_in, held_at, tree_in, IsKept}
+use Rattle.file_tree.specs.declared.node.KeptNode.{KeptNode as Kept}
+use Rattle.file_tree.specs.Index.{Entries, rows_of, kept_at, number_in, reserved_at, tree_in, IsTreeIndex}
 use Rattle.file_tree.proofs.ChildLemmas.{stands_in, number_from, holder_of}
 use Rattle.file_tree.proofs.IndexLemmas.{is_name_itself}
 
-pub leads_step : (steps : ℕ) (rows : Nodes) (avoided number : ℕ) → 0 < steps → leads_past steps rows avoided number ≡ cond (nat_eq number avoided) false (cond (nat_eq number 1) true (leads_on (node_at rows number) (leads_past (steps - 1) rows avoided)))
+pub leads_step : (steps : ℕ) (rows : Nodes) (avoided number : ℕ) → 0 < steps → has_way_past steps rows avoided number ≡ cond (nat_eq number avoided) false (cond (nat_eq number 1) true (has_way_on (node_at rows number) (has_way_past (steps - 1) rows avoided)))
 leads_step zero rows avoided number some = absurd (omega (arith, some))
 leads_step (suc steps) rows avoided number some =
     let e : suc steps - 1 ≡ steps = omega arith in
-    ap (λ (s : ℕ). cond (nat_eq number avoided) false (cond (nat_eq number 1) true (leads_on (node_at rows number) (leads_past s rows avoided)))) (sym e)
+    ap (λ (s : ℕ). cond (nat_eq number avoided) false (cond (nat_eq number 1) true (has_way_on (node_at rows number) (has_way_past s rows avoided)))) (sym e)
 
 -- a step from a number that is neither the avoided one nor the root's
-pub leads_further : (steps : ℕ) (rows : Nodes) (avoided number : ℕ) (found : Option Node) → 0 < steps → number ≢ avoided → number ≢ 1 → node_at rows number ≡ found → leads_past steps rows avoided number ≡ leads_on found (leads_past (steps - 1) rows avoided)
+pub leads_further : (steps : ℕ) (rows : Nodes) (avoided number : ℕ) (found : Option Node) → 0 < steps → number ≢ avoided → number ≢ 1 → node_at rows number ≡ found → has_way_past steps rows avoided number ≡ has_way_on found (has_way_past (steps - 1) rows avoided)
 leads_further steps rows avoided number found some apart below e =
     leads_step steps rows avoided number some
     ∙ (cond-false (nat_eq number avoided) _ _ (ne_eqb number avoided apart)
     ∙ (cond-false (nat_eq number 1) _ _ (ne_eqb number 1 below)
-    ∙ ap (λ (n : Option Node). leads_on n (leads_past (steps - 1) rows avoided)) e))
+    ∙ ap (λ (n : Option Node). has_way_on n (has_way_past (steps - 1) rows avoided)) e))
 
 pub length_after_le : (old offset len : ℕ) → length_after old offset len ≤ max (offset + len) old
 length_after_le old offset len =
@@ -88,17 +88,17 @@ names_from tree directory name number is e =
     (λ f. absurd (none-some _ (cond_at_false (is_directory (node_at tree.rows directory)) _ _ _ f e)))
 
 -- where nothing is kept under any name, there are no names
-pub no_names : (entries : Entries) (next directory : ℕ) → IsKept entries next None → 1 ≤ directory → ((name : List ℕ) → held_at entries directory name ≡ None) → has_names (rows_of entries) directory ≡ false
+pub no_names : (entries : Entries) (next directory : ℕ) → IsTreeIndex entries next None → 1 ≤ directory → ((name : List ℕ) → reserved_at entries directory name ≡ None) → has_names (rows_of entries) directory ≡ false
 no_names entries next directory kept above none =
     false_from_ne_true (has_names (rows_of entries) directory)
     (λ t. let child = names_child (tree_in None entries next) directory kept.tree above t in
     none-some _ (sym (none child.0) ∙ (kept.index directory child.0 ∙ child.2)))
 
-pub no_names_missing : (entries : Entries) (next directory : ℕ) → IsKept entries next None → 1 ≤ directory → kept_at entries directory ≡ None → has_names (rows_of entries) directory ≡ false
+pub no_names_missing : (entries : Entries) (next directory : ℕ) → IsTreeIndex entries next None → 1 ≤ directory → kept_at entries directory ≡ None → has_names (rows_of entries) directory ≡ false
 no_names_missing entries next directory kept above missing = no_names entries next directory kept above (λ name. ap (λ (k : Option Kept). number_in k name) missing)
 
 -- whether a directory keeps names is whether it has names
-pub names_kept : (entries : Entries) (next directory : ℕ) (node : Kept) → IsKept entries next None → 1 ≤ directory → kept_at entries directory ≡ Some node → (empty : Bool) → (empty ≡ true → length node.names.entries ≡ 0) → (length node.names.entries ≡ 0 → empty ≡ true) → not empty ≡ has_names (rows_of entries) directory
+pub names_kept : (entries : Entries) (next directory : ℕ) (node : Kept) → IsTreeIndex entries next None → 1 ≤ directory → kept_at entries directory ≡ Some node → (empty : Bool) → (empty ≡ true → length node.names.entries ≡ 0) → (length node.names.entries ≡ 0 → empty ≡ true) → not empty ≡ has_names (rows_of entries) directory
 names_kept entries next directory node kept above found empty there back = by node.names.entries refl
   where
     by : (names : List (List ℕ × ℕ)) → node.names.entries ≡ names → not empty ≡ has_names (rows_of entries) directory
@@ -107,7 +107,7 @@ names_kept entries next directory node kept above found empty there back = by no
         ∙ sym (no_names entries next directory kept above (λ name. ap (λ (k : Option Kept). number_in k name) found ∙ ap (λ (es : List (List ℕ × ℕ)). lookup (is_at (slice_cmp nat_cmp name)) es) h))
     by (first ∷ others) h =
         let some : empty ≡ false = false_from_ne_true empty (λ t. let z = sym (there t) ∙ ap length h in omega (arith, z)) in
-        let here : held_at entries directory first.0 ≡ Some first.1 =
+        let here : reserved_at entries directory first.0 ≡ Some first.1 =
         ap (λ (k : Option Kept). number_in k first.0) found
         ∙ (ap (λ (es : List (List ℕ × ℕ)). lookup (is_at (slice_cmp nat_cmp first.0)) es) h
         ∙ cond-true (is_at (slice_cmp nat_cmp first.0) first.0) _ _ (is_name_itself first.0)) in

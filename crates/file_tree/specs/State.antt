@@ -7,13 +7,13 @@ use Rattle.file_world.specs.declared.refusal.OpFault.{OpFault}
 use Rattle.file_world.specs.declared.refusal.OpFault.TheVariants.{Refused, NoMemory}
 use Rattle.file_world.specs.declared.reply.TreeReply.{TreeReply}
 use Rattle.file_world.specs.Tree.{FileTree, node_at}
-use Rattle.file_world.specs.TreeEffect.{child_of, contents_of, written, tree_refusal, tree_reply}
+use Rattle.file_world.specs.TreeEffect.{child_of, contents_of, write_at, tree_refusal, tree_reply}
 use Rattle.file_tree.specs.declared.ready.Spot.{Spot}
 use Rattle.file_tree.specs.declared.ready.Ready.{Ready}
 use Rattle.file_tree.specs.declared.ready.Ready.TheVariants.{Nothing, Contents, Made, Gone, Moved}
 
 -- the tree, and the change for which memory was taken
-pub record TreeState : Type 0 where
+pub record TreeView : Type 0 where
   pub tree : FileTree
   pub ready : Option Ready
 
@@ -26,7 +26,7 @@ child_or_none tree directory name = unwrap_or (child_of tree.rows directory name
 -- what an operation that is not refused gets ready
 abbrev pub ready_for : FileTree → TreeOp → Ready
 ready_for tree (Read file offset len) = Nothing
-ready_for tree (Write file offset bytes) = Contents file.0 (length (written (contents_of (node_at tree.rows file.0)) offset bytes))
+ready_for tree (Write file offset bytes) = Contents file.0 (length (write_at (contents_of (node_at tree.rows file.0)) offset bytes))
 ready_for tree (Truncate file len) = Contents file.0 len
 ready_for tree (ListOf directory) = Nothing
 ready_for tree (Lookup directory name) = Nothing
@@ -36,7 +36,7 @@ ready_for tree (Unlink directory name) = Gone (child_or_none tree directory.0 na
 ready_for tree (Rename directory name target renamed) = Moved (child_or_none tree directory.0 name) (spot directory.0 name) (spot target.0 renamed)
 
 -- the operation is not refused, and what it changes is ready
-pub record IsReady (state : TreeState) (op : TreeOp) : Type 0 where
+pub record IsReady (state : TreeView) (op : TreeOp) : Type 0 where
   pub free : tree_refusal state.tree op ≡ None
   pub ready : state.ready ≡ Some (ready_for state.tree op)
 

@@ -3,11 +3,11 @@
 ghost use Rattle.std.specs.Prelude.{◌≡◌, ◌≤◌, ◌<◌, ◌^◌, ◌+◌, ◌-◌, ◌++◌, take, drop, length, None, Some, IsSome, vec_capacity};
 ghost use Rattle.file_world.specs.Limits.{longest_name};
 ghost use Rattle.file_world.specs.Tree.{node_at, contents_sum};
-ghost use Rattle.file_world.specs.TreeEffect.{at, contents_of, written, resized, tree_after};
-ghost use Rattle.file_tree.specs.Index.{rows_of, kept_at, held_at, place_of, settled, tree_in, number_ready, HasRoom, Puts, Fills, Removes, Replaces, Relocates, IsChangeable, Changes};
+ghost use Rattle.file_world.specs.TreeEffect.{at, contents_of, write_at, resize_to, tree_after};
+ghost use Rattle.file_tree.specs.Index.{rows_of, kept_at, reserved_at, place_of, published_nodes, tree_in, number_ready, HasContentsRoom, Puts, Fills, Removes, Replaces, Relocates, IsChangeable, Changes};
 
 use crate::name::Name;
-use crate::node::Nodes;
+use crate::node::KeptNodes;
 use crate::preparing::{enter, release};
 use crate::ready::{Ready, Spot};
 use crate::refusals::length_at;
@@ -23,9 +23,9 @@ fn overwrite(place: &mut [u8], start: usize, bytes: &[u8])
 }
 
 fn put(contents: &mut Vec<u8>, offset: usize, bytes: &[u8])
-    requires room { length (written contents.old.items offset bytes.now) ≤ vec_capacity contents.old }
+    requires room { length (write_at contents.old.items offset bytes.now) ≤ vec_capacity contents.old }
     requires fits { offset + length bytes.now < 2 ^ 63 }
-    ensures { contents.new.items ≡ written contents.old.items offset bytes.now }
+    ensures { contents.new.items ≡ write_at contents.old.items offset bytes.now }
 {
     if bytes.is_empty() {
         return;
@@ -40,21 +40,21 @@ fn put(contents: &mut Vec<u8>, offset: usize, bytes: &[u8])
 
 fn cut(contents: &mut Vec<u8>, len: usize)
     requires room { len ≤ vec_capacity contents.old }
-    ensures { contents.new.items ≡ resized contents.old.items len }
+    ensures { contents.new.items ≡ resize_to contents.old.items len }
 {
     let resized: Result<(), AllocError> = contents.resize(len, 0);
     resized.unwrap();
 }
 
 /// Writes the bytes at the offset in a file, and returns the sum of all contents.
-pub fn write(nodes: &mut Nodes, total: u64, number: u64, offset: u64, bytes: &[u8]) -> u64
-    requires there { HasRoom nodes.old.entries number
-        (length (written (contents_of (node_at (rows_of nodes.old.entries) number)) offset bytes.now)) }
+pub fn write(nodes: &mut KeptNodes, total: u64, number: u64, offset: u64, bytes: &[u8]) -> u64
+    requires there { HasContentsRoom nodes.old.entries number
+        (length (write_at (contents_of (node_at (rows_of nodes.old.entries) number)) offset bytes.now)) }
     requires fits { offset + length bytes.now < 2 ^ 63 }
     requires summed { total ≡ contents_sum (rows_of nodes.old.entries) }
     requires little { total < 2 ^ 62 }
     ensures { Fills nodes.old.entries nodes.new.entries number
-        (written (contents_of (node_at (rows_of nodes.old.entries) number)) offset bytes.now) result }
+        (write_at (contents_of (node_at (rows_of nodes.old.entries) number)) offset bytes.now) result }
 {
     let node = nodes.get_mut(&number).unwrap();
     let before = node.contents.len() as u64;
@@ -64,13 +64,13 @@ pub fn write(nodes: &mut Nodes, total: u64, number: u64, offset: u64, bytes: &[u
 }
 
 /// Cuts a file to a length, or fills it up to it, and returns the sum of all contents.
-pub fn truncate(nodes: &mut Nodes, total: u64, number: u64, len: u64) -> u64
-    requires there { HasRoom nodes.old.entries number len }
+pub fn truncate(nodes: &mut KeptNodes, total: u64, number: u64, len: u64) -> u64
+    requires there { HasContentsRoom nodes.old.entries number len }
     requires fits { len < 2 ^ 63 }
     requires summed { total ≡ contents_sum (rows_of nodes.old.entries) }
     requires little { total < 2 ^ 62 }
     ensures { Fills nodes.old.entries nodes.new.entries number
-        (resized (contents_of (node_at (rows_of nodes.old.entries) number)) len) result }
+        (resize_to (contents_of (node_at (rows_of nodes.old.entries) number)) len) result }
 {
     let node = nodes.get_mut(&number).unwrap();
     let before = node.contents.len() as u64;
@@ -79,7 +79,7 @@ pub fn truncate(nodes: &mut Nodes, total: u64, number: u64, len: u64) -> u64
 }
 
 /// Removes a node and its name, and returns the sum of all contents.
-pub fn unlink(nodes: &mut Nodes, total: u64, number: u64, spot: &Spot) -> u64
+pub fn unlink(nodes: &mut KeptNodes, total: u64, number: u64, spot: &Spot) -> u64
     requires there { IsSome (kept_at nodes.old.entries number) }
     requires summed { total ≡ contents_sum (rows_of nodes.old.entries) }
     ensures { Removes nodes.old.entries nodes.new.entries number (place_of spot.now) result }
@@ -90,7 +90,7 @@ pub fn unlink(nodes: &mut Nodes, total: u64, number: u64, spot: &Spot) -> u64
     total - freed
 }
 
-fn set_place(nodes: &mut Nodes, number: u64, to: &Spot)
+fn set_place(nodes: &mut KeptNodes, number: u64, to: &Spot)
     requires { IsSome (kept_at nodes.old.entries number) }
     ensures { Replaces nodes.old.entries nodes.new.entries number (place_of to.now) }
 {
@@ -100,10 +100,10 @@ fn set_place(nodes: &mut Nodes, number: u64, to: &Spot)
 }
 
 /// Moves a node from one place to another, whose name is held.
-pub fn relocate(nodes: &mut Nodes, number: u64, from: &Spot, to: &Spot)
+pub fn relocate(nodes: &mut KeptNodes, number: u64, from: &Spot, to: &Spot)
     requires there { IsSome (kept_at nodes.old.entries number) }
     requires holds { IsSome (kept_at nodes.old.entries to.now.directory) }
-    requires held { IsSome (held_at nodes.old.entries to.now.directory to.now.name) }
+    requires held { IsSome (reserved_at nodes.old.entries to.now.directory to.now.name) }
     ensures { Relocates nodes.old.entries nodes.new.entries number (place_of from.now) (place_of to.now) }
 {
     let entered: Result<(), NoMemory> = enter(nodes, to, number);
@@ -113,9 +113,9 @@ pub fn relocate(nodes: &mut Nodes, number: u64, from: &Spot, to: &Spot)
 }
 
 /// Makes the node that is ready stand at its place.
-pub fn publish(nodes: &mut Nodes, next: u64, spot: &Spot)
+pub fn publish(nodes: &mut KeptNodes, next: u64, spot: &Spot)
     requires holds { IsSome (kept_at nodes.old.entries spot.now.directory) }
-    requires held { IsSome (held_at nodes.old.entries spot.now.directory spot.now.name) }
+    requires held { IsSome (reserved_at nodes.old.entries spot.now.directory spot.now.name) }
     ensures { Puts nodes.old.entries nodes.new.entries (place_of spot.now) (Some next) }
 {
     let entered: Result<(), NoMemory> = enter(nodes, spot, next);
@@ -134,10 +134,10 @@ fn number_of(ready: &Ready) -> u64
     }
 }
 
-fn make(nodes: &mut Nodes, next: u64, directory: u64, name: &[u8])
+fn make(nodes: &mut KeptNodes, next: u64, directory: u64, name: &[u8])
     requires short { length name.now ≤ longest_name }
     requires holds { IsSome (kept_at nodes.old.entries directory) }
-    requires held { IsSome (held_at nodes.old.entries directory name.now) }
+    requires held { IsSome (reserved_at nodes.old.entries directory name.now) }
     ensures { Puts nodes.old.entries nodes.new.entries (at directory name.now) (Some next) }
 {
     let spot = Spot {
@@ -147,7 +147,7 @@ fn make(nodes: &mut Nodes, next: u64, directory: u64, name: &[u8])
     publish(nodes, next, &spot);
 }
 
-fn remove(nodes: &mut Nodes, total: u64, number: u64, directory: u64, name: &[u8]) -> u64
+fn remove(nodes: &mut KeptNodes, total: u64, number: u64, directory: u64, name: &[u8]) -> u64
     requires short { length name.now ≤ longest_name }
     requires there { IsSome (kept_at nodes.old.entries number) }
     requires summed { total ≡ contents_sum (rows_of nodes.old.entries) }
@@ -160,12 +160,19 @@ fn remove(nodes: &mut Nodes, total: u64, number: u64, directory: u64, name: &[u8
     unlink(nodes, total, number, &spot)
 }
 
-fn rename(nodes: &mut Nodes, number: u64, directory: u64, name: &[u8], target: u64, renamed: &[u8])
+fn rename(
+    nodes: &mut KeptNodes,
+    number: u64,
+    directory: u64,
+    name: &[u8],
+    target: u64,
+    renamed: &[u8],
+)
     requires short { length name.now ≤ longest_name }
     requires short_too { length renamed.now ≤ longest_name }
     requires there { IsSome (kept_at nodes.old.entries number) }
     requires holds { IsSome (kept_at nodes.old.entries target) }
-    requires held { IsSome (held_at nodes.old.entries target renamed.now) }
+    requires held { IsSome (reserved_at nodes.old.entries target renamed.now) }
     ensures { Relocates nodes.old.entries nodes.new.entries number (at directory name.now) (at target renamed.now) }
 {
     let from = Spot {
@@ -180,9 +187,9 @@ fn rename(nodes: &mut Nodes, number: u64, directory: u64, name: &[u8], target: u
 }
 
 /// Makes the change of the operation that is ready.
-pub fn change(nodes: &mut Nodes, next: &mut u64, total: &mut u64, ready: &Ready, op: &TreeOp)
+pub fn change(nodes: &mut KeptNodes, next: &mut u64, total: &mut u64, ready: &Ready, op: &TreeOp)
     requires ready { IsChangeable nodes.old.entries next.old ready.now op.now }
-    requires summed { total.old ≡ contents_sum (rows_of (settled (Some ready.now) nodes.old.entries)) }
+    requires summed { total.old ≡ contents_sum (rows_of (published_nodes (Some ready.now) nodes.old.entries)) }
     ensures { Changes nodes.new.entries next.new total.new
         (tree_after (tree_in (Some ready.now) nodes.old.entries next.old) op.now) }
 {

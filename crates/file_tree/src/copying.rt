@@ -1,9 +1,9 @@
 //! Nodes in memory of their own.
 
 ghost use Rattle.std.specs.Prelude.{◌≡◌, None, IfOk};
-ghost use Rattle.file_tree.specs.Index.{rows_of, settled, unroomed, IsKept};
+ghost use Rattle.file_tree.specs.Index.{rows_of, published_nodes, unroomed, IsTreeIndex};
 
-use crate::node::Nodes;
+use crate::node::KeptNodes;
 use crate::preparing::forget;
 use crate::ready::Ready;
 use bl_syntax::NoMemory;
@@ -19,12 +19,12 @@ fn unroomed(ready: &Option<Ready>) -> Option<Ready>
 }
 
 /// The same nodes, with nothing ready.
-pub fn copied(nodes: &Nodes, next: u64, ready: &Option<Ready>) -> Result<Nodes, NoMemory>
-    requires { IsKept nodes.now.entries next ready.now }
-    ensures kept { IfOk result (λ copied. IsKept copied.entries next None) }
-    ensures same { IfOk result (λ copied. rows_of copied.entries ≡ rows_of (settled ready.now nodes.now.entries)) }
+pub fn copied(nodes: &KeptNodes, next: u64, ready: &Option<Ready>) -> Result<KeptNodes, NoMemory>
+    requires { IsTreeIndex nodes.now.entries next ready.now }
+    ensures kept { IfOk result (λ copied. IsTreeIndex copied.entries next None) }
+    ensures same { IfOk result (λ copied. rows_of copied.entries ≡ rows_of (published_nodes ready.now nodes.now.entries)) }
 {
-    let mut copied: Nodes = nodes.clone()?;
+    let mut copied: KeptNodes = nodes.clone()?;
     forget(&mut copied, next, &unroomed(ready));
     Ok(copied)
 }

@@ -7,10 +7,10 @@ ghost use Rattle.std.specs.Ordering.{nat_cmp};
 ghost use Rattle.std.specs.Cmp.Lexicographic.{slice_cmp};
 ghost use Rattle.file_world.specs.Tree.{node_at};
 ghost use Rattle.file_world.specs.TreeEffect.{contents_of, is_directory, names_in, part_of, tree_refusal, tree_reply};
-ghost use Rattle.file_tree.specs.Index.{rows_of, named_node, tree_in, IsKept};
+ghost use Rattle.file_tree.specs.Index.{rows_of, named_node, tree_in, IsTreeIndex};
 
 use crate::name::Name;
-use crate::node::Nodes;
+use crate::node::KeptNodes;
 use crate::refusals::child;
 use bl_syntax::{Bytes, NoMemory, NodeId};
 use file_world::{NamedNode, Names, TreeOp, TreeReply};
@@ -26,7 +26,7 @@ fn part(alloc: Global, contents: &[u8], offset: u64, len: u64) -> Result<Bytes, 
 }
 
 fn bytes_of(
-    nodes: &Nodes,
+    nodes: &KeptNodes,
     alloc: Global,
     number: u64,
     offset: u64,
@@ -41,7 +41,7 @@ fn bytes_of(
     }
 }
 
-fn listed(alloc: Global, kept: &BTreeMap<Name, u64>) -> Result<Names, NoMemory>
+fn list_entry(alloc: Global, kept: &BTreeMap<Name, u64>) -> Result<Names, NoMemory>
     ensures listed { IfOk result (λ names. names ≡ map named_node kept.now.entries) }
     ensures sorted { IsStrictlySortedBy (slice_cmp nat_cmp) (keys_of kept.now.entries) }
 {
@@ -55,20 +55,25 @@ fn listed(alloc: Global, kept: &BTreeMap<Name, u64>) -> Result<Names, NoMemory>
     Ok(names)
 }
 
-fn names_of(nodes: &Nodes, alloc: Global, next: u64, directory: u64) -> Result<Names, NoMemory>
-    requires kept { IsKept nodes.now.entries next None }
+fn names_of(nodes: &KeptNodes, alloc: Global, next: u64, directory: u64) -> Result<Names, NoMemory>
+    requires kept { IsTreeIndex nodes.now.entries next None }
     requires holds { IsTrue (is_directory (node_at (rows_of nodes.now.entries) directory)) }
     ensures { IfOk result (λ names. names ≡ names_in (rows_of nodes.now.entries) directory) }
 {
     match nodes.get(&directory) {
         None => Ok(Names::new(alloc)),
-        Some(node) => listed(alloc, &node.names),
+        Some(node) => list_entry(alloc, &node.names),
     }
 }
 
 /// The reply of an operation that is not refused.
-pub fn reply(nodes: &Nodes, alloc: Global, next: u64, op: &TreeOp) -> Result<TreeReply, NoMemory>
-    requires kept { IsKept nodes.now.entries next None }
+pub fn reply(
+    nodes: &KeptNodes,
+    alloc: Global,
+    next: u64,
+    op: &TreeOp,
+) -> Result<TreeReply, NoMemory>
+    requires kept { IsTreeIndex nodes.now.entries next None }
     requires free { tree_refusal (tree_in None nodes.now.entries next) op.now ≡ None }
     ensures { IfOk result (λ reply. reply ≡ tree_reply (tree_in None nodes.now.entries next) op.now) }
 {

@@ -7,7 +7,7 @@ use std::collections::BTreeMap;
 
 /// A node. A file has no names, and a directory has no contents.
 #[derive(Drop)]
-pub struct Node {
+pub struct KeptNode {
     pub kind: Kind,
     /// The number of its directory, or 0 for the root.
     pub parent: u64,
@@ -18,15 +18,15 @@ pub struct Node {
 }
 
 /// Nodes under their numbers.
-pub type Nodes = BTreeMap<u64, Node>;
+pub type KeptNodes = BTreeMap<u64, KeptNode>;
 
-impl Clone for Node {
+impl Clone for KeptNode {
     ghost use Rattle.file_tree.specs.Index.{IsCopy};
 
     ghost is_clone = { λ node copy. IsCopy node copy };
 
     fn clone(&self) -> Result<Self, AllocError> {
-        Ok(Node {
+        Ok(KeptNode {
             kind: self.kind,
             parent: self.parent,
             name: self.name,

@@ -4,11 +4,11 @@ ghost use Rattle.std.specs.Prelude.{◌≡◌, ◌≤◌, ◌<◌, ℕ, length, 
 ghost use Rattle.file_world.specs.Limits.{longest_name};
 ghost use Rattle.file_world.specs.Tree.{node_at};
 ghost use Rattle.file_world.specs.TreeEffect.{child_of, is_directory, new_node, tree_refusal};
-ghost use Rattle.file_tree.specs.Index.{rows_of, kept_at, held_at, place_of, held_spot, settled, tree_in, IsKept, Puts, Keeps, AddsLast, Prepares, Stays, IsBelow};
+ghost use Rattle.file_tree.specs.Index.{rows_of, kept_at, reserved_at, place_of, reserved_spot, published_nodes, tree_in, IsTreeIndex, Puts, Keeps, AddsLast, Prepares, Stays, AreNumbersBelow};
 ghost use Rattle.file_tree.specs.State.{ready_for, spot as spot_at};
 
 use crate::name::Name;
-use crate::node::{Node, Nodes};
+use crate::node::{KeptNode, KeptNodes};
 use crate::ready::{Ready, Spot};
 use crate::refusals::{child, length_at, written_length};
 use bl_syntax::NoMemory;
@@ -17,11 +17,11 @@ use std::alloc::{AllocFailed, Global};
 use std::collections::BTreeMap;
 
 /// Keeps a number under a name in a directory. It takes no memory where the name is there.
-pub fn enter(nodes: &mut Nodes, spot: &Spot, number: u64) -> Result<(), NoMemory>
+pub fn enter(nodes: &mut KeptNodes, spot: &Spot, number: u64) -> Result<(), NoMemory>
     requires { IsSome (kept_at nodes.old.entries spot.now.directory) }
     ensures ok { OnOk result (Puts nodes.old.entries nodes.new.entries (place_of spot.now) (Some number)) }
     ensures err { OnErr result (Keeps nodes.old.entries nodes.new.entries) }
-    ensures succeeds { IsSome (held_at nodes.old.entries spot.now.directory spot.now.name) → IsOk result }
+    ensures succeeds { IsSome (reserved_at nodes.old.entries spot.now.directory spot.now.name) → IsOk result }
 {
     let node = nodes.get_mut(&spot.directory).unwrap();
     let put: Result<Option<u64>, AllocFailed<(Name, u64)>> = node.names.insert(spot.name, number);
@@ -32,7 +32,7 @@ pub fn enter(nodes: &mut Nodes, spot: &Spot, number: u64) -> Result<(), NoMemory
 }
 
 /// Takes a name out of a directory.
-pub fn release(nodes: &mut Nodes, spot: &Spot)
+pub fn release(nodes: &mut KeptNodes, spot: &Spot)
     ensures { Puts nodes.old.entries nodes.new.entries (place_of spot.now) None }
 {
     if let Some(node) = nodes.get_mut(&spot.directory) {
@@ -40,19 +40,25 @@ pub fn release(nodes: &mut Nodes, spot: &Spot)
     }
 }
 
-fn add(nodes: &mut Nodes, alloc: Global, next: u64, kind: Kind, spot: &Spot) -> Result<(), NoMemory>
-    requires { IsBelow nodes.old.entries next }
+fn add(
+    nodes: &mut KeptNodes,
+    alloc: Global,
+    next: u64,
+    kind: Kind,
+    spot: &Spot,
+) -> Result<(), NoMemory>
+    requires { AreNumbersBelow nodes.old.entries next }
     ensures ok { OnOk result (AddsLast nodes.old.entries nodes.new.entries next (new_node kind (place_of spot.now))) }
     ensures err { OnErr result (nodes.new.entries ≡ nodes.old.entries) }
 {
-    let node = Node {
+    let node = KeptNode {
         kind,
         parent: spot.directory,
         name: spot.name,
         contents: Vec::new(alloc),
         names: BTreeMap::new(alloc),
     };
-    let put: Result<Option<Node>, AllocFailed<(u64, Node)>> = nodes.insert(next, node);
+    let put: Result<Option<KeptNode>, AllocFailed<(u64, KeptNode)>> = nodes.insert(next, node);
     match put {
         Ok(_) => Ok(()),
         Err(_) => Err(NoMemory),
@@ -60,14 +66,14 @@ fn add(nodes: &mut Nodes, alloc: Global, next: u64, kind: Kind, spot: &Spot) -> 
 }
 
 fn prepare_made(
-    nodes: &mut Nodes,
+    nodes: &mut KeptNodes,
     alloc: Global,
     next: u64,
     kind: Kind,
     directory: u64,
     name: &[u8],
 ) -> Result<Ready, NoMemory>
-    requires kept { IsKept nodes.old.entries next None }
+    requires kept { IsTreeIndex nodes.old.entries next None }
     requires short { length name.now ≤ longest_name }
     requires holds { IsTrue (is_directory (node_at (rows_of nodes.old.entries) directory)) }
     requires free { child_of (rows_of nodes.old.entries) directory name.now ≡ None }
@@ -89,8 +95,13 @@ fn prepare_made(
     }
 }
 
-fn prepare_contents(nodes: &mut Nodes, next: u64, number: u64, len: u64) -> Result<Ready, NoMemory>
-    requires kept { IsKept nodes.old.entries next None }
+fn prepare_contents(
+    nodes: &mut KeptNodes,
+    next: u64,
+    number: u64,
+    len: u64,
+) -> Result<Ready, NoMemory>
+    requires kept { IsTreeIndex nodes.old.entries next None }
     requires there { IsSome (kept_at nodes.old.entries number) }
     ensures ok { IfOk result (λ ready. (ready ≡ Ready.Contents number len)
         × Prepares nodes.old.entries nodes.new.entries next ready) }
@@ -106,13 +117,13 @@ fn prepare_contents(nodes: &mut Nodes, next: u64, number: u64, len: u64) -> Resu
 }
 
 fn prepare_moved(
-    nodes: &mut Nodes,
+    nodes: &mut KeptNodes,
     next: u64,
     number: u64,
     from: Spot,
     to: Spot,
 ) -> Result<Ready, NoMemory>
-    requires kept { IsKept nodes.old.entries next None }
+    requires kept { IsTreeIndex nodes.old.entries next None }
     requires holds { IsTrue (is_directory (node_at (rows_of nodes.old.entries) to.directory)) }
     requires free { child_of (rows_of nodes.old.entries) to.directory to.name ≡ None }
     ensures ok { IfOk result (λ ready. (ready ≡ Ready.Moved number from to)
@@ -124,8 +135,13 @@ fn prepare_moved(
 }
 
 /// Takes the memory for what the operation changes.
-pub fn prepare(nodes: &mut Nodes, alloc: Global, next: u64, op: &TreeOp) -> Result<Ready, NoMemory>
-    requires kept { IsKept nodes.old.entries next None }
+pub fn prepare(
+    nodes: &mut KeptNodes,
+    alloc: Global,
+    next: u64,
+    op: &TreeOp,
+) -> Result<Ready, NoMemory>
+    requires kept { IsTreeIndex nodes.old.entries next None }
     requires free { tree_refusal (tree_in None nodes.old.entries next) op.now ≡ None }
     ensures ok { IfOk result (λ ready. (ready ≡ ready_for (tree_in None nodes.old.entries next) op.now)
         × Prepares nodes.old.entries nodes.new.entries next ready) }
@@ -174,10 +190,10 @@ pub fn prepare(nodes: &mut Nodes, alloc: Global, next: u64, op: &TreeOp) -> Resu
     }
 }
 
-fn forget_ready(nodes: &mut Nodes, next: u64, ready: &Ready)
-    requires { IsKept nodes.old.entries next (Some ready.now) }
-    ensures kept { IsKept nodes.new.entries next None }
-    ensures same { rows_of nodes.new.entries ≡ rows_of (settled (Some ready.now) nodes.old.entries) }
+fn forget_ready(nodes: &mut KeptNodes, next: u64, ready: &Ready)
+    requires { IsTreeIndex nodes.old.entries next (Some ready.now) }
+    ensures kept { IsTreeIndex nodes.new.entries next None }
+    ensures same { rows_of nodes.new.entries ≡ rows_of (published_nodes (Some ready.now) nodes.old.entries) }
 {
     match ready {
         Ready::Made(_, spot) => {
@@ -192,10 +208,10 @@ fn forget_ready(nodes: &mut Nodes, next: u64, ready: &Ready)
 }
 
 /// Gives up what is ready.
-pub fn forget(nodes: &mut Nodes, next: u64, ready: &Option<Ready>)
-    requires { IsKept nodes.old.entries next ready.now }
-    ensures kept { IsKept nodes.new.entries next None }
-    ensures same { rows_of nodes.new.entries ≡ rows_of (settled ready.now nodes.old.entries) }
+pub fn forget(nodes: &mut KeptNodes, next: u64, ready: &Option<Ready>)
+    requires { IsTreeIndex nodes.old.entries next ready.now }
+    ensures kept { IsTreeIndex nodes.new.entries next None }
+    ensures same { rows_of nodes.new.entries ≡ rows_of (published_nodes ready.now nodes.old.entries) }
 {
     if let Some(ready) = ready {
         forget_ready(nodes, next, ready);

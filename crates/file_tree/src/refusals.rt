@@ -4,17 +4,17 @@ ghost use Rattle.std.specs.Prelude.{◌≡◌, ◌≤◌, ◌+◌, ◌-◌, ◌^
 ghost use Rattle.file_world.specs.Limits.{longest_name};
 ghost use Rattle.file_world.specs.Outcome.{first_of};
 ghost use Rattle.file_world.specs.Tree.{node_at, contents_sum};
-ghost use Rattle.file_world.specs.TreeEffect.{file_tests, directory_tests, name_tests, length_tests, write_tests, truncate_tests, lookup_tests, make_tests, unlink_tests, rename_tests, tree_refusal, contents_of, child_of, has_names, is_full, leads_past, length_after};
-ghost use Rattle.file_tree.specs.Index.{rows_of, held_at, tree_in, IsKept};
+ghost use Rattle.file_world.specs.TreeEffect.{file_tests, directory_tests, name_tests, length_tests, write_tests, truncate_tests, lookup_tests, make_tests, unlink_tests, rename_tests, tree_refusal, contents_of, child_of, has_names, is_full, has_way_past, length_after};
+ghost use Rattle.file_tree.specs.Index.{rows_of, reserved_at, tree_in, IsTreeIndex};
 
 use crate::name::{Name, is_node_name};
-use crate::node::Nodes;
+use crate::node::KeptNodes;
 use file_world::{
     Kind, LAST_NUMBER, LONGEST_NAME, MOST_BYTES, MOST_BYTES_TOGETHER, MOST_NODES, ROOT_NUMBER,
     Refusal, TreeOp,
 };
 
-fn kind_at(nodes: &Nodes, number: u64) -> Option<Kind>
+fn kind_at(nodes: &KeptNodes, number: u64) -> Option<Kind>
     ensures { result ≡ option_map (λ node. node.kind) (node_at (rows_of nodes.now.entries) number) }
 {
     match nodes.get(&number) {
@@ -23,7 +23,7 @@ fn kind_at(nodes: &Nodes, number: u64) -> Option<Kind>
     }
 }
 
-fn file_refusal(nodes: &Nodes, number: u64) -> Option<Refusal>
+fn file_refusal(nodes: &KeptNodes, number: u64) -> Option<Refusal>
     ensures { result ≡ first_of (file_tests (rows_of nodes.now.entries) number) }
 {
     match kind_at(nodes, number) {
@@ -33,7 +33,7 @@ fn file_refusal(nodes: &Nodes, number: u64) -> Option<Refusal>
     }
 }
 
-fn directory_refusal(nodes: &Nodes, number: u64) -> Option<Refusal>
+fn directory_refusal(nodes: &KeptNodes, number: u64) -> Option<Refusal>
     ensures { result ≡ first_of (directory_tests (rows_of nodes.now.entries) number) }
 {
     match kind_at(nodes, number) {
@@ -43,7 +43,7 @@ fn directory_refusal(nodes: &Nodes, number: u64) -> Option<Refusal>
     }
 }
 
-fn name_refusal(nodes: &Nodes, directory: u64, name: &[u8]) -> Option<Refusal>
+fn name_refusal(nodes: &KeptNodes, directory: u64, name: &[u8]) -> Option<Refusal>
     ensures { result ≡ first_of (name_tests (rows_of nodes.now.entries) directory name.now) }
 {
     if let Some(refusal) = directory_refusal(nodes, directory) {
@@ -57,9 +57,9 @@ fn name_refusal(nodes: &Nodes, directory: u64, name: &[u8]) -> Option<Refusal>
 }
 
 /// What the directory keeps under the name.
-pub fn number_in(nodes: &Nodes, directory: u64, name: &[u8]) -> Option<u64>
+pub fn number_in(nodes: &KeptNodes, directory: u64, name: &[u8]) -> Option<u64>
     ensures { result
-        ≡ (if nat_le (length name.now) longest_name then held_at nodes.now.entries directory name.now else None) }
+        ≡ (if nat_le (length name.now) longest_name then reserved_at nodes.now.entries directory name.now else None) }
 {
     if LONGEST_NAME < name.len() {
         return None;
@@ -72,15 +72,15 @@ pub fn number_in(nodes: &Nodes, directory: u64, name: &[u8]) -> Option<u64>
 }
 
 /// The child of the directory under the name, while nothing is ready.
-pub fn child(nodes: &Nodes, next: u64, directory: u64, name: &[u8]) -> Option<u64>
-    requires { IsKept nodes.now.entries next None }
+pub fn child(nodes: &KeptNodes, next: u64, directory: u64, name: &[u8]) -> Option<u64>
+    requires { IsTreeIndex nodes.now.entries next None }
     ensures { result ≡ child_of (rows_of nodes.now.entries) directory name.now }
 {
     number_in(nodes, directory, name)
 }
 
-fn has_names(nodes: &Nodes, next: u64, directory: u64) -> bool
-    requires kept { IsKept nodes.now.entries next None }
+fn has_names(nodes: &KeptNodes, next: u64, directory: u64) -> bool
+    requires kept { IsTreeIndex nodes.now.entries next None }
     requires there { 1 ≤ directory }
     ensures { result ≡ has_names (rows_of nodes.now.entries) directory }
 {
@@ -90,16 +90,16 @@ fn has_names(nodes: &Nodes, next: u64, directory: u64) -> bool
     }
 }
 
-fn is_full(nodes: &Nodes, next: u64) -> bool
+fn is_full(nodes: &KeptNodes, next: u64) -> bool
     ensures { result ≡ is_full (tree_in None nodes.now.entries next) }
 {
     MOST_NODES <= nodes.len() || next == LAST_NUMBER
 }
 
 /// Whether the walk from a node to the root meets no avoided node.
-fn leads_past(nodes: &Nodes, avoided: u64, start: u64) -> bool
+fn has_way_past(nodes: &KeptNodes, avoided: u64, start: u64) -> bool
     ensures { result
-        ≡ leads_past (length (rows_of nodes.now.entries)) (rows_of nodes.now.entries) avoided start }
+        ≡ has_way_past (length (rows_of nodes.now.entries)) (rows_of nodes.now.entries) avoided start }
 {
     let mut number = start;
     for _step in 0..nodes.len() {
@@ -118,7 +118,7 @@ fn leads_past(nodes: &Nodes, avoided: u64, start: u64) -> bool
 }
 
 /// How many bytes the node of that number has.
-pub fn length_at(nodes: &Nodes, number: u64) -> u64
+pub fn length_at(nodes: &KeptNodes, number: u64) -> u64
     ensures { result ≡ length (contents_of (node_at (rows_of nodes.now.entries) number)) }
 {
     match nodes.get(&number) {
@@ -136,14 +136,14 @@ pub fn written_length(old: u64, offset: u64, len: u64) -> u64
 }
 
 fn size_refusal(
-    nodes: &Nodes,
+    nodes: &KeptNodes,
     next: u64,
     total: u64,
     number: u64,
     end: u64,
     len: u64,
 ) -> Option<Refusal>
-    requires kept { IsKept nodes.now.entries next None }
+    requires kept { IsTreeIndex nodes.now.entries next None }
     requires summed { total ≡ contents_sum (rows_of nodes.now.entries) }
     requires within { len ≤ max end (length (contents_of (node_at (rows_of nodes.now.entries) number))) }
     ensures { result ≡ first_of (length_tests (rows_of nodes.now.entries) number end len) }
@@ -158,14 +158,14 @@ fn size_refusal(
 }
 
 fn write_refusal(
-    nodes: &Nodes,
+    nodes: &KeptNodes,
     next: u64,
     total: u64,
     number: u64,
     offset: u64,
     bytes: &[u8],
 ) -> Option<Refusal>
-    requires kept { IsKept nodes.now.entries next None }
+    requires kept { IsTreeIndex nodes.now.entries next None }
     requires summed { total ≡ contents_sum (rows_of nodes.now.entries) }
     ensures { result
         ≡ first_of (write_tests (rows_of nodes.now.entries) number offset bytes.now) }
@@ -181,8 +181,14 @@ fn write_refusal(
     size_refusal(nodes, next, total, number, end, after)
 }
 
-fn truncate_refusal(nodes: &Nodes, next: u64, total: u64, number: u64, len: u64) -> Option<Refusal>
-    requires kept { IsKept nodes.now.entries next None }
+fn truncate_refusal(
+    nodes: &KeptNodes,
+    next: u64,
+    total: u64,
+    number: u64,
+    len: u64,
+) -> Option<Refusal>
+    requires kept { IsTreeIndex nodes.now.entries next None }
     requires summed { total ≡ contents_sum (rows_of nodes.now.entries) }
     ensures { result ≡ first_of (truncate_tests (rows_of nodes.now.entries) number len) }
 {
@@ -192,8 +198,8 @@ fn truncate_refusal(nodes: &Nodes, next: u64, total: u64, number: u64, len: u64)
     size_refusal(nodes, next, total, number, len, len)
 }
 
-fn lookup_refusal(nodes: &Nodes, next: u64, directory: u64, name: &[u8]) -> Option<Refusal>
-    requires { IsKept nodes.now.entries next None }
+fn lookup_refusal(nodes: &KeptNodes, next: u64, directory: u64, name: &[u8]) -> Option<Refusal>
+    requires { IsTreeIndex nodes.now.entries next None }
     ensures { result ≡ first_of (lookup_tests (rows_of nodes.now.entries) directory name.now) }
 {
     if let Some(refusal) = name_refusal(nodes, directory, name) {
@@ -205,8 +211,8 @@ fn lookup_refusal(nodes: &Nodes, next: u64, directory: u64, name: &[u8]) -> Opti
     }
 }
 
-fn make_refusal(nodes: &Nodes, next: u64, directory: u64, name: &[u8]) -> Option<Refusal>
-    requires { IsKept nodes.now.entries next None }
+fn make_refusal(nodes: &KeptNodes, next: u64, directory: u64, name: &[u8]) -> Option<Refusal>
+    requires { IsTreeIndex nodes.now.entries next None }
     ensures { result ≡ first_of (make_tests (tree_in None nodes.now.entries next) directory name.now) }
 {
     if let Some(refusal) = name_refusal(nodes, directory, name) {
@@ -222,8 +228,8 @@ fn make_refusal(nodes: &Nodes, next: u64, directory: u64, name: &[u8]) -> Option
     }
 }
 
-fn unlink_refusal(nodes: &Nodes, next: u64, directory: u64, name: &[u8]) -> Option<Refusal>
-    requires { IsKept nodes.now.entries next None }
+fn unlink_refusal(nodes: &KeptNodes, next: u64, directory: u64, name: &[u8]) -> Option<Refusal>
+    requires { IsTreeIndex nodes.now.entries next None }
     ensures { result ≡ first_of (unlink_tests (rows_of nodes.now.entries) directory name.now) }
 {
     if let Some(refusal) = name_refusal(nodes, directory, name) {
@@ -240,14 +246,14 @@ fn unlink_refusal(nodes: &Nodes, next: u64, directory: u64, name: &[u8]) -> Opti
 }
 
 fn rename_refusal(
-    nodes: &Nodes,
+    nodes: &KeptNodes,
     next: u64,
     directory: u64,
     name: &[u8],
     target: u64,
     renamed: &[u8],
 ) -> Option<Refusal>
-    requires { IsKept nodes.now.entries next None }
+    requires { IsTreeIndex nodes.now.entries next None }
     ensures { result
         ≡ first_of (rename_tests (rows_of nodes.now.entries) directory name.now target renamed.now) }
 {
@@ -260,7 +266,7 @@ fn rename_refusal(
     let Some(number) = child(nodes, next, directory, name) else {
         return Some(Refusal::NoEntry);
     };
-    if !leads_past(nodes, number, target) {
+    if !has_way_past(nodes, number, target) {
         return Some(Refusal::IntoItself);
     }
     if child(nodes, next, target, renamed).is_some() {
@@ -271,8 +277,8 @@ fn rename_refusal(
 }
 
 /// The first refusal of an operation; none if nothing refuses it.
-pub fn refusal(nodes: &Nodes, next: u64, total: u64, op: &TreeOp) -> Option<Refusal>
-    requires kept { IsKept nodes.now.entries next None }
+pub fn refusal(nodes: &KeptNodes, next: u64, total: u64, op: &TreeOp) -> Option<Refusal>
+    requires kept { IsTreeIndex nodes.now.entries next None }
     requires summed { total ≡ contents_sum (rows_of nodes.now.entries) }
     ensures { result ≡ tree_refusal (tree_in None nodes.now.entries next) op.now }
 {

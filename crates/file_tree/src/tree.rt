@@ -9,7 +9,7 @@ use crate::applying::change;
 use crate::copying::copied;
 use crate::listing::reply;
 use crate::name::Name;
-use crate::node::{Node, Nodes};
+use crate::node::{KeptNode, KeptNodes};
 use crate::preparing::{forget, prepare};
 use crate::ready::Ready;
 use crate::refusals::{number_in, refusal};
@@ -22,7 +22,7 @@ use std::marker::Model;
 /// The file tree: its nodes and the number of the next one, and what an operation is ready to change.
 #[derive(Drop)]
 pub struct Tree {
-    nodes: Nodes,
+    nodes: KeptNodes,
     next: u64,
     /// How many bytes all contents have together.
     total: u64,
@@ -32,14 +32,14 @@ pub struct Tree {
 impl Model for Tree {
     ghost use Rattle.std.specs.Prelude.{◌≡◌};
     ghost use Rattle.file_world.specs.Tree.{contents_sum};
-    ghost use Rattle.file_tree.specs.State.{TreeState};
-    ghost use Rattle.file_tree.specs.Index.{rows_of, settled, tree_in, IsKept};
+    ghost use Rattle.file_tree.specs.State.{TreeView};
+    ghost use Rattle.file_tree.specs.Index.{rows_of, published_nodes, tree_in, IsTreeIndex};
 
-    ghost Value = { TreeState };
+    ghost Value = { TreeView };
 
     ghost view = { λ t. record { tree = tree_in t.ready t.nodes.entries t.next; ready = t.ready } };
 
-    ghost invariant = { λ t. IsKept t.nodes.entries t.next t.ready × (t.total ≡ contents_sum (rows_of (settled t.ready t.nodes.entries))) };
+    ghost invariant = { λ t. IsTreeIndex t.nodes.entries t.next t.ready × (t.total ≡ contents_sum (rows_of (published_nodes t.ready t.nodes.entries))) };
 }
 
 impl Tree {
@@ -47,7 +47,7 @@ impl Tree {
     pub fn new(alloc: Global) -> Result<Tree, NoMemory>
         ensures { IfOk result (λ tree. tree ≡ record { tree = fresh_tree; ready = None }) }
     {
-        let root = Node {
+        let root = KeptNode {
             kind: Kind::Directory,
             parent: 0,
             name: Name::new(b""),
@@ -55,7 +55,10 @@ impl Tree {
             names: BTreeMap::new(alloc),
         };
         let mut nodes = BTreeMap::new(alloc);
-        let put: Result<Option<Node>, AllocFailed<(u64, Node)>> = nodes.insert(ROOT_NUMBER, root);
+        let put: Result<Option<KeptNode>, AllocFailed<(u64, KeptNode)>> = nodes.insert(
+            ROOT_NUMBER,
+            root,
+        );
         match put {
             Ok(_) => Ok(Tree {
                 nodes,

@@ -13,7 +13,7 @@ use Rattle.file_world.specs.FileNames.{is_node_name}
 use Rattle.file_world.specs.Limits.{most_nodes, most_bytes, most_bytes_together, last_number}
 use Rattle.file_world.specs.Outcome.{Tests, first_of, NoneHolds}
 use Rattle.file_world.specs.Tree.{Place, Node, Nodes, FileTree, node_at, number_at, contents_sum, root, IsTree}
-use Rattle.file_world.specs.TreeEffect.{is_directory_kind, is_directory, at, child_of, contents_of, has_names, is_full, is_into_itself, length_after, written, resized, revised, with_place, tests_of, tree_refusal, tree_after}
+use Rattle.file_world.specs.TreeEffect.{is_directory_kind, is_directory, at, child_of, contents_of, has_names, is_full, is_into_itself, length_after, write_at, resize_to, revise, with_place, tests_of, tree_refusal, tree_after}
 use Rattle.file_world.proofs.RowLemmas.{split, cond_at_true, cond_at_false}
 use Rattle.file_world.proofs.PlaceLemmas.{Stands, stands_at}
 use Rattle.file_world.proofs.TreeLemmas.{CanAdd, CanFill, CanRemove, CanMove, IsTree-add, IsTree-fill, IsTree-remove, IsTree-move}
@@ -77,7 +77,7 @@ childless_from (row ∷ rows) number none other child e =
 
 -- ---- lengths
 
-pub length-written : (old : List ℕ) (offset byte : ℕ) (bytes : List ℕ) → length (written old offset (byte ∷ bytes)) ≡ max (length old) (offset + length (byte ∷ bytes))
+pub length-written : (old : List ℕ) (offset byte : ℕ) (bytes : List ℕ) → length (write_at old offset (byte ∷ bytes)) ≡ max (length old) (offset + length (byte ∷ bytes))
 length-written old offset byte bytes =
     let more : List ℕ = byte ∷ bytes in
     let a = length-append (take offset old ++ replicate (offset - length old) 0 ++ more) (drop (offset + length more) old) in
@@ -89,19 +89,19 @@ length-written old offset byte bytes =
     omega (arith, a, b, c, d, e, f)
 
 -- the length after a write is as the test computes it
-pub length-written_any : (old : List ℕ) (offset : ℕ) (bytes : List ℕ) → length (written old offset bytes) ≡ length_after (length old) offset (length bytes)
+pub length-written_any : (old : List ℕ) (offset : ℕ) (bytes : List ℕ) → length (write_at old offset bytes) ≡ length_after (length old) offset (length bytes)
 length-written_any old offset [] = sym (cond-true (length {A = ℕ} [] == 0) (length old) (max (length old) (offset + length {A = ℕ} [])) refl)
 length-written_any old offset (byte ∷ bytes) =
     length-written old offset byte bytes ∙ sym (cond-false (length (byte ∷ bytes) == 0) (length old) (max (length old) (offset + length (byte ∷ bytes))) (ne_eqb (length (byte ∷ bytes)) 0 (λ h. omega (arith, h))))
 
-pub length-resized : (old : List ℕ) (len : ℕ) → length (resized old len) ≡ len
+pub length-resized : (old : List ℕ) (len : ℕ) → length (resize_to old len) ≡ len
 length-resized old len =
     let a = length-append (take len old) (replicate (len - length old) 0) in
     let e = length-replicate {A = ℕ} (len - length old) 0 in
     let f : length (take len old) ≡ min len (length old) = length-take len old in
     omega (arith, a, e, f)
 
-pub length-written_le : (old : List ℕ) (offset : ℕ) (bytes : List ℕ) (most : ℕ) → length old ≤ most → offset + length bytes ≤ most → length (written old offset bytes) ≤ most
+pub length-written_le : (old : List ℕ) (offset : ℕ) (bytes : List ℕ) (most : ℕ) → length old ≤ most → offset + length bytes ≤ most → length (write_at old offset bytes) ≤ most
 length-written_le old offset [] most a b = a
 length-written_le old offset (byte ∷ bytes) most a b = omega (arith, length-written old offset byte bytes, a, b)
 
@@ -189,24 +189,24 @@ small_before tree number is = by (node_at tree.rows number) refl
     by None h = subst (λ (node : Option Node). length (contents_of node) ≤ most_bytes) (sym h) (omega arith)
     by (Some node) h = subst (λ (n : Option Node). length (contents_of n) ≤ most_bytes) (sym h) (is.sound number node h).small
 
-pub can_write : (tree : FileTree) (file : NodeId) (offset : ℕ) (bytes : List ℕ) → IsTree tree → tree_refusal tree (Write file offset bytes) ≡ None → CanFill tree file.0 (written (contents_of (node_at tree.rows file.0)) offset bytes)
+pub can_write : (tree : FileTree) (file : NodeId) (offset : ℕ) (bytes : List ℕ) → IsTree tree → tree_refusal tree (Write file offset bytes) ≡ None → CanFill tree file.0 (write_at (contents_of (node_at tree.rows file.0)) offset bytes)
 can_write tree file offset bytes is none =
     let h = none_hold (tests_of tree (Write file offset bytes)) none in
-    let contents = written (contents_of (node_at tree.rows file.0)) offset bytes in
+    let contents = write_at (contents_of (node_at tree.rows file.0)) offset bytes in
     can_fill tree file.0 contents h.0 h.1.0 (length-written_le (contents_of (node_at tree.rows file.0)) offset bytes most_bytes (small_before tree file.0 is) (ltb-false most_bytes (offset + length bytes) h.1.1.0))
     (ap (λ (len : ℕ). nat_lt most_bytes_together (contents_sum tree.rows - length (contents_of (node_at tree.rows file.0)) + len)) (length-written_any (contents_of (node_at tree.rows file.0)) offset bytes) ∙ h.1.1.1.0)
 
-pub can_truncate : (tree : FileTree) (file : NodeId) (len : ℕ) → IsTree tree → tree_refusal tree (Truncate file len) ≡ None → CanFill tree file.0 (resized (contents_of (node_at tree.rows file.0)) len)
+pub can_truncate : (tree : FileTree) (file : NodeId) (len : ℕ) → IsTree tree → tree_refusal tree (Truncate file len) ≡ None → CanFill tree file.0 (resize_to (contents_of (node_at tree.rows file.0)) len)
 can_truncate tree file len is none =
     let h = none_hold (tests_of tree (Truncate file len)) none in
     let old = contents_of (node_at tree.rows file.0) in
-    can_fill tree file.0 (resized old len) h.0 h.1.0 (let e = length-resized old len in let small = ltb-false most_bytes len h.1.1.0 in omega (arith, e, small))
+    can_fill tree file.0 (resize_to old len) h.0 h.1.0 (let e = length-resized old len in let small = ltb-false most_bytes len h.1.1.0 in omega (arith, e, small))
     (ap (λ (l : ℕ). nat_lt most_bytes_together (contents_sum tree.rows - length old + l)) (length-resized old len) ∙ h.1.1.1.0)
 
 pub IsTree-after : (tree : FileTree) (op : TreeOp) → IsTree tree → tree_refusal tree op ≡ None → IsTree (tree_after tree op)
 IsTree-after tree (Read file offset len) is none = is
-IsTree-after tree (Write file offset bytes) is none = IsTree-fill tree file.0 (written (contents_of (node_at tree.rows file.0)) offset bytes) is (can_write tree file offset bytes is none)
-IsTree-after tree (Truncate file len) is none = IsTree-fill tree file.0 (resized (contents_of (node_at tree.rows file.0)) len) is (can_truncate tree file len is none)
+IsTree-after tree (Write file offset bytes) is none = IsTree-fill tree file.0 (write_at (contents_of (node_at tree.rows file.0)) offset bytes) is (can_write tree file offset bytes is none)
+IsTree-after tree (Truncate file len) is none = IsTree-fill tree file.0 (resize_to (contents_of (node_at tree.rows file.0)) len) is (can_truncate tree file len is none)
 IsTree-after tree (ListOf directory) is none = is
 IsTree-after tree (Lookup directory name) is none = is
 IsTree-after tree (Create directory name) is none =
@@ -223,5 +223,5 @@ IsTree-after tree (Unlink directory name) is none =
 IsTree-after tree (Rename directory name target renamed) is none =
     let h = none_hold (tests_of tree (Rename directory name target renamed)) none in
     let child = named_child tree directory.0 name is (not-false _ h.1.0) h.1.1.1.1.1.1.0 in
-    subst (λ (n : Option ℕ). IsTree (record { rows = revised (unwrap_or n 0) (with_place (at target.0 renamed)) tree.rows; next = tree.next })) (sym child.is_child)
+    subst (λ (n : Option ℕ). IsTree (record { rows = revise (unwrap_or n 0) (with_place (at target.0 renamed)) tree.rows; next = tree.next })) (sym child.is_child)
     (IsTree-move tree child.child (at target.0 renamed) is (can_move tree directory.0 name child target.0 renamed (not-false _ h.1.1.1.1.0) (not-false _ h.1.1.1.1.1.0) h.1.1.1.1.1.1.1.0 h.1.1.1.1.1.1.1.1.0))

@@ -13,12 +13,12 @@ use Rattle.file_world.specs.declared.operation.TreeOp.TheVariants as on_tree
 use Rattle.file_world.specs.declared.operation.Op.{Op}
 use Rattle.file_world.specs.declared.operation.Op.TheVariants.{Read, Write, Truncate, List as ListOf, Lookup, Create, Mkdir, Unlink, Rename, Getattr, Setattr, Delattr, Chown}
 use Rattle.file_world.specs.Tree.{Node, Nodes, FileTree, node_at, IsTree}
-use Rattle.file_world.specs.TreeEffect.{Change, nothing, add, fill, remove, move, change_of, changed_tree, child_of, tests_of, revised, with_contents, with_place}
+use Rattle.file_world.specs.TreeEffect.{TreeChange, nothing, add, fill, remove, move, change_of, changed_tree, child_of, tests_of, revise, with_contents, with_place}
 use Rattle.file_world.specs.Attributes.{Mark, Marks, mark_at, AreMarks}
 use Rattle.file_world.specs.AttributeEffect.{IsMetaOperation, attributes_of, with_value, without_value, with_owner, with_parent, with_attributes, new_mark, marks_after}
 use Rattle.file_world.specs.World.{Item, World, node_of, mark_of, tree_of, marks_of, IsWorld, fresh_world}
 use Rattle.file_world.specs.Effect.{Part, tree_part, meta_part, part_of, IsOperation, refusal_in, refusal, changed_world, marked_world, world_after_part, world_after, item_with_contents, item_with_place, item_with_owner, item_with_attributes}
-use Rattle.file_world.specs.Halves.{following, marks_followed, IsDirect, meta_op_of, tree_half_after, MayFollow}
+use Rattle.file_world.specs.Halves.{following, marks_followed, IsDirect, meta_op_of, tree_half_after, MetaMayFollow}
 use Rattle.file_world.specs.Laws.{item_at, HalvesAfter}
 use Rattle.file_world.proofs.RowLemmas.{split, map-revised, AreRising, AreBelow, below_head, below_tail, rising_tail}
 use Rattle.file_world.proofs.TreeLemmas.{IsTree-fresh}
@@ -48,16 +48,16 @@ module _ {V W : Type 0} (read : V → W) where
       ∙ (ap (λ (rest : List (ℕ × W)). part_of_row row ∷ rest) (part-removed number rows)
       ∙ sym (cond-false (nat_eq number row.0) (map part_of_row rows) (part_of_row row ∷ remove_entry (nat_eq number) (map part_of_row rows)) f)))
 
-  part-revised : (number : ℕ) (revision : V → V) (partly : W → W) → ((value : V) → read (revision value) ≡ partly (read value)) → (rows : List (ℕ × V)) → map part_of_row (revised number revision rows) ≡ revised number partly (map part_of_row rows)
+  part-revised : (number : ℕ) (revision : V → V) (partly : W → W) → ((value : V) → read (revision value) ≡ partly (read value)) → (rows : List (ℕ × V)) → map part_of_row (revise number revision rows) ≡ revise number partly (map part_of_row rows)
   part-revised number revision partly same [] = refl
   part-revised number revision partly same (row ∷ rows) =
       split (nat_eq number row.0)
-      (λ t. ap (map part_of_row) (cond-true (nat_eq number row.0) ((row.0, revision row.1) ∷ rows) (row ∷ revised number revision rows) t)
+      (λ t. ap (map part_of_row) (cond-true (nat_eq number row.0) ((row.0, revision row.1) ∷ rows) (row ∷ revise number revision rows) t)
       ∙ (ap (λ (w : W). (row.0, w) ∷ map part_of_row rows) (same row.1)
-      ∙ sym (cond-true (nat_eq number row.0) ((row.0, partly (read row.1)) ∷ map part_of_row rows) (part_of_row row ∷ revised number partly (map part_of_row rows)) t)))
-      (λ f. ap (map part_of_row) (cond-false (nat_eq number row.0) ((row.0, revision row.1) ∷ rows) (row ∷ revised number revision rows) f)
+      ∙ sym (cond-true (nat_eq number row.0) ((row.0, partly (read row.1)) ∷ map part_of_row rows) (part_of_row row ∷ revise number partly (map part_of_row rows)) t)))
+      (λ f. ap (map part_of_row) (cond-false (nat_eq number row.0) ((row.0, revision row.1) ∷ rows) (row ∷ revise number revision rows) f)
       ∙ (ap (λ (rest : List (ℕ × W)). part_of_row row ∷ rest) (part-revised number revision partly same rows)
-      ∙ sym (cond-false (nat_eq number row.0) ((row.0, partly (read row.1)) ∷ map part_of_row rows) (part_of_row row ∷ revised number partly (map part_of_row rows)) f)))
+      ∙ sym (cond-false (nat_eq number row.0) ((row.0, partly (read row.1)) ∷ map part_of_row rows) (part_of_row row ∷ revise number partly (map part_of_row rows)) f)))
 
 -- a number above all others is put last
 put_last : {V : Type 0} (number : ℕ) (value : V) (rows : List (ℕ × V)) → AreRising rows → AreBelow number rows → insert_entry nat_cmp rows number value ≡ rows ++ (number, value) ∷ []
@@ -109,14 +109,14 @@ named_mark world directory name child =
 abbrev tree_with : ℕ → Nodes → FileTree
 tree_with next rows = record { rows = rows; next = next }
 
-pub tree_of-changed : (caller : List ℕ) (change : Change) (world : World) → tree_of (changed_world caller change world) ≡ changed_tree change (tree_of world)
+pub tree_of-changed : (caller : List ℕ) (change : TreeChange) (world : World) → tree_of (changed_world caller change world) ≡ changed_tree change (tree_of world)
 tree_of-changed caller nothing world = refl
 tree_of-changed caller (add kind place) world = ap (tree_with (world.next + 1)) (map-append (part_of_row node_of) world.rows _)
 tree_of-changed caller (fill number contents) world = ap (tree_with world.next) (part-revised node_of number (item_with_contents contents) (with_contents contents) (λ _. refl) world.rows)
 tree_of-changed caller (remove number) world = ap (tree_with world.next) (part-removed node_of number world.rows)
 tree_of-changed caller (move number place) world = ap (tree_with world.next) (part-revised node_of number (item_with_place place) (with_place place) (λ _. refl) world.rows)
 
-pub marks_of-changed : (caller : List ℕ) (change : Change) (world : World) → IsWorld world → marks_of (changed_world caller change world) ≡ marks_followed (marks_of world) (following caller world.next change)
+pub marks_of-changed : (caller : List ℕ) (change : TreeChange) (world : World) → IsWorld world → marks_of (changed_world caller change world) ≡ marks_followed (marks_of world) (following caller world.next change)
 marks_of-changed caller nothing world is = refl
 marks_of-changed caller (add kind place) world is =
     map-append (part_of_row mark_of) world.rows _
@@ -176,7 +176,7 @@ marks_half : (caller : List ℕ) (world : World) (part : Part) → IsWorld world
 marks_half caller world (tree_part op) is direct = marks_of-changed caller (change_of (tree_of world) op) world is
 marks_half caller world (meta_part op) is direct = marks_of-marked op world direct
 
-pub may_follow : (caller : List ℕ) (op : Op) (world : World) → IsWorld world → refusal world op ≡ None → MayFollow (marks_of world) (meta_op_of caller (tree_of world) (part_of op))
+pub may_follow : (caller : List ℕ) (op : Op) (world : World) → IsWorld world → refusal world op ≡ None → MetaMayFollow (marks_of world) (meta_op_of caller (tree_of world) (part_of op))
 may_follow caller (Read file offset len) world is none = tt
 may_follow caller (Write file offset bytes) world is none = tt
 may_follow caller (Truncate file len) world is none = tt
@@ -208,7 +208,7 @@ IsTree-half : (world : World) (part : Part) → IsTree (tree_of world) → refus
 IsTree-half world (tree_part op) is none = IsTree-after (tree_of world) op is none
 IsTree-half world (meta_part op) is none = is
 
-AreMarks-followed : (marks : Marks) (caller : List ℕ) (next : ℕ) (change : Change) → AreMarks marks → IsTrue (is_principal_name caller) → MayFollow marks (following caller next change) → AreMarks (marks_followed marks (following caller next change))
+AreMarks-followed : (marks : Marks) (caller : List ℕ) (next : ℕ) (change : TreeChange) → AreMarks marks → IsTrue (is_principal_name caller) → MetaMayFollow marks (following caller next change) → AreMarks (marks_followed marks (following caller next change))
 AreMarks-followed marks caller next nothing are named may = are
 AreMarks-followed marks caller next (add kind place) are named may = AreMarks-after marks (on_meta.Add (record { 0 = next }) caller (record { 0 = place.directory })) are named may refl
 AreMarks-followed marks caller next (fill number contents) are named may = are
@@ -234,7 +234,7 @@ part_operation (Setattr node name value) is = is
 part_operation (Delattr node name) is = tt
 part_operation (Chown node owner) is = is
 
-AreMarks-half : (caller : List ℕ) (world : World) (part : Part) → AreMarks (marks_of world) → IsTrue (is_principal_name caller) → IsPartOperation part → MayFollow (marks_of world) (meta_op_of caller (tree_of world) part) → refusal_in world part ≡ None → AreMarks (marks_followed (marks_of world) (meta_op_of caller (tree_of world) part))
+AreMarks-half : (caller : List ℕ) (world : World) (part : Part) → AreMarks (marks_of world) → IsTrue (is_principal_name caller) → IsPartOperation part → MetaMayFollow (marks_of world) (meta_op_of caller (tree_of world) part) → refusal_in world part ≡ None → AreMarks (marks_followed (marks_of world) (meta_op_of caller (tree_of world) part))
 AreMarks-half caller world (tree_part op) are named fit may none = AreMarks-followed (marks_of world) caller world.next (change_of (tree_of world) op) are named may
 AreMarks-half caller world (meta_part op) are named fit may none = AreMarks-after (marks_of world) op are fit may none
 

@@ -17,8 +17,8 @@ use Rattle.file_world.specs.declared.refusal.Refusal.{Refusal}
 use Rattle.file_world.specs.declared.reply.NamedNode.{NamedNode}
 use Rattle.file_world.specs.Limits.{root_number}
 use Rattle.file_world.specs.Outcome.{Tests, first_of, NoneHolds, IsFirst, Outcome, refused, replied, outcome}
-use Rattle.file_world.specs.Tree.{Place, Node, Nodes, FileTree, node_at, number_at, IsReached, at_root, below, root, IsTree}
-use Rattle.file_world.specs.TreeEffect.{at, names_in, is_directory, leads_past, leads_on, written, tree_refusal, tree_reply, tree_after, tests_of, revised}
+use Rattle.file_world.specs.Tree.{Place, Node, Nodes, FileTree, node_at, number_at, ReachesRoot, at_root, below, root, IsTree}
+use Rattle.file_world.specs.TreeEffect.{at, names_in, is_directory, has_way_past, has_way_on, write_at, tree_refusal, tree_reply, tree_after, tests_of, revise}
 use Rattle.file_world.specs.Attributes.{AreMarks}
 use Rattle.file_world.specs.AttributeEffect.{meta_refusal, meta_reply, marks_after}
 use Rattle.file_world.specs.World.{World, tree_of}
@@ -119,7 +119,7 @@ data Path (rows : Nodes) : ℕ → List ℕ → Type 0 where
   ends : Path rows root_number (root_number ∷ [])
   goes : (number : ℕ) (node : Node) (rest : List ℕ) → node_at rows number ≡ Some node → number ≢ 1 → Path rows node.place.directory rest → Path rows number (number ∷ rest)
 
-path_from : (rows : Nodes) (number : ℕ) → IsReached rows number → (numbers : List ℕ) × Path rows number numbers
+path_from : (rows : Nodes) (number : ℕ) → ReachesRoot rows number → (numbers : List ℕ) × Path rows number numbers
 path_from rows number at_root = (1 ∷ [], ends)
 path_from rows number (below _ node found directory held kind up) =
     let rest = path_from rows node.place.directory up in
@@ -196,7 +196,7 @@ way_fits tree number xs is path =
     length-le_from_keys nat_eq_equiv xs tree.rows (distinct_path tree.rows number xs path) (on_the_way tree.rows number xs (ap is_some is.has_root) path)
 
 -- a walk that is long enough passes what is not on the way
-walk_past : (rows : Nodes) (avoided number : ℕ) (xs : List ℕ) → Path rows number xs → (steps : ℕ) → length xs ≤ steps → list_any (nat_eq avoided) xs ≡ false → leads_past steps rows avoided number ≡ true
+walk_past : (rows : Nodes) (avoided number : ℕ) (xs : List ℕ) → Path rows number xs → (steps : ℕ) → length xs ≤ steps → list_any (nat_eq avoided) xs ≡ false → has_way_past steps rows avoided number ≡ true
 walk_past rows avoided number xs ends zero fits e = absurd (omega (arith, fits))
 walk_past rows avoided number xs ends (suc steps) fits e =
     let parts = or_parts (nat_eq avoided 1) false e in
@@ -206,7 +206,7 @@ walk_past rows avoided number xs (goes _ node rest found apart up) (suc steps) f
     let parts = or_parts (nat_eq avoided number) (list_any (nat_eq avoided) rest) e in
     cond-false (nat_eq number avoided) _ _ (ne_eqb number avoided (λ h. eqb-false avoided number parts.0 (sym h)))
     ∙ (cond-false (nat_eq number 1) _ _ (ne_eqb number 1 apart)
-    ∙ (ap (λ (n : Option Node). leads_on n (leads_past steps rows avoided)) found
+    ∙ (ap (λ (n : Option Node). has_way_on n (has_way_past steps rows avoided)) found
     ∙ walk_past rows avoided node.place.directory rest up steps (omega (arith, fits)) parts.1))
 
 -- what is on the way contains what the way begins at
@@ -230,7 +230,7 @@ not_in_nothing tree container is above (below_it number node found up) e =
     let one : 1 ≤ number = (is.sound number node found).above_zero in omega (arith, one, e)
 
 -- a walk does not pass what contains its beginning
-walk_stopped : (tree : FileTree) (container : ℕ) → IsTree tree → 1 ≤ container → (steps : ℕ) (number : ℕ) → StandsIn tree.rows container number → leads_past steps tree.rows container number ≡ false
+walk_stopped : (tree : FileTree) (container : ℕ) → IsTree tree → 1 ≤ container → (steps : ℕ) (number : ℕ) → StandsIn tree.rows container number → has_way_past steps tree.rows container number ≡ false
 walk_stopped tree container is above zero number stands = refl
 walk_stopped tree container is above (suc steps) number itself = cond-true (nat_eq container container) _ _ (eq-eqb container container refl)
 walk_stopped tree container is above (suc steps) number (below_it _ node found up) =
@@ -241,7 +241,7 @@ walk_stopped tree container is above (suc steps) number (below_it _ node found u
     ∙ split (nat_eq number 1)
     (λ t. let root_is : root ≡ node = same_Some _ _ (sym is.has_root ∙ (ap (node_at tree.rows) (sym (eqb-true number 1 t)) ∙ found)) in
     absurd (not_in_nothing tree container is above up (sym (ap (λ (n : Node). n.place.directory) root_is))))
-    (λ g. cond-false (nat_eq number 1) _ _ g ∙ (ap (λ (n : Option Node). leads_on n (leads_past steps tree.rows container)) found ∙ further)))
+    (λ g. cond-false (nat_eq number 1) _ _ g ∙ (ap (λ (n : Option Node). has_way_on n (has_way_past steps tree.rows container)) found ∙ further)))
 
 node_from : (rows : Nodes) (number : ℕ) → IsSome (node_at rows number) → (node : Node) × (node_at rows number ≡ Some node)
 node_from rows number some = by (node_at rows number) refl
@@ -259,7 +259,7 @@ walks_are_long_enough tree container number is there here =
       λ t. split (list_any (nat_eq container) path.0)
           (λ on. stands_on_way tree.rows container number path.0 path.1 on)
           (λ off. absurd (true≢false (sym (walk_past tree.rows container number path.0 path.1 (length tree.rows) fits off) ∙ not-true _ t))),
-      λ stands. not_from_false (leads_past (length tree.rows) tree.rows container number) (walk_stopped tree container is (is.sound container holder.0 holder.1).above_zero (length tree.rows) number stands),
+      λ stands. not_from_false (has_way_past (length tree.rows) tree.rows container number) (walk_stopped tree container is (is.sound container holder.0 holder.1).above_zero (length tree.rows) number stands),
     )
 
 -- ---- the names in a directory
@@ -290,8 +290,8 @@ renames_keep_the_rest caller directory target name renamed world after found is 
     let child = named_child tree directory.0 name is.tree (not-false _ h.1.0) h.1.1.1.1.1.1.0 in
     let item = item_from_node world child.child child.stands.node child.stands.found in
     let place : Place = at target.0 renamed in
-    let rows : after.rows ≡ revised child.child (item_with_place place) world.rows =
-    ap (λ (w : World). w.rows) (sym parts.1) ∙ ap (λ (n : Option ℕ). revised (unwrap_or n 0) (item_with_place place) world.rows) child.is_child in (
+    let rows : after.rows ≡ revise child.child (item_with_place place) world.rows =
+    ap (λ (w : World). w.rows) (sym parts.1) ∙ ap (λ (n : Option ℕ). revise (unwrap_or n 0) (item_with_place place) world.rows) child.is_child in (
       child.child,
       item.0,
       child.is_child,
@@ -313,8 +313,8 @@ writes_are_read_back old (byte ∷ bytes) offset some =
     (let a = length-append (take offset old) (replicate (offset - length old) 0) in
     let b = length-replicate {A = ℕ} (offset - length old) 0 in
     let d : length (take offset old) ≡ min offset (length old) = length-take offset old in omega (arith, a, b, d)) in
-    let whole : written old offset more ≡ front ++ (more ++ rest) = append_assoc front more rest in
-    let behind : drop offset (written old offset more) ≡ more ++ rest = ap (drop offset) whole ∙ drop_at front (more ++ rest) offset len in
+    let whole : write_at old offset more ≡ front ++ (more ++ rest) = append_assoc front more rest in
+    let behind : drop offset (write_at old offset more) ≡ more ++ rest = ap (drop offset) whole ∙ drop_at front (more ++ rest) offset len in
     let all : length (front ++ more) ≡ offset + length more = (let a = length-append front more in omega (arith, a, len)) in (
       ap (take (length more)) behind ∙ take_at more rest (length more) refl,
       ap (take offset) whole ∙ take_at front (more ++ rest) offset len,

@@ -14,7 +14,7 @@ use Rattle.std.proofs.lemmas.Option.{none-some, same_Some}
 use Rattle.std.proofs.lemmas.Slice.Eq.{bytes_eq-Decides}
 use Rattle.file_world.specs.declared.reply.NamedNode.{NamedNode}
 use Rattle.file_world.specs.Tree.{Place, Nodes, number_at, is_place}
-use Rattle.file_world.specs.TreeEffect.{at, entered, names_in}
+use Rattle.file_world.specs.TreeEffect.{at, insert_name, names_in}
 use Rattle.file_world.proofs.RowLemmas.{split, cond_at_true, cond_at_false}
 use Rattle.file_world.proofs.PlaceLemmas.{DoPlacesDiffer, differ_head, differ_tail, none_from_IsFree}
 
@@ -118,12 +118,12 @@ same_pairs (x ∷ xs) (y ∷ ys) s t same =
 
 -- ---- a name that is entered
 
-entered_after : (name : List ℕ) (new : NamedNode) (names : List NamedNode) → order name new.name ≡ Less → AreAfter name (pairs_of names) → AreAfter name (pairs_of (entered new names))
+entered_after : (name : List ℕ) (new : NamedNode) (names : List NamedNode) → order name new.name ≡ Less → AreAfter name (pairs_of names) → AreAfter name (pairs_of (insert_name new names))
 entered_after name new [] less after = (less, tt)
 entered_after name new (first ∷ others) less after =
     split (is_lt (order new.name first.name))
-    (λ t. subst (λ (n : List NamedNode). AreAfter name (pairs_of n)) (sym (cond-true (is_lt (order new.name first.name)) (new ∷ first ∷ others) (first ∷ entered new others) t)) (less, after))
-    (λ f. subst (λ (n : List NamedNode). AreAfter name (pairs_of n)) (sym (cond-false (is_lt (order new.name first.name)) (new ∷ first ∷ others) (first ∷ entered new others) f)) (after.0, entered_after name new others less after.1))
+    (λ t. subst (λ (n : List NamedNode). AreAfter name (pairs_of n)) (sym (cond-true (is_lt (order new.name first.name)) (new ∷ first ∷ others) (first ∷ insert_name new others) t)) (less, after))
+    (λ f. subst (λ (n : List NamedNode). AreAfter name (pairs_of n)) (sym (cond-false (is_lt (order new.name first.name)) (new ∷ first ∷ others) (first ∷ insert_name new others) f)) (after.0, entered_after name new others less after.1))
 
 less_from : (o : Ordering) → is_lt o ≡ true → o ≡ Less
 less_from Less e = refl
@@ -142,17 +142,17 @@ differs name first others e =
     (λ t. absurd (none-some _ (sym (cond_at_true (is_at (order name) first.0) _ _ _ t e))))
     (λ f. f)
 
-entered_sorted : (new : NamedNode) (names : List NamedNode) → AreSorted (pairs_of names) → found_in (pairs_of names) new.name ≡ None → AreSorted (pairs_of (entered new names))
+entered_sorted : (new : NamedNode) (names : List NamedNode) → AreSorted (pairs_of names) → found_in (pairs_of names) new.name ≡ None → AreSorted (pairs_of (insert_name new names))
 entered_sorted new [] s none = sorted_cons (pair_of new) [] tt s
 entered_sorted new (first ∷ others) s none =
     split (is_lt (order new.name first.name))
     (λ t. let less = less_from (order new.name first.name) t in
-    subst (λ (n : List NamedNode). AreSorted (pairs_of n)) (sym (cond-true (is_lt (order new.name first.name)) (new ∷ first ∷ others) (first ∷ entered new others) t))
+    subst (λ (n : List NamedNode). AreSorted (pairs_of n)) (sym (cond-true (is_lt (order new.name first.name)) (new ∷ first ∷ others) (first ∷ insert_name new others) t))
     (sorted_cons (pair_of new) (pairs_of (first ∷ others)) (less, after_trans new.name first.name (pairs_of others) less (sorted_head (pair_of first) (pairs_of others) s)) s))
     (λ f. let d = differs new.name (pair_of first) (pairs_of others) none in
     let less = flip_greater new.name first.name (greater_from (order new.name first.name) f d) in
-    subst (λ (n : List NamedNode). AreSorted (pairs_of n)) (sym (cond-false (is_lt (order new.name first.name)) (new ∷ first ∷ others) (first ∷ entered new others) f))
-    (sorted_cons (pair_of first) (pairs_of (entered new others))
+    subst (λ (n : List NamedNode). AreSorted (pairs_of n)) (sym (cond-false (is_lt (order new.name first.name)) (new ∷ first ∷ others) (first ∷ insert_name new others) f))
+    (sorted_cons (pair_of first) (pairs_of (insert_name new others))
     (entered_after first.name new others less (sorted_head (pair_of first) (pairs_of others) s))
     (entered_sorted new others (sorted_tail (pair_of first) (pairs_of others) s) (cond_at_false (is_at (order new.name) first.name) _ _ _ d none))))
 
@@ -162,13 +162,13 @@ swap_tests true true x y z apart = absurd (apart refl refl)
 swap_tests true false x y z apart = refl
 swap_tests false b x y z apart = refl
 
-entered_found : (new : NamedNode) (names : List NamedNode) → found_in (pairs_of names) new.name ≡ None → (name : List ℕ) → found_in (pairs_of (entered new names)) name ≡ cond (is_at (order name) new.name) (Some new.node.0) (found_in (pairs_of names) name)
+entered_found : (new : NamedNode) (names : List NamedNode) → found_in (pairs_of names) new.name ≡ None → (name : List ℕ) → found_in (pairs_of (insert_name new names)) name ≡ cond (is_at (order name) new.name) (Some new.node.0) (found_in (pairs_of names) name)
 entered_found new [] none name = refl
 entered_found new (first ∷ others) none name =
     split (is_lt (order new.name first.name))
-    (λ t. ap (λ (n : List NamedNode). found_in (pairs_of n) name) (cond-true (is_lt (order new.name first.name)) (new ∷ first ∷ others) (first ∷ entered new others) t))
+    (λ t. ap (λ (n : List NamedNode). found_in (pairs_of n) name) (cond-true (is_lt (order new.name first.name)) (new ∷ first ∷ others) (first ∷ insert_name new others) t))
     (λ f. let d = differs new.name (pair_of first) (pairs_of others) none in
-    ap (λ (n : List NamedNode). found_in (pairs_of n) name) (cond-false (is_lt (order new.name first.name)) (new ∷ first ∷ others) (first ∷ entered new others) f)
+    ap (λ (n : List NamedNode). found_in (pairs_of n) name) (cond-false (is_lt (order new.name first.name)) (new ∷ first ∷ others) (first ∷ insert_name new others) f)
     ∙ (ap (λ (o : Option ℕ). cond (is_at (order name) first.name) (Some first.node.0) o) (entered_found new others (cond_at_false (is_at (order new.name) first.name) _ _ _ d none) name)
     ∙ swap_tests (is_at (order name) first.name) (is_at (order name) new.name) (Some first.node.0) (Some new.node.0) (found_in (pairs_of others) name)
     (λ a b. true≢false (sym (ap (λ (n : List ℕ). is_at (order n) first.name) (sym (same_name name new.name b)) ∙ a) ∙ d))))
@@ -193,11 +193,11 @@ names_found (row ∷ rows) directory differ name =
     (λ t. let new : NamedNode = record { name = row.1.place.name; node = record { 0 = row.0 } } in
     let free : number_at rows (at directory row.1.place.name) ≡ None = ap (λ (d : ℕ). number_at rows (at d row.1.place.name)) (sym (eqb-true row.1.place.directory directory t)) ∙ none_from_IsFree row.1.place rows (differ_head row rows differ) in
     let none : found_in (pairs_of (names_in rows directory)) row.1.place.name ≡ None = names_found rows directory (differ_tail row rows differ) row.1.place.name ∙ free in
-    ap (λ (n : List NamedNode). found_in (pairs_of n) name) (cond-true (row.1.place.directory == directory) (entered new (names_in rows directory)) (names_in rows directory) t)
+    ap (λ (n : List NamedNode). found_in (pairs_of n) name) (cond-true (row.1.place.directory == directory) (insert_name new (names_in rows directory)) (names_in rows directory) t)
     ∙ (entered_found new (names_in rows directory) none name
     ∙ (ap (λ (o : Option ℕ). cond (is_at (order name) row.1.place.name) (Some row.0) o) (names_found rows directory (differ_tail row rows differ) name)
     ∙ ap (λ (b : Bool). cond b (Some row.0) (number_at rows (at directory name))) (sym (name_test directory name row.1.place t)))))
-    (λ f. ap (λ (n : List NamedNode). found_in (pairs_of n) name) (cond-false (row.1.place.directory == directory) (entered (record { name = row.1.place.name; node = record { 0 = row.0 } }) (names_in rows directory)) (names_in rows directory) f)
+    (λ f. ap (λ (n : List NamedNode). found_in (pairs_of n) name) (cond-false (row.1.place.directory == directory) (insert_name (record { name = row.1.place.name; node = record { 0 = row.0 } }) (names_in rows directory)) (names_in rows directory) f)
     ∙ (names_found rows directory (differ_tail row rows differ) name
     ∙ sym (cond-false (is_place (at directory name) row.1.place) (Some row.0) (number_at rows (at directory name)) (other_test directory name row.1.place f))))
 
@@ -207,9 +207,9 @@ names_sorted (row ∷ rows) directory differ =
     split (row.1.place.directory == directory)
     (λ t. let new : NamedNode = record { name = row.1.place.name; node = record { 0 = row.0 } } in
     let free : number_at rows (at directory row.1.place.name) ≡ None = ap (λ (d : ℕ). number_at rows (at d row.1.place.name)) (sym (eqb-true row.1.place.directory directory t)) ∙ none_from_IsFree row.1.place rows (differ_head row rows differ) in
-    subst (λ (n : List NamedNode). AreSorted (pairs_of n)) (sym (cond-true (row.1.place.directory == directory) (entered new (names_in rows directory)) (names_in rows directory) t))
+    subst (λ (n : List NamedNode). AreSorted (pairs_of n)) (sym (cond-true (row.1.place.directory == directory) (insert_name new (names_in rows directory)) (names_in rows directory) t))
     (entered_sorted new (names_in rows directory) (names_sorted rows directory (differ_tail row rows differ)) (names_found rows directory (differ_tail row rows differ) row.1.place.name ∙ free)))
-    (λ f. subst (λ (n : List NamedNode). AreSorted (pairs_of n)) (sym (cond-false (row.1.place.directory == directory) (entered (record { name = row.1.place.name; node = record { 0 = row.0 } }) (names_in rows directory)) (names_in rows directory) f))
+    (λ f. subst (λ (n : List NamedNode). AreSorted (pairs_of n)) (sym (cond-false (row.1.place.directory == directory) (insert_name (record { name = row.1.place.name; node = record { 0 = row.0 } }) (names_in rows directory)) (names_in rows directory) f))
     (names_sorted rows directory (differ_tail row rows differ)))
 
 -- pairs as a list of names again

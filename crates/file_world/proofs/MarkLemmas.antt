@@ -17,7 +17,7 @@ use Rattle.file_world.specs.FileNames.{is_attribute_name}
 use Rattle.file_world.specs.Limits.{root_number, most_attributes}
 use Rattle.file_world.specs.Attributes.{Attributes, Mark, Marks, mark_at, value_at, IsMark, AreMarks}
 use Rattle.file_world.specs.AttributeEffect.{attributes_of, with_value, without_value, meta_tests, meta_refusal, IsMetaOperation, IsAskable, with_owner, with_parent, with_attributes, new_mark, marks_after, fresh_marks}
-use Rattle.file_world.specs.TreeEffect.{revised}
+use Rattle.file_world.specs.TreeEffect.{revise}
 use Rattle.file_world.proofs.RowLemmas.{split, cond_at_true, cond_at_false, lookup_here, lookup_later, keys-revised, lookup-removed_same, lookup-removed_other, rising-removed}
 use Rattle.file_world.proofs.TreeLemmas.{found-revised}
 use Rattle.file_world.proofs.EffectLemmas.{none_hold, some_from}
@@ -81,7 +81,7 @@ IsMark-new owner parent named = record { owned = named; named = tt; texts = tt; 
 
 -- ---- the marks of all nodes
 
-pub AreMarks-revised : (number : ℕ) (revision : Mark → Mark) (marks : Marks) (old : Mark) → mark_at marks number ≡ Some old → AreMarks marks → IsMark (revision old) → AreMarks (revised number revision marks)
+pub AreMarks-revised : (number : ℕ) (revision : Mark → Mark) (marks : Marks) (old : Mark) → mark_at marks number ≡ Some old → AreMarks marks → IsMark (revision old) → AreMarks (revise number revision marks)
 AreMarks-revised number revision marks old there are new = record {
   within = λ other mark e. elim (found-revised number revision marks old there other mark e) [
     | inl kept ↦ are.within other mark kept.1

@@ -4,7 +4,7 @@ use Rattle.std.specs.Map.{lookup, remove_entry}
 use Rattle.std.proofs.lemmas.Bool.{cond-true, cond-false, false≢true}
 use Rattle.file_world.specs.declared.operation.MetaOp.{MetaOp}
 use Rattle.file_world.specs.declared.operation.MetaOp.TheVariants as on_meta
-use Rattle.file_world.specs.TreeEffect.{Change, nothing, add, fill, remove, move, change_of, revised}
+use Rattle.file_world.specs.TreeEffect.{TreeChange, nothing, add, fill, remove, move, change_of, revise}
 use Rattle.file_world.specs.World.{Item, World, tree_of}
 use Rattle.file_world.specs.Effect.{Part, tree_part, meta_part, new_item, changed_world, marked_world, revised_world, world_after_part}
 use Rattle.file_world.specs.Laws.{item_at}
@@ -13,20 +13,20 @@ use Rattle.file_world.proofs.TreeLemmas.{found-push}
 
 module _ {V : Type 0} where
   -- a revision leaves the numbers
-  is_some-revised : (number other : ℕ) (revision : V → V) (rows : List (ℕ × V)) → is_some (lookup (nat_eq other) (revised number revision rows)) ≡ is_some (lookup (nat_eq other) rows)
+  is_some-revised : (number other : ℕ) (revision : V → V) (rows : List (ℕ × V)) → is_some (lookup (nat_eq other) (revise number revision rows)) ≡ is_some (lookup (nat_eq other) rows)
   is_some-revised number other revision [] = refl
   is_some-revised number other revision (row ∷ rows) =
       split (nat_eq number row.0)
-      (λ t. ap (λ (rs : List (ℕ × V)). is_some (lookup (nat_eq other) rs)) (cond-true (nat_eq number row.0) ((row.0, revision row.1) ∷ rows) (row ∷ revised number revision rows) t)
+      (λ t. ap (λ (rs : List (ℕ × V)). is_some (lookup (nat_eq other) rs)) (cond-true (nat_eq number row.0) ((row.0, revision row.1) ∷ rows) (row ∷ revise number revision rows) t)
       ∙ by (nat_eq other row.0))
-      (λ f. ap (λ (rs : List (ℕ × V)). is_some (lookup (nat_eq other) rs)) (cond-false (nat_eq number row.0) ((row.0, revision row.1) ∷ rows) (row ∷ revised number revision rows) f)
+      (λ f. ap (λ (rs : List (ℕ × V)). is_some (lookup (nat_eq other) rs)) (cond-false (nat_eq number row.0) ((row.0, revision row.1) ∷ rows) (row ∷ revise number revision rows) f)
       ∙ further (nat_eq other row.0) (is_some-revised number other revision rows))
     where
       by : (b : Bool) → is_some (cond b (Some (revision row.1)) (lookup (nat_eq other) rows)) ≡ is_some (cond b (Some row.1) (lookup (nat_eq other) rows))
       by true = refl
       by false = refl
 
-      further : (b : Bool) → is_some (lookup (nat_eq other) (revised number revision rows)) ≡ is_some (lookup (nat_eq other) rows) → is_some (cond b (Some row.1) (lookup (nat_eq other) (revised number revision rows))) ≡ is_some (cond b (Some row.1) (lookup (nat_eq other) rows))
+      further : (b : Bool) → is_some (lookup (nat_eq other) (revise number revision rows)) ≡ is_some (lookup (nat_eq other) rows) → is_some (cond b (Some row.1) (lookup (nat_eq other) (revise number revision rows))) ≡ is_some (cond b (Some row.1) (lookup (nat_eq other) rows))
       further true rest = refl
       further false rest = rest
 
@@ -58,7 +58,7 @@ same_numbers world = record { rises = omega arith; used = λ number there. inl t
 numbers-revised : (number : ℕ) (revision : Item → Item) (world : World) → KeepsNumbers world (revised_world number revision world)
 numbers-revised number revision world = record { rises = omega arith; used = λ other there. inl (sym (is_some-revised number other revision world.rows) ∙ there) }
 
-pub numbers-changed : (caller : List ℕ) (change : Change) (world : World) → KeepsNumbers world (changed_world caller change world)
+pub numbers-changed : (caller : List ℕ) (change : TreeChange) (world : World) → KeepsNumbers world (changed_world caller change world)
 numbers-changed caller nothing world = same_numbers world
 numbers-changed caller (add kind place) world = record {
   rises = omega arith;

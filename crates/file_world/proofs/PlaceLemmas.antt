@@ -6,7 +6,7 @@ use Rattle.std.proofs.lemmas.Bool.{cond-true, cond-false, false≢true, eq-eqb, 
 use Rattle.std.proofs.lemmas.Slice.Eq.{bytes_eq-Decides}
 use Rattle.std.proofs.lemmas.Option.{none-some, same_Some}
 use Rattle.file_world.specs.Tree.{Place, Node, Nodes, node_at, number_at, is_place, places_of}
-use Rattle.file_world.specs.TreeEffect.{at, revised, with_place}
+use Rattle.file_world.specs.TreeEffect.{at, revise, with_place}
 use Rattle.file_world.proofs.RowLemmas.{split, cond_at_true, cond_at_false, lookup_here, lookup_later, above_found, AreRising, rising_head, rising_tail}
 
 pub is_place-true : (place other : Place) → is_place place other ≡ true → place ≡ other
@@ -130,20 +130,20 @@ differ-removed number (row ∷ rows) differ =
 abbrev moved_row : Place → ℕ × Node → ℕ × Node
 moved_row place row = (row.0, with_place place row.1)
 
-pub free-moved : (place target : Place) (number : ℕ) (rows : Nodes) → IsFree place rows → is_place place target ≡ false → IsFree place (revised number (with_place target) rows)
+pub free-moved : (place target : Place) (number : ℕ) (rows : Nodes) → IsFree place rows → is_place place target ≡ false → IsFree place (revise number (with_place target) rows)
 free-moved place target number [] free apart = tt
 free-moved place target number (row ∷ rows) free apart =
     split (nat_eq number row.0)
-    (λ t. subst (IsFree place) (sym (cond-true (nat_eq number row.0) (moved_row target row ∷ rows) (row ∷ revised number (with_place target) rows) t)) (apart, free.1))
-    (λ f. subst (IsFree place) (sym (cond-false (nat_eq number row.0) (moved_row target row ∷ rows) (row ∷ revised number (with_place target) rows) f)) (free.0, free-moved place target number rows free.1 apart))
+    (λ t. subst (IsFree place) (sym (cond-true (nat_eq number row.0) (moved_row target row ∷ rows) (row ∷ revise number (with_place target) rows) t)) (apart, free.1))
+    (λ f. subst (IsFree place) (sym (cond-false (nat_eq number row.0) (moved_row target row ∷ rows) (row ∷ revise number (with_place target) rows) f)) (free.0, free-moved place target number rows free.1 apart))
 
-pub differ-moved : (target : Place) (number : ℕ) (rows : Nodes) → DoPlacesDiffer rows → IsFree target rows → DoPlacesDiffer (revised number (with_place target) rows)
+pub differ-moved : (target : Place) (number : ℕ) (rows : Nodes) → DoPlacesDiffer rows → IsFree target rows → DoPlacesDiffer (revise number (with_place target) rows)
 differ-moved target number [] differ free = differ
 differ-moved target number (row ∷ rows) differ free =
     split (nat_eq number row.0)
-    (λ t. subst DoPlacesDiffer (sym (cond-true (nat_eq number row.0) (moved_row target row ∷ rows) (row ∷ revised number (with_place target) rows) t))
+    (λ t. subst DoPlacesDiffer (sym (cond-true (nat_eq number row.0) (moved_row target row ∷ rows) (row ∷ revise number (with_place target) rows) t))
     (differ_cons (moved_row target row) rows free.1 (differ_tail row rows differ)))
-    (λ f. subst DoPlacesDiffer (sym (cond-false (nat_eq number row.0) (moved_row target row ∷ rows) (row ∷ revised number (with_place target) rows) f))
-    (differ_cons row (revised number (with_place target) rows)
+    (λ f. subst DoPlacesDiffer (sym (cond-false (nat_eq number row.0) (moved_row target row ∷ rows) (row ∷ revise number (with_place target) rows) f))
+    (differ_cons row (revise number (with_place target) rows)
     (free-moved row.1.place target number rows (differ_head row rows differ) (is_place-flip target row.1.place free.0))
     (differ-moved target number rows (differ_tail row rows differ) free.1)))

@@ -6,7 +6,7 @@ use Rattle.std.specs.Map.{lookup, remove_entry, keys_of}
 use Rattle.std.proofs.lemmas.Bool.{cond-true, cond-false, lt-ltb, ltb-true, eq-eqb, ne_eqb, eqb-true}
 use Rattle.std.proofs.lemmas.List.Sums.{sum_by-cons}
 use Rattle.std.proofs.lemmas.Option.{none-some, same_Some}
-use Rattle.file_world.specs.TreeEffect.{revised}
+use Rattle.file_world.specs.TreeEffect.{revise}
 
 -- a test holds or does not
 pub split : {P : Type 0} (test : Bool) → (test ≡ true → P) → (test ≡ false → P) → P
@@ -62,16 +62,16 @@ module _ {K V : Type 0} where
 module _ {V : Type 0} where
   -- ---- a revised row
 
-  pub lookup-revised_same : (number : ℕ) (revision : V → V) (rows : List (ℕ × V)) (value : V) → lookup (nat_eq number) rows ≡ Some value → lookup (nat_eq number) (revised number revision rows) ≡ Some (revision value)
+  pub lookup-revised_same : (number : ℕ) (revision : V → V) (rows : List (ℕ × V)) (value : V) → lookup (nat_eq number) rows ≡ Some value → lookup (nat_eq number) (revise number revision rows) ≡ Some (revision value)
   lookup-revised_same number revision [] value e = absurd (none-some _ e)
   lookup-revised_same number revision (row ∷ rows) value e =
       split (nat_eq number row.0)
       (λ t. ap (lookup (nat_eq number)) (cond-true (nat_eq number row.0) _ _ t)
       ∙ (lookup_here (nat_eq number) (row.0, revision row.1) rows t ∙ ap (λ (v : V). Some (revision v)) (same_Some _ _ (cond_at_true (nat_eq number row.0) _ _ _ t e))))
       (λ t. ap (lookup (nat_eq number)) (cond-false (nat_eq number row.0) _ _ t)
-      ∙ (lookup_later (nat_eq number) row (revised number revision rows) t ∙ lookup-revised_same number revision rows value (cond_at_false (nat_eq number row.0) _ _ _ t e)))
+      ∙ (lookup_later (nat_eq number) row (revise number revision rows) t ∙ lookup-revised_same number revision rows value (cond_at_false (nat_eq number row.0) _ _ _ t e)))
 
-  pub lookup-revised_other : (number other : ℕ) (revision : V → V) (rows : List (ℕ × V)) → other ≢ number → lookup (nat_eq other) (revised number revision rows) ≡ lookup (nat_eq other) rows
+  pub lookup-revised_other : (number other : ℕ) (revision : V → V) (rows : List (ℕ × V)) → other ≢ number → lookup (nat_eq other) (revise number revision rows) ≡ lookup (nat_eq other) rows
   lookup-revised_other number other revision [] apart = refl
   lookup-revised_other number other revision (row ∷ rows) apart =
       split (nat_eq number row.0)
@@ -83,35 +83,35 @@ module _ {V : Type 0} where
       ∙ ap (λ (rest : Option V). cond (nat_eq other row.0) (Some row.1) rest) (lookup-revised_other number other revision rows apart))
 
   -- a list read from each row is the same if the revision leaves it
-  pub map-revised : {Y : Type 0} (read : ℕ × V → Y) (number : ℕ) (revision : V → V) → ((n : ℕ) (v : V) → read (n, revision v) ≡ read (n, v)) → (rows : List (ℕ × V)) → map read (revised number revision rows) ≡ map read rows
+  pub map-revised : {Y : Type 0} (read : ℕ × V → Y) (number : ℕ) (revision : V → V) → ((n : ℕ) (v : V) → read (n, revision v) ≡ read (n, v)) → (rows : List (ℕ × V)) → map read (revise number revision rows) ≡ map read rows
   map-revised read number revision same [] = refl
   map-revised {Y} read number revision same (row ∷ rows) =
       split (nat_eq number row.0)
       (λ t. ap (map read) (cond-true (nat_eq number row.0) _ _ t) ∙ ap (λ (y : Y). y ∷ map read rows) (same row.0 row.1))
       (λ t. ap (map read) (cond-false (nat_eq number row.0) _ _ t) ∙ ap (λ (ys : List Y). read row ∷ ys) (map-revised read number revision same rows))
 
-  pub length-revised : (number : ℕ) (revision : V → V) (rows : List (ℕ × V)) → length (revised number revision rows) ≡ length rows
+  pub length-revised : (number : ℕ) (revision : V → V) (rows : List (ℕ × V)) → length (revise number revision rows) ≡ length rows
   length-revised number revision [] = refl
   length-revised number revision (row ∷ rows) =
       split (nat_eq number row.0)
       (λ t. ap length (cond-true (nat_eq number row.0) _ _ t))
       (λ t. ap length (cond-false (nat_eq number row.0) _ _ t) ∙ ap suc (length-revised number revision rows))
 
-  pub keys-revised : (number : ℕ) (revision : V → V) (rows : List (ℕ × V)) → keys_of (revised number revision rows) ≡ keys_of rows
+  pub keys-revised : (number : ℕ) (revision : V → V) (rows : List (ℕ × V)) → keys_of (revise number revision rows) ≡ keys_of rows
   keys-revised number revision rows = map-revised (λ row. row.0) number revision (λ _ _. refl) rows
 
-  pub sum_by-revised : (weight : ℕ × V → ℕ) (number : ℕ) (revision : V → V) (value : V) (rows : List (ℕ × V)) → lookup (nat_eq number) rows ≡ Some value → sum_by weight (revised number revision rows) + weight (number, value) ≡ sum_by weight rows + weight (number, revision value)
+  pub sum_by-revised : (weight : ℕ × V → ℕ) (number : ℕ) (revision : V → V) (value : V) (rows : List (ℕ × V)) → lookup (nat_eq number) rows ≡ Some value → sum_by weight (revise number revision rows) + weight (number, value) ≡ sum_by weight rows + weight (number, revision value)
   sum_by-revised weight number revision value [] e = absurd (none-some _ e)
   sum_by-revised weight number revision value (row ∷ rows) e =
       split (nat_eq number row.0)
       (λ t. let n : number ≡ row.0 = eqb-true number row.0 t in
       let v : row.1 ≡ value = same_Some _ _ (cond_at_true (nat_eq number row.0) _ _ _ t e) in
-      let left : sum_by weight (revised number revision (row ∷ rows)) ≡ weight (row.0, revision row.1) + sum_by weight rows = ap (sum_by weight) (cond-true (nat_eq number row.0) _ _ t) ∙ sum_by-cons weight (row.0, revision row.1) rows in
+      let left : sum_by weight (revise number revision (row ∷ rows)) ≡ weight (row.0, revision row.1) + sum_by weight rows = ap (sum_by weight) (cond-true (nat_eq number row.0) _ _ t) ∙ sum_by-cons weight (row.0, revision row.1) rows in
       let right : sum_by weight (row ∷ rows) ≡ weight (row.0, row.1) + sum_by weight rows = sum_by-cons weight row rows in
       let a : weight (row.0, revision row.1) ≡ weight (number, revision value) = ap (λ (m : ℕ). weight (m, revision row.1)) (sym n) ∙ ap (λ (w : V). weight (number, revision w)) v in
       let b : weight (row.0, row.1) ≡ weight (number, value) = ap (λ (m : ℕ). weight (m, row.1)) (sym n) ∙ ap (λ (w : V). weight (number, w)) v in
       omega (arith, left, right, a, b))
-      (λ t. let left : sum_by weight (revised number revision (row ∷ rows)) ≡ weight row + sum_by weight (revised number revision rows) = ap (sum_by weight) (cond-false (nat_eq number row.0) _ _ t) ∙ sum_by-cons weight row (revised number revision rows) in
+      (λ t. let left : sum_by weight (revise number revision (row ∷ rows)) ≡ weight row + sum_by weight (revise number revision rows) = ap (sum_by weight) (cond-false (nat_eq number row.0) _ _ t) ∙ sum_by-cons weight row (revise number revision rows) in
       let right : sum_by weight (row ∷ rows) ≡ weight row + sum_by weight rows = sum_by-cons weight row rows in
       let rest = sum_by-revised weight number revision value rows (cond_at_false (nat_eq number row.0) _ _ _ t e) in
       omega (arith, left, right, rest))

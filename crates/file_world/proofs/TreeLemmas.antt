@@ -10,8 +10,8 @@ use Rattle.file_world.specs.declared.operation.Kind.{Kind}
 use Rattle.file_world.specs.declared.operation.Kind.TheVariants.{File, Directory}
 use Rattle.file_world.specs.FileNames.{is_node_name}
 use Rattle.file_world.specs.Limits.{root_number, most_nodes, most_bytes, most_bytes_together, last_number}
-use Rattle.file_world.specs.Tree.{Place, Node, Nodes, FileTree, node_at, number_at, is_place, contents_sum, IsReached, at_root, below, root, IsSound, IsTree}
-use Rattle.file_world.specs.TreeEffect.{new_node, with_contents, with_place, revised, leads_past, leads_on, changed_tree, add, fill, remove, move, fresh_tree}
+use Rattle.file_world.specs.Tree.{Place, Node, Nodes, FileTree, node_at, number_at, is_place, contents_sum, ReachesRoot, at_root, below, root, IsSound, IsTree}
+use Rattle.file_world.specs.TreeEffect.{new_node, with_contents, with_place, revise, has_way_past, has_way_on, changed_tree, add, fill, remove, move, fresh_tree}
 use Rattle.file_world.proofs.RowLemmas.{split, cond_at_true, cond_at_false, lookup_here, lookup-append_found, lookup-append_none, lookup-revised_same, lookup-revised_other, map-revised, length-revised, keys-revised, sum_by-revised, weight-le-sum_by, sum_by-removed, length-removed_le, lookup-removed_same, lookup-removed_other, rising-removed, rising-push}
 use Rattle.file_world.proofs.PlaceLemmas.{IsFree-from_none, differ-push, differ-removed, differ-moved}
 
@@ -25,13 +25,13 @@ pub record Remains (rows after : Nodes) (number : ℕ) (node : Node) : Type 0 wh
   pub same_kind : now.kind ≡ node.kind
 
 -- the first link of a walk, made in the other list
-step_in : (rows after : Nodes) (number directory : ℕ) (node holder : Node) → Remains rows after number node → node.place.directory ≡ directory → Remains rows after directory holder → holder.kind ≡ Directory → IsReached after directory → IsReached after number
+step_in : (rows after : Nodes) (number directory : ℕ) (node holder : Node) → Remains rows after number node → node.place.directory ≡ directory → Remains rows after directory holder → holder.kind ≡ Directory → ReachesRoot after directory → ReachesRoot after number
 step_in rows after number directory node holder here e there kind up =
     let same : here.now.place.directory ≡ directory = here.same_directory ∙ e in
-    below number here.now here.found there.now (ap (node_at after) same ∙ there.found) (there.same_kind ∙ kind) (subst (IsReached after) (sym same) up)
+    below number here.now here.found there.now (ap (node_at after) same ∙ there.found) (there.same_kind ∙ kind) (subst (ReachesRoot after) (sym same) up)
 
 -- if every node remains, what was reached is reached
-pub IsReached-remains : (rows after : Nodes) → ((number : ℕ) (node : Node) → node_at rows number ≡ Some node → Remains rows after number node) → (number : ℕ) → IsReached rows number → IsReached after number
+pub IsReached-remains : (rows after : Nodes) → ((number : ℕ) (node : Node) → node_at rows number ≡ Some node → Remains rows after number node) → (number : ℕ) → ReachesRoot rows number → ReachesRoot after number
 IsReached-remains rows after remains number at_root = at_root
 IsReached-remains rows after remains number (below _ node found directory held kind up) =
     step_in rows after number node.place.directory node directory (remains number node found) refl (remains node.place.directory directory held) kind (IsReached-remains rows after remains node.place.directory up)
@@ -70,7 +70,7 @@ IsTree-add tree kind place is can =
     let fresh : node_at tree.rows tree.next ≡ None = none_at_next tree is in
     let new_found : node_at (tree.rows ++ more) tree.next ≡ Some (new_node kind place) =
     lookup-append_none (nat_eq tree.next) tree.rows more fresh ∙ lookup_here (nat_eq tree.next) (tree.next, new_node kind place) [] (eq-eqb tree.next tree.next refl) in
-    let new_reached : IsReached (tree.rows ++ more) tree.next =
+    let new_reached : ReachesRoot (tree.rows ++ more) tree.next =
     below tree.next (new_node kind place) new_found can.directory (lookup-append_found (nat_eq place.directory) tree.rows more can.directory can.held) can.is_directory
     (reached place.directory (is.sound place.directory can.directory can.held).reached) in
     let root_sound = is.sound 1 root is.has_root in
@@ -118,19 +118,19 @@ pub record CanFill (tree : FileTree) (number : ℕ) (contents : List ℕ) : Type
   pub fits : contents_sum tree.rows - length node.contents + length contents ≤ most_bytes_together
 
 -- what is found after a revision: what was found at another number, or the revised value
-pub found-revised : {V : Type 0} (number : ℕ) (revision : V → V) (rows : List (ℕ × V)) (old : V) → lookup (nat_eq number) rows ≡ Some old → (other : ℕ) (found : V) → lookup (nat_eq other) (revised number revision rows) ≡ Some found → ((other ≢ number) × (lookup (nat_eq other) rows ≡ Some found)) ⊎ ((other ≡ number) × (revision old ≡ found))
+pub found-revised : {V : Type 0} (number : ℕ) (revision : V → V) (rows : List (ℕ × V)) (old : V) → lookup (nat_eq number) rows ≡ Some old → (other : ℕ) (found : V) → lookup (nat_eq other) (revise number revision rows) ≡ Some found → ((other ≢ number) × (lookup (nat_eq other) rows ≡ Some found)) ⊎ ((other ≡ number) × (revision old ≡ found))
 found-revised number revision rows old there other found e =
     elim (cases_eq other number) [
-      | inl same ↦ inr (same, same_Some _ _ (sym (lookup-revised_same number revision rows old there) ∙ (ap (λ (n : ℕ). lookup (nat_eq n) (revised number revision rows)) (sym same) ∙ e)))
+      | inl same ↦ inr (same, same_Some _ _ (sym (lookup-revised_same number revision rows old there) ∙ (ap (λ (n : ℕ). lookup (nat_eq n) (revise number revision rows)) (sym same) ∙ e)))
       | inr apart ↦ inl (apart, sym (lookup-revised_other number other revision rows apart) ∙ e)
     ]
 
-pub remains-revised : (number : ℕ) (revision : Node → Node) (rows : Nodes) → ((node : Node) → (revision node).kind ≡ node.kind) → ((node : Node) → (revision node).place ≡ node.place) → (other : ℕ) (node : Node) → node_at rows other ≡ Some node → Remains rows (revised number revision rows) other node
+pub remains-revised : (number : ℕ) (revision : Node → Node) (rows : Nodes) → ((node : Node) → (revision node).kind ≡ node.kind) → ((node : Node) → (revision node).place ≡ node.place) → (other : ℕ) (node : Node) → node_at rows other ≡ Some node → Remains rows (revise number revision rows) other node
 remains-revised number revision rows kind place other node e =
     elim (cases_eq other number) [
       | inl same ↦ record {
         now = revision node;
-        found = ap (λ (n : ℕ). node_at (revised number revision rows) n) same ∙ lookup-revised_same number revision rows node (ap (λ (n : ℕ). node_at rows n) (sym same) ∙ e);
+        found = ap (λ (n : ℕ). node_at (revise number revision rows) n) same ∙ lookup-revised_same number revision rows node (ap (λ (n : ℕ). node_at rows n) (sym same) ∙ e);
         same_directory = ap (λ (p : Place). p.directory) (place node);
         same_kind = kind node;
       }
@@ -147,7 +147,7 @@ not_root_kind tree number node is e kind same =
 
 pub IsTree-fill : (tree : FileTree) (number : ℕ) (contents : List ℕ) → IsTree tree → CanFill tree number contents → IsTree (changed_tree (fill number contents) tree)
 IsTree-fill tree number contents is can =
-    let after : Nodes = revised number (with_contents contents) tree.rows in
+    let after : Nodes = revise number (with_contents contents) tree.rows in
     let reached = IsReached-remains tree.rows after (remains-revised number (with_contents contents) tree.rows (λ _. refl) (λ _. refl)) in
     let apart : number ≢ 1 = not_root_kind tree number can.node is can.found can.is_file in
     record {
@@ -182,7 +182,7 @@ pub record CanRemove (tree : FileTree) (number : ℕ) : Type 0 where
   pub childless : (other : ℕ) (child : Node) → node_at tree.rows other ≡ Some child → child.place.directory ≢ number
 
 -- what leads to the root leads there without a node that holds none
-IsReached-removed : (rows : Nodes) (number : ℕ) → ((other : ℕ) (child : Node) → node_at rows other ≡ Some child → child.place.directory ≢ number) → (other : ℕ) → other ≢ number → IsReached rows other → IsReached (remove_entry (nat_eq number) rows) other
+IsReached-removed : (rows : Nodes) (number : ℕ) → ((other : ℕ) (child : Node) → node_at rows other ≡ Some child → child.place.directory ≢ number) → (other : ℕ) → other ≢ number → ReachesRoot rows other → ReachesRoot (remove_entry (nat_eq number) rows) other
 IsReached-removed rows number childless other apart at_root = at_root
 IsReached-removed rows number childless other apart (below _ node found directory held kind up) =
     let holder : node.place.directory ≢ number = childless other node found in
@@ -226,49 +226,49 @@ pub record CanMove (tree : FileTree) (number : ℕ) (place : Place) : Type 0 whe
   pub named : IsTrue (is_node_name place.name)
   pub free : number_at tree.rows place ≡ None
   pub steps : ℕ
-  pub past : leads_past steps tree.rows number place.directory ≡ true
+  pub past : has_way_past steps tree.rows number place.directory ≡ true
 
 -- each node is there after a move, and of the same kind
-kind-moved : (number : ℕ) (place : Place) (rows : Nodes) (other : ℕ) (node : Node) → node_at rows other ≡ Some node → (now : Node) × (node_at (revised number (with_place place) rows) other ≡ Some now) × (now.kind ≡ node.kind)
+kind-moved : (number : ℕ) (place : Place) (rows : Nodes) (other : ℕ) (node : Node) → node_at rows other ≡ Some node → (now : Node) × (node_at (revise number (with_place place) rows) other ≡ Some now) × (now.kind ≡ node.kind)
 kind-moved number place rows other node e =
     elim (cases_eq other number) [
-      | inl same ↦ (with_place place node, ap (λ (n : ℕ). node_at (revised number (with_place place) rows) n) same ∙ lookup-revised_same number (with_place place) rows node (ap (λ (n : ℕ). node_at rows n) (sym same) ∙ e), refl)
+      | inl same ↦ (with_place place node, ap (λ (n : ℕ). node_at (revise number (with_place place) rows) n) same ∙ lookup-revised_same number (with_place place) rows node (ap (λ (n : ℕ). node_at rows n) (sym same) ∙ e), refl)
       | inr apart ↦ (node, lookup-revised_other number other (with_place place) rows apart ∙ e, refl)
     ]
 
 -- a walk that meets no moved node can be made after the move
-IsReached-past : (number : ℕ) (place : Place) (rows : Nodes) (steps : ℕ) (other : ℕ) → leads_past steps rows number other ≡ true → IsReached rows other → IsReached (revised number (with_place place) rows) other
+IsReached-past : (number : ℕ) (place : Place) (rows : Nodes) (steps : ℕ) (other : ℕ) → has_way_past steps rows number other ≡ true → ReachesRoot rows other → ReachesRoot (revise number (with_place place) rows) other
 IsReached-past number place rows steps other past at_root = at_root
 IsReached-past number place rows zero other past (below _ node found directory held kind up) = absurd (false≢true past)
 IsReached-past number place rows (suc steps) other past (below _ node found directory held kind up) =
-    let after : Nodes = revised number (with_place place) rows in
+    let after : Nodes = revise number (with_place place) rows in
     split (nat_eq other number)
     (λ t. absurd (false≢true (cond_at_true (nat_eq other number) _ _ _ t past)))
     (λ f. let apart : other ≢ number = eqb-false other number f in
     let further = cond_at_false (nat_eq other number) _ _ _ f past in
     split (nat_eq other 1)
-    (λ t. subst (IsReached after) (sym (eqb-true other 1 t)) at_root)
-    (λ g. let on : leads_past steps rows number node.place.directory ≡ true = ap (λ (n : Option Node). leads_on n (leads_past steps rows number)) (sym found) ∙ cond_at_false (nat_eq other 1) _ _ _ g further in
+    (λ t. subst (ReachesRoot after) (sym (eqb-true other 1 t)) at_root)
+    (λ g. let on : has_way_past steps rows number node.place.directory ≡ true = ap (λ (n : Option Node). has_way_on n (has_way_past steps rows number)) (sym found) ∙ cond_at_false (nat_eq other 1) _ _ _ g further in
     let there = kind-moved number place rows node.place.directory directory held in
     below other node (lookup-revised_other number other (with_place place) rows apart ∙ found) there.0 there.1 (there.2 ∙ kind)
     (IsReached-past number place rows steps node.place.directory on up)))
 
 -- each node is reached after the move, if the moved one is
-IsReached-moved : (number : ℕ) (place : Place) (rows : Nodes) → IsReached (revised number (with_place place) rows) number → (other : ℕ) → IsReached rows other → IsReached (revised number (with_place place) rows) other
+IsReached-moved : (number : ℕ) (place : Place) (rows : Nodes) → ReachesRoot (revise number (with_place place) rows) number → (other : ℕ) → ReachesRoot rows other → ReachesRoot (revise number (with_place place) rows) other
 IsReached-moved number place rows moved other at_root = at_root
 IsReached-moved number place rows moved other (below _ node found directory held kind up) =
     let there = kind-moved number place rows node.place.directory directory held in
     let rest = IsReached-moved number place rows moved node.place.directory up in
     elim (cases_eq other number) [
-      | inl same ↦ subst (IsReached (revised number (with_place place) rows)) (sym same) moved
+      | inl same ↦ subst (ReachesRoot (revise number (with_place place) rows)) (sym same) moved
       | inr apart ↦ below other node (lookup-revised_other number other (with_place place) rows apart ∙ found) there.0 there.1 (there.2 ∙ kind) rest
     ]
 
 pub IsTree-move : (tree : FileTree) (number : ℕ) (place : Place) → IsTree tree → CanMove tree number place → IsTree (changed_tree (move number place) tree)
 IsTree-move tree number place is can =
-    let after : Nodes = revised number (with_place place) tree.rows in
+    let after : Nodes = revise number (with_place place) tree.rows in
     let there = kind-moved number place tree.rows place.directory can.directory can.held in
-    let moved : IsReached after number =
+    let moved : ReachesRoot after number =
     below number (with_place place can.node) (lookup-revised_same number (with_place place) tree.rows can.node can.found) there.0 there.1 (there.2 ∙ can.is_directory)
     (IsReached-past number place tree.rows can.steps place.directory can.past (is.sound place.directory can.directory can.held).reached) in
     let reached = IsReached-moved number place tree.rows moved in

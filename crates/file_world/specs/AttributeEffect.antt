@@ -15,7 +15,7 @@ use Rattle.file_world.specs.declared.reply.MetaReply.TheVariants.{Done, Text as 
 use Rattle.file_world.specs.FileNames.{is_attribute_name}
 use Rattle.file_world.specs.Limits.{root_number, most_attributes}
 use Rattle.file_world.specs.Attributes.{Attributes, Mark, Marks, mark_at, value_at}
-use Rattle.file_world.specs.TreeEffect.{revised}
+use Rattle.file_world.specs.TreeEffect.{revise}
 use Rattle.file_world.specs.Outcome.{Tests, first_of, Outcome, outcome}
 
 -- the attributes of the node of that number; none where there is no node
@@ -103,13 +103,13 @@ new_mark owner parent = record { owner = owner; parent = parent; attributes = []
 abbrev pub marks_after : Marks → MetaOp → Marks
 marks_after marks (Get node name) = marks
 marks_after marks (Set node name value) =
-    revised node.0 (with_attributes (with_value (attributes_of (mark_at marks node.0)) name value)) marks
+    revise node.0 (with_attributes (with_value (attributes_of (mark_at marks node.0)) name value)) marks
 marks_after marks (Remove node name) =
-    revised node.0 (with_attributes (without_value (attributes_of (mark_at marks node.0)) name)) marks
-marks_after marks (Chown node owner) = revised node.0 (with_owner owner) marks
+    revise node.0 (with_attributes (without_value (attributes_of (mark_at marks node.0)) name)) marks
+marks_after marks (Chown node owner) = revise node.0 (with_owner owner) marks
 marks_after marks (Add node owner parent) = insert_entry nat_cmp marks node.0 (new_mark owner parent.0)
 marks_after marks (Drop node) = remove_entry (nat_eq node.0) marks
-marks_after marks (Move node parent) = revised node.0 (with_parent parent.0) marks
+marks_after marks (Move node parent) = revise node.0 (with_parent parent.0) marks
 
 -- what the operation does to the marks
 abbrev pub meta_effect : Marks → MetaOp → Outcome MetaReply Marks

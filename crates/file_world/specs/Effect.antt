@@ -13,7 +13,7 @@ use Rattle.file_world.specs.declared.refusal.Refusal.{Refusal}
 use Rattle.file_world.specs.declared.reply.OpReply.{OpReply}
 use Rattle.file_world.specs.declared.reply.OpReply.TheVariants.{Tree as TreeOf, Meta as MetaOf}
 use Rattle.file_world.specs.Tree.{Place}
-use Rattle.file_world.specs.TreeEffect.{Change, nothing, add, fill, remove, move, change_of, revised, tests_of, tree_refusal, tree_reply}
+use Rattle.file_world.specs.TreeEffect.{TreeChange, nothing, add, fill, remove, move, change_of, revise, tests_of, tree_refusal, tree_reply}
 use Rattle.file_world.specs.Attributes.{Attributes, mark_at}
 use Rattle.file_world.specs.AttributeEffect.{attributes_of, with_value, without_value, meta_tests, meta_refusal, meta_reply}
 use Rattle.file_world.specs.World.{Item, World, tree_of, marks_of}
@@ -96,10 +96,10 @@ item_with_attributes attributes item = record item { attributes = attributes }
 
 -- the world with the node of that number revised
 abbrev pub revised_world : ℕ → (Item → Item) → World → World
-revised_world number revision world = record { rows = revised number revision world.rows; next = world.next }
+revised_world number revision world = record { rows = revise number revision world.rows; next = world.next }
 
 -- the world after a change of its tree by the caller, who owns what is new
-abbrev pub changed_world : List ℕ → Change → World → World
+abbrev pub changed_world : List ℕ → TreeChange → World → World
 changed_world caller nothing world = world
 changed_world caller (add kind place) world = record { rows = world.rows ++ (world.next, new_item caller kind place) ∷ []; next = world.next + 1 }
 changed_world caller (fill number contents) world = revised_world number (item_with_contents contents) world

@@ -6,10 +6,10 @@ use Rattle.file_world.specs.Attributes.{Marks}
 use Rattle.file_world.specs.AttributeEffect.{IsAskable, marks_after}
 use Rattle.file_world.specs.Effect.{Part, tree_part, meta_part}
 use Rattle.file_world.specs.Tree.{FileTree}
-use Rattle.file_world.specs.TreeEffect.{Change, nothing, add, fill, remove, move, change_of, tree_after}
+use Rattle.file_world.specs.TreeEffect.{TreeChange, nothing, add, fill, remove, move, change_of, tree_after}
 
 -- what follows a change of the tree by the caller in owners and attributes, where something does
-abbrev pub following : List ℕ → ℕ → Change → Option MetaOp
+abbrev pub following : List ℕ → ℕ → TreeChange → Option MetaOp
 following caller next nothing = None
 following caller next (add kind place) = Some (Add (record { 0 = next }) caller (record { 0 = place.directory }))
 following caller next (fill number contents) = None
@@ -42,5 +42,5 @@ tree_half_after tree (tree_part op) = tree_after tree op
 tree_half_after tree (meta_part op) = tree
 
 -- the marks may be asked for what follows
-abbrev pub MayFollow : Marks → Option MetaOp → Type 0
-MayFollow marks following = IfSome following (IsAskable marks)
+abbrev pub MetaMayFollow : Marks → Option MetaOp → Type 0
+MetaMayFollow marks following = IfSome following (IsAskable marks)

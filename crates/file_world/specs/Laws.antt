@@ -17,12 +17,12 @@ use Rattle.file_world.specs.declared.reply.MetaReply.{MetaReply}
 use Rattle.file_world.specs.declared.reply.TreeReply.{TreeReply}
 use Rattle.file_world.specs.Outcome.{NoneHolds, IsFirst, refused, replied}
 use Rattle.file_world.specs.Tree.{Node, Nodes, FileTree, node_at, IsTree}
-use Rattle.file_world.specs.TreeEffect.{at, child_of, names_in, is_directory, is_into_itself, written, part_of as bytes_part, tree_effect, Change, changed_tree, fresh_tree}
+use Rattle.file_world.specs.TreeEffect.{at, child_of, names_in, is_directory, is_into_itself, write_at, part_of as bytes_part, tree_effect, TreeChange, changed_tree, fresh_tree}
 use Rattle.file_world.specs.Attributes.{Marks, AreMarks}
 use Rattle.file_world.specs.AttributeEffect.{IsMetaOperation, IsAskable, marks_after, meta_effect, fresh_marks}
 use Rattle.file_world.specs.World.{Item, World, tree_of, marks_of, IsWorld, fresh_world}
 use Rattle.file_world.specs.Effect.{part_of, tests_in, IsOperation, refusal, reply, world_after, changed_world, marked_world, effect, item_with_place}
-use Rattle.file_world.specs.Halves.{following, marks_followed, IsDirect, meta_op_of, tree_half_after, MayFollow}
+use Rattle.file_world.specs.Halves.{following, marks_followed, IsDirect, meta_op_of, tree_half_after, MetaMayFollow}
 
 -- an operation that is not refused leaves a tree a tree
 abbrev pub TreesStayTrees : Type 0
@@ -66,7 +66,7 @@ MarksStayMarks = (marks after : Marks) (op : MetaOp) (reply : MetaReply) → Are
 
 -- a change of the tree changes that half of the world as it changes the tree alone, and the other half by what follows
 abbrev pub HalvesFollow : Type 0
-HalvesFollow = (caller : List ℕ) (change : Change) (world : World) → IsWorld world
+HalvesFollow = (caller : List ℕ) (change : TreeChange) (world : World) → IsWorld world
     → (tree_of (changed_world caller change world) ≡ changed_tree change (tree_of world))
     × (marks_of (changed_world caller change world) ≡ marks_followed (marks_of world) (following caller world.next change))
 
@@ -79,7 +79,7 @@ MarksChangeAlone = (op : MetaOp) (world : World) → IsDirect op
 pub record HalvesAfter (caller : List ℕ) (op : Op) (world after : World) : Type 0 where
   pub tree : tree_of after ≡ tree_half_after (tree_of world) (part_of op)
   pub marks : marks_of after ≡ marks_followed (marks_of world) (meta_op_of caller (tree_of world) (part_of op))
-  pub may_follow : MayFollow (marks_of world) (meta_op_of caller (tree_of world) (part_of op))
+  pub may_follow : MetaMayFollow (marks_of world) (meta_op_of caller (tree_of world) (part_of op))
 
 -- each operation that is not refused does to each half what the half's own operation does
 abbrev pub HalvesKeepStep : Type 0
@@ -104,6 +104,6 @@ RenamesKeepTheRest = (caller : List ℕ) (directory target : NodeId) (name renam
 -- what is written is read back, the bytes beside it stay, and a gap before it is zero
 abbrev pub WritesAreReadBack : Type 0
 WritesAreReadBack = (old bytes : List ℕ) (offset : ℕ) → 0 < length bytes
-    → (bytes_part (written old offset bytes) offset (length bytes) ≡ bytes)
-    × (take offset (written old offset bytes) ≡ take offset old ++ replicate (offset - length old) 0)
-    × (drop (offset + length bytes) (written old offset bytes) ≡ drop (offset + length bytes) old)
+    → (bytes_part (write_at old offset bytes) offset (length bytes) ≡ bytes)
+    × (take offset (write_at old offset bytes) ≡ take offset old ++ replicate (offset - length old) 0)
+    × (drop (offset + length bytes) (write_at old offset bytes) ≡ drop (offset + length bytes) old)

@@ -50,9 +50,9 @@ abbrev pub contents_sum : Nodes → ℕ
 contents_sum rows = sum_by (λ row. length row.1.contents) rows
 
 -- following directories from the node of that number leads to the root
-pub data IsReached (rows : Nodes) : ℕ → Type 0 where
-  at_root : IsReached rows root_number
-  below : (number : ℕ) (node : Node) → node_at rows number ≡ Some node → (directory : Node) → node_at rows node.place.directory ≡ Some directory → directory.kind ≡ Directory → IsReached rows node.place.directory → IsReached rows number
+pub data ReachesRoot (rows : Nodes) : ℕ → Type 0 where
+  at_root : ReachesRoot rows root_number
+  below : (number : ℕ) (node : Node) → node_at rows number ≡ Some node → (directory : Node) → node_at rows node.place.directory ≡ Some directory → directory.kind ≡ Directory → ReachesRoot rows node.place.directory → ReachesRoot rows number
 
 -- the root: a directory without directory and name
 abbrev pub root : Node
@@ -60,7 +60,7 @@ root = record { kind = Directory; place = record { directory = 0; name = [] }; c
 
 -- what holds of the node of a number
 pub record IsSound (tree : FileTree) (number : ℕ) (node : Node) : Type 0 where
-  pub reached : IsReached tree.rows number
+  pub reached : ReachesRoot tree.rows number
   pub named : number ≢ root_number → IsTrue (is_node_name node.place.name)
   pub above_zero : 1 ≤ number
   pub below_next : number < tree.next

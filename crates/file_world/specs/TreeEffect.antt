@@ -48,33 +48,33 @@ abbrev pub is_full : FileTree → Bool
 is_full tree = nat_le most_nodes (length tree.rows) || (tree.next == last_number)
 
 -- the walk goes on to the node's directory; it fails where there is no node
-abbrev pub leads_on : Option Node → (ℕ → Bool) → Bool
-leads_on None past = false
-leads_on (Some node) past = past node.place.directory
+abbrev pub has_way_on : Option Node → (ℕ → Bool) → Bool
+has_way_on None past = false
+has_way_on (Some node) past = past node.place.directory
 
 -- following directories from the number, with so many steps, leads to the root without meeting the avoided node
-abbrev pub leads_past : ℕ → Nodes → ℕ → ℕ → Bool
-leads_past zero rows avoided number = false
-leads_past (suc steps) rows avoided number =
+abbrev pub has_way_past : ℕ → Nodes → ℕ → ℕ → Bool
+has_way_past zero rows avoided number = false
+has_way_past (suc steps) rows avoided number =
     if number == avoided then false else
     if number == root_number then true else
-    leads_on (node_at rows number) (leads_past steps rows avoided)
+    has_way_on (node_at rows number) (has_way_past steps rows avoided)
 
 -- the node to be moved is the new directory or stands above it
 abbrev pub is_into_itself : Nodes → ℕ → ℕ → Bool
-is_into_itself rows moved directory = not (leads_past (length rows) rows moved directory)
+is_into_itself rows moved directory = not (has_way_past (length rows) rows moved directory)
 
 -- ---- contents
 
 -- the bytes put at an offset, and zero bytes in a gap before them
-abbrev pub written : List ℕ → ℕ → List ℕ → List ℕ
-written old offset [] = old
-written old offset (byte ∷ bytes) =
+abbrev pub write_at : List ℕ → ℕ → List ℕ → List ℕ
+write_at old offset [] = old
+write_at old offset (byte ∷ bytes) =
     take offset old ++ replicate (offset - length old) 0 ++ (byte ∷ bytes) ++ drop (offset + length (byte ∷ bytes)) old
 
 -- cut to a length, or filled up to it with zero bytes
-abbrev pub resized : List ℕ → ℕ → List ℕ
-resized old len = take len old ++ replicate (len - length old) 0
+abbrev pub resize_to : List ℕ → ℕ → List ℕ
+resize_to old len = take len old ++ replicate (len - length old) 0
 
 -- the bytes from an offset, at most so many, and none from the end on
 abbrev pub part_of : List ℕ → ℕ → ℕ → List ℕ
@@ -83,17 +83,17 @@ part_of contents offset len = take len (drop offset contents)
 -- ---- the names in a directory
 
 -- a name put before the first that comes after it
-abbrev pub entered : NamedNode → List NamedNode → List NamedNode
-entered named [] = named ∷ []
-entered named (first ∷ others) =
-    if is_lt (slice_cmp nat_cmp named.name first.name) then named ∷ first ∷ others else first ∷ entered named others
+abbrev pub insert_name : NamedNode → List NamedNode → List NamedNode
+insert_name named [] = named ∷ []
+insert_name named (first ∷ others) =
+    if is_lt (slice_cmp nat_cmp named.name first.name) then named ∷ first ∷ others else first ∷ insert_name named others
 
 -- the names in a directory and their nodes, in the byte order of the names
 abbrev pub names_in : Nodes → ℕ → List NamedNode
 names_in [] directory = []
 names_in (row ∷ rows) directory =
     if row.1.place.directory == directory
-    then entered (record { name = row.1.place.name; node = record { 0 = row.0 } }) (names_in rows directory)
+    then insert_name (record { name = row.1.place.name; node = record { 0 = row.0 } }) (names_in rows directory)
     else names_in rows directory
 
 -- ---- refusals, in their order
@@ -176,21 +176,21 @@ tree_reply tree (Rename directory name target renamed) = Done
 -- ---- changes
 
 -- what an operation changes
-pub data Change : Type 0 where
-  nothing : Change
+pub data TreeChange : Type 0 where
+  nothing : TreeChange
   -- a new node of that kind, without contents, at that place
-  add : Kind → Place → Change
+  add : Kind → Place → TreeChange
   -- the node has those contents
-  fill : ℕ → List ℕ → Change
+  fill : ℕ → List ℕ → TreeChange
   -- the node goes
-  remove : ℕ → Change
+  remove : ℕ → TreeChange
   -- the node stands at that place
-  move : ℕ → Place → Change
+  move : ℕ → Place → TreeChange
 
-abbrev pub change_of : FileTree → TreeOp → Change
+abbrev pub change_of : FileTree → TreeOp → TreeChange
 change_of tree (Read file offset len) = nothing
-change_of tree (Write file offset bytes) = fill file.0 (written (contents_of (node_at tree.rows file.0)) offset bytes)
-change_of tree (Truncate file len) = fill file.0 (resized (contents_of (node_at tree.rows file.0)) len)
+change_of tree (Write file offset bytes) = fill file.0 (write_at (contents_of (node_at tree.rows file.0)) offset bytes)
+change_of tree (Truncate file len) = fill file.0 (resize_to (contents_of (node_at tree.rows file.0)) len)
 change_of tree (ListOf directory) = nothing
 change_of tree (Lookup directory name) = nothing
 change_of tree (Create directory name) = add File (at directory.0 name)
@@ -209,18 +209,18 @@ abbrev pub with_place : Place → Node → Node
 with_place place node = record node { place = place }
 
 -- the rows with the value under that number revised
-abbrev pub revised : {Value : Type 0} → ℕ → (Value → Value) → List (ℕ × Value) → List (ℕ × Value)
-revised number revision [] = []
-revised number revision (row ∷ rows) =
-    if nat_eq number row.0 then (row.0, revision row.1) ∷ rows else row ∷ revised number revision rows
+abbrev pub revise : {Value : Type 0} → ℕ → (Value → Value) → List (ℕ × Value) → List (ℕ × Value)
+revise number revision [] = []
+revise number revision (row ∷ rows) =
+    if nat_eq number row.0 then (row.0, revision row.1) ∷ rows else row ∷ revise number revision rows
 
 -- the tree after a change; a new node takes the next number
-abbrev pub changed_tree : Change → FileTree → FileTree
+abbrev pub changed_tree : TreeChange → FileTree → FileTree
 changed_tree nothing tree = tree
 changed_tree (add kind place) tree = record { rows = tree.rows ++ (tree.next, new_node kind place) ∷ []; next = tree.next + 1 }
-changed_tree (fill number contents) tree = record { rows = revised number (with_contents contents) tree.rows; next = tree.next }
+changed_tree (fill number contents) tree = record { rows = revise number (with_contents contents) tree.rows; next = tree.next }
 changed_tree (remove number) tree = record { rows = remove_entry (nat_eq number) tree.rows; next = tree.next }
-changed_tree (move number place) tree = record { rows = revised number (with_place place) tree.rows; next = tree.next }
+changed_tree (move number place) tree = record { rows = revise number (with_place place) tree.rows; next = tree.next }
 
 -- the tree after an operation that is not refused
 abbrev pub tree_after : FileTree → TreeOp → FileTree

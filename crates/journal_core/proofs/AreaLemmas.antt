@@ -9,14 +9,14 @@ use Rattle.std.specs.Prelude.{Option, Some, None}
 use Rattle.std.specs.Option.{option_map}
 use Rattle.std.specs.Int.{w32, to_be_bytes}
 use Rattle.journal_core.specs.Frame.{frame_bytes}
-use Rattle.journal_core.specs.Area.{IsShut, Begins, Stands, Closed, record_bytes}
+use Rattle.journal_core.specs.Area.{IsShut, Begins, StandsForBody, Closed, record_bytes}
 use Rattle.journal_core.specs.Rest.{IsWithOrWithout}
 
 -- a front that is there is not longer than the whole
 pub begins_within : (front bytes : List ℕ) → Begins front bytes → length front ≤ length bytes
 begins_within front bytes begins = omega (arith, ap length begins, length-take (length front) bytes)
 
--- a body with a closed gate behind it
+-- a body with a closed gate after it
 pub closed_by : (body bytes rest : List ℕ) → bytes ≡ body ++ (0 ∷ rest) → Closed body bytes
 closed_by body bytes rest is = record {
   stands = record {
@@ -29,7 +29,7 @@ closed_by body bytes rest is = record {
     zero_not_one : ◌≡◌ {A = ℕ} 0 1 → ⊥
     zero_not_one e = omega (arith, e)
 
--- a write behind the closed gate leaves the body and the gate
+-- a write after the closed gate leaves the body and the gate
 pub torn_after : (body bytes piece left : List ℕ) → Closed body bytes → Torn (length body + 1) piece bytes left → Closed body left
 torn_after body bytes piece left closed torn =
     let gate : length body < length bytes = closed.gate in
@@ -52,7 +52,7 @@ torn_after body bytes piece left closed torn =
 first_byte : (n : ℕ) (b : List ℕ) → get_or (take 1 (drop n b)) 0 0 ≡ get_or b n 0
 first_byte n b = get_or-take 1 (drop n b) 0 0 (omega arith) ∙ get_or-drop n b 0 0 ∙ ap (λ (k : ℕ). get_or b k 0) (let same : n + 0 ≡ n = omega arith in same)
 
--- a write of the open gate leaves the body, or the body and what stands behind the gate
+-- a write of the open gate leaves the body, or the body and what stands after the gate
 pub torn_gate : (body bytes tail left : List ℕ) → Closed body bytes →
     Torn (length body) (1 ∷ []) (written (length body + 1) (tail ++ 0 ∷ []) bytes) left → Closed body left ⊎ Closed (body ++ 1 ∷ tail) left
 torn_gate body bytes tail left closed torn =
@@ -79,7 +79,7 @@ torn_gate body bytes tail left closed torn =
     ∙ sym (append_assoc body (1 ∷ tail) (0 ∷ rest)))))
     (torn.single refl)
 
--- a first byte behind which a piece was written, and then that byte, are one write
+-- a first byte after which a piece was written, and then that byte, are one write
 front_of : (at : ℕ) (bytes : List ℕ) → take at (take (at + 1) bytes ++ replicate (at + 1 - length bytes) 0) ≡ take at bytes ++ replicate (at - length bytes) 0
 front_of at bytes =
     elim (cases_lt at (length bytes)) [
@@ -110,7 +110,7 @@ written_twice at byte piece bytes =
     ∙ ap (λ (n : ℕ). take at bytes ++ replicate (at - length bytes) 0 ++ byte ∷ (piece ++ drop n bytes)) (let same : at + 1 + length piece ≡ at + length (byte ∷ piece) = omega arith in same)
     ∙ sym (append_assoc (take at bytes ++ replicate (at - length bytes) 0) (byte ∷ piece) (drop (at + length (byte ∷ piece)) bytes))
 
--- what is written behind a body, up to a closed gate
+-- what is written after a body, up to a closed gate
 pub closed_written : (body more bytes : List ℕ) → Begins body bytes → Closed (body ++ more) (written (length body) (more ++ 0 ∷ []) bytes)
 closed_written body more bytes begins =
     let rest = drop (length body + length (more ++ 0 ∷ [])) bytes in

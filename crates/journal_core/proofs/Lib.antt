@@ -1,4 +1,4 @@
-pub mod Moments
+pub mod RestsLemmas
 pub mod AreaLemmas
 pub mod RecordLemmas
 pub mod ReadingLemmas

@@ -3,7 +3,7 @@ use Rattle.std.proofs.Common.{◌≡◌, ◌≢◌, ◌⊎◌, ℕ, zero, suc, �
 use Rattle.std.specs.Int.{w32, w64, to_be_bytes, from_be_bytes}
 use Rattle.std.proofs.lemmas.Bool.{cases_lt, cases_eq}
 use Rattle.std.proofs.lemmas.List.{append-nil, take_at, drop_at, drop-drop}
-use Rattle.journal_core.specs.Area.{area_limit, magic, area_bytes, record_bytes, records, IsShut, Begins, Stands, IsGeneration, IsArea, HasNoBase, BreaksAfter, IsBroken}
+use Rattle.journal_core.specs.Area.{area_limit, magic, area_bytes, record_bytes, records, IsShut, Begins, StandsForBody, IsGeneration, IsArea, HasNoBase, BreaksAfter, IsBroken}
 use Rattle.journal_core.proofs.AreaLemmas.{begins_within}
 use Rattle.journal_core.proofs.RecordLemmas.{begins_split, begins_by, begins_append, begins_rest, record_number, record_length, base_generation, base_length, area_split}
 

@@ -4,7 +4,7 @@ use Rattle.std.specs.Int.{w32, w64, to_be_bytes, from_be_bytes}
 use Rattle.std.proofs.lemmas.Nat.{be_bytes_4, be_bytes_8, from_be_bytes-to_be_bytes_4, from_be_bytes-to_be_bytes_8}
 use Rattle.std.proofs.lemmas.List.{append-nil, take_at, drop_at, take-take, drop-drop, drop_more, get_or_past}
 use Rattle.std.proofs.lemmas.Bool.{cases_lt}
-use Rattle.journal_core.specs.Area.{area_limit, magic, area_bytes, record_bytes, records, IsShut, Begins, Stands, IsGeneration, IsArea, HasNoBase, BreaksAfter, IsBroken}
+use Rattle.journal_core.specs.Area.{area_limit, magic, area_bytes, record_bytes, records, IsShut, Begins, StandsForBody, IsGeneration, IsArea, HasNoBase, BreaksAfter, IsBroken}
 use Rattle.journal_core.specs.Reports.{BaseEndsAt, RecordEndsAt, NoRecordAt, RecordsEndAt, BreaksAt}
 use Rattle.journal_core.specs.Faults.{BrokeAt, IsReported}
 use Rattle.journal_core.specs.declared.scan.ScanFault.{ScanFault}

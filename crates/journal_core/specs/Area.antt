@@ -36,13 +36,13 @@ abbrev pub Begins : List ℕ → List ℕ → Type 0
 Begins front bytes = take (length front) bytes ≡ front
 
 -- Bytes stand for a body: they begin with it, and what follows is empty or does not begin with an open gate.
-pub record Stands (body bytes : List ℕ) : Type 0 where
+pub record StandsForBody (body bytes : List ℕ) : Type 0 where
   pub front : Begins body bytes
   pub shut : get_or bytes (length body) 0 ≢ 1
 
 -- The same, and a closed gate is there.
 pub record Closed (body bytes : List ℕ) : Type 0 where
-  pub stands : Stands body bytes
+  pub stands : StandsForBody body bytes
   pub gate : length body < length bytes
 
 -- a number that an area may have as its generation
@@ -58,7 +58,7 @@ Fits body = length body < area_limit
 pub record IsArea (bytes : List ℕ) (generation : ℕ) (image : List ℕ) (payloads : List (List ℕ)) : Type 0 where
   pub generated : IsGeneration generation
   pub fits : length (area_bytes generation image payloads) < area_limit
-  pub stands : Stands (area_bytes generation image payloads) bytes
+  pub stands : StandsForBody (area_bytes generation image payloads) bytes
 
 -- Bytes are an area.
 abbrev pub IsSomeArea : List ℕ → Type 0

@@ -1,7 +1,7 @@
 pub mod Frame
 pub mod Area
 pub mod AreaView
-pub mod Contents
+pub mod ScanView
 pub mod Reports
 pub mod Rest
 pub mod Faults

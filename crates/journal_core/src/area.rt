@@ -5,7 +5,7 @@ ghost use Rattle.std.specs.Option.{option_map};
 ghost use Rattle.pcfs_ports.specs.Faults.{HasRisen};
 ghost use Rattle.pcfs_ports.specs.Disk.{written, IsPinned, LeavesOnly};
 ghost use Rattle.journal_core.specs.Frame.{frame_bytes};
-ghost use Rattle.journal_core.specs.Area.{area_limit, magic, base_bytes, area_bytes, record_bytes, Stands, IsGeneration};
+ghost use Rattle.journal_core.specs.Area.{area_limit, magic, base_bytes, area_bytes, record_bytes, StandsForBody, IsGeneration};
 ghost use Rattle.journal_core.specs.Rest.{Rests, IsWithOrWithout, IsOldOrShutOrNew};
 ghost use Rattle.journal_core.specs.declared.area.AreaFault.TheVariants.{Disk as DiskFailed, NoMemory as OutOfMemory};
 
@@ -200,7 +200,7 @@ impl<D: Disk> Area<D> {
 
         // Then the disk is at rest with the record, also if the closed gate was cut off before.
         ensures rests { OnOk result ((body bytes : List ℕ) → length body ≡ self.old.end →
-            D.image self.old.disk ≡ Some bytes → Stands body bytes →
+            D.image self.old.disk ≡ Some bytes → StandsForBody body bytes →
             Rests D.clock D.left_since D.image self.new.disk (body ++ record_bytes framed.now)) }
 
         // A crash at any moment leaves the records of before, with the new one or without.

@@ -1,14 +1,14 @@
 //! What a scan finds: the bytes of an area, and where its image and its payloads lie in them.
 
 ghost use Rattle.std.specs.Prelude.{◌≡◌, ◌+◌, ◌<◌, ◌≤◌, List, [], length, get_or};
-ghost use Rattle.journal_core.specs.Contents.{placed};
+ghost use Rattle.journal_core.specs.ScanView.{bytes_at};
 
 use bl_syntax::{Bytes, Sequence};
 use std::marker::Model;
 
 /// A place in the bytes of an area.
 #[derive(Clone, Copy, Debug, PartialEq, Eq)]
-pub struct Place {
+pub struct Span {
     pub from: u32,
     pub to: u32,
 }
@@ -18,21 +18,21 @@ pub struct Place {
 pub struct Scan {
     pub(crate) bytes: Bytes,
     pub(crate) generation: u64,
-    pub(crate) image: Place,
-    pub(crate) payloads: Sequence<Place>,
+    pub(crate) image: Span,
+    pub(crate) payloads: Sequence<Span>,
 }
 
 impl Model for Scan {
-    ghost use Rattle.journal_core.specs.Contents.{Contents, placed, all_placed};
+    ghost use Rattle.journal_core.specs.ScanView.{ScanView, bytes_at, all_bytes_at};
 
-    ghost Value = { Contents };
+    ghost Value = { ScanView };
 
-    ghost view = { λ s. record { generation = s.generation; image = placed s.bytes s.image; payloads = all_placed s.bytes s.payloads } };
+    ghost view = { λ s. record { generation = s.generation; image = bytes_at s.bytes s.image; payloads = all_bytes_at s.bytes s.payloads } };
 }
 
 // The bytes at a place.
-fn at_place(bytes: &[u8], place: Place) -> &[u8]
-    ensures { result.now ≡ placed bytes.now place }
+fn at_place(bytes: &[u8], place: Span) -> &[u8]
+    ensures { result.now ≡ bytes_at bytes.now place }
 {
     let to = (place.to as usize).min(bytes.len());
     let from = (place.from as usize).min(to);

@@ -3,12 +3,12 @@
 ghost use Rattle.std.specs.Prelude.{◌≡◌, ◌≢◌, ◌+◌, ◌-◌, ◌<◌, ◌≤◌, ℕ, List, [], IfOk, IfErr, MatchOption, length, take, drop, get_or};
 ghost use Rattle.std.specs.Int.{w32, from_be_bytes};
 ghost use Rattle.journal_core.specs.Area.{area_limit, area_bytes, IsShut, IsArea, HasNoBase, IsBroken};
-ghost use Rattle.journal_core.specs.Contents.{all_placed};
+ghost use Rattle.journal_core.specs.ScanView.{all_bytes_at};
 ghost use Rattle.journal_core.specs.Reports.{BaseEndsAt, RecordEndsAt, NoRecordAt, RecordsEndAt, BreaksAt};
 ghost use Rattle.journal_core.specs.Faults.{BrokeAt, IsReported};
 
 use crate::area::{AREA_LIMIT, MAGIC};
-use crate::contents::{Place, Scan};
+use crate::contents::{Scan, Span};
 use crate::generation::{is_open, number_at};
 use crate::scan::ScanFault;
 use bl_syntax::{Bytes, Sequence};
@@ -69,10 +69,10 @@ fn find_records(
     alloc: Global,
     bytes: &[u8],
     from: usize,
-) -> Result<(Sequence<Place>, usize), ScanFault>
+) -> Result<(Sequence<Span>, usize), ScanFault>
     requires high { from < area_limit }
     requires within { from ≤ length bytes.now }
-    ensures ok { IfOk result (λ found. RecordsEndAt bytes.now from (all_placed bytes.now found.0) found.1) }
+    ensures ok { IfOk result (λ found. RecordsEndAt bytes.now from (all_bytes_at bytes.now found.0) found.1) }
     ensures shut { IfOk result (λ found. get_or bytes.now found.1 0 ≢ 1) }
     ensures broken { IfErr result (λ fault. BrokeAt fault bytes.now from) }
 {
@@ -81,7 +81,7 @@ fn find_records(
     while is_open(bytes, end) {
         match find_record(bytes, end) {
             Some(to) => {
-                let place = Place {
+                let place = Span {
                     from: (end + 5) as u32,
                     to: to as u32,
                 };
@@ -109,7 +109,7 @@ pub fn find_contents(alloc: Global, bytes: Bytes) -> Result<(Scan, usize), ScanF
     };
     match find_records(alloc, area, from) {
         Ok((payloads, end)) => {
-            let image = Place {
+            let image = Span {
                 from: 24,
                 to: from as u32,
             };

@@ -12,7 +12,7 @@ use std::test::Fail;
 
 // A call of a disk.
 #[derive(Clone, Copy)]
-enum Call {
+enum DiskStep {
     Write(usize, &'static [u8]),
     Sync,
 }
@@ -21,27 +21,27 @@ enum Call {
 const AREA: &[u8] = b"\x01PCFS\0\0\x01\0\0\0\0\0\0\0\x01\0\0\0\0\0\0\0\x02im\x01\0\0\0\x01p\0";
 
 // An append of an empty payload, as it is done.
-const APPEND: [Call; 4] = [
-    Call::Write(33, b"\0\0\0\0\0"),
-    Call::Sync,
-    Call::Write(32, b"\x01"),
-    Call::Sync,
+const APPEND: [DiskStep; 4] = [
+    DiskStep::Write(33, b"\0\0\0\0\0"),
+    DiskStep::Sync,
+    DiskStep::Write(32, b"\x01"),
+    DiskStep::Sync,
 ];
 
 // An append without a sync before its gate is opened.
-const HASTY: [Call; 3] = [
-    Call::Write(33, b"\0\0\0\0"),
-    Call::Write(32, b"\x01"),
-    Call::Sync,
+const HASTY: [DiskStep; 3] = [
+    DiskStep::Write(33, b"\0\0\0\0"),
+    DiskStep::Write(32, b"\x01"),
+    DiskStep::Sync,
 ];
 
 // Writes over the length and the gate of the record that is there, and after a gap.
-const OVER: [Call; 5] = [
-    Call::Write(27, b"\0\0\0\x02"),
-    Call::Write(26, b"\0"),
-    Call::Sync,
-    Call::Write(35, b"\x01\0"),
-    Call::Sync,
+const OVER: [DiskStep; 5] = [
+    DiskStep::Write(27, b"\0\0\0\x02"),
+    DiskStep::Write(26, b"\0"),
+    DiskStep::Sync,
+    DiskStep::Write(35, b"\x01\0"),
+    DiskStep::Sync,
 ];
 
 // What a scan of these bytes reports: how many records, and that the area with them begins the bytes
@@ -85,16 +85,16 @@ fn torn(alloc: Global, at: usize, piece: &[u8], outcomes: &Outcomes) -> Result<O
 // What a crash may leave after one more call.
 fn after(
     alloc: Global,
-    call: Call,
+    call: DiskStep,
     disk: &mut MemoryDisk,
     outcomes: Outcomes,
 ) -> Result<Outcomes, NoMemory> {
     match call {
-        Call::Write(at, piece) => {
+        DiskStep::Write(at, piece) => {
             let _ = disk.write_at(at as u64, piece);
             torn(alloc, at, piece, &outcomes)
         }
-        Call::Sync => {
+        DiskStep::Sync => {
             let _ = disk.sync();
             let mut only = Outcomes::new(alloc);
             add(alloc, &mut only, disk.image())?;
@@ -107,7 +107,7 @@ fn after(
 fn go_over(
     rt: &impl Abort,
     alloc: Global,
-    calls: &[Call],
+    calls: &[DiskStep],
     counts: Option<(u64, u64)>,
 ) -> Result<usize, NoMemory> {
     let mut disk = disk_of(alloc, AREA, &[]).ok_or(NoMemory)?;

@@ -50,7 +50,7 @@ first_found None other = other
 abbrev pub operation_named : List ℕ → Option Operation
 operation_named word = first_found (tree_operation_named word) (attribute_operation_named word)
 
--- the kinds of the words behind an operation's name: those of its arguments, and a procap for each place of its needs
+-- the kinds of the words after an operation's name: those of its arguments, and a procap for each place of its needs
 abbrev pub kinds_of_operation : Operation → List Kind
 kinds_of_operation Read = kinds.Node ∷ kinds.Offset ∷ kinds.Most ∷ kinds.Procap ∷ []
 kinds_of_operation Write = kinds.Node ∷ kinds.Offset ∷ kinds.Data ∷ kinds.Procap ∷ []
@@ -66,7 +66,7 @@ kinds_of_operation Setattr = kinds.Node ∷ kinds.Name ∷ kinds.Value ∷ kinds
 kinds_of_operation Delattr = kinds.Node ∷ kinds.Name ∷ kinds.Procap ∷ []
 kinds_of_operation Chown = kinds.Node ∷ kinds.Who ∷ kinds.Procap ∷ []
 
--- the kinds of the words behind the name of a form
+-- the kinds of the words after the name of a form
 abbrev pub kinds_of : Form → List Kind
 kinds_of At = kinds.Second ∷ []
 kinds_of As = kinds.Who ∷ []

@@ -1,4 +1,4 @@
--- The first words of a line, which name its form, and the number of the words behind them (this project's own).
+-- The first words of a line, which name its form, and the number of the words after them (this project's own).
 use Rattle.std.specs.Prelude.{ℕ, ◌-◌, List, [], ◌∷◌, length, codes, Bool, true, false, Option, Some, None, Result, Ok, Err, if◌then◌else◌}
 use Rattle.std.specs.Str.{bytes_eq}
 use Rattle.line_words.specs.Cutting.{first_cut}
@@ -10,11 +10,11 @@ use Rattle.line_forms.specs.declared.fault.LineFault.{LineFault}
 use Rattle.line_forms.specs.declared.fault.LineFault.TheVariants.{BadWord, BadCount}
 use Rattle.line_forms.specs.Forms.{form_named, operation_named, kinds_of, has_text}
 
--- a form, and what stands behind the words that name it
+-- a form, and what stands after the words that name it
 abbrev pub Head : Type 0
 Head = Form × List ℕ
 
--- the operation that this word names, in a line of that length of which the second word and all behind it are left
+-- the operation that this word names, in a line of that length of which the second word and all after it are left
 abbrev pub by_operation : ℕ → List ℕ → Option Operation → Result Head LineFault
 by_operation whole line None = Err (BadWord (whole - length line))
 by_operation whole line (Some operation) = Ok (Do operation, (first_cut line).behind)
@@ -35,7 +35,7 @@ head_of line =
     if bytes_eq (first_cut line).word (codes "do") then operation_head (length line) (first_cut line).behind
     else by_form (first_cut line).behind (form_named (first_cut line).word)
 
--- whether this may stand behind the words: a space and a text, or nothing
+-- whether this may stand after the words: a space and a text, or nothing
 abbrev pub may_end : Bool → Option (List ℕ) → Bool
 may_end text None = false
 may_end true (Some []) = false
@@ -43,11 +43,11 @@ may_end true (Some (space ∷ others)) = true
 may_end false (Some []) = true
 may_end false (Some (space ∷ others)) = false
 
--- whether the number of words is right, of which these stand behind the name of the form; a text counts as one word
+-- whether the number of words is right, of which these stand after the name of the form; a text counts as one word
 abbrev pub is_counted : Form → List ℕ → Bool
 is_counted form behind = may_end (has_text form) (after_words (kinds_of form) behind)
 
--- the text behind a space
+-- the text after a space
 abbrev pub text_of : List ℕ → List ℕ
 text_of [] = []
 text_of (space ∷ text) = text

@@ -1,10 +1,10 @@
 -- What a line asks for, and its first fault (this project's own).
 use Rattle.std.specs.Prelude.{◌≡◌, ◌≢◌, ℕ, List, length, false, IsTrue, Ok, Err}
-use Rattle.bl_syntax.specs.Statement.{Saying}
+use Rattle.bl_syntax.specs.Statement.{StatementView}
 use Rattle.bl_tokens.specs.declared.faults.TextFault.{TextFault}
 use Rattle.bl_tokens.specs.declared.faults.TextFault.TheVariants as texts
 use Rattle.bl_text.specs.Texts.{IsStatementText, StatementFault}
-use Rattle.proof_term.specs.Proof.{Deduction}
+use Rattle.proof_term.specs.Proof.{ProofView}
 use Rattle.proof_text.specs.Texts.{IsProofText, ProofTextFault}
 use Rattle.line_words.specs.Kinds.{blank}
 use Rattle.line_words.specs.Reading.{AreWords, IsBadWord}
@@ -23,10 +23,10 @@ use Rattle.line_forms.specs.Making.{op_of, goal_of}
 abbrev pub IsAsked : Form → Arguments → List ℕ → Command → Type 0
 IsAsked At a text command = command ≡ commands.At a.second
 IsAsked As a text command = command ≡ commands.As a.who
-IsAsked Register a text command = (statement : Saying) × IsStatementText text statement × (command ≡ commands.Register a.signature statement)
+IsAsked Register a text command = (statement : StatementView) × IsStatementText text statement × (command ≡ commands.Register a.signature statement)
 IsAsked Procap a text command = command ≡ commands.Procap a.issue
-IsAsked Verify a text command = (proof : Deduction) × IsProofText text proof × (command ≡ commands.Verify (goal_of a) a.cited proof)
-IsAsked Check a text command = (proof : Deduction) × IsProofText text proof × (command ≡ commands.Check (goal_of a) a.cited proof)
+IsAsked Verify a text command = (proof : ProofView) × IsProofText text proof × (command ≡ commands.Verify (goal_of a) a.cited proof)
+IsAsked Check a text command = (proof : ProofView) × IsProofText text proof × (command ≡ commands.Check (goal_of a) a.cited proof)
 IsAsked (Do operation) a text command = command ≡ commands.Do (op_of operation a) a.procaps
 
 -- the text, which is none of what a line of the form has there, has this first fault

@@ -108,7 +108,7 @@ pub fn operation_named(word: &[u8]) -> Option<Operation>
     }
 }
 
-// The kinds of the words behind an operation's name: those of its arguments, and a procap for each place of its needs.
+// The kinds of the words after an operation's name: those of its arguments, and a procap for each place of its needs.
 fn kinds_of_operation(operation: Operation) -> &'static [Kind]
     ensures { result.now ≡ kinds_of_operation operation }
 {
@@ -137,7 +137,7 @@ fn kinds_of_operation(operation: Operation) -> &'static [Kind]
     }
 }
 
-/// The kinds of the words behind the name of a form.
+/// The kinds of the words after the name of a form.
 pub fn kinds_of(form: Form) -> &'static [Kind]
     ensures { result.now ≡ kinds_of form }
 {

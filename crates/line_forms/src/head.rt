@@ -1,4 +1,4 @@
-//! The first words of a line, and the number of the words behind them.
+//! The first words of a line, and the number of the words after them.
 
 ghost use Rattle.std.specs.Prelude.{◌≡◌, ◌≤◌, length, Option, Some, MatchResult, Ok, Err};
 ghost use Rattle.line_forms.specs.Heads.{by_form, by_operation, operation_head, head_of, may_end, is_counted, text_of};
@@ -7,7 +7,7 @@ use crate::fault::LineFault;
 use crate::forms::{Form, form_named, has_text, kinds_of, operation_named};
 use line_words::{after_words, first_word};
 
-// The operation that the second word names, and what stands behind that word. `whole` is the length of the line.
+// The operation that the second word names, and what stands after that word. `whole` is the length of the line.
 fn operation_head(whole: usize, behind: &[u8]) -> Result<(Form, &[u8]), LineFault>
     requires { length behind.now ≤ whole }
     ensures shown { MatchResult result (λ p. operation_head whole behind.now ≡ Ok (p.0, p.1.now)) (λ fault. operation_head whole behind.now ≡ Err fault) }
@@ -25,7 +25,7 @@ fn operation_head(whole: usize, behind: &[u8]) -> Result<(Form, &[u8]), LineFaul
     }
 }
 
-/// The form that the first words of a line name, and what stands behind these words.
+/// The form that the first words of a line name, and what stands after these words.
 pub fn head_of(line: &[u8]) -> Result<(Form, &[u8]), LineFault>
     ensures shown { MatchResult result (λ p. head_of line.now ≡ Ok (p.0, p.1.now)) (λ fault. head_of line.now ≡ Err fault) }
     ensures shorter { MatchResult result (λ p. length p.1.now ≤ length line.now) (λ _. Unit {0}) }
@@ -40,7 +40,7 @@ pub fn head_of(line: &[u8]) -> Result<(Form, &[u8]), LineFault>
     }
 }
 
-// Whether this may stand behind the words: a space and a text, or nothing.
+// Whether this may stand after the words: a space and a text, or nothing.
 fn may_end(text: bool, rest: &[u8]) -> bool
     ensures { result ≡ may_end text (Some rest.now) }
 {
@@ -50,7 +50,7 @@ fn may_end(text: bool, rest: &[u8]) -> bool
     }
 }
 
-/// Whether the number of words is right, of which these stand behind the name of the form.
+/// Whether the number of words is right, of which these stand after the name of the form.
 pub fn is_counted(form: Form, behind: &[u8]) -> bool
     ensures { result ≡ is_counted form behind.now }
 {
@@ -60,7 +60,7 @@ pub fn is_counted(form: Form, behind: &[u8]) -> bool
     }
 }
 
-/// The text behind a space.
+/// The text after a space.
 pub fn text_of(rest: &[u8]) -> &[u8]
     ensures { result.now ≡ text_of rest.now }
 {

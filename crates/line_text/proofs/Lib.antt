@@ -1,4 +1,4 @@
-pub mod DecideHex
+pub mod IsHexLemmas
 pub mod HexLemmas
 pub mod LineLemmas
 pub mod WordLemmas

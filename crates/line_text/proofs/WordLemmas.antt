@@ -6,7 +6,7 @@ use Rattle.std.proofs.lemmas.Bool.{false≢true, ltb-false, eq-eqb, eqb-true, an
 use Rattle.bl_syntax.specs.Names.{is_lower_case, is_name_byte, is_identifier, is_among, reserved_words, is_principal_name}
 use Rattle.std.proofs.lemmas.List.Sums.{prefix_len-le-length}
 use Rattle.std.proofs.lemmas.List.{append_cancel_left, take_at, drop_at}
-use Rattle.line_text.specs.Words.{starts_with, ends_word, HasNo}
+use Rattle.line_text.specs.Words.{has_first, is_word_end, HasNo}
 
 -- the length of the word at the front
 abbrev pub stop_place : ℕ → List ℕ → ℕ
@@ -16,7 +16,7 @@ stop_here : (is_end : Bool) (n : ℕ) → is_end ≡ true → cond (not is_end) 
 stop_here true n e = refl
 stop_here false n e = absurd (false≢true e)
 
-place-stop : (stop : ℕ) (behind : List ℕ) → IsTrue (ends_word stop behind) → stop_place stop behind ≡ 0
+place-stop : (stop : ℕ) (behind : List ℕ) → IsTrue (is_word_end stop behind) → stop_place stop behind ≡ 0
 place-stop stop [] h = refl
 place-stop stop (byte ∷ bytes) h = stop_here (byte == stop) (stop_place stop bytes) h
 
@@ -24,7 +24,7 @@ no_stop_here : (is_end : Bool) (n : ℕ) (others : Bool) → IsTrue (not is_end 
 no_stop_here true n others h = absurd (false≢true h)
 no_stop_here false n others h = (h, one-add n)
 
-place-append : (stop : ℕ) (word behind : List ℕ) → HasNo stop word → IsTrue (ends_word stop behind) → stop_place stop (word ++ behind) ≡ length word
+place-append : (stop : ℕ) (word behind : List ℕ) → HasNo stop word → IsTrue (is_word_end stop behind) → stop_place stop (word ++ behind) ≡ length word
 place-append stop [] behind h ends = place-stop stop behind ends
 place-append stop (byte ∷ word) behind h ends =
     let here = no_stop_here (byte == stop) (stop_place stop (word ++ behind)) (list_all (λ b. not (b == stop)) word) h in
@@ -39,7 +39,7 @@ pub HasNo-front : (stop : ℕ) (line : List ℕ) → HasNo stop (take (stop_plac
 HasNo-front stop [] = refl
 HasNo-front stop (byte ∷ bytes) = HasNo-step (byte == stop) stop byte (stop_place stop bytes) bytes refl (HasNo-front stop bytes)
 
-pub ends_word-append : (stop : ℕ) (literal rest : List ℕ) → IsTrue (starts_with stop literal) → IsTrue (ends_word stop (literal ++ rest))
+pub ends_word-append : (stop : ℕ) (literal rest : List ℕ) → IsTrue (has_first stop literal) → IsTrue (is_word_end stop (literal ++ rest))
 ends_word-append stop [] rest h = absurd (false≢true h)
 ends_word-append stop (byte ∷ bytes) rest h = h
 
@@ -48,7 +48,7 @@ pub record IsSplit (line word behind : List ℕ) (len : ℕ) : Type 0 where
   pub front : take len line ≡ word
   pub back : drop len line ≡ behind
 
-pub IsSplit-at_word : (stop : ℕ) (line word behind : List ℕ) (len : ℕ) → len ≡ stop_place stop line → line ≡ word ++ behind → HasNo stop word → IsTrue (ends_word stop behind) → IsSplit line word behind len
+pub IsSplit-at_word : (stop : ℕ) (line word behind : List ℕ) (len : ℕ) → len ≡ stop_place stop line → line ≡ word ++ behind → HasNo stop word → IsTrue (is_word_end stop behind) → IsSplit line word behind len
 IsSplit-at_word stop line word behind len len_is same h ends =
     let at : length word ≡ len = sym (len_is ∙ ap (stop_place stop) same ∙ place-append stop word behind h ends) in
     subst (λ l. IsSplit l word behind len) (sym same) (record { front = take_at word behind len at; back = drop_at word behind len at })
@@ -63,19 +63,19 @@ stop_place-unwrap_or stop line place len place_is len_is =
     len_is ∙ ap (λ o. unwrap_or o (length line)) place_is
     ∙ place_or_len (nat_lt n (length line)) n (length line) (λ past. omega (arith, ltb-false n (length line) past, prefix_len-le-length (λ b. not (b == stop)) line))
 
--- a word and what stands behind it
+-- a word and what stands after it
 pub record IsSame (a b x y : List ℕ) : Type 0 where
   pub word : a ≡ b
   pub rest : x ≡ y
 
-pub same_split : (stop : ℕ) (a b x y : List ℕ) → HasNo stop a → HasNo stop b → IsTrue (ends_word stop x) → IsTrue (ends_word stop y) → a ++ x ≡ b ++ y → IsSame a b x y
+pub same_split : (stop : ℕ) (a b x y : List ℕ) → HasNo stop a → HasNo stop b → IsTrue (is_word_end stop x) → IsTrue (is_word_end stop y) → a ++ x ≡ b ++ y → IsSame a b x y
 same_split stop a b x y no_a no_b ends_x ends_y same =
     let left = IsSplit-at_word stop (a ++ x) a x _ refl refl no_a ends_x in
     let right = IsSplit-at_word stop (a ++ x) b y _ refl same no_b ends_y in
     record { word = sym left.front ∙ right.front; rest = sym left.back ∙ right.back }
 
--- a word and what stands behind a literal
-pub same_words : (literal a b x y : List ℕ) → IsTrue (starts_with 32 literal) → HasNo 32 a → HasNo 32 b → a ++ (literal ++ x) ≡ b ++ (literal ++ y) → IsSame a b x y
+-- a word and what stands after a literal
+pub same_words : (literal a b x y : List ℕ) → IsTrue (has_first 32 literal) → HasNo 32 a → HasNo 32 b → a ++ (literal ++ x) ≡ b ++ (literal ++ y) → IsSame a b x y
 same_words literal a b x y stop no_a no_b same =
     let split = same_split 32 a b (literal ++ x) (literal ++ y) no_a no_b (ends_word-append 32 literal x stop) (ends_word-append 32 literal y stop) same in
     record { word = split.word; rest = append_cancel_left literal x y split.rest }

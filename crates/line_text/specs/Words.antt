@@ -3,14 +3,14 @@ use Rattle.std.specs.Prelude.{ℕ, List, [], ◌∷◌, Bool, true, false, not, 
 use Rattle.std.specs.List.{list_all}
 
 -- whether the byte stands first
-abbrev pub starts_with : ℕ → List ℕ → Bool
-starts_with stop [] = false
-starts_with stop (byte ∷ bytes) = byte == stop
+abbrev pub has_first : ℕ → List ℕ → Bool
+has_first stop [] = false
+has_first stop (byte ∷ bytes) = byte == stop
 
 -- whether a word ends before these bytes: the stop byte stands first, or nothing does
-abbrev pub ends_word : ℕ → List ℕ → Bool
-ends_word stop [] = true
-ends_word stop (byte ∷ bytes) = byte == stop
+abbrev pub is_word_end : ℕ → List ℕ → Bool
+is_word_end stop [] = true
+is_word_end stop (byte ∷ bytes) = byte == stop
 
 -- the byte is not in the word
 abbrev pub HasNo : ℕ → List ℕ → Type 0

@@ -37,7 +37,7 @@ fn is_no_bytes(word: &[u8]) -> bool
 }
 
 // What the word decodes to, in either case of its digits.
-fn decoded(alloc: Global, word: &[u8]) -> Result<Option<Bytes>, NoMemory>
+fn decode_hex(alloc: Global, word: &[u8]) -> Result<Option<Bytes>, NoMemory>
     ensures { IfOk result (λ r. MatchOption r ((bytes : List ℕ) → decode_of word.now ≢ Ok bytes) (λ bytes. decode_of word.now ≡ Ok bytes)) }
 {
     match hex::decode(alloc, word) {
@@ -61,7 +61,7 @@ pub fn read_hex(alloc: Global, word: &[u8]) -> Result<Option<Bytes>, NoMemory>
     if !may_be_digits(word) {
         return Ok(None);
     }
-    decoded(alloc, word)
+    decode_hex(alloc, word)
 }
 
 /// Adds the word that writes these bytes in hexadecimal.

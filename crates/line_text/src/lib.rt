@@ -1,7 +1,7 @@
 //! The lines of a text, the words of a line, and words of hexadecimal.
 //!
-//! A text falls into its lines, and a line into its first word and what stands behind it, in one way. A word of
-//! hexadecimal is read exactly where it is the one that is written for some bytes, and gives these bytes.
+//! A text falls into its lines, and a line into its first word and what stands after it, in one way. A word of
+//! hexadecimal is read exactly if it is the one that is written for some bytes, and gives these bytes.
 #![tactic(auto)]
 
 mod hex_word;
@@ -10,4 +10,4 @@ mod words;
 
 pub use hex_word::{read_hex, write_hex};
 pub use lines::first_line;
-pub use words::{after, split_word, word_before};
+pub use words::{rest_after, split_word, word_before};

@@ -9,7 +9,7 @@ fn end_of_line(rest: &[u8]) -> Option<usize>
     rest.iter().position(|byte| *byte == b'\n')
 }
 
-/// The first line of the rest of a text, without its end, and what stands behind that line; none exactly at the end of
+/// The first line of the rest of a text, without its end, and what stands after that line; none exactly at the end of
 /// the text. The last line may lack its end.
 pub fn first_line(rest: &[u8]) -> Option<(&[u8], &[u8])>
     ensures lines { MatchOption result (rest.now ≡ []) (λ p. lines_of rest.now ≡ p.0.now ∷ lines_of p.1.now) }

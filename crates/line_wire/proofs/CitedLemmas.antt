@@ -3,44 +3,44 @@ use Rattle.std.proofs.Common.{◌≡◌, ◌≢◌, ◌<◌, ◌≤◌, ◌+◌,
 use Rattle.std.specs.Prelude.{◌==◌}
 use Rattle.std.proofs.lemmas.Bool.{false≢true, eqb-true}
 use Rattle.std.proofs.lemmas.List.{nil_from_length}
-use Rattle.access_history.specs.Citing.{DoRise}
-use Rattle.line_text.specs.Words.{ends_word, HasNo}
-use Rattle.line_wire.specs.Lines.{IsNumber, AreJoined, one_number, more_numbers}
-use Rattle.line_wire.specs.Forms.{AreAdded}
+use Rattle.access_history.specs.Citing.{DoNumbersRise}
+use Rattle.line_text.specs.Words.{is_word_end, HasNo}
+use Rattle.line_wire.specs.Lines.{IsStatementNumber, AreJoined, one_number, more_numbers}
+use Rattle.line_wire.specs.Forms.{AreNumbersAdded}
 use Rattle.line_wire.proofs.FormLemmas.{HasNo-number}
 
-pub DoRise-short : (numbers : List ℕ) → length numbers < 2 → DoRise numbers
+pub DoRise-short : (numbers : List ℕ) → length numbers < 2 → DoNumbersRise numbers
 DoRise-short [] few = tt
 DoRise-short (first ∷ []) few = tt
 DoRise-short (first ∷ second ∷ others) few = absurd (omega (arith, few))
 
--- the first word of a list of numbers, and what stands behind it
+-- the first word of a list of numbers, and what stands after it
 pub data IsFirst (front behind : List ℕ) : List ℕ → Type 0 where
-  alone : (number : ℕ) → IsNumber front number → behind ≡ [] → IsFirst front behind (number ∷ [])
-  followed : (number : ℕ) (rest numbers : List ℕ) → IsNumber front number → behind ≡ 44 ∷ rest → AreJoined rest numbers → IsFirst front behind (number ∷ numbers)
+  alone : (number : ℕ) → IsStatementNumber front number → behind ≡ [] → IsFirst front behind (number ∷ [])
+  followed : (number : ℕ) (rest numbers : List ℕ) → IsStatementNumber front number → behind ≡ 44 ∷ rest → AreJoined rest numbers → IsFirst front behind (number ∷ numbers)
 
-pub first_of : {word numbers : List ℕ} (front behind : List ℕ) → ((w b : List ℕ) → HasNo 44 w → IsTrue (ends_word 44 b) → word ≡ w ++ b → (front ≡ w) × (behind ≡ b)) → AreJoined word numbers → IsFirst front behind numbers
+pub first_of : {word numbers : List ℕ} (front behind : List ℕ) → ((w b : List ℕ) → HasNo 44 w → IsTrue (is_word_end 44 b) → word ≡ w ++ b → (front ≡ w) × (behind ≡ b)) → AreJoined word numbers → IsFirst front behind numbers
 first_of front behind split (one_number word number h) =
     let parts = split word [] (HasNo-number 44 refl word number h) refl (sym (append-nil word)) in
-    alone number (subst (λ w. IsNumber w number) (sym parts.0) h) parts.1
+    alone number (subst (λ w. IsStatementNumber w number) (sym parts.0) h) parts.1
 first_of front behind split (more_numbers word others number numbers h more) =
     let parts = split word (44 ∷ others) (HasNo-number 44 refl word number h) refl refl in
-    followed number others numbers (subst (λ w. IsNumber w number) (sym parts.0) h) parts.1 more
+    followed number others numbers (subst (λ w. IsStatementNumber w number) (sym parts.0) h) parts.1 more
 
 -- the first word is a number
-pub no_first : {front behind numbers : List ℕ} → IsFirst front behind numbers → ((n : ℕ) → IsNumber front n → ⊥) → ⊥
+pub no_first : {front behind numbers : List ℕ} → IsFirst front behind numbers → ((n : ℕ) → IsStatementNumber front n → ⊥) → ⊥
 no_first (alone number h none) not_number = not_number number h
 no_first (followed number rest numbers h same more) not_number = not_number number h
 
--- with nothing behind it, it is the only one
-pub alone_added : (word front behind : List ℕ) (number : ℕ) (before after : List ℕ) → word ≡ front ++ behind → true ≡ (length behind == 0) → IsNumber front number → after ≡ before ++ number ∷ [] → AreAdded word before after
+-- with nothing after it, it is the only one
+pub alone_added : (word front behind : List ℕ) (number : ℕ) (before after : List ℕ) → word ≡ front ++ behind → true ≡ (length behind == 0) → IsStatementNumber front number → after ≡ before ++ number ∷ [] → AreNumbersAdded word before after
 alone_added word front behind number before after parts none h added =
     let nothing : behind ≡ [] = nil_from_length behind (eqb-true (length behind) 0 (sym none)) in
     let whole : word ≡ front = parts ∙ ap (λ b. front ++ b) nothing ∙ append-nil front in
     record { numbers = number ∷ []; joined = subst (λ w. AreJoined w (number ∷ [])) (sym whole) (one_number front number h); after_is = added }
 
--- with others behind it, they come next
-pub more_added : (word front behind others : List ℕ) (number : ℕ) (before between after : List ℕ) → word ≡ front ++ behind → behind ≡ 44 ∷ others → IsNumber front number → between ≡ before ++ number ∷ [] → AreAdded others between after → AreAdded word before after
+-- with others after it, they come next
+pub more_added : (word front behind others : List ℕ) (number : ℕ) (before between after : List ℕ) → word ≡ front ++ behind → behind ≡ 44 ∷ others → IsStatementNumber front number → between ≡ before ++ number ∷ [] → AreNumbersAdded others between after → AreNumbersAdded word before after
 more_added word front behind others number before between after parts comma h pushed rest = record {
   numbers = number ∷ rest.numbers;
   joined = subst (λ w. AreJoined w (number ∷ rest.numbers)) (sym (parts ∙ ap (λ b. front ++ b) comma)) (more_numbers front others number rest.numbers h rest.joined);
@@ -55,7 +55,7 @@ more_refused others number before between (followed n rest ns h same more) comma
     let size : length between ≡ length (before ++ number ∷ []) = ap length pushed in
     refused ns (subst (λ r. AreJoined r ns) rests more) (omega (arith, few, size, length-append before (number ∷ [])))
 
--- where something else than a comma stands behind the first word, the word is no list of numbers
+-- where something else than a comma stands after the first word, the word is no list of numbers
 pub none_joined : {front behind numbers : List ℕ} → IsFirst front behind numbers → false ≡ (length behind == 0) → ((rest : List ℕ) → behind ≢ 44 ∷ rest) → ⊥
 none_joined (alone n h none) some no_comma = false≢true (some ∙ ap (λ b. length b == 0) none)
 none_joined (followed n rest ns h same more) some no_comma = no_comma rest same

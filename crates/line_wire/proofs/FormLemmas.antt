@@ -1,4 +1,4 @@
--- The forms of a line differ in how they begin, and a line of a form says one thing behind its beginning.
+-- The forms of a line differ in how they begin, and a line of a form says one thing after its beginning.
 use Rattle.std.proofs.Common.{◌≡◌, ◌≢◌, ◌^◌, ◌∙◌, arith, ℕ, ℤ, Bool, true, false, not, List, [], ◌∷◌, ◌++◌, Option, IsTrue, refl, sym, ap, subst}
 use Rattle.std.specs.Prelude.{codes, ◌==◌, ◌&&◌}
 use Rattle.std.specs.List.{list_all}
@@ -9,20 +9,20 @@ use Rattle.bl_syntax.specs.declared.terms.NodeId.{NodeId}
 use Rattle.bl_syntax.specs.declared.terms.Perm.{Perm}
 use Rattle.bl_syntax.specs.declared.terms.Perm.TheVariants.{Read, Write, Execute, Identity, Govern}
 use Rattle.bl_syntax.specs.Names.{is_lower_case, is_digit, is_name_byte, is_identifier, is_among, reserved_words, is_principal_name}
-use Rattle.bl_syntax.specs.Statement.{Saying}
+use Rattle.bl_syntax.specs.Statement.{StatementView}
 use Rattle.bl_tokens.specs.declared.faults.TextFault.{TextFault}
 use Rattle.bl_text.specs.Printed.{permission_text}
 use Rattle.bl_text.specs.Texts.{IsStatementText, StatementFault}
-use Rattle.proof_term.specs.Proof.{Deduction}
+use Rattle.proof_term.specs.Proof.{ProofView}
 use Rattle.proof_text.specs.Texts.{IsProofText, ProofTextFault}
-use Rattle.access_history.specs.declared.event.Op.TheVariants.{Create}
+use Rattle.access_history.specs.declared.event.FileOp.TheVariants.{Create}
 use Rattle.access_history.specs.World.{is_node_name, is_node_name_byte}
 use Rattle.line_wire.specs.declared.command.Command.{Command}
 use Rattle.line_wire.specs.declared.command.Command.TheVariants.{At, As, Verify, Check}
 use Rattle.line_wire.specs.declared.command.Command.TheVariants as commands
 use Rattle.line_wire.specs.declared.command.ProcapWord.{ProcapWord}
 use Rattle.line_text.specs.Words.{HasNo}
-use Rattle.line_wire.specs.Lines.{IsSecond, IsNumber, IsFile, AreJoined, one_number, more_numbers, IsIssue, IsInquiry, IsMaking, IsRegistering, IsLine, sets_clock, sets_caller, registers, shows_procap, verifies, checks, creates, HasBadText, in_statement, in_proof, in_checked_proof}
+use Rattle.line_wire.specs.Lines.{IsSecond, IsStatementNumber, IsFile, AreJoined, one_number, more_numbers, IsIssue, IsInquiry, IsCreateWords, IsRegisterWords, IsLine, sets_clock, sets_caller, registers, shows_procap, verifies, checks, creates, HasBadText, in_statement, in_proof, in_checked_proof}
 use Rattle.line_wire.proofs.NumeralLemmas.{IsWritten-below}
 use Rattle.line_text.proofs.WordLemmas.{HasNo-all, differ}
 
@@ -41,7 +41,7 @@ pub HasNo-node_name : (name : List ℕ) → IsTrue (is_node_name name) → HasNo
 HasNo-node_name name h =
     HasNo-all is_node_name_byte 32 refl name (and_parts _ _ (and_parts _ _ (and_parts _ _ h).0).0).1
 
-pub HasNo-number : (stop : ℕ) → is_digit stop ≡ false → (word : List ℕ) (n : ℕ) → IsNumber word n → HasNo stop word
+pub HasNo-number : (stop : ℕ) → is_digit stop ≡ false → (word : List ℕ) (n : ℕ) → IsStatementNumber word n → HasNo stop word
 HasNo-number stop none word n h = HasNo-all is_digit stop none word (IsWritten-below (2 ^ 32) (omega arith) word n h).plain.digits
 
 pub HasNo-file : (word : List ℕ) (node : NodeId) → IsFile word node → HasNo 32 word
@@ -95,14 +95,14 @@ caller_line (creates w name directory procap h) who same = absurd (differ 0 refl
 pub record IsRegisterLine (words : List ℕ) (command : Command) : Type 0 where
   pub signature : Option (List ℕ)
   pub text : List ℕ
-  pub statement : Saying
-  pub registering : IsRegistering words signature text
+  pub statement : StatementView
+  pub registering : IsRegisterWords words signature text
   pub is_text : IsStatementText text statement
   pub command_is : command ≡ commands.Register signature statement
 
 pub register_line : {line : List ℕ} {command : Command} → IsLine line command → (words : List ℕ) → line ≡ codes "register " ++ words → IsRegisterLine words command
 register_line (registers w text signature s h k) words same =
-    record { signature = signature; text = text; statement = s; registering = subst (λ v. IsRegistering v signature text) (append_cancel_left (codes "register ") w words same) h; is_text = k; command_is = refl }
+    record { signature = signature; text = text; statement = s; registering = subst (λ v. IsRegisterWords v signature text) (append_cancel_left (codes "register ") w words same) h; is_text = k; command_is = refl }
 register_line (sets_clock w second h) words same = absurd (differ 0 refl same)
 register_line (sets_caller who h) words same = absurd (differ 0 refl same)
 register_line (shows_procap w number h) words same = absurd (differ 0 refl same)
@@ -126,11 +126,11 @@ show_line (checks w t goal numbers proof h p) word same = absurd (differ 0 refl 
 show_line (creates w name directory procap h) word same = absurd (differ 0 refl same)
 
 -- a goal, numbers and a proof, and the command that these make
-pub record IsProofLine (words : List ℕ) (command : Command) (asking : Goal → List ℕ → Deduction → Command) : Type 0 where
+pub record IsProofLine (words : List ℕ) (command : Command) (asking : Goal → List ℕ → ProofView → Command) : Type 0 where
   pub goal : Goal
   pub numbers : List ℕ
   pub text : List ℕ
-  pub proof : Deduction
+  pub proof : ProofView
   pub inquiry : IsInquiry words goal numbers text
   pub is_text : IsProofText text proof
   pub command_is : command ≡ asking goal numbers proof
@@ -159,12 +159,12 @@ pub record IsCreateLine (words : List ℕ) (command : Command) : Type 0 where
   pub directory : NodeId
   pub name : List ℕ
   pub procap : ProcapWord
-  pub making : IsMaking words directory name procap
+  pub making : IsCreateWords words directory name procap
   pub command_is : command ≡ commands.Do (Create directory name) (procap ∷ [])
 
 pub create_line : {line : List ℕ} {command : Command} → IsLine line command → (words : List ℕ) → line ≡ codes "do create " ++ words → IsCreateLine words command
 create_line (creates w name directory procap h) words same =
-    record { directory = directory; name = name; procap = procap; making = subst (λ v. IsMaking v directory name procap) (append_cancel_left (codes "do create ") w words same) h; command_is = refl }
+    record { directory = directory; name = name; procap = procap; making = subst (λ v. IsCreateWords v directory name procap) (append_cancel_left (codes "do create ") w words same) h; command_is = refl }
 create_line (sets_clock w second h) words same = absurd (differ 0 refl same)
 create_line (sets_caller who h) words same = absurd (differ 0 refl same)
 create_line (registers w t signature s h k) words same = absurd (differ 0 refl same)
@@ -211,12 +211,12 @@ no_bad_show (in_checked_proof w text goal numbers fault h t) word same = differ 
 pub record IsBadStatement (words : List ℕ) (fault : TextFault) : Type 0 where
   pub signature : Option (List ℕ)
   pub text : List ℕ
-  pub registering : IsRegistering words signature text
+  pub registering : IsRegisterWords words signature text
   pub fault_is : StatementFault text fault
 
 pub bad_statement : {line : List ℕ} {fault : TextFault} → HasBadText line fault → (words : List ℕ) → line ≡ codes "register " ++ words → IsBadStatement words fault
 bad_statement (in_statement w text signature fault h k) words same =
-    record { signature = signature; text = text; registering = subst (λ v. IsRegistering v signature text) (append_cancel_left (codes "register ") w words same) h; fault_is = k }
+    record { signature = signature; text = text; registering = subst (λ v. IsRegisterWords v signature text) (append_cancel_left (codes "register ") w words same) h; fault_is = k }
 bad_statement (in_proof w t goal numbers fault h p) words same = absurd (differ 0 refl same)
 bad_statement (in_checked_proof w t goal numbers fault h p) words same = absurd (differ 0 refl same)
 

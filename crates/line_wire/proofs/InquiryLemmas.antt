@@ -5,7 +5,7 @@ use Rattle.line_wire.specs.declared.inquiry.Inquiry.{Inquiry}
 use Rattle.line_wire.specs.declared.inquiry.Inquiry.TheVariants.{Proof, BadText, Outside}
 use Rattle.line_wire.specs.Lines.{NamesGoal, IsCiting, IsInquiry}
 use Rattle.line_wire.specs.Forms.{ReadsInquiry, ReadsCited, ReadsText}
-use Rattle.line_wire.proofs.OneCommand.{NamesGoal-unique}
+use Rattle.line_wire.proofs.IsLineLemmas.{NamesGoal-unique}
 
 pub ReadsCited-text : (words : List ℕ) (goal : Goal) (numbers text : List ℕ) (inquiry : Inquiry) → IsCiting words numbers text → ReadsText goal numbers text inquiry → ReadsCited goal words inquiry
 ReadsCited-text words goal numbers text (Proof of those proof) citing h = (h.0, (text, subst (λ ns. IsCiting words ns text) (sym h.1.0) citing, h.1.1))

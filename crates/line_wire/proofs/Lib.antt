@@ -1,9 +1,9 @@
 pub mod CitedLemmas
-pub mod FaultyLemmas
+pub mod IsFaultyLemmas
 pub mod FormLemmas
 pub mod InquiryLemmas
 pub mod NumeralLemmas
-pub mod OneCommand
+pub mod IsLineLemmas
 pub mod OptionLemmas
 pub mod ProcapLemmas
 pub mod WrittenLemmas

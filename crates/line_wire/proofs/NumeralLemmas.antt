@@ -14,7 +14,7 @@ use Rattle.line_wire.proofs.OptionLemmas.{IsAnswer, IsAnswer-None, IsAnswer-Some
 use Rattle.bl_syntax.specs.Names.{is_digit}
 use Rattle.bl_syntax.specs.declared.terms.NodeId.{NodeId}
 use Rattle.line_wire.specs.Numerals.{IsPlain}
-use Rattle.line_wire.specs.Lines.{IsDigits, IsInteger, plain, negated, IsNumberBelow, IsNumber, IsFile}
+use Rattle.line_wire.specs.Lines.{IsDigits, IsInteger, plain, negated, IsNumberBelow, IsStatementNumber, IsFile}
 
 -- the words of digits, and what they write, in the words of std's lemmas
 pub is_numeral_model : IsNumeralModel (λ ds. IsTrue (list_all is_digit ds)) (digits_value 10)
@@ -47,7 +47,7 @@ pub IsInteger-digits : {word : List ℕ} {n : ℤ} → IsInteger word n → IsDi
 IsInteger-digits (plain digits h) d = refl
 IsInteger-digits (negated digits h) d = absurd (let no = d.digits in cc)
 
--- what stands behind the `-`
+-- what stands after the `-`
 abbrev pub IsBelowZero : List ℕ → ℤ → Type 0
 IsBelowZero digits n = IsDigits digits × (n ≡ pos 0 -ℤ pos (digits_value 10 digits))
 
@@ -119,7 +119,7 @@ IsInteger-unique (negated digits h) other = sym (IsInteger-minus other digits re
 pub IsNumberBelow-unique : (limit : ℕ) → limit ≤ 2 ^ 64 → {word : List ℕ} {m n : ℕ} → IsNumberBelow limit word m → IsNumberBelow limit word n → m ≡ n
 IsNumberBelow-unique limit few {word} {m} {n} h other = sym (IsWritten-below limit few word m h).value ∙ (IsWritten-below limit few word n other).value
 
-pub IsNumber-unique : {word : List ℕ} {m n : ℕ} → IsNumber word m → IsNumber word n → m ≡ n
+pub IsNumber-unique : {word : List ℕ} {m n : ℕ} → IsStatementNumber word m → IsStatementNumber word n → m ≡ n
 IsNumber-unique h other = IsNumberBelow-unique (2 ^ 32) (omega arith) h other
 
 pub IsFile-unique : {word : List ℕ} {m n : NodeId} → IsFile word m → IsFile word n → m ≡ n

@@ -12,7 +12,7 @@ use Rattle.procap.proofs.ProcapLemmas.{procap_codec}
 use Rattle.line_wire.specs.declared.command.ProcapWord.{ProcapWord}
 use Rattle.line_wire.specs.declared.command.ProcapWord.TheVariants.{Held, Issue}
 use Rattle.line_text.specs.Words.{HasNo}
-use Rattle.line_wire.specs.Lines.{IsNumber, IsHeld, IsProcapWord, by_number, held, IsSignature, IsSigned, by_ring, by_bytes}
+use Rattle.line_wire.specs.Lines.{IsStatementNumber, IsProcapHex, IsProcapWord, by_number, held, IsSignature, IsSignatureWord, by_ring, by_bytes}
 use Rattle.line_wire.proofs.NumeralLemmas.{IsNumber-unique}
 
 -- ---- procaps
@@ -20,13 +20,13 @@ use Rattle.line_wire.proofs.NumeralLemmas.{IsNumber-unique}
 pub procap-unique : (p q : Procap) → IsSpellableProcap p → IsSpellableProcap q → procap_spelling p ≡ procap_spelling q → p ≡ q
 procap-unique p q first second same = (procap_codec.apart p q [] [] first second (ap (λ l. l ++ []) same)).0
 
-IsHeld-same : (word : List ℕ) (p q : Procap) → IsHeld word p → IsHeld word q → p ≡ q
+IsHeld-same : (word : List ℕ) (p q : Procap) → IsProcapHex word p → IsProcapHex word q → p ≡ q
 IsHeld-same word p q first second =
     procap-unique p q first.spelled second.spelled (IsHex-same word (procap_spelling p) (procap_spelling q) first.hex second.hex)
 
 -- what a word holds whose bytes are read
 pub IsHeld-read : (word bytes : List ℕ) → IsHex word bytes → (read : Option Procap) → MatchOption read ((p : Procap) → IsSpellableProcap p → bytes ≡ procap_spelling p → ⊥) (λ p. IsSpellableProcap p × (bytes ≡ procap_spelling p))
-    → MatchOption read ((p : Procap) → IsHeld word p → ⊥) (IsHeld word)
+    → MatchOption read ((p : Procap) → IsProcapHex word p → ⊥) (IsProcapHex word)
 IsHeld-read word bytes is None none = λ p h. none p h.spelled (IsHex-same word bytes (procap_spelling p) is h.hex)
 IsHeld-read word bytes is (Some p) h = record { spelled = h.0; hex = subst (IsHex word) h.1 is }
 
@@ -34,13 +34,13 @@ IsHeld-read word bytes is (Some p) h = record { spelled = h.0; hex = subst (IsHe
 pub no_sign : (digits bytes : List ℕ) → IsHex (64 ∷ digits) bytes → ⊥
 no_sign digits bytes is = false≢true (IsHex-all (λ byte. not (byte == 64)) refl refl (64 ∷ digits) bytes is)
 
-pub number_of_word : {word : List ℕ} {given : ProcapWord} → IsProcapWord word given → (digits : List ℕ) → word ≡ 64 ∷ digits → (number : ℕ) × IsNumber digits number × (given ≡ Issue number)
+pub number_of_word : {word : List ℕ} {given : ProcapWord} → IsProcapWord word given → (digits : List ℕ) → word ≡ 64 ∷ digits → (number : ℕ) × IsStatementNumber digits number × (given ≡ Issue number)
 number_of_word (by_number ds number h) digits same =
     let digits_are : ds ≡ digits = let both : 64 ∷ ds ≡ 64 ∷ digits = same in cc in
-    (number, subst (λ w. IsNumber w number) digits_are h, refl)
+    (number, subst (λ w. IsStatementNumber w number) digits_are h, refl)
 number_of_word (held word p h) digits same = absurd (no_sign digits (procap_spelling p) (subst (λ w. IsHex w (procap_spelling p)) same h.hex))
 
-pub IsProcapWord-number : (word digits : List ℕ) (number issue : ℕ) → word ≡ 64 ∷ digits → IsNumber digits number → issue ≡ number → IsProcapWord word (Issue issue)
+pub IsProcapWord-number : (word digits : List ℕ) (number issue : ℕ) → word ≡ 64 ∷ digits → IsStatementNumber digits number → issue ≡ number → IsProcapWord word (Issue issue)
 IsProcapWord-number word digits number issue same h is = rw (same, is) (by_number digits number h)
 
 pub IsProcapWord-same : {word : List ℕ} {first : ProcapWord} → IsProcapWord word first → (other : List ℕ) (second : ProcapWord) → word ≡ other → IsProcapWord other second → first ≡ second
@@ -48,13 +48,13 @@ IsProcapWord-same (by_number digits m h) other second same k =
     let of = number_of_word k digits (sym same) in
     ap Issue (IsNumber-unique h of.1) ∙ sym of.2
 IsProcapWord-same (held word p h) other second same (by_number digits n k) = absurd (no_sign digits (procap_spelling p) (subst (λ w. IsHex w (procap_spelling p)) same h.hex))
-IsProcapWord-same (held word p h) other second same (held w q k) = ap Held (IsHeld-same w p q (subst (λ v. IsHeld v p) same h) k)
+IsProcapWord-same (held word p h) other second same (held w q k) = ap Held (IsHeld-same w p q (subst (λ v. IsProcapHex v p) same h) k)
 
 -- what is written of a procap gives it
 pub IsProcapWord-shown : (p : Procap) → IsSpellableProcap p → AreBytes (procap_spelling p) → IsProcapWord (hex_word (procap_spelling p)) (Held p)
 IsProcapWord-shown p spelled fits = held (hex_word (procap_spelling p)) p (record { spelled = spelled; hex = record { in_range = fits; word_is = refl } })
 
-pub not_given : {word : List ℕ} {given : ProcapWord} → IsProcapWord word given → ((rest : List ℕ) → word ≢ codes "@" ++ rest) → ((p : Procap) → IsHeld word p → ⊥) → ⊥
+pub not_given : {word : List ℕ} {given : ProcapWord} → IsProcapWord word given → ((rest : List ℕ) → word ≢ codes "@" ++ rest) → ((p : Procap) → IsProcapHex word p → ⊥) → ⊥
 not_given (by_number digits number h) no_sign no_procap = no_sign digits refl
 not_given (held word p h) no_sign no_procap = no_procap p h
 
@@ -65,20 +65,20 @@ no_dash word bytes dash h =
     let nothing = ap length (only_nothing word bytes dash h.hex) in
     omega (arith, nothing, h.some)
 
-pub IsSigned-same : {word : List ℕ} {first : Option (List ℕ)} → IsSigned word first → (other : List ℕ) (second : Option (List ℕ)) → word ≡ other → IsSigned other second → first ≡ second
+pub IsSigned-same : {word : List ℕ} {first : Option (List ℕ)} → IsSignatureWord word first → (other : List ℕ) (second : Option (List ℕ)) → word ≡ other → IsSignatureWord other second → first ≡ second
 IsSigned-same by_ring other second same by_ring = refl
 IsSigned-same by_ring other second same (by_bytes word bytes k) = absurd (no_dash word bytes (sym same) k)
 IsSigned-same (by_bytes word bytes h) other second same by_ring = absurd (no_dash word bytes same h)
 IsSigned-same (by_bytes word bytes h) other second same (by_bytes w others k) = ap Some (IsHex-same w bytes others (subst (λ v. IsHex v bytes) same h.hex) k.hex)
 
-pub HasNo-signed : {word : List ℕ} {signature : Option (List ℕ)} → IsSigned word signature → HasNo 32 word
+pub HasNo-signed : {word : List ℕ} {signature : Option (List ℕ)} → IsSignatureWord word signature → HasNo 32 word
 HasNo-signed by_ring = refl
 HasNo-signed (by_bytes word bytes h) = IsHex-all (λ byte. not (byte == 32)) refl refl word bytes h.hex
 
-pub ring_word : {word : List ℕ} {signature : Option (List ℕ)} → IsSigned word signature → signature ≡ None → word ≡ codes "-"
+pub ring_word : {word : List ℕ} {signature : Option (List ℕ)} → IsSignatureWord word signature → signature ≡ None → word ≡ codes "-"
 ring_word by_ring same = refl
 ring_word (by_bytes word bytes h) same = absurd (none-some bytes (sym same))
 
-pub signature_of : {word : List ℕ} {signature : Option (List ℕ)} → IsSigned word signature → (bytes : List ℕ) → signature ≡ Some bytes → IsSignature word bytes
+pub signature_of : {word : List ℕ} {signature : Option (List ℕ)} → IsSignatureWord word signature → (bytes : List ℕ) → signature ≡ Some bytes → IsSignature word bytes
 signature_of by_ring bytes same = absurd (none-some bytes same)
 signature_of (by_bytes word others h) bytes same = subst (IsSignature word) (same_Some others bytes same) h

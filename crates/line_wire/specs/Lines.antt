@@ -7,16 +7,16 @@ use Rattle.bl_syntax.specs.declared.terms.NodeId.{NodeId}
 use Rattle.bl_syntax.specs.declared.grant.Goal.{Goal}
 use Rattle.bl_syntax.specs.Names.{is_digit, is_principal_name}
 use Rattle.bl_syntax.specs.TimeOrder.{IsMoment}
-use Rattle.bl_syntax.specs.Statement.{Saying}
+use Rattle.bl_syntax.specs.Statement.{StatementView}
 use Rattle.bl_tokens.specs.declared.faults.TextFault.{TextFault}
 use Rattle.bl_text.specs.Printed.{permission_text}
 use Rattle.bl_text.specs.Texts.{IsStatementText, StatementFault}
-use Rattle.proof_term.specs.Proof.{Deduction}
+use Rattle.proof_term.specs.Proof.{ProofView}
 use Rattle.proof_text.specs.Texts.{IsProofText, ProofTextFault}
 use Rattle.line_text.specs.HexWord.{IsHex}
 use Rattle.procap.specs.declared.procap.Procap.{Procap}
 use Rattle.procap.specs.Procap.{procap_spelling, IsSpellableProcap}
-use Rattle.access_history.specs.declared.event.Op.TheVariants.{Create}
+use Rattle.access_history.specs.declared.event.FileOp.TheVariants.{Create}
 use Rattle.access_history.specs.Citing.{AreCitable}
 use Rattle.access_history.specs.World.{is_node_name}
 use Rattle.line_wire.specs.declared.command.Command.{Command}
@@ -46,8 +46,8 @@ pub record IsNumberBelow (limit : ℕ) (word : List ℕ) (number : ℕ) : Type 0
   pub fits : number < limit
 
 -- the number of a statement
-abbrev pub IsNumber : List ℕ → ℕ → Type 0
-IsNumber word number = IsNumberBelow (2 ^ 32) word number
+abbrev pub IsStatementNumber : List ℕ → ℕ → Type 0
+IsStatementNumber word number = IsNumberBelow (2 ^ 32) word number
 
 -- a node by its number, with a `#` before it
 pub record IsFile (word : List ℕ) (node : NodeId) : Type 0 where
@@ -57,22 +57,22 @@ pub record IsFile (word : List ℕ) (node : NodeId) : Type 0 where
 
 -- numbers with commas between them
 pub data AreJoined : List ℕ → List ℕ → Type 0 where
-  one_number : (word : List ℕ) (number : ℕ) → IsNumber word number → AreJoined word (number ∷ [])
-  more_numbers : (word others : List ℕ) (number : ℕ) (numbers : List ℕ) → IsNumber word number → AreJoined others numbers → AreJoined (word ++ 44 ∷ others) (number ∷ numbers)
+  one_number : (word : List ℕ) (number : ℕ) → IsStatementNumber word number → AreJoined word (number ∷ [])
+  more_numbers : (word others : List ℕ) (number : ℕ) (numbers : List ℕ) → IsStatementNumber word number → AreJoined others numbers → AreJoined (word ++ 44 ∷ others) (number ∷ numbers)
 
 -- the numbers of statements that can be cited together: 1 to 64, strictly rising
 pub record IsCited (word : List ℕ) (numbers : List ℕ) : Type 0 where
   pub joined : AreJoined word numbers
   pub citable : AreCitable numbers
 
--- a principal, a file and a permission, with a space behind each
+-- a principal, a file and a permission, with a space after each
 pub record NamesGoal (words : List ℕ) (goal : Goal) (rest : List ℕ) : Type 0 where
   pub file : List ℕ
   pub named : IsTrue (is_principal_name goal.who)
   pub file_is : IsFile file goal.file
   pub words_are : words ≡ goal.who ++ (codes " " ++ (file ++ (codes " " ++ (permission_text goal.perm ++ (codes " " ++ rest)))))
 
--- the numbers of statements, and behind one space a text
+-- the numbers of statements, and after one space a text
 pub record IsCiting (words : List ℕ) (numbers text : List ℕ) : Type 0 where
   pub cited : List ℕ
   pub cited_is : IsCited cited numbers
@@ -86,20 +86,20 @@ pub record IsInquiry (words : List ℕ) (goal : Goal) (numbers text : List ℕ) 
 
 -- the number of an issue, from 1
 pub record IsIssue (word : List ℕ) (number : ℕ) : Type 0 where
-  pub number_is : IsNumber word number
+  pub number_is : IsStatementNumber word number
   pub some : 1 ≤ number
 
 -- the bytes of a procap in hexadecimal
-pub record IsHeld (word : List ℕ) (p : Procap) : Type 0 where
+pub record IsProcapHex (word : List ℕ) (p : Procap) : Type 0 where
   pub spelled : IsSpellableProcap p
   pub hex : IsHex word (procap_spelling p)
 
 -- in the place of a procap: an `@` and the number of an issue, or the procap itself
 pub data IsProcapWord : List ℕ → ProcapWord → Type 0 where
-  by_number : (digits : List ℕ) (number : ℕ) → IsNumber digits number → IsProcapWord (64 ∷ digits) (Issue number)
-  held : (word : List ℕ) (p : Procap) → IsHeld word p → IsProcapWord word (Held p)
+  by_number : (digits : List ℕ) (number : ℕ) → IsStatementNumber digits number → IsProcapWord (64 ∷ digits) (Issue number)
+  held : (word : List ℕ) (p : Procap) → IsProcapHex word p → IsProcapWord word (Held p)
 
--- a directory and a name, with a space behind each
+-- a directory and a name, with a space after each
 pub record NamesPlace (words : List ℕ) (directory : NodeId) (name rest : List ℕ) : Type 0 where
   pub file : List ℕ
   pub directory_is : IsFile file directory
@@ -107,7 +107,7 @@ pub record NamesPlace (words : List ℕ) (directory : NodeId) (name rest : List 
   pub words_are : words ≡ file ++ (codes " " ++ (name ++ (codes " " ++ rest)))
 
 -- a file is to be made: the directory, the name, and a procap
-pub record IsMaking (words : List ℕ) (directory : NodeId) (name : List ℕ) (procap : ProcapWord) : Type 0 where
+pub record IsCreateWords (words : List ℕ) (directory : NodeId) (name : List ℕ) (procap : ProcapWord) : Type 0 where
   pub word : List ℕ
   pub place_is : NamesPlace words directory name word
   pub procap_is : IsProcapWord word procap
@@ -119,14 +119,14 @@ pub record IsSignature (word bytes : List ℕ) : Type 0 where
   pub few : length bytes ≤ 32768
 
 -- in the place of a signature: a `-` for the ring's key, or the signature itself
-pub data IsSigned : List ℕ → Option (List ℕ) → Type 0 where
-  by_ring : IsSigned (codes "-") None
-  by_bytes : (word bytes : List ℕ) → IsSignature word bytes → IsSigned word (Some bytes)
+pub data IsSignatureWord : List ℕ → Option (List ℕ) → Type 0 where
+  by_ring : IsSignatureWord (codes "-") None
+  by_bytes : (word bytes : List ℕ) → IsSignature word bytes → IsSignatureWord word (Some bytes)
 
--- a signature, and behind one space a text
-pub record IsRegistering (words : List ℕ) (signature : Option (List ℕ)) (text : List ℕ) : Type 0 where
+-- a signature, and after one space a text
+pub record IsRegisterWords (words : List ℕ) (signature : Option (List ℕ)) (text : List ℕ) : Type 0 where
   pub word : List ℕ
-  pub signed : IsSigned word signature
+  pub signed : IsSignatureWord word signature
   pub words_are : words ≡ word ++ (codes " " ++ text)
 
 -- the line is of a form, and asks for this
@@ -135,20 +135,20 @@ pub data IsLine : List ℕ → Command → Type 0 where
       IsLine (codes "at " ++ word) (commands.At second)
   sets_caller : (who : List ℕ) → IsTrue (is_principal_name who) →
       IsLine (codes "as " ++ who) (commands.As who)
-  registers : (words text : List ℕ) (signature : Option (List ℕ)) (statement : Saying) → IsRegistering words signature text → IsStatementText text statement →
+  registers : (words text : List ℕ) (signature : Option (List ℕ)) (statement : StatementView) → IsRegisterWords words signature text → IsStatementText text statement →
       IsLine (codes "register " ++ words) (commands.Register signature statement)
   shows_procap : (word : List ℕ) (number : ℕ) → IsIssue word number →
       IsLine (codes "procap " ++ word) (commands.Procap number)
-  verifies : (words text : List ℕ) (goal : Goal) (numbers : List ℕ) (proof : Deduction) → IsInquiry words goal numbers text → IsProofText text proof →
+  verifies : (words text : List ℕ) (goal : Goal) (numbers : List ℕ) (proof : ProofView) → IsInquiry words goal numbers text → IsProofText text proof →
       IsLine (codes "verify " ++ words) (commands.Verify goal numbers proof)
-  checks : (words text : List ℕ) (goal : Goal) (numbers : List ℕ) (proof : Deduction) → IsInquiry words goal numbers text → IsProofText text proof →
+  checks : (words text : List ℕ) (goal : Goal) (numbers : List ℕ) (proof : ProofView) → IsInquiry words goal numbers text → IsProofText text proof →
       IsLine (codes "check " ++ words) (commands.Check goal numbers proof)
-  creates : (words name : List ℕ) (directory : NodeId) (procap : ProcapWord) → IsMaking words directory name procap →
+  creates : (words name : List ℕ) (directory : NodeId) (procap : ProcapWord) → IsCreateWords words directory name procap →
       IsLine (codes "do create " ++ words) (commands.Do (Create directory name) (procap ∷ []))
 
 -- the words of the line are of a form, and its text, which is none of what the form has there, has this first fault
 pub data HasBadText : List ℕ → TextFault → Type 0 where
-  in_statement : (words text : List ℕ) (signature : Option (List ℕ)) (fault : TextFault) → IsRegistering words signature text → StatementFault text fault →
+  in_statement : (words text : List ℕ) (signature : Option (List ℕ)) (fault : TextFault) → IsRegisterWords words signature text → StatementFault text fault →
       HasBadText (codes "register " ++ words) fault
   in_proof : (words text : List ℕ) (goal : Goal) (numbers : List ℕ) (fault : TextFault) → IsInquiry words goal numbers text → ProofTextFault text fault →
       HasBadText (codes "verify " ++ words) fault

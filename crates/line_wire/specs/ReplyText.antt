@@ -2,19 +2,19 @@
 use Rattle.std.specs.Prelude.{ℕ, List, [], ◌∷◌, ◌++◌, codes, length, map}
 use Rattle.std.specs.Fmt.{decimal}
 use Rattle.std.specs.List.{flat_map}
-use Rattle.bl_syntax.specs.Grant.{Granted}
+use Rattle.bl_syntax.specs.Grant.{GrantView}
 use Rattle.bl_text.specs.Printed.{constraint_text, state_text}
 use Rattle.line_text.specs.HexWord.{hex_word}
 use Rattle.procap.specs.Procap.{procap_spelling}
-use Rattle.access_history.specs.declared.reply.RegisterFault.{RegisterFault}
-use Rattle.access_history.specs.declared.reply.RegisterFault.TheVariants.{BadSignature, RegistryFull, Duplicate}
-use Rattle.access_history.specs.declared.reply.Cause.{Cause}
-use Rattle.access_history.specs.declared.reply.Cause.TheVariants as causes
+use Rattle.access_history.specs.declared.reply.Rejection.{Rejection}
+use Rattle.access_history.specs.declared.reply.Rejection.TheVariants.{BadSignature, RegistryFull, Duplicate}
+use Rattle.access_history.specs.declared.reply.DenialCause.{DenialCause}
+use Rattle.access_history.specs.declared.reply.DenialCause.TheVariants as causes
 use Rattle.access_history.specs.declared.reply.Denial.{Denial}
 use Rattle.access_history.specs.declared.reply.Reply.{Reply}
 use Rattle.access_history.specs.declared.reply.Reply.TheVariants as replies
 
-abbrev pub cause_text : Cause → List ℕ
+abbrev pub cause_text : DenialCause → List ℕ
 cause_text causes.Seal = codes "seal"
 cause_text causes.Principal = codes "principal"
 cause_text causes.File = codes "file"
@@ -22,7 +22,7 @@ cause_text causes.Permission = codes "permission"
 cause_text (causes.Time place c) = codes "time " ++ (decimal place ++ (codes " " ++ constraint_text 0 c))
 cause_text (causes.State place s) = codes "state " ++ (decimal place ++ (codes " " ++ state_text 0 s))
 
-abbrev pub rejection_text : RegisterFault → List ℕ
+abbrev pub rejection_text : Rejection → List ℕ
 rejection_text BadSignature = codes "rejected 1"
 rejection_text RegistryFull = codes "rejected 2"
 rejection_text (Duplicate number) = codes "rejected 3 " ++ decimal number
@@ -30,16 +30,16 @@ rejection_text (Duplicate number) = codes "rejected 3 " ++ decimal number
 abbrev pub denial_text : Denial → List ℕ
 denial_text d = codes "denied " ++ (decimal d.need ++ (codes " " ++ (cause_text d.cause ++ (codes " at " ++ decimal d.at))))
 
--- texts: the first behind the lead, each later one behind a `;` and a space
+-- texts: the first after the lead, each later one after a `;` and a space
 abbrev pub listed_text : List ℕ → List (List ℕ) → List ℕ
 listed_text lead [] = []
 listed_text lead (first ∷ others) = lead ++ (first ++ listed_text (codes "; ") others)
 
 -- the conditions of a grant, those on time first
-abbrev pub conditions_of : Granted → List (List ℕ)
+abbrev pub conditions_of : GrantView → List (List ℕ)
 conditions_of g = map (constraint_text 0) g.times ++ map (state_text 0) g.states
 
-abbrev pub checked_text : Granted → List ℕ
+abbrev pub checked_text : GrantView → List ℕ
 checked_text g = codes "ok checked time " ++ (decimal (length g.times) ++ (codes " state " ++ (decimal (length g.states) ++ listed_text (codes " ") (conditions_of g))))
 
 abbrev pub reply_text : Reply → List ℕ

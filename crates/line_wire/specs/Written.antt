@@ -1,4 +1,4 @@
--- What was written behind what stood there before.
+-- What was written after what stood there before.
 use Rattle.std.specs.Prelude.{◌≡◌, ℕ, List, ◌++◌}
 
 -- the first list begins with the second

@@ -1,13 +1,13 @@
 //! The numbers of the statements that a line cites.
 
 ghost use Rattle.std.specs.Prelude.{◌≡◌, ◌≤◌, ◌+◌, ◌↔◌, ℕ, List, false, length, IsTrue, IfOk, MatchOption};
-ghost use Rattle.access_history.specs.Citing.{AreCitable, DoRise};
+ghost use Rattle.access_history.specs.Citing.{AreCitable, DoNumbersRise};
 ghost use Rattle.line_wire.specs.Lines.{AreJoined, IsCited};
-ghost use Rattle.line_wire.specs.Forms.{AreAdded};
+ghost use Rattle.line_wire.specs.Forms.{AreNumbersAdded};
 
 use crate::numerals::number;
 use bl_syntax::{NoMemory, Numbers};
-use line_text::{after, split_word};
+use line_text::{rest_after, split_word};
 use std::alloc::Global;
 
 /// The most statements that can be cited together.
@@ -15,7 +15,7 @@ const MOST_CITED: usize = 64;
 
 // Whether each number is below the next.
 fn do_rise(numbers: &[u32]) -> bool
-    ensures { IsTrue result ↔ DoRise numbers.now }
+    ensures { IsTrue result ↔ DoNumbersRise numbers.now }
 {
     match numbers {
         [first, second, ..] => *first < *second && do_rise(&numbers[1..]),
@@ -33,7 +33,7 @@ fn are_citable(numbers: &[u32]) -> bool
 // Adds the numbers of the word to those before it, and tells whether it has numbers alone and there are not more than
 // can be cited then.
 fn read_numbers(word: &[u8], numbers: &mut Numbers) -> Result<bool, NoMemory>
-    ensures added { IfOk result (λ all. IsTrue all → AreAdded word.now numbers.old numbers.new) }
+    ensures added { IfOk result (λ all. IsTrue all → AreNumbersAdded word.now numbers.old numbers.new) }
     ensures refused { IfOk result (λ all. all ≡ false → (others : List ℕ) → AreJoined word.now others → length numbers.old + length others ≤ 64 → ⊥) }
 {
     if numbers.len() >= MOST_CITED {
@@ -44,7 +44,7 @@ fn read_numbers(word: &[u8], numbers: &mut Numbers) -> Result<bool, NoMemory>
         Some(number) => numbers.push(number)?,
         None => return Ok(false),
     }
-    match after(behind, b",") {
+    match rest_after(behind, b",") {
         Some(others) => read_numbers(others, numbers),
         None => Ok(behind.is_empty()),
     }

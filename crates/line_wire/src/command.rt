@@ -1,6 +1,6 @@
 //! What a line of a script asks for.
 
-use access_history::{Op, Reply};
+use access_history::{FileOp, Reply};
 use bl_syntax::{Bytes, Goal, Numbers, Principal, Sequence, Statement};
 use procap::Procap;
 use proof_term::ProofTree;
@@ -33,7 +33,7 @@ pub enum Command {
     /// Checks the proof of the goal from the statements of these numbers, and keeps nothing.
     Check(Goal, Numbers, ProofTree),
     /// Does an operation under these procaps.
-    Do(Op, ProcapWords),
+    Do(FileOp, ProcapWords),
 }
 
 /// What was read of a line.

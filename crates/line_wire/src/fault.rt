@@ -1,15 +1,15 @@
-//! What is answered where a text or a proof is refused.
+//! What is returned if a text or a proof is refused.
 
 ghost use Rattle.std.specs.Prelude.{◌≡◌, Some, None, IfOk, OnErr};
-ghost use Rattle.line_wire.specs.Faults.{unproved as unproved_reply, bad_text as bad_text_reply};
+ghost use Rattle.line_wire.specs.Faults.{proof_fault_reply as unproved_reply, text_fault_reply as bad_text_reply};
 
 use access_history::Reply;
 use bl_syntax::NoMemory;
 use bl_text::TextFault;
 use proof_verifier::CheckFault;
 
-/// The number of the fault and its node. An error exactly where there was no memory, which is no fault of the proof.
-pub fn unproved(fault: CheckFault) -> Result<Reply, NoMemory>
+/// The number of the fault and its node. An error exactly if there was no memory, which is no fault of the proof.
+pub fn proof_fault_reply(fault: CheckFault) -> Result<Reply, NoMemory>
     ensures ok { IfOk result (λ reply. unproved_reply fault ≡ Some reply) }
     ensures err { OnErr result (unproved_reply fault ≡ None) }
 {
@@ -25,9 +25,9 @@ pub fn unproved(fault: CheckFault) -> Result<Reply, NoMemory>
     }
 }
 
-/// The number of the fault and its place in the text. An error exactly where there was no memory, which is no fault of
+/// The number of the fault and its place in the text. An error exactly if there was no memory, which is no fault of
 /// the text.
-pub fn bad_text(fault: TextFault) -> Result<Reply, NoMemory>
+pub fn text_fault_reply(fault: TextFault) -> Result<Reply, NoMemory>
     ensures ok { IfOk result (λ reply. bad_text_reply fault ≡ Some reply) }
     ensures err { OnErr result (bad_text_reply fault ≡ None) }
 {

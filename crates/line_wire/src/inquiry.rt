@@ -17,7 +17,7 @@ use proof_term::ProofTree;
 use proof_text::parse_proof;
 use std::alloc::Global;
 
-/// What the words behind `verify` or `check` ask.
+/// What the words after `verify` or `check` ask.
 #[derive(Debug, Drop)]
 pub enum Inquiry {
     /// Whether this proves the goal from the statements of these numbers.
@@ -42,7 +42,7 @@ fn permission(word: &[u8]) -> Option<Perm>
     }
 }
 
-// The goal that the first three words name, and what stands behind them and a space.
+// The goal that the first three words name, and what stands after them and a space.
 fn goal_and_rest(words: &[u8]) -> Option<(Goal, &[u8])>
     ensures found { IfSome result (λ p. NamesGoal words.now p.0 p.1.now) }
     ensures only { (goal : Goal) (rest : List ℕ) → NamesGoal words.now goal rest
@@ -56,7 +56,7 @@ fn goal_and_rest(words: &[u8]) -> Option<(Goal, &[u8])>
     Some((Goal { who, file, perm }, rest))
 }
 
-// The numbers and the proof behind the words of a goal.
+// The numbers and the proof after the words of a goal.
 fn cited_proof(alloc: Global, goal: Goal, rest: &[u8]) -> Result<Inquiry, NoMemory>
     ensures { IfOk result (ReadsCited goal rest.now) }
 {
@@ -79,7 +79,7 @@ fn proof_of(alloc: Global, goal: Goal, numbers: Numbers, text: &[u8]) -> Inquiry
     }
 }
 
-/// Reads the words behind `verify` or `check`.
+/// Reads the words after `verify` or `check`.
 pub fn read_inquiry(alloc: Global, words: &[u8]) -> Result<Inquiry, NoMemory>
     ensures { IfOk result (ReadsInquiry words.now) }
 {

@@ -18,6 +18,6 @@ mod signature;
 mod words;
 
 pub use command::{Command, Line, ProcapWord, ProcapWords};
-pub use fault::unproved;
+pub use fault::proof_fault_reply;
 pub use forms::read_line;
 pub use reply_text::write_reply;

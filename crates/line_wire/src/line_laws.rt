@@ -17,13 +17,13 @@ pub fn one_command_of_a_line()
     ensures { (line : List ℕ) (first second : Command) → IsLine line first → IsLine line second → first ≡ second }
 {}
 
-/// A line that asks for something has no fault in its text, want of memory aside.
+/// A line that asks for something has no fault in its text, out of memory aside.
 pub fn no_fault_of_a_command()
     ensures { (line : List ℕ) (command : Command) (fault : TextFault) → IsLine line command → HasBadText line fault
         → fault ≡ TextFault.NoMemory }
 {}
 
-/// A line has one fault in its text at most, want of memory aside.
+/// A line has one fault in its text at most, out of memory aside.
 pub fn one_fault_of_a_line()
     ensures { (line : List ℕ) (first second : TextFault) → HasBadText line first → HasBadText line second
         → AreOneFault first second }

@@ -5,11 +5,11 @@ ghost use Rattle.std.specs.List.{list_all};
 ghost use Rattle.std.specs.Str.Parse.{digits_value};
 ghost use Rattle.bl_syntax.specs.Names.{is_digit};
 ghost use Rattle.bl_syntax.specs.declared.terms.NodeId.{NodeId};
-ghost use Rattle.line_wire.specs.Lines.{IsDigits, IsInteger, IsSecond, IsFile, IsNumber, IsNumberBelow, IsIssue};
+ghost use Rattle.line_wire.specs.Lines.{IsDigits, IsInteger, IsSecond, IsFile, IsStatementNumber, IsNumberBelow, IsIssue};
 ghost use Rattle.line_wire.specs.Numerals.{IsPlain};
 
 use bl_syntax::{NodeId, is_moment};
-use line_text::after;
+use line_text::rest_after;
 
 fn is_digit(byte: u8) -> bool
     ensures { result ≡ is_digit byte }
@@ -63,7 +63,7 @@ fn integer(word: &[u8]) -> Option<i64>
     ensures found { IfSome result (IsInteger word.now) }
     ensures only { (n : ℤ) → IsInteger word.now n → result ≡ Some n }
 {
-    if let Some(digits) = after(word, b"-") {
+    if let Some(digits) = rest_after(word, b"-") {
         return Some(-natural(digits)?);
     }
     natural(word)
@@ -85,8 +85,8 @@ pub fn second(word: &[u8]) -> Option<i64>
 
 /// The number that the word writes: decimal digits without leading zeros, below 2^32.
 pub fn number(word: &[u8]) -> Option<u32>
-    ensures found { MatchOption result ((n : ℕ) → IsNumber word.now n → ⊥) (IsNumber word.now) }
-    ensures only { (n : ℕ) → IsNumber word.now n → result ≡ Some n }
+    ensures found { MatchOption result ((n : ℕ) → IsStatementNumber word.now n → ⊥) (IsStatementNumber word.now) }
+    ensures only { (n : ℕ) → IsStatementNumber word.now n → result ≡ Some n }
 {
     if !is_plain(word) {
         return None;
@@ -122,6 +122,6 @@ pub fn file(word: &[u8]) -> Option<NodeId>
     ensures found { MatchOption result ((n : NodeId) → IsFile word.now n → ⊥) (IsFile word.now) }
     ensures only { (n : NodeId) → IsFile word.now n → result ≡ Some n }
 {
-    let digits = after(word, b"#")?;
+    let digits = rest_after(word, b"#")?;
     Some(NodeId(long_number(digits)?))
 }

@@ -4,12 +4,12 @@ ghost use Rattle.std.specs.Prelude.{◌≡◌, IfOk, MatchOption};
 ghost use Rattle.procap.specs.declared.procap.Procap.{Procap};
 ghost use Rattle.procap.specs.Procap.{procap_spelling, IsSpellableProcap};
 ghost use Rattle.line_wire.specs.declared.command.ProcapWord.{ProcapWord};
-ghost use Rattle.line_wire.specs.Lines.{IsHeld, IsProcapWord};
+ghost use Rattle.line_wire.specs.Lines.{IsProcapHex, IsProcapWord};
 
 use crate::command::ProcapWord;
 use crate::numerals::number;
 use bl_syntax::{CodecFault, NoMemory};
-use line_text::{after, read_hex};
+use line_text::{read_hex, rest_after};
 use procap::{Procap, read_procap};
 use std::alloc::Global;
 
@@ -27,8 +27,8 @@ fn procap_of(alloc: Global, bytes: &[u8]) -> Result<Option<Procap>, NoMemory>
 }
 
 // The procap whose bytes the word writes.
-fn held(alloc: Global, word: &[u8]) -> Result<Option<Procap>, NoMemory>
-    ensures { IfOk result (λ r. MatchOption r ((p : Procap) → IsHeld word.now p → ⊥) (IsHeld word.now)) }
+fn decode_procap(alloc: Global, word: &[u8]) -> Result<Option<Procap>, NoMemory>
+    ensures { IfOk result (λ r. MatchOption r ((p : Procap) → IsProcapHex word.now p → ⊥) (IsProcapHex word.now)) }
 {
     match read_hex(alloc, word)? {
         Some(bytes) => procap_of(alloc, bytes.as_slice()),
@@ -41,13 +41,13 @@ fn held(alloc: Global, word: &[u8]) -> Result<Option<Procap>, NoMemory>
 pub fn procap_word(alloc: Global, word: &[u8]) -> Result<Option<ProcapWord>, NoMemory>
     ensures { IfOk result (λ r. MatchOption r ((given : ProcapWord) → IsProcapWord word.now given → ⊥) (IsProcapWord word.now)) }
 {
-    if let Some(digits) = after(word, b"@") {
+    if let Some(digits) = rest_after(word, b"@") {
         return match number(digits) {
             Some(number) => Ok(Some(ProcapWord::Issue(u64::from(number)))),
             None => Ok(None),
         };
     }
-    match held(alloc, word)? {
+    match decode_procap(alloc, word)? {
         Some(p) => Ok(Some(ProcapWord::Held(p))),
         None => Ok(None),
     }

@@ -9,7 +9,7 @@ ghost use Rattle.line_text.specs.HexWord.{hex_word};
 ghost use Rattle.line_wire.specs.Written.{BeginsWith};
 ghost use Rattle.line_wire.specs.ReplyText.{cause_text, rejection_text, denial_text, listed_text, checked_text, reply_text};
 
-use access_history::{Cause, Denial, RegisterFault, Reply};
+use access_history::{Denial, DenialCause, Rejection, Reply};
 use bl_syntax::{Bytes, Constraint, Grant, NoMemory, StatePred};
 use bl_text::{print_constraint, print_state};
 use line_text::write_hex;
@@ -82,32 +82,32 @@ fn write_denial(out: &mut Bytes, denial: &Denial) -> Result<(), NoMemory>
     write_counted(out, " at ", denial.at)
 }
 
-fn write_rejection(out: &mut Bytes, fault: &RegisterFault) -> Result<(), NoMemory>
+fn write_rejection(out: &mut Bytes, fault: &Rejection) -> Result<(), NoMemory>
     ensures ok { OnOk result (out.new ≡ out.old ++ rejection_text fault.now) }
     ensures err { OnErr result (BeginsWith out.new out.old) }
 {
     match fault {
-        RegisterFault::BadSignature => write(out, "rejected 1"),
-        RegisterFault::RegistryFull => write(out, "rejected 2"),
-        RegisterFault::Duplicate(number) => write_counted(out, "rejected 3 ", u64::from(*number)),
+        Rejection::BadSignature => write(out, "rejected 1"),
+        Rejection::RegistryFull => write(out, "rejected 2"),
+        Rejection::Duplicate(number) => write_counted(out, "rejected 3 ", u64::from(*number)),
     }
 }
 
-fn write_cause(out: &mut Bytes, cause: &Cause) -> Result<(), NoMemory>
+fn write_cause(out: &mut Bytes, cause: &DenialCause) -> Result<(), NoMemory>
     ensures ok { OnOk result (out.new ≡ out.old ++ cause_text cause.now) }
     ensures err { OnErr result (BeginsWith out.new out.old) }
 {
     match cause {
-        Cause::Seal => write(out, "seal"),
-        Cause::Principal => write(out, "principal"),
-        Cause::File => write(out, "file"),
-        Cause::Permission => write(out, "permission"),
-        Cause::Time(place, constraint) => {
+        DenialCause::Seal => write(out, "seal"),
+        DenialCause::Principal => write(out, "principal"),
+        DenialCause::File => write(out, "file"),
+        DenialCause::Permission => write(out, "permission"),
+        DenialCause::Time(place, constraint) => {
             write_counted(out, "time ", u64::from(*place))?;
             write(out, " ")?;
             print_constraint(constraint, out)
         }
-        Cause::State(place, state) => {
+        DenialCause::State(place, state) => {
             write_counted(out, "state ", u64::from(*place))?;
             write(out, " ")?;
             print_state(state, out)
@@ -136,7 +136,7 @@ fn write_checked(out: &mut Bytes, grant: &Grant) -> Result<(), NoMemory>
     write_times(out, " ", times, states)
 }
 
-// Writes the conditions, each behind its lead.
+// Writes the conditions, each after its lead.
 fn write_times(
     out: &mut Bytes,
     lead: &str,

@@ -1,7 +1,7 @@
 //! The words in the place of a signature.
 
 ghost use Rattle.std.specs.Prelude.{ℕ, List, Some, IfOk, MatchOption};
-ghost use Rattle.line_wire.specs.Lines.{IsSignature, IsRegistering};
+ghost use Rattle.line_wire.specs.Lines.{IsSignature, IsRegisterWords};
 
 use bl_syntax::{Bytes, NoMemory};
 use line_text::{read_hex, word_before};
@@ -26,9 +26,9 @@ fn signature(alloc: Global, word: &[u8]) -> Result<Option<Bytes>, NoMemory>
     }
 }
 
-/// The signature that the words begin with, and the text behind it.
+/// The signature that the words begin with, and the text after it.
 pub fn signature_and_text(alloc: Global, words: &[u8]) -> Result<Option<(Bytes, &[u8])>, NoMemory>
-    ensures { IfOk result (λ r. MatchOption r ((bytes text : List ℕ) → IsRegistering words.now (Some bytes) text → ⊥) (λ p. IsRegistering words.now (Some p.0) p.1.now)) }
+    ensures { IfOk result (λ r. MatchOption r ((bytes text : List ℕ) → IsRegisterWords words.now (Some bytes) text → ⊥) (λ p. IsRegisterWords words.now (Some p.0) p.1.now)) }
 {
     match word_before(words, b" ") {
         Some((word, text)) => match signature(alloc, word)? {

@@ -1,15 +1,15 @@
--- The first word ends where its length says, and the line is that word and what stands behind it.
+-- The first word ends where its length says, and the line is that word and what stands after it.
 use Rattle.std.proofs.Common.{◌≡◌, ℕ, suc, ◌+◌, Bool, true, false, not, cond, List, [], ◌∷◌, ◌++◌, take, drop, IsTrue, refl, ap, ◌∙◌, arith, one-add, zero-add}
 use Rattle.std.specs.Prelude.{◌==◌}
 use Rattle.std.specs.List.{list_all}
 use Rattle.std.proofs.lemmas.Bool.{eqb-true, and_parts, false≢true}
 use Rattle.bl_syntax.specs.Names.{is_text_byte, is_text}
-use Rattle.line_text.specs.Words.{starts_with, ends_word, HasNo}
+use Rattle.line_text.specs.Words.{has_first, is_word_end, HasNo}
 use Rattle.line_text.proofs.WordLemmas.{HasNo-all}
 use Rattle.line_words.specs.Cutting.{Position, beginning, quoted, plain, ends, next, Cut, with_byte, cut_from, first_cut}
 use Rattle.line_words.specs.Lengths.{place_of, closing_place, first_len}
 
--- so many bytes, and what stands behind them
+-- so many bytes, and what stands after them
 abbrev pub cut_at : ℕ → List ℕ → Cut
 cut_at n line = record { word = take n line; behind = drop n line }
 
@@ -81,7 +81,7 @@ end_step : (is_end : Bool) (position : Position) (byte : ℕ) (line : List ℕ) 
 end_step true position byte line is = refl
 end_step false position byte line is = absurd (false≢true is)
 
-plain_cut : (word rest : List ℕ) → HasNo 32 word → IsTrue (ends_word 32 rest) → cut_from plain (word ++ rest) ≡ cut_as word rest
+plain_cut : (word rest : List ℕ) → HasNo 32 word → IsTrue (is_word_end 32 rest) → cut_from plain (word ++ rest) ≡ cut_as word rest
 plain_cut [] [] no_space ends = refl
 plain_cut [] (byte ∷ bytes) no_space ends = end_step (byte == 32) plain byte bytes ends
 plain_cut (byte ∷ word) rest no_space ends =
@@ -92,7 +92,7 @@ unquoted : (is_quote : Bool) (line : List ℕ) → IsTrue (not is_quote) → cut
 unquoted true line other = absurd (false≢true other)
 unquoted false line other = refl
 
-pub first_cut-plain : (word rest : List ℕ) → HasNo 32 word → IsTrue (not (starts_with 34 word)) → IsTrue (ends_word 32 rest) → first_cut (word ++ rest) ≡ cut_as word rest
+pub first_cut-plain : (word rest : List ℕ) → HasNo 32 word → IsTrue (not (has_first 34 word)) → IsTrue (is_word_end 32 rest) → first_cut (word ++ rest) ≡ cut_as word rest
 first_cut-plain [] [] no_space no_quote ends = refl
 first_cut-plain [] (byte ∷ bytes) no_space no_quote ends = end_step (byte == 32) (next beginning byte) byte bytes ends
 first_cut-plain (byte ∷ word) rest no_space no_quote ends =
@@ -103,12 +103,12 @@ still_quoted : (is_quote : Bool) (line : List ℕ) → IsTrue (not is_quote) →
 still_quoted true line other = absurd (false≢true other)
 still_quoted false line other = refl
 
-quoted_cut : (text rest : List ℕ) → HasNo 34 text → IsTrue (ends_word 32 rest) → cut_from quoted ((text ++ 34 ∷ []) ++ rest) ≡ cut_as (text ++ 34 ∷ []) rest
+quoted_cut : (text rest : List ℕ) → HasNo 34 text → IsTrue (is_word_end 32 rest) → cut_from quoted ((text ++ 34 ∷ []) ++ rest) ≡ cut_as (text ++ 34 ∷ []) rest
 quoted_cut [] rest no_quote ends = ap (with_byte 34) (plain_cut [] rest refl ends)
 quoted_cut (byte ∷ text) rest no_quote ends =
     let parts = and_parts (not (byte == 34)) (list_all (λ b. not (b == 34)) text) no_quote in
     ap (with_byte byte) (still_quoted (byte == 34) ((text ++ 34 ∷ []) ++ rest) parts.0 ∙ quoted_cut text rest parts.1 ends)
 
-pub first_cut-quoted : (text rest : List ℕ) → IsTrue (is_text text) → IsTrue (ends_word 32 rest) → first_cut ((34 ∷ (text ++ 34 ∷ [])) ++ rest) ≡ cut_as (34 ∷ (text ++ 34 ∷ [])) rest
+pub first_cut-quoted : (text rest : List ℕ) → IsTrue (is_text text) → IsTrue (is_word_end 32 rest) → first_cut ((34 ∷ (text ++ 34 ∷ [])) ++ rest) ≡ cut_as (34 ∷ (text ++ 34 ∷ [])) rest
 first_cut-quoted text rest fits ends =
     ap (with_byte 34) (quoted_cut text rest (HasNo-all is_text_byte 34 refl text (and_parts _ _ fits).0) ends)

@@ -3,7 +3,7 @@ use Rattle.std.proofs.Common.{◌≡◌, ℕ, List, [], ◌∷◌, ◌++◌, Opt
 use Rattle.std.specs.Prelude.{◌↔◌, IsSome, IfSome}
 use Rattle.std.proofs.lemmas.Bool.{and_parts, false≢true}
 use Rattle.bl_syntax.specs.Names.{is_text_byte, is_text}
-use Rattle.line_text.specs.Words.{HasNo, ends_word}
+use Rattle.line_text.specs.Words.{HasNo, is_word_end}
 use Rattle.std.proofs.lemmas.List.{append_cancel_right}
 use Rattle.bl_syntax.specs.declared.terms.Perm.{Perm}
 use Rattle.bl_syntax.specs.declared.terms.Perm.TheVariants.{Read, Write, Execute, Identity, Govern}
@@ -37,7 +37,7 @@ quoted_parts : {word behind text : List ℕ} → word ≡ 34 ∷ behind → IsQu
 quoted_parts {word} {behind} {text} same h = let both : 34 ∷ behind ≡ 34 ∷ (text ++ 34 ∷ []) = sym same ∙ h.word_is in cc
 
 abbrev IsCutAtQuote : List ℕ → List ℕ → List ℕ → Type 0
-IsCutAtQuote behind front closing = (w b : List ℕ) → HasNo 34 w → IsTrue (ends_word 34 b) → behind ≡ w ++ b → (front ≡ w) × (closing ≡ b)
+IsCutAtQuote behind front closing = (w b : List ℕ) → HasNo 34 w → IsTrue (is_word_end 34 b) → behind ≡ w ++ b → (front ≡ w) × (closing ≡ b)
 
 pub only_text : (word behind front closing : List ℕ) → word ≡ 34 ∷ behind → IsCutAtQuote behind front closing → (text : List ℕ) → IsQuoted word text → (front ≡ text) × (closing ≡ 34 ∷ [])
 only_text word behind front closing same cut text h = cut text (34 ∷ []) (HasNo-all is_text_byte 34 refl text (and_parts _ _ h.fits).0) refl (quoted_parts same h)

@@ -49,7 +49,7 @@ pub IsInteger-digits : {word : List ℕ} {n : ℤ} → IsInteger word n → IsDi
 IsInteger-digits (plain digits h) d = refl
 IsInteger-digits (negated digits h) d = absurd (let no = d.digits in cc)
 
--- what stands behind the `-`
+-- what stands after the `-`
 abbrev pub IsBelowZero : List ℕ → ℤ → Type 0
 IsBelowZero digits n = IsDigits digits × (n ≡ pos 0 -ℤ pos (digits_value 10 digits))
 

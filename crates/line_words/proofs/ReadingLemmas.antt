@@ -32,9 +32,9 @@ bad_once (outside kind kinds space line out) second (later k ks s l place a b se
 bad_once (later kind kinds space line place a b set bad) second (outside k ks s l out) = absurd (out a b set)
 bad_once (later kind kinds space line place a b set bad) second (later k ks s l p c d other more) = bad_once bad p more
 
--- ---- the first of them, and those behind it
+-- ---- the first of them, and those after it
 
--- what stands behind the first
+-- what stands after the first
 abbrev pub others_of : {A : Type 0} → List A → List A
 others_of xs = take (length xs - 1) (drop 1 xs)
 

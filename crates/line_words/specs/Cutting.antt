@@ -13,13 +13,13 @@ ends beginning byte = byte == 32
 ends quoted byte = false
 ends plain byte = byte == 32
 
--- where the byte behind it stands
+-- where the byte after it stands
 abbrev pub next : Position → ℕ → Position
 next beginning byte = if byte == 34 then quoted else plain
 next quoted byte = if byte == 34 then plain else quoted
 next plain byte = plain
 
--- a word, and what stands behind it: a space and the rest of the line, or nothing
+-- a word, and what stands after it: a space and the rest of the line, or nothing
 pub record Cut : Type 0 where
   pub word : List ℕ
   pub behind : List ℕ
@@ -28,7 +28,7 @@ pub record Cut : Type 0 where
 abbrev pub with_byte : ℕ → Cut → Cut
 with_byte byte cut = record { word = byte ∷ cut.word; behind = cut.behind }
 
--- the rest of a word, from that position on, and what stands behind it
+-- the rest of a word, from that position on, and what stands after it
 abbrev pub cut_from : Position → List ℕ → Cut
 cut_from position [] = record { word = []; behind = [] }
 cut_from position (byte ∷ bytes) = if ends position byte then record { word = []; behind = byte ∷ bytes } else with_byte byte (cut_from (next position byte) bytes)

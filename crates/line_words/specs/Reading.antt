@@ -7,13 +7,13 @@ use Rattle.line_words.specs.declared.arguments.Arguments.{Arguments}
 use Rattle.line_words.specs.declared.fault.WordFault.{WordFault}
 use Rattle.line_words.specs.declared.fault.WordFault.TheVariants.{Bad, NoMemory}
 
--- what stands behind as many words as there are kinds; nothing if there are fewer
+-- what stands after as many words as there are kinds; nothing if there are fewer
 abbrev pub after_words : List Kind → List ℕ → Option (List ℕ)
 after_words [] behind = Some behind
 after_words (kind ∷ kinds) [] = None
 after_words (kind ∷ kinds) (space ∷ line) = after_words kinds (first_cut line).behind
 
--- words of these kinds come next, each behind a space, and set their fields; the rest stands behind them
+-- words of these kinds come next, each after a space, and set their fields; the rest stands after them
 abbrev pub AreWords : List Kind → List ℕ → Arguments → Arguments → List ℕ → Type 0
 AreWords [] behind before after rest = (after ≡ before) × (rest ≡ behind)
 AreWords (kind ∷ kinds) [] before after rest = ⊥

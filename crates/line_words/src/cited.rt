@@ -6,7 +6,7 @@ ghost use Rattle.line_words.specs.Cited.{AreJoined, IsCited, AreAdded};
 
 use crate::numerals::number;
 use bl_syntax::{NoMemory, Numbers};
-use line_text::{after, split_word};
+use line_text::{rest_after, split_word};
 use std::alloc::Global;
 
 /// The most statements that can be cited together.
@@ -43,7 +43,7 @@ fn read_numbers(word: &[u8], numbers: &mut Numbers) -> Result<bool, NoMemory>
         Some(number) => numbers.push(number)?,
         None => return Ok(false),
     }
-    match after(behind, b",") {
+    match rest_after(behind, b",") {
         Some(others) => read_numbers(others, numbers),
         None => Ok(behind.is_empty()),
     }

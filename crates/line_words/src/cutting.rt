@@ -45,7 +45,7 @@ fn first_len(line: &[u8]) -> usize
     closing + place_of(&line[closing..], b' ')
 }
 
-/// The first word of a line, and what stands behind it: a space and the rest of the line, or nothing.
+/// The first word of a line, and what stands after it: a space and the rest of the line, or nothing.
 pub fn first_word(line: &[u8]) -> (&[u8], &[u8])
     ensures word { result.0.now ≡ (first_cut line.now).word }
     ensures behind { result.1.now ≡ (first_cut line.now).behind }

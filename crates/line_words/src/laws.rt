@@ -6,7 +6,7 @@ ghost use Rattle.bl_syntax.specs.Codec.{AreBytes};
 ghost use Rattle.bl_syntax.specs.Names.{is_text};
 ghost use Rattle.bl_syntax.specs.declared.terms.NodeId.{NodeId};
 ghost use Rattle.line_text.specs.HexWord.{hex_word};
-ghost use Rattle.line_text.specs.Words.{starts_with, ends_word, HasNo};
+ghost use Rattle.line_text.specs.Words.{has_first, is_word_end, HasNo};
 ghost use Rattle.procap.specs.declared.procap.Procap.{Procap};
 ghost use Rattle.procap.specs.Procap.{procap_spelling, IsSpellableProcap};
 ghost use Rattle.line_words.specs.declared.arguments.Arguments.{Arguments};
@@ -19,19 +19,19 @@ ghost use Rattle.line_words.specs.Numbers.{IsFile};
 ghost use Rattle.line_words.specs.Procaps.{IsProcapWord};
 ghost use Rattle.line_words.specs.Reading.{AreWords, IsBadWord};
 
-/// A line is its first word and what stands behind it.
+/// A line is its first word and what stands after it.
 pub fn line_is_cut()
     ensures { (line : List ℕ) → line ≡ (first_cut line).word ++ (first_cut line).behind }
 {}
 
 /// A word without a space is cut whole if it begins with no quote.
 pub fn plain_word_is_cut()
-    ensures { (word rest : List ℕ) → HasNo 32 word → IsTrue (not (starts_with 34 word)) → IsTrue (ends_word 32 rest) → first_cut (word ++ rest) ≡ record { word = word; behind = rest } }
+    ensures { (word rest : List ℕ) → HasNo 32 word → IsTrue (not (has_first 34 word)) → IsTrue (is_word_end 32 rest) → first_cut (word ++ rest) ≡ record { word = word; behind = rest } }
 {}
 
 /// A text between quotes is cut whole, whatever spaces are in it.
 pub fn quoted_text_is_cut()
-    ensures { (text rest : List ℕ) → IsTrue (is_text text) → IsTrue (ends_word 32 rest)
+    ensures { (text rest : List ℕ) → IsTrue (is_text text) → IsTrue (is_word_end 32 rest)
         → first_cut ((34 ∷ (text ++ 34 ∷ [])) ++ rest) ≡ record { word = 34 ∷ (text ++ 34 ∷ []); behind = rest } }
 {}
 

@@ -6,7 +6,7 @@ ghost use Rattle.bl_syntax.specs.declared.terms.Perm.{Perm};
 ghost use Rattle.line_words.specs.Grammar.{is_word_byte, is_name_word, IsName, IsPrincipal, IsData, IsQuoted, IsPermission, IsSignature, IsSigned};
 
 use bl_syntax::{Bytes, NoMemory, Perm, Principal, Text};
-use line_text::{after, read_hex, split_word};
+use line_text::{read_hex, rest_after, split_word};
 use std::alloc::Global;
 
 /// The most bytes that a line gives to be written.
@@ -81,7 +81,7 @@ fn is_quote(bytes: &[u8]) -> bool
 pub fn quoted(word: &[u8]) -> Option<Text>
     ensures { MatchOption result ((text : List ℕ) → IsQuoted word.now text → ⊥) (IsQuoted word.now) }
 {
-    match after(word, b"\"") {
+    match rest_after(word, b"\"") {
         Some(behind) => {
             let (text, closing) = split_word(behind, b'"');
             if !is_quote(closing) {

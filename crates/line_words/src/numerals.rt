@@ -10,7 +10,7 @@ ghost use Rattle.line_words.specs.Numerals.{IsPlain};
 
 use bl_syntax::byte_classes::is_digit;
 use bl_syntax::{NodeId, is_moment};
-use line_text::after;
+use line_text::rest_after;
 
 /// The most bytes that are read at once.
 const MOST_BYTES: u64 = 65536;
@@ -61,7 +61,7 @@ fn integer(word: &[u8]) -> Option<i64>
     ensures found { IfSome result (IsInteger word.now) }
     ensures only { (n : ℤ) → IsInteger word.now n → result ≡ Some n }
 {
-    if let Some(digits) = after(word, b"-") {
+    if let Some(digits) = rest_after(word, b"-") {
         return Some(-natural(digits)?);
     }
     natural(word)
@@ -132,6 +132,6 @@ pub fn file(word: &[u8]) -> Option<NodeId>
     ensures found { MatchOption result ((n : NodeId) → IsFile word.now n → ⊥) (IsFile word.now) }
     ensures only { (n : NodeId) → IsFile word.now n → result ≡ Some n }
 {
-    let digits = after(word, b"#")?;
+    let digits = rest_after(word, b"#")?;
     Some(NodeId(long_number(digits)?))
 }

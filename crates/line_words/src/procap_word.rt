@@ -8,7 +8,7 @@ ghost use Rattle.line_words.specs.Procaps.{IsHeld, IsProcapWord};
 
 use crate::numerals::number;
 use bl_syntax::{CodecFault, NoMemory, Sequence};
-use line_text::{after, read_hex};
+use line_text::{read_hex, rest_after};
 use procap::{Procap, read_procap};
 use std::alloc::Global;
 
@@ -52,7 +52,7 @@ fn held(alloc: Global, word: &[u8]) -> Result<Option<Procap>, NoMemory>
 pub fn procap_word(alloc: Global, word: &[u8]) -> Result<Option<ProcapWord>, NoMemory>
     ensures { IfOk result (λ r. MatchOption r ((given : ProcapWord) → IsProcapWord word.now given → ⊥) (IsProcapWord word.now)) }
 {
-    if let Some(digits) = after(word, b"@") {
+    if let Some(digits) = rest_after(word, b"@") {
         return match number(digits) {
             Some(number) => Ok(Some(ProcapWord::Issue(u64::from(number)))),
             None => Ok(None),

@@ -9,7 +9,7 @@ use crate::fault::WordFault;
 use crate::kinds::Kind;
 use std::alloc::Global;
 
-/// What stands behind as many words as there are kinds; none if there are fewer.
+/// What stands after as many words as there are kinds; none if there are fewer.
 pub fn after_words<'a>(kinds: &[Kind], behind: &'a [u8]) -> Option<&'a [u8]>
     ensures { MatchOption result (after_words kinds.now behind.now ≡ None) (λ rest. after_words kinds.now behind.now ≡ Some rest.now) }
 {
@@ -25,8 +25,8 @@ pub fn after_words<'a>(kinds: &[Kind], behind: &'a [u8]) -> Option<&'a [u8]>
     }
 }
 
-/// Reads the next words of a line, one of each kind, into their fields, and returns what stands behind them. `behind`
-/// is what stands behind the words that were read before, and `whole` is the length of the line.
+/// Reads the next words of a line, one of each kind, into their fields, and returns what stands after them. `behind`
+/// is what stands after the words that were read before, and `whole` is the length of the line.
 pub fn read_words<'a>(
     alloc: Global,
     kinds: &[Kind],

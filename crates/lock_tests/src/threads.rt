@@ -1,6 +1,6 @@
 //! Passes that count, each in a thread of its own.
 ghost use Rattle.std.specs.Prelude.{◌≡◌, ℕ, ◌≤◌, ◌+◌, true, [], ◌++◌, length, vec_len, All, IfSome};
-ghost use Rattle.lock_tests.specs.Counting.{counted, HasCounted, HaveCounted, IsNew};
+ghost use Rattle.lock_tests.specs.Counting.{count_so_far, HasCounted, HaveCounted, IsNewPass};
 ghost use Rattle.tree_lock.specs.Entries.{of_number};
 
 use crate::log::{Log, Note};
@@ -18,7 +18,7 @@ pub fn take_turns<R: Wait>(
 ) -> (Pass<Log>, bool)
     requires { pass.lock ≡ lock.now }
     ensures pass { (result.0.lock ≡ pass.lock) × (result.0.number ≡ pass.number) }
-    ensures own { result.1 ≡ true → result.0.own ≡ pass.own ++ counted pass.number count }
+    ensures own { result.1 ≡ true → result.0.own ≡ pass.own ++ count_so_far pass.number count }
 {
     for number in 0..count {
         if !lock.turn(rt, &mut pass, Note { number }) {
@@ -36,7 +36,7 @@ fn new_passes(
     passes: u32,
 ) -> Option<Vec<Pass<Log>>>
     requires { (door.old.lock ≡ lock.now) × (door.old.made ≡ 0) × (door.old.retired ≡ []) }
-    ensures passes { IfSome result (λ v. All (IsNew lock.now) v.items) }
+    ensures passes { IfSome result (λ v. All (IsNewPass lock.now) v.items) }
     ensures door { IfSome result (λ _. (door.new.lock ≡ lock.now) × (door.new.made ≡ passes) × (door.new.retired ≡ [])) }
 {
     let mut all = Vec::new(alloc);
@@ -75,7 +75,7 @@ pub fn count_in_threads<R: Threads + Wait + Sync>(
     passes: u32,
     count: u64,
 ) -> Option<Log>
-    ensures { IfSome result (λ log. (n : ℕ) → 1 ≤ n → n ≤ passes → of_number n log.notes.items ≡ counted n count) }
+    ensures { IfSome result (λ log. (n : ℕ) → 1 ≤ n → n ≤ passes → of_number n log.notes.items ≡ count_so_far n count) }
 {
     let (lock, mut door) = TreeLock::new(alloc, Log::new(alloc)).ok()?;
     let all = new_passes(alloc, &lock, &mut door, passes)?;
@@ -86,7 +86,7 @@ pub fn count_in_threads<R: Threads + Wait + Sync>(
         &|pass: Pass<Log>| -> (Pass<Log>, bool)
             requires { pass.lock ≡ shared.now }
             ensures pass { (result.0.lock ≡ pass.lock) × (result.0.number ≡ pass.number) }
-            ensures own { result.1 ≡ true → result.0.own ≡ pass.own ++ counted pass.number count }
+            ensures own { result.1 ≡ true → result.0.own ≡ pass.own ++ count_so_far pass.number count }
         { take_turns(rt, shared, pass, count) },
     )
     .ok()?;

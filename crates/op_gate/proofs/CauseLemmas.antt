@@ -13,11 +13,11 @@ use Rattle.access_history.specs.Facts.{facts_of, ownership, containment}
 use Rattle.bl_syntax.specs.declared.terms.StatePred.{StatePred}
 use Rattle.bl_syntax.specs.declared.grant.Goal.{Goal}
 use Rattle.bl_syntax.specs.FirstFailing.{IsFirstFailing}
-use Rattle.bl_syntax.specs.Grant.{Granted}
-use Rattle.access_history.specs.declared.reply.Cause.{Cause}
+use Rattle.bl_syntax.specs.Grant.{GrantView}
+use Rattle.access_history.specs.declared.reply.DenialCause.{DenialCause}
 use Rattle.op_gate.specs.Differs.{Differs, in_principal, in_file, in_permission}
-use Rattle.access_history.specs.Needs.{Need}
-use Rattle.access_history.specs.Answer.{NamesMatch, Fails, other_principal, other_file, other_permission}
+use Rattle.access_history.specs.Needs.{OpNeed}
+use Rattle.access_history.specs.Answer.{NamesMatch, GrantFails, other_principal, other_file, other_permission}
 
 -- an image of an item is among the images
 pub Contains-map-at : {A B : Type 0} (f : A → B) (xs : List A) (y : B) (k : ℕ) (x : A) → k < length xs → x ≡ get_or xs k x → f x ≡ y → Contains (map f xs) y
@@ -51,7 +51,7 @@ Contains-second [] ys y has = has
 Contains-second (x ∷ xs) ys y has = let rest = Contains-second xs ys y has in (suc rest.0, omega (arith, rest.1), rest.2)
 
 -- the names of the grant differ from those that are needed
-pub Fails-names : (caller : List ℕ) (need : Need) (moment : ℤ) (known : List StatePred) (g : Granted) (goal wanted : Goal) (cause : Cause) → goal ≡ g.goal → wanted.who ≡ caller → wanted.file ≡ need.file → wanted.perm ≡ need.permission → Differs goal wanted cause → Fails caller need moment known g cause
+pub Fails-names : (caller : List ℕ) (need : OpNeed) (moment : ℤ) (known : List StatePred) (g : GrantView) (goal wanted : Goal) (cause : DenialCause) → goal ≡ g.goal → wanted.who ≡ caller → wanted.file ≡ need.file → wanted.perm ≡ need.permission → Differs goal wanted cause → GrantFails caller need moment known g cause
 Fails-names caller need moment known g goal wanted cause same who file permission (in_principal not_same) =
     other_principal (λ e. not_same (ap (λ (x : Goal). x.who) same ∙ e ∙ sym who))
 Fails-names caller need moment known g goal wanted cause same who file permission (in_file first not_same) =
@@ -59,7 +59,7 @@ Fails-names caller need moment known g goal wanted cause same who file permissio
 Fails-names caller need moment known g goal wanted cause same who file permission (in_permission first second not_same) =
     other_permission (sym (ap (λ (x : Goal). x.who) same) ∙ first ∙ who) (sym (ap (λ (x : Goal). x.file) same) ∙ second ∙ file) (λ e. not_same (ap (λ (x : Goal). x.perm) same ∙ e ∙ sym permission))
 
-pub NamesMatch-same : (caller : List ℕ) (need : Need) (g : Granted) (goal wanted : Goal) → goal ≡ g.goal → wanted.who ≡ caller → wanted.file ≡ need.file → wanted.perm ≡ need.permission → goal ≡ wanted → NamesMatch caller need g
+pub NamesMatch-same : (caller : List ℕ) (need : OpNeed) (g : GrantView) (goal wanted : Goal) → goal ≡ g.goal → wanted.who ≡ caller → wanted.file ≡ need.file → wanted.perm ≡ need.permission → goal ≡ wanted → NamesMatch caller need g
 NamesMatch-same caller need g goal wanted same who file permission equal = record {
   who = ap (λ (x : Goal). x.who) (sym same ∙ equal) ∙ who;
   file = ap (λ (x : Goal). x.file) (sym same ∙ equal) ∙ file;

@@ -3,12 +3,12 @@ use Rattle.std.proofs.Common.{◌≡◌, ◌≤◌, ◌<◌, ◌+◌, ℕ, List,
 use Rattle.std.specs.List.{AllByRecursion}
 use Rattle.std.proofs.lemmas.List.{map-append, length-map, length-take-le, take-append-drop, take_all, take_more, drop_more}
 use Rattle.bl_syntax.specs.FirstFailing.{IsFirstFailing}
-use Rattle.bl_syntax.specs.Statement.{Saying}
+use Rattle.bl_syntax.specs.Statement.{StatementView}
 use Rattle.proof_verifier.specs.declared.cites.Cite.{Cite}
 use Rattle.proof_verifier.specs.Cited.{AreCited}
 use Rattle.proof_verifier.specs.Cited as cited
 use Rattle.access_history.specs.Numbered.{IsNumbered, HasNumber}
-use Rattle.access_history.specs.Citing.{DoRise, AreCitable, numbers_of, Stands, AreFound, IsAbsent, IsMoved}
+use Rattle.access_history.specs.Citing.{DoNumbersRise, AreCitable, numbers_of, StandsUnderNumber, AreFound, IsAbsent, IsMoved}
 use Rattle.access_history.proofs.ListLemmas.{AllByRecursion-push}
 use Rattle.access_history.proofs.NumberedLemmas.{HasNumber-item}
 
@@ -24,17 +24,17 @@ first_at {A} P items place default item within is before fails = record {
 }
 
 -- whose statement is the first that does not stand
-pub IsMoved-at : (statements : List Saying) (cites : List Cite) (place : ℕ) (default item : Cite) → place < length cites → item ≡ get_or cites place default → AllByRecursion (Stands statements) (take place cites) →
-    (Stands statements item → ⊥) → IsMoved statements cites item.number
+pub IsMoved-at : (statements : List StatementView) (cites : List Cite) (place : ℕ) (default item : Cite) → place < length cites → item ≡ get_or cites place default → AllByRecursion (StandsUnderNumber statements) (take place cites) →
+    (StandsUnderNumber statements item → ⊥) → IsMoved statements cites item.number
 IsMoved-at statements cites place default item within is before fails =
-    record { place = place; cite = item; first = first_at (Stands statements) cites place default item within is before fails; number_is = refl }
+    record { place = place; cite = item; first = first_at (StandsUnderNumber statements) cites place default item within is before fails; number_is = refl }
 
-have_numbers : (statements : List Saying) (cites : List Cite) → AllByRecursion (Stands statements) cites → AllByRecursion (HasNumber statements) (numbers_of cites)
+have_numbers : (statements : List StatementView) (cites : List Cite) → AllByRecursion (StandsUnderNumber statements) cites → AllByRecursion (HasNumber statements) (numbers_of cites)
 have_numbers statements [] stand = tt
 have_numbers statements (cite ∷ cites) stand = (HasNumber-item statements cite.number cite.statement stand.0, have_numbers statements cites stand.1)
 
 -- the first number of which there is no statement
-pub IsAbsent-at : (statements : List Saying) (numbers : List ℕ) (place number : ℕ) (cites : List Cite) → place < length numbers → number ≡ get_or numbers place 0 → AreFound statements (take place numbers) cites →
+pub IsAbsent-at : (statements : List StatementView) (numbers : List ℕ) (place number : ℕ) (cites : List Cite) → place < length numbers → number ≡ get_or numbers place 0 → AreFound statements (take place numbers) cites →
     (HasNumber statements number → ⊥) → IsAbsent statements numbers number
 IsAbsent-at statements numbers place number cites within is found none = record {
   place = place;
@@ -42,23 +42,23 @@ IsAbsent-at statements numbers place number cites within is found none = record 
 }
 
 -- one more number, with its statement
-pub AreFound-more : (statements : List Saying) (numbers : List ℕ) (place number : ℕ) (cites after : List Cite) (statement said : Saying) → place < length numbers → number ≡ get_or numbers place 0 → AreFound statements (take place numbers) cites →
+pub AreFound-more : (statements : List StatementView) (numbers : List ℕ) (place number : ℕ) (cites after : List Cite) (statement said : StatementView) → place < length numbers → number ≡ get_or numbers place 0 → AreFound statements (take place numbers) cites →
     IsNumbered statements number statement → said ≡ statement → after ≡ cites ++ record { number = number; statement = said } ∷ [] → AreFound statements (take (place + 1) numbers) after
 AreFound-more statements numbers place number cites after statement said within is found numbered same more = record {
   numbers_are = ap numbers_of more ∙ map-append (λ (c : Cite). c.number) cites (record { number = number; statement = said } ∷ []) ∙ ap (λ (ns : List ℕ). ns ++ number ∷ []) found.numbers_are
       ∙ ap (λ (n : ℕ). take place numbers ++ n ∷ []) is ∙ sym (take_more numbers place 0 within);
-  stand = subst (AllByRecursion (Stands statements)) (sym more)
-      (AllByRecursion-push (Stands statements) cites (record { number = number; statement = said }) found.stand (subst (λ (s : Saying). IsNumbered statements number s) (sym same) numbered));
+  stand = subst (AllByRecursion (StandsUnderNumber statements)) (sym more)
+      (AllByRecursion-push (StandsUnderNumber statements) cites (record { number = number; statement = said }) found.stand (subst (λ (s : StatementView). IsNumbered statements number s) (sym same) numbered));
 }
 
-rising : (cites : List Cite) → DoRise (numbers_of cites) → cited.DoRise cites
+rising : (cites : List Cite) → DoNumbersRise (numbers_of cites) → cited.DoCitesRise cites
 rising [] rises = tt
 rising (first ∷ []) rises = tt
 rising (first ∷ second ∷ others) rises = (rises.0, rising (second ∷ others) rises.1)
 
 -- what was found of numbers that can be cited can be cited
-pub AreCited-found : (statements : List Saying) (numbers : List ℕ) (place : ℕ) (cites : List Cite) → length numbers ≤ place → AreFound statements (take place numbers) cites → AreCitable numbers → AreCited cites
+pub AreCited-found : (statements : List StatementView) (numbers : List ℕ) (place : ℕ) (cites : List Cite) → length numbers ≤ place → AreFound statements (take place numbers) cites → AreCitable numbers → AreCited cites
 AreCited-found statements numbers place cites all found citable =
     let same : numbers_of cites ≡ numbers = found.numbers_are ∙ take_all place numbers all in
     let count : length cites ≡ length numbers = sym (length-map cites (λ (c : Cite). c.number)) ∙ ap length same in
-    record { some = omega (arith, count, citable.some); few = omega (arith, count, citable.few); rising = rising cites (subst DoRise (sym same) citable.rising) }
+    record { some = omega (arith, count, citable.some); few = omega (arith, count, citable.few); rising = rising cites (subst DoNumbersRise (sym same) citable.rising) }

@@ -1,7 +1,7 @@
 pub mod CauseLemmas
 pub mod CitingLemmas
-pub mod Deciding
-pub mod Following
-pub mod Making
+pub mod DecisionLemmas
+pub mod MayFollowLemmas
+pub mod CreateLemmas
 pub mod RegistryLemmas
-pub mod Showing
+pub mod IssuedLemmas

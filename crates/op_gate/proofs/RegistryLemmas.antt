@@ -5,17 +5,17 @@ use Rattle.std.specs.List.{slice_get}
 use Rattle.std.specs.Option.{option_map}
 use Rattle.std.proofs.lemmas.List.{length-map}
 use Rattle.std.proofs.lemmas.Option.{slice_get-map, slice_get_read}
-use Rattle.bl_syntax.specs.Statement.{Saying}
-use Rattle.policy_statement.specs.Registered.{Registered}
-use Rattle.policy_statement.specs.Registry.{numbered, IsNew}
+use Rattle.bl_syntax.specs.Statement.{StatementView}
+use Rattle.policy_statement.specs.Registered.{RegisteredView}
+use Rattle.policy_statement.specs.Registry.{statement_of_number, IsNewStatement}
 use Rattle.policy_statement.specs.Messages.{statement_message}
 use Rattle.policy_statement.specs.Registry.{MayRegister}
-use Rattle.policy_statement.specs.Ring.{Key, is_accepted}
+use Rattle.policy_statement.specs.Ring.{KeyView, is_accepted}
 use Rattle.policy_statement.specs.declared.registry.RegisterFault.{RegisterFault as Fault}
 use Rattle.policy_statement.specs.declared.registry.RegisterFault.TheVariants as faults
 use Rattle.access_history.specs.declared.event.Base.{Base}
-use Rattle.access_history.specs.declared.reply.RegisterFault.{RegisterFault}
-use Rattle.access_history.specs.declared.reply.RegisterFault.TheVariants.{BadSignature, RegistryFull, Duplicate}
+use Rattle.access_history.specs.declared.reply.Rejection.{Rejection}
+use Rattle.access_history.specs.declared.reply.Rejection.TheVariants.{BadSignature, RegistryFull, Duplicate}
 use Rattle.access_history.specs.declared.reply.Reply.TheVariants as replies
 use Rattle.access_history.specs.declared.request.StepRequest.TheVariants as requests
 use Rattle.access_history.specs.Answer.{Answers, unsigned, duplicate, registry_full}
@@ -24,68 +24,68 @@ use Rattle.access_history.specs.History.{authority_with}
 use Rattle.op_gate.specs.Rejection.{rejection_of}
 use Rattle.std.proofs.lemmas.Bool.{false≢true}
 use Rattle.access_history.specs.Numbered.{IsNumbered, HasNumber}
-use Rattle.access_history.specs.Citing.{Stands}
+use Rattle.access_history.specs.Citing.{StandsUnderNumber}
 use Rattle.access_history.proofs.NumberedLemmas.{numbered_item}
-use Rattle.op_gate.proofs.Deciding.{numbered_in}
+use Rattle.op_gate.proofs.DecisionLemmas.{numbered_in}
 use Rattle.proof_verifier.specs.declared.cites.Cite.{Cite}
 
-abbrev statement_of : Registered → Saying
+abbrev statement_of : RegisteredView → StatementView
 statement_of entry = entry.statement
 
 -- a statement has the number of its entry
-pub said_numbered : (entries : List Registered) (number : ℕ) (entry : Registered) → IsNumbered entries number entry → IsNumbered (sayings entries) number entry.statement
+pub said_numbered : (entries : List RegisteredView) (number : ℕ) (entry : RegisteredView) → IsNumbered entries number entry → IsNumbered (sayings entries) number entry.statement
 said_numbered entries number entry n = record { place = n.place; from_one = n.from_one; found = slice_get-map statement_of entries n.place ∙ ap (option_map statement_of) n.found }
 
 -- there are as many statements as entries
-pub said_length : (entries : List Registered) → length (sayings entries) ≡ length entries
+pub said_length : (entries : List RegisteredView) → length (sayings entries) ≡ length entries
 said_length entries = length-map entries statement_of
 
-pub said_has : (entries : List Registered) (number : ℕ) → HasNumber (sayings entries) number → HasNumber entries number
+pub said_has : (entries : List RegisteredView) (number : ℕ) → HasNumber (sayings entries) number → HasNumber entries number
 said_has entries number has = (has.0, omega (arith, has.1, said_length entries))
 
 -- the statement that the registry has under a number
-pub said_from_registry : (entries : List Registered) (number : ℕ) (s : Saying) → numbered entries number ≡ Some s → IsNumbered (sayings entries) number s
+pub said_from_registry : (entries : List RegisteredView) (number : ℕ) (s : StatementView) → statement_of_number entries number ≡ Some s → IsNumbered (sayings entries) number s
 said_from_registry entries zero s found = absurd cc
 said_from_registry entries (suc place) s found = record { place = place; from_one = omega arith; found = slice_get-map statement_of entries place ∙ found }
 
 -- what is new to the registry is none of the statements
-pub new_to_registry : (entries : List Registered) (s : Saying) → IsNew entries s → Contains (sayings entries) s → ⊥
+pub new_to_registry : (entries : List RegisteredView) (s : StatementView) → IsNewStatement entries s → Contains (sayings entries) s → ⊥
 new_to_registry entries s new here =
     let found : slice_get (sayings entries) here.0 ≡ Some s = slice_get_read (sayings entries) (length (sayings entries)) here.0 s refl here.1 (sym here.2) in
     new (suc here.0) (sym (slice_get-map statement_of entries here.0) ∙ found)
 
 -- a statement is the one of the entry that was read under its number, or not
-pub stands_as_entry : (entries : List Registered) (cite : Cite) (entry : Registered) (is_same : Bool) → (cite.number ≡ 0 → ⊥) → cite.number ≤ length entries → entry ≡ get_or entries (cite.number - 1) entry →
+pub stands_as_entry : (entries : List RegisteredView) (cite : Cite) (entry : RegisteredView) (is_same : Bool) → (cite.number ≡ 0 → ⊥) → cite.number ≤ length entries → entry ≡ get_or entries (cite.number - 1) entry →
     (IsTrue is_same → entry.statement ≡ cite.statement) × (entry.statement ≡ cite.statement → IsTrue is_same) →
-    (IsTrue is_same → Stands (sayings entries) cite) × (Stands (sayings entries) cite → IsTrue is_same)
+    (IsTrue is_same → StandsUnderNumber (sayings entries) cite) × (StandsUnderNumber (sayings entries) cite → IsTrue is_same)
 stands_as_entry entries cite entry is_same some within at decides =
     let said : IsNumbered (sayings entries) cite.number entry.statement = said_numbered entries cite.number entry (numbered_in entries entries cite.number entry refl some within at) in (
-      λ yes. subst (λ (s : Saying). IsNumbered (sayings entries) cite.number s) (decides.0 yes) said,
+      λ yes. subst (λ (s : StatementView). IsNumbered (sayings entries) cite.number s) (decides.0 yes) said,
       λ stands. decides.1 (numbered_item (sayings entries) cite.number entry.statement cite.statement said stands),
     )
 
 -- what the registry tells, over what it is shown
-pub MayRegister-shown : (ring shown_ring : List Key) (entries shown_entries : List Registered) (statement : Saying) (signature shown : List ℕ) (told : Result (Unit {0}) Fault) → shown_ring ≡ ring → shown ≡ signature → shown_entries ≡ entries →
+pub MayRegister-shown : (ring shown_ring : List KeyView) (entries shown_entries : List RegisteredView) (statement : StatementView) (signature shown : List ℕ) (told : Result (Unit {0}) Fault) → shown_ring ≡ ring → shown ≡ signature → shown_entries ≡ entries →
     MayRegister (is_accepted shown_ring statement.who (statement_message statement) shown) shown_entries statement told → MayRegister (is_accepted ring statement.who (statement_message statement) signature) entries statement told
 MayRegister-shown ring shown_ring entries shown_entries statement signature shown told ring_is signature_is entries_are may =
-    subst (λ (r : List Key). MayRegister (is_accepted r statement.who (statement_message statement) signature) entries statement told) ring_is
+    subst (λ (r : List KeyView). MayRegister (is_accepted r statement.who (statement_message statement) signature) entries statement told) ring_is
     (subst (λ (s : List ℕ). MayRegister (is_accepted shown_ring statement.who (statement_message statement) s) entries statement told) signature_is
-    (subst (λ (es : List Registered). MayRegister (is_accepted shown_ring statement.who (statement_message statement) shown) es statement told) entries_are may))
+    (subst (λ (es : List RegisteredView). MayRegister (is_accepted shown_ring statement.who (statement_message statement) shown) es statement told) entries_are may))
 
 -- a statement that the registry does not take is rejected
-pub rejected_decided : (key : List ℕ) (ring : List Key) (state : Base) (pass : ℕ) (clock : ℤ) (statement : Saying) (signature : List ℕ) (fault : Fault) (rejection : RegisterFault) →
+pub rejected_decided : (key : List ℕ) (ring : List KeyView) (state : Base) (pass : ℕ) (clock : ℤ) (statement : StatementView) (signature : List ℕ) (fault : Fault) (rejection : Rejection) →
     MayRegister (is_accepted ring statement.who (statement_message statement) signature) state.statements statement (Err fault) → rejection_of fault ≡ Some rejection →
     Answers (authority_with key ring) state pass clock (requests.Register statement signature) (replies.Rejected rejection) None
 rejected_decided key ring state pass clock statement signature faults.BadSignature rejection may told =
     let is : BadSignature ≡ rejection = cc in
-    subst (λ (r : RegisterFault). Answers (authority_with key ring) state pass clock (requests.Register statement signature) (replies.Rejected r) None) is
+    subst (λ (r : Rejection). Answers (authority_with key ring) state pass clock (requests.Register statement signature) (replies.Rejected r) None) is
     (unsigned statement signature (λ signed. false≢true (sym may ∙ signed)))
 rejected_decided key ring state pass clock statement signature faults.RegistryFull rejection may told =
     let is : RegistryFull ≡ rejection = cc in
-    subst (λ (r : RegisterFault). Answers (authority_with key ring) state pass clock (requests.Register statement signature) (replies.Rejected r) None) is
+    subst (λ (r : Rejection). Answers (authority_with key ring) state pass clock (requests.Register statement signature) (replies.Rejected r) None) is
     (registry_full statement signature may.0 (new_to_registry state.statements statement may.1.0) may.1.1)
 rejected_decided key ring state pass clock statement signature (faults.Duplicate number) rejection may told =
     let is : Duplicate number ≡ rejection = cc in
-    subst (λ (r : RegisterFault). Answers (authority_with key ring) state pass clock (requests.Register statement signature) (replies.Rejected r) None) is
+    subst (λ (r : Rejection). Answers (authority_with key ring) state pass clock (requests.Register statement signature) (replies.Rejected r) None) is
     (duplicate statement signature number may.0 (said_from_registry state.statements number statement may.1))
 rejected_decided key ring state pass clock statement signature faults.NoMemory rejection may told = absurd cc

@@ -7,15 +7,15 @@ use Rattle.access_history.specs.declared.request.StepRequest.{StepRequest}
 use Rattle.access_history.specs.declared.reply.Reply.{Reply}
 use Rattle.bl_syntax.specs.declared.terms.NodeId.{NodeId}
 use Rattle.access_history.specs.declared.event.Event.TheVariants.{Acted}
-use Rattle.access_history.specs.declared.event.Op.TheVariants.{Create}
+use Rattle.access_history.specs.declared.event.FileOp.TheVariants.{Create}
 use Rattle.access_history.specs.declared.reply.Reply.TheVariants.{Refused}
-use Rattle.access_history.specs.World.{FileTree}
-use Rattle.access_history.specs.Effect.{OpReply, refusal, replied, effect}
+use Rattle.access_history.specs.World.{WorldView}
+use Rattle.access_history.specs.Effect.{EffectReply, refusal, replied, effect}
 use Rattle.access_history.specs.Answer.{Answers, reply_of}
 use Rattle.access_history.specs.Lawful.{MayFollow}
 use Rattle.access_history.specs.Authority.{Authority}
-use Rattle.access_history.specs.History.{Kept, authority_of, state_of, Brings}
-use Rattle.policy_statement.specs.Ring.{Key}
+use Rattle.access_history.specs.History.{HistoryView, authority_of, state_of, Brings}
+use Rattle.policy_statement.specs.Ring.{KeyView}
 use Rattle.procap.specs.declared.procap.Procap.{Procap}
 
 -- the reply is the answer, and the step, where there is one, has the event to keep and its change
@@ -28,18 +28,18 @@ abbrev pub IsMade : Base → ℕ → List ℕ → NodeId → List ℕ → List P
 IsMade state pass caller directory name procaps moment reply step =
     MatchOption step
     ((number : ℕ) × (effect caller (Create directory name) state.world ≡ refusal number) × (reply ≡ Refused number state.count))
-    (λ s. (made : OpReply) × (after : FileTree) × (effect caller (Create directory name) state.world ≡ replied made after) × (reply ≡ reply_of made) × (s.event ≡ Acted pass caller (Create directory name) procaps moment) × Brings state s.event s.change)
+    (λ s. (made : EffectReply) × (after : WorldView) × (effect caller (Create directory name) state.world ≡ replied made after) × (reply ≡ reply_of made) × (s.event ≡ Acted pass caller (Create directory name) procaps moment) × Brings state s.event s.change)
 
 -- a gate: the key of the seal, the ring of those whose signatures are accepted, the history's base and events, and the event that is decided and not kept yet
-pub record Gated : Type 0 where
+pub record GateView : Type 0 where
   pub key : List ℕ
-  pub ring : List Key
+  pub ring : List KeyView
   pub base : Base
   pub events : List Event
   pub pending : Option Event
 
 -- a step that can be kept: there is room, it may come next, and its change is the event's
-pub record CanKeep (h : Kept) (s : Step) : Type 0 where
+pub record CanKeep (h : HistoryView) (s : Step) : Type 0 where
   pub room : 1 ≤ h.room
   pub lawful : MayFollow (authority_of h) (state_of h) s.event
   pub brings : Brings (state_of h) s.event s.change

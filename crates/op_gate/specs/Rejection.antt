@@ -2,11 +2,11 @@
 use Rattle.std.specs.Prelude.{Option, Some, None}
 use Rattle.policy_statement.specs.declared.registry.RegisterFault.{RegisterFault as Fault}
 use Rattle.policy_statement.specs.declared.registry.RegisterFault.TheVariants as faults
-use Rattle.access_history.specs.declared.reply.RegisterFault.{RegisterFault}
-use Rattle.access_history.specs.declared.reply.RegisterFault.TheVariants.{BadSignature, RegistryFull, Duplicate}
+use Rattle.access_history.specs.declared.reply.Rejection.{Rejection}
+use Rattle.access_history.specs.declared.reply.Rejection.TheVariants.{BadSignature, RegistryFull, Duplicate}
 
 -- nothing where there was no memory, which is no fault of the statement
-abbrev pub rejection_of : Fault → Option RegisterFault
+abbrev pub rejection_of : Fault → Option Rejection
 rejection_of faults.BadSignature = Some BadSignature
 rejection_of faults.RegistryFull = Some RegistryFull
 rejection_of (faults.Duplicate number) = Some (Duplicate number)

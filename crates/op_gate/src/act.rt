@@ -6,9 +6,9 @@ ghost use Rattle.access_history.specs.Needs.{slots};
 ghost use Rattle.op_gate.specs.Decision.{IsDecided, IsMade};
 
 use crate::cause::denial_cause;
-use crate::decide::{Decided, told};
+use crate::decide::{Decided, answer_alone};
 use access_history::{
-    AddedNode, Change, Denial, Event, History, Op, Procaps, Reply, Row, Step, StepRequest,
+    AddedNode, Denial, Event, FileOp, History, Procaps, Reply, Row, StateChange, Step, StepRequest,
     create_refusal, created_row,
 };
 use bl_syntax::{Bytes, NoMemory, NodeId, Perm, Principal};
@@ -16,7 +16,7 @@ use procap::Procap;
 use std::alloc::Global;
 
 // The list of this one procap.
-fn bringing(alloc: Global, procap: &Procap) -> Result<Procaps, NoMemory>
+fn procap_list(alloc: Global, procap: &Procap) -> Result<Procaps, NoMemory>
     ensures { IfOk result (λ procaps. procaps ≡ procap.now ∷ []) }
 {
     let mut procaps = Procaps::new(alloc);
@@ -25,7 +25,7 @@ fn bringing(alloc: Global, procap: &Procap) -> Result<Procaps, NoMemory>
 }
 
 // The step that makes a file.
-fn making(
+fn create_step(
     alloc: Global,
     pass: u64,
     caller: &Principal,
@@ -34,20 +34,20 @@ fn making(
     procap: &Procap,
     moment: i64,
 ) -> Result<Step, NoMemory>
-    ensures event { IfOk result (λ step. step.event ≡ Event.Acted pass caller.now (Op.Create (record { 0 = row.parent }) name.now) (procap.now ∷ []) moment) }
-    ensures change { IfOk result (λ step. step.change ≡ Change.Node (record { row = row; moment = moment })) }
+    ensures event { IfOk result (λ step. step.event ≡ Event.Acted pass caller.now (FileOp.Create (record { 0 = row.parent }) name.now) (procap.now ∷ []) moment) }
+    ensures change { IfOk result (λ step. step.change ≡ StateChange.Node (record { row = row; moment = moment })) }
 {
     let name = name.copy(alloc)?;
-    let procaps = bringing(alloc, procap)?;
+    let procaps = procap_list(alloc, procap)?;
     Ok(Step {
         event: Event::Acted {
             pass,
             caller: *caller,
-            op: Op::Create(NodeId(row.parent), name),
+            op: FileOp::Create(NodeId(row.parent), name),
             procaps,
             moment,
         },
-        change: Change::Node(AddedNode { row, moment }),
+        change: StateChange::Node(AddedNode { row, moment }),
     })
 }
 
@@ -66,12 +66,12 @@ fn make(
 {
     let next = history.next_number();
     if let Some(refusal) = create_refusal(history.rows(), next, directory, name.as_slice()) {
-        return Ok(told(Reply::Refused(refusal, history.count())));
+        return Ok(answer_alone(Reply::Refused(refusal, history.count())));
     }
     let row = created_row(*caller, directory, name.as_slice(), next);
     Ok(Decided {
         reply: Reply::Node(NodeId(next)),
-        step: Some(making(alloc, pass, caller, row, name, procap, moment)?),
+        step: Some(create_step(alloc, pass, caller, row, name, procap, moment)?),
     })
 }
 
@@ -86,7 +86,7 @@ fn decide_create(
     procap: &Procap,
     clock: i64,
 ) -> Result<Decided, NoMemory>
-    ensures { IfOk result (λ d. IsDecided (authority_of history.now) (state_of history.now) pass clock (StepRequest.Act caller.now (Op.Create directory name.now) (procap.now ∷ [])) d.reply d.step) }
+    ensures { IfOk result (λ d. IsDecided (authority_of history.now) (state_of history.now) pass clock (StepRequest.Act caller.now (FileOp.Create directory name.now) (procap.now ∷ [])) d.reply d.step) }
 {
     let moment = clock.max(history.moment());
     if let Some(cause) = denial_cause(
@@ -98,7 +98,7 @@ fn decide_create(
         moment,
         history.rows(),
     ) {
-        return Ok(told(Reply::Denied(Denial {
+        return Ok(answer_alone(Reply::Denied(Denial {
             need: 1,
             cause,
             at: history.count(),
@@ -115,7 +115,7 @@ pub fn decide_act(
     history: &History,
     pass: u64,
     caller: &Principal,
-    op: &Op,
+    op: &FileOp,
     procaps: &Procaps,
     clock: i64,
 ) -> Result<Decided, NoMemory>
@@ -124,7 +124,7 @@ pub fn decide_act(
 {
     let procap = &procaps.as_slice()[0];
     match op {
-        Op::Create(directory, name) => {
+        FileOp::Create(directory, name) => {
             decide_create(
                 alloc, history, pass, caller, *directory, name, procap, clock,
             )

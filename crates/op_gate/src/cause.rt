@@ -3,31 +3,35 @@
 ghost use Rattle.std.specs.Prelude.{◌≡◌, ◌↔◌, MatchOption, Contains, IsTrue, map, drop};
 ghost use Rattle.bl_syntax.specs.declared.terms.StatePred.TheVariants.{Owner, InDir};
 ghost use Rattle.bl_syntax.specs.declared.terms.Term.TheVariants as terms;
-ghost use Rattle.access_history.specs.Answer.{Denies, Fails, Gives};
+ghost use Rattle.access_history.specs.Answer.{Denies, GrantFails, GrantGives};
 ghost use Rattle.procap.specs.Genuine.{IsGenuine};
 ghost use Rattle.access_history.specs.Needs.{need_of};
 ghost use Rattle.op_gate.specs.Differs.{Differs};
 ghost use Rattle.access_history.specs.Facts.{facts_of, ownership, containment};
 
-use access_history::{Cause, Row};
+use access_history::{DenialCause, Row};
 use bl_syntax::{Goal, Grant, NodeId, Perm, Principal, StatePred, Term};
 use condition_set::{Facts, first_failing_state, first_failing_time};
 use procap::{Procap, SealKey};
 
 // The nodes of a tree, as what is known of the server's state.
 #[derive(Drop)]
-struct Nodes<'a> {
+struct TreeFacts<'a> {
     rows: &'a [Row],
 }
 
-impl Facts for Nodes<'_> {
+impl Facts for TreeFacts<'_> {
     ghost facts = { λ nodes. facts_of nodes.rows.now };
 
     fn holds(&self, s: &StatePred) -> bool {
         match s {
             StatePred::Owner(file, owner) => is_owned(self.rows, file, owner),
             StatePred::HasXattr(_, _, _) => false,
-            StatePred::InDir(file, directory) => is_contained(others(self.rows), file, directory),
+            StatePred::InDir(file, directory) => is_contained(
+                nodes_but_root(self.rows),
+                file,
+                directory,
+            ),
         }
     }
 }
@@ -45,7 +49,7 @@ fn is_owned(rows: &[Row], file: &Term, owner: &Term) -> bool
 }
 
 // The nodes but the first, which is the root.
-fn others(rows: &[Row]) -> &[Row]
+fn nodes_but_root(rows: &[Row]) -> &[Row]
     ensures { result.now ≡ drop 1 rows.now }
 {
     match rows {
@@ -78,11 +82,11 @@ pub fn denial_cause(
     permission: Perm,
     moment: i64,
     rows: &[Row],
-) -> Option<Cause>
-    ensures { MatchOption result (IsGenuine key.now procap.now × Gives caller.now (need_of file permission) moment (facts_of rows.now) procap.now.grant) (Denies key.now caller.now (need_of file permission) moment (facts_of rows.now) procap.now) }
+) -> Option<DenialCause>
+    ensures { MatchOption result (IsGenuine key.now procap.now × GrantGives caller.now (need_of file permission) moment (facts_of rows.now) procap.now.grant) (Denies key.now caller.now (need_of file permission) moment (facts_of rows.now) procap.now) }
 {
     if !key.is_genuine(procap) {
-        return Some(Cause::Seal);
+        return Some(DenialCause::Seal);
     }
     cause_of(caller, file, permission, moment, rows, &procap.grant)
 }
@@ -96,8 +100,8 @@ fn cause_of(
     moment: i64,
     rows: &[Row],
     grant: &Grant,
-) -> Option<Cause>
-    ensures { MatchOption result (Gives caller.now (need_of file permission) moment (facts_of rows.now) grant.now) (Fails caller.now (need_of file permission) moment (facts_of rows.now) grant.now) }
+) -> Option<DenialCause>
+    ensures { MatchOption result (GrantGives caller.now (need_of file permission) moment (facts_of rows.now) grant.now) (GrantFails caller.now (need_of file permission) moment (facts_of rows.now) grant.now) }
 {
     let wanted = Goal {
         who: *caller,
@@ -109,25 +113,25 @@ fn cause_of(
     }
     let times = grant.times();
     if let Some(place) = first_failing_time(grant, moment) {
-        return Some(Cause::Time(place as u32 + 1, times[place]));
+        return Some(DenialCause::Time(place as u32 + 1, times[place]));
     }
     let states = grant.states();
-    if let Some(place) = first_failing_state(grant, &Nodes { rows }) {
-        return Some(Cause::State(place as u32 + 1, states[place]));
+    if let Some(place) = first_failing_state(grant, &TreeFacts { rows }) {
+        return Some(DenialCause::State(place as u32 + 1, states[place]));
     }
     None
 }
 
 // The first name in which a goal differs from the one that is wanted.
-fn other_name(goal: &Goal, wanted: &Goal) -> Option<Cause>
+fn other_name(goal: &Goal, wanted: &Goal) -> Option<DenialCause>
     ensures { MatchOption result (goal.now ≡ wanted.now) (λ cause. Differs goal.now wanted.now cause) }
 {
     if !goal.who.is_same(&wanted.who) {
-        Some(Cause::Principal)
+        Some(DenialCause::Principal)
     } else if !Term::File(goal.file).is_same(&Term::File(wanted.file)) {
-        Some(Cause::File)
+        Some(DenialCause::File)
     } else if !Term::Perm(goal.perm).is_same(&Term::Perm(wanted.perm)) {
-        Some(Cause::Permission)
+        Some(DenialCause::Permission)
     } else {
         None
     }

@@ -3,8 +3,8 @@
 ghost use Rattle.std.specs.Prelude.{◌≡◌, ◌↔◌, IsTrue, IfOk, MatchOption};
 ghost use Rattle.std.specs.List.{AllByRecursion};
 ghost use Rattle.access_history.specs.Authority.{sayings};
-ghost use Rattle.access_history.specs.Citing.{AreCitable, Stands, IsMoved, numbers_of};
-ghost use Rattle.op_gate.specs.Citations.{Cites as AreStatements};
+ghost use Rattle.access_history.specs.Citing.{AreCitable, StandsUnderNumber, IsMoved, numbers_of};
+ghost use Rattle.op_gate.specs.Citations.{GivesCitation as AreStatements};
 
 use bl_syntax::{NoMemory, Numbers};
 use policy_statement::Registered;
@@ -39,8 +39,8 @@ pub fn cite(alloc: Global, statements: &[Registered], numbers: &[u32]) -> Result
 }
 
 // Whether its statement stands under its number.
-fn stands(statements: &[Registered], cite: &Cite) -> bool
-    ensures { IsTrue result ↔ Stands (sayings statements.now) cite.now }
+fn is_in_place(statements: &[Registered], cite: &Cite) -> bool
+    ensures { IsTrue result ↔ StandsUnderNumber (sayings statements.now) cite.now }
 {
     if cite.number == 0 || statements.len() < cite.number as usize {
         return false;
@@ -52,10 +52,10 @@ fn stands(statements: &[Registered], cite: &Cite) -> bool
 
 /// The first number under which the cited statement does not stand.
 pub fn first_moved(statements: &[Registered], cites: &[Cite]) -> Option<u32>
-    ensures { MatchOption result (AllByRecursion (Stands (sayings statements.now)) cites.now) (IsMoved (sayings statements.now) cites.now) }
+    ensures { MatchOption result (AllByRecursion (StandsUnderNumber (sayings statements.now)) cites.now) (IsMoved (sayings statements.now) cites.now) }
 {
     for cite in cites {
-        if !stands(statements, cite) {
+        if !is_in_place(statements, cite) {
             return Some(cite.number);
         }
     }

@@ -9,7 +9,7 @@ ghost use Rattle.op_gate.specs.Decision.{IsDecided};
 ghost use Rattle.access_history.specs.Citing.{numbers_of};
 
 use crate::cite::{cited_numbers, first_moved};
-use access_history::{Change, Event, History, Issue, RegisterFault, Reply, Step, StepRequest};
+use access_history::{Event, History, Issue, Rejection, Reply, StateChange, Step, StepRequest};
 use bl_syntax::{Bytes, Grant, NoMemory, Principal, Statement};
 use policy_statement::RegisterFault as RegistryFault;
 use procap::Procap;
@@ -24,21 +24,21 @@ pub struct Decided {
 }
 
 /// The answer without anything to keep.
-pub fn told(reply: Reply) -> Decided
+pub fn answer_alone(reply: Reply) -> Decided
     ensures { result ≡ record { reply = reply; step = None } }
 {
     Decided { reply, step: None }
 }
 
-// The rejection of a statement that may not be registered. An error exactly where there was no memory.
-fn rejection(fault: RegistryFault) -> Result<RegisterFault, NoMemory>
+// The rejection of a statement that may not be registered. An error exactly if there was no memory.
+fn rejection(fault: RegistryFault) -> Result<Rejection, NoMemory>
     ensures ok { IfOk result (λ rejection. rejection_of fault ≡ Some rejection) }
     ensures err { OnErr result (rejection_of fault ≡ None) }
 {
     match fault {
-        RegistryFault::BadSignature => Ok(RegisterFault::BadSignature),
-        RegistryFault::RegistryFull => Ok(RegisterFault::RegistryFull),
-        RegistryFault::Duplicate(number) => Ok(RegisterFault::Duplicate(number)),
+        RegistryFault::BadSignature => Ok(Rejection::BadSignature),
+        RegistryFault::RegistryFull => Ok(Rejection::RegistryFull),
+        RegistryFault::Duplicate(number) => Ok(Rejection::Duplicate(number)),
         RegistryFault::NoMemory => Err(NoMemory),
     }
 }
@@ -57,14 +57,14 @@ fn signed_copy(
 }
 
 // The step that registers a statement.
-fn registering(
+fn register_step(
     alloc: Global,
     pass: u64,
     statement: &Statement,
     signature: &Bytes,
 ) -> Result<Step, NoMemory>
     ensures event { IfOk result (λ step. step.event ≡ Event.Registered pass statement.now signature.now) }
-    ensures change { IfOk result (λ step. step.change ≡ Change.Statement statement.now signature.now) }
+    ensures change { IfOk result (λ step. step.change ≡ StateChange.Statement statement.now signature.now) }
 {
     let (kept_statement, kept_signature) = signed_copy(alloc, statement, signature)?;
     let (statement, signature) = signed_copy(alloc, statement, signature)?;
@@ -74,7 +74,7 @@ fn registering(
             statement,
             signature,
         },
-        change: Change::Statement(kept_statement, kept_signature),
+        change: StateChange::Statement(kept_statement, kept_signature),
     })
 }
 
@@ -94,15 +94,15 @@ pub fn decide_register(
             let number = history.statements().len() as u32 + 1;
             Ok(Decided {
                 reply: Reply::Statement(number),
-                step: Some(registering(alloc, pass, statement, signature)?),
+                step: Some(register_step(alloc, pass, statement, signature)?),
             })
         }
-        Err(fault) => Ok(told(Reply::Rejected(rejection(fault)?))),
+        Err(fault) => Ok(answer_alone(Reply::Rejected(rejection(fault)?))),
     }
 }
 
 // The grant of the issue of that number.
-fn issued(history: &History, number: u64) -> Option<&Grant>
+fn issued_grant(history: &History, number: u64) -> Option<&Grant>
     ensures { MatchOption result (HasNone (state_of history.now).issues number) (λ grant. IsIssued (state_of history.now).issues number grant.now) }
 {
     let issues = history.issues();
@@ -112,7 +112,7 @@ fn issued(history: &History, number: u64) -> Option<&Grant>
     Some(&issues[number as usize - 1].grant)
 }
 
-/// The procap of the issue of that number; none exactly where there is no such issue.
+/// The procap of the issue of that number; none exactly if there is no such issue.
 pub fn issued_procap(
     alloc: Global,
     history: &History,
@@ -120,7 +120,7 @@ pub fn issued_procap(
 ) -> Result<Option<Procap>, NoMemory>
     ensures { IfOk result (λ found. MatchOption found (HasNone (state_of history.now).issues number) (IsProcapOf history.now.key (state_of history.now).issues number)) }
 {
-    match issued(history, number) {
+    match issued_grant(history, number) {
         Some(grant) => Ok(Some(history.key().seal(grant.copy(alloc)?))),
         None => Ok(None),
     }
@@ -148,12 +148,12 @@ pub fn decide_show(
     match issued_procap(alloc, history, number)? {
         Some(procap) => {
             if may_see(who, &procap.grant) {
-                Ok(told(Reply::Procap(procap)))
+                Ok(answer_alone(Reply::Procap(procap)))
             } else {
-                Ok(told(Reply::Absent(number)))
+                Ok(answer_alone(Reply::Absent(number)))
             }
         }
-        None => Ok(told(Reply::Absent(number))),
+        None => Ok(answer_alone(Reply::Absent(number))),
     }
 }
 
@@ -172,9 +172,9 @@ fn issue_of(alloc: Global, checked: &Checked) -> Result<Issue, NoMemory>
 }
 
 // The step that issues the grant.
-fn issuing(alloc: Global, pass: u64, checked: &Checked) -> Result<Step, NoMemory>
+fn issue_step(alloc: Global, pass: u64, checked: &Checked) -> Result<Step, NoMemory>
     ensures event { IfOk result (λ step. step.event ≡ Event.Issued pass (numbers_of checked.now.cited) checked.now.proof checked.now.grant) }
-    ensures change { IfOk result (λ step. step.change ≡ Change.Issue (record { cited = numbers_of checked.now.cited; proof = checked.now.proof; grant = checked.now.grant })) }
+    ensures change { IfOk result (λ step. step.change ≡ StateChange.Issue (record { cited = numbers_of checked.now.cited; proof = checked.now.proof; grant = checked.now.grant })) }
 {
     let kept = issue_of(alloc, checked)?;
     let Issue {
@@ -189,7 +189,7 @@ fn issuing(alloc: Global, pass: u64, checked: &Checked) -> Result<Step, NoMemory
             proof,
             grant,
         },
-        change: Change::Issue(kept),
+        change: StateChange::Issue(kept),
     })
 }
 
@@ -204,7 +204,7 @@ pub fn decide_issue(
 {
     let cites = checked.cited().as_slice();
     if let Some(number) = first_moved(history.statements(), cites) {
-        return Ok(told(Reply::Absent(number as u64)));
+        return Ok(answer_alone(Reply::Absent(number as u64)));
     }
     let grant = checked.grant();
     let times = grant.times().len() as u32;
@@ -212,6 +212,6 @@ pub fn decide_issue(
     let issues = history.issues().len() as u64;
     Ok(Decided {
         reply: Reply::Issue(issues + 1, times, states),
-        step: Some(issuing(alloc, pass, checked)?),
+        step: Some(issue_step(alloc, pass, checked)?),
     })
 }

@@ -36,12 +36,12 @@ pub struct Gate {
 impl Model for Gate {
     ghost use Rattle.std.specs.Prelude.{⊤, MatchOption};
     ghost use Rattle.std.specs.Option.{option_map};
-    ghost use Rattle.op_gate.specs.Decision.{Gated, CanKeep};
-    ghost use Rattle.op_gate.specs.DecisionCode.{gated_code};
+    ghost use Rattle.op_gate.specs.Decision.{GateView, CanKeep};
+    ghost use Rattle.op_gate.specs.DecisionCode.{gate_code};
 
-    ghost Value = { Gated };
+    ghost Value = { GateView };
 
-    ghost coded = { gated_code };
+    ghost coded = { gate_code };
 
     ghost view = { λ g. record { key = g.history.key; ring = g.history.ring; base = g.history.base; events = g.history.events; pending = option_map (λ s. s.event) g.pending } };
 
@@ -86,7 +86,7 @@ impl Gate {
     ghost use Rattle.access_history.specs.Citing.{AreCitable};
     ghost use Rattle.access_history.specs.History.{authority_with};
     ghost use Rattle.op_gate.specs.Issued.{HasNone, IsProcapOf};
-    ghost use Rattle.op_gate.specs.Citations.{Cites as AreStatements};
+    ghost use Rattle.op_gate.specs.Citations.{GivesCitation as AreStatements};
 
     /// A gate over a store before its first event, which seals procaps under this key and accepts the signatures that
     /// this ring accepts.
@@ -106,7 +106,7 @@ impl Gate {
         self.history.ring()
     }
 
-    /// The procap of the issue of that number; none exactly where there is no such issue.
+    /// The procap of the issue of that number; none exactly if there is no such issue.
     pub fn procap(&self, alloc: Global, number: u64) -> Result<Option<Procap>, NoMemory>
         ensures { IfOk result (λ found. MatchOption found (HasNone (replay self.now.base self.now.events).issues number) (IsProcapOf self.now.key (replay self.now.base self.now.events).issues number)) }
     {

@@ -35,7 +35,7 @@ enum Lacking {
     NoMemory,
 }
 
-// The words behind the program's name.
+// The words after the program's name.
 fn words_of<R: env::Env + AllocGlobal>(rt: &R) -> io::Result<Vec<String>> {
     let mut words = Vec::new(rt.alloc());
     for word in env::args(rt)?.skip(1) {
@@ -71,7 +71,7 @@ fn secrets_of<R: Files + AllocGlobal>(rt: &R) -> Result<Secrets, Lacking> {
     }
 }
 
-// Says why there are no secrets, and answers the status to end with. A line that cannot be written is dropped.
+// Says why there are no secrets, and returns the status to end with. A line that cannot be written is dropped.
 fn refuse<R: Print>(rt: &R, lacking: Lacking) -> u8 {
     match lacking {
         Lacking::Unreadable => {

@@ -34,6 +34,6 @@ hmac key text =
     sha256 (xor_bytes (block_key key) opad ++ sha256 (xor_bytes (block_key key) ipad ++ text))
 
 -- a text under a key
-pub record KeyedText : Type 0 where
+pub record MacView : Type 0 where
   pub key : List ℕ
   pub text : List ℕ

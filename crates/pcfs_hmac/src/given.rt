@@ -26,7 +26,7 @@ pub(crate) fn nothing() -> Given
 }
 
 // What was given before, and then the piece.
-pub(crate) fn joined(before: &Given, piece: &[u8]) -> Given
+pub(crate) fn join(before: &Given, piece: &[u8]) -> Given
     ensures { result.value ≡ before.now.value ++ piece.now }
 {
     let mut given = nothing();

@@ -3,7 +3,7 @@
 ghost use Rattle.std.specs.Prelude.{◌≡◌, [], ◌++◌};
 ghost use Rattle.pcfs_hmac.specs.Hmac.{hmac};
 
-use crate::given::{Given, joined, nothing};
+use crate::given::{Given, join, nothing};
 use crate::hashers::{INNER_PAD, OUTER_PAD, block_key, padded_hasher, tag};
 use sha2::{Digest, Sha256};
 use std::marker::Model;
@@ -24,9 +24,9 @@ pub struct Mac {
 impl Model for Mac {
     ghost use Rattle.std.specs.Prelude.{◌++◌};
     ghost use Rattle.sha2.specs.Hashers.{Holds256};
-    ghost use Rattle.pcfs_hmac.specs.Hmac.{KeyedText, block_key, ipad, opad, xor_bytes};
+    ghost use Rattle.pcfs_hmac.specs.Hmac.{MacView, block_key, ipad, opad, xor_bytes};
 
-    ghost Value = { KeyedText };
+    ghost Value = { MacView };
 
     ghost view = { λ m. record { key = m.key.value; text = m.text.value } };
 
@@ -43,7 +43,7 @@ impl Mac {
         Mac {
             inner: padded_hasher(&block, INNER_PAD),
             outer: padded_hasher(&block, OUTER_PAD),
-            key: joined(&nothing(), key),
+            key: join(&nothing(), key),
             text: nothing(),
         }
     }
@@ -55,8 +55,8 @@ impl Mac {
         Mac {
             inner: self.inner.clone().unwrap(),
             outer: self.outer.clone().unwrap(),
-            key: joined(&self.key, &[]),
-            text: joined(&self.text, &[]),
+            key: join(&self.key, &[]),
+            text: join(&self.text, &[]),
         }
     }
 
@@ -65,7 +65,7 @@ impl Mac {
         ensures { self.new ≡ record self.old { text = self.old.text ++ piece.now } }
     {
         self.inner.update(piece);
-        self.text = joined(&self.text, piece);
+        self.text = join(&self.text, piece);
     }
 
     /// The tag of the text under the key.

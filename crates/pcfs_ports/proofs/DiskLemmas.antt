@@ -4,7 +4,7 @@ use Rattle.std.proofs.lemmas.Bool.{cases_lt}
 use Rattle.std.proofs.lemmas.List.{append-nil, take_all, take_min, take_at, drop_at, drop_all, take-append-le, take-replicate, length-replicate}
 use Rattle.std.proofs.Math.Seq.{take-append-add}
 use Rattle.pcfs_ports.specs.Disk.{written, Torn, TornFrom, LeftNow, Elapses, Idles, IsPinned}
-use Rattle.pcfs_ports.specs.MemoryDisk.{DiskState, image_by, image_after, left_by, left_after, disk_image, disk_clock, disk_left_since}
+use Rattle.pcfs_ports.specs.MemoryDisk.{MemoryDiskView, image_by, image_after, left_by, left_after, disk_image, disk_clock, disk_left_since}
 use Rattle.pcfs_ports.specs.DiskLaws.{image_stays, left_since_earlier}
 use Rattle.pcfs_ports.specs.declared.disk_call.DiskCall.{DiskCall}
 use Rattle.pcfs_ports.specs.declared.disk_call.DiskCall.TheVariants.{Wrote, Synced}
@@ -69,7 +69,7 @@ moved start other calls more bytes same_start same_calls left =
     subst (λ (s : List ℕ). Left s more bytes) same_start (subst (λ (cs : List DiskCall). Left start cs bytes) same_calls left)
 
 -- a call that changed neither start nor record
-module _ (old new : DiskState) (same_start : new.start ≡ old.start) (same_made : new.made ≡ old.made) where
+module _ (old new : MemoryDiskView) (same_start : new.start ≡ old.start) (same_made : new.made ≡ old.made) where
   forth : (t : ℕ) (bytes : List ℕ) → disk_left_since old t bytes → disk_left_since new t bytes
   forth t bytes left =
       (left.0, left.1, omega (arith, left.2, ap length same_made), moved old.start new.start (take left.0 old.made) (take left.0 new.made) bytes (sym same_start) (ap (take left.0) (sym same_made)) left.3)
@@ -97,7 +97,7 @@ module _ (old new : DiskState) (same_start : new.start ≡ old.start) (same_made
       (bytes, back (disk_clock old) bytes (left_since_earlier new (disk_clock old) (disk_clock new) bytes (omega (arith, ap length same_made)) left), torn_not at piece bytes)
 
 -- one more call
-module _ (old new : DiskState) (call : DiskCall) (same_start : new.start ≡ old.start) (more : new.made ≡ old.made ++ call ∷ []) where
+module _ (old new : MemoryDiskView) (call : DiskCall) (same_start : new.start ≡ old.start) (more : new.made ≡ old.made ++ call ∷ []) where
   length-more : length new.made ≡ length old.made + 1
   length-more = ap length more ∙ length-append old.made (call ∷ [])
 
@@ -133,13 +133,13 @@ module _ (old new : DiskState) (call : DiskCall) (same_start : new.start ≡ old
   pub image_more : image_after new.start new.made ≡ image_by call (image_after old.start old.made)
   image_more = ap (λ (s : List ℕ). image_after s new.made) same_start ∙ ap (image_after old.start) more ∙ image_push old.made call old.start
 
-pub wrote_torn : (old new : DiskState) (at : ℕ) (piece : List ℕ) → new.start ≡ old.start → new.made ≡ old.made ++ Wrote at piece ∷ [] →
+pub wrote_torn : (old new : MemoryDiskView) (at : ℕ) (piece : List ℕ) → new.start ≡ old.start → new.made ≡ old.made ++ Wrote at piece ∷ [] →
     (bytes : List ℕ) → LeftNow disk_clock disk_left_since new bytes → TornFrom at piece (LeftNow disk_clock disk_left_since old) bytes
 wrote_torn old new at piece same_start more bytes left =
     let torn = last old new (Wrote at piece) same_start more left.0 bytes left.1 left.3 in
     (torn.0, (length old.made, omega arith, omega arith, moved old.start old.start old.made (take (length old.made) old.made) torn.0 refl (sym (take_all (length old.made) old.made (omega arith))) torn.1), torn.2)
 
-module _ (old new : DiskState) (same_start : new.start ≡ old.start) (more : new.made ≡ old.made ++ Synced ∷ []) where
+module _ (old new : MemoryDiskView) (same_start : new.start ≡ old.start) (more : new.made ≡ old.made ++ Synced ∷ []) where
   pub synced_image : disk_image new ≡ disk_image old
   synced_image = ap Some (image_more old new Synced same_start more)
 

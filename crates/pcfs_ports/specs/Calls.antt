@@ -1,9 +1,9 @@
 -- The calls of a port in memory, and which of them are to fail. This project's own.
 use Rattle.std.specs.Prelude.{ℕ, List, Contains}
-use Rattle.pcfs_ports.specs.Faults.{raised}
+use Rattle.pcfs_ports.specs.Faults.{raise}
 
 -- Calls are numbered from 0.
-pub record Calls : Type 0 where
+pub record CallPlanView : Type 0 where
   -- the numbers of the calls that fail
   pub failing : List ℕ
   -- how many were made, which is the number of the next
@@ -12,17 +12,17 @@ pub record Calls : Type 0 where
   pub faults : ℕ
 
 -- no call was made
-abbrev pub no_calls : List ℕ → Calls
+abbrev pub no_calls : List ℕ → CallPlanView
 no_calls failing = record { failing = failing; made = 0; faults = 0 }
 
 -- the next call is one that fails
-abbrev pub FailsNext : Calls → Type 0
+abbrev pub FailsNext : CallPlanView → Type 0
 FailsNext calls = Contains calls.failing calls.made
 
 -- one more call was made
-abbrev pub after_call : Calls → Calls
-after_call calls = record calls { made = raised calls.made }
+abbrev pub after_call : CallPlanView → CallPlanView
+after_call calls = record calls { made = raise calls.made }
 
 -- one more call was made, and failed
-abbrev pub after_failed_call : Calls → Calls
-after_failed_call calls = record calls { made = raised calls.made; faults = raised calls.faults }
+abbrev pub after_failed_call : CallPlanView → CallPlanView
+after_failed_call calls = record calls { made = raise calls.made; faults = raise calls.faults }

@@ -2,7 +2,7 @@
 use Rattle.std.proofs.Common.{◌≡◌, ℕ, ◌+◌, ◌-◌, ◌≤◌, min, List, [], ◌∷◌, ◌++◌, Option, Some, None, length, take, drop, replicate, refl, sym, ◌∙◌, ap, subst, inl, inr, arith, append_assoc, length-append, length-take, length-drop}
 use Rattle.std.proofs.lemmas.List.{take_at, drop_at, take_all, length-replicate}
 use Rattle.pcfs_ports.specs.Disk.{written, Torn, TornFrom}
-use Rattle.pcfs_ports.specs.MemoryDisk.{DiskState, image_by, image_after, left_by, left_after, disk_image, disk_clock, disk_left_since}
+use Rattle.pcfs_ports.specs.MemoryDisk.{MemoryDiskView, image_by, image_after, left_by, left_after, disk_image, disk_clock, disk_left_since}
 use Rattle.pcfs_ports.specs.declared.disk_call.DiskCall.{DiskCall}
 use Rattle.pcfs_ports.specs.declared.disk_call.DiskCall.TheVariants.{Wrote, Synced}
 
@@ -57,7 +57,7 @@ image_left (Wrote at piece ∷ calls) image outcomes here =
     image_left calls (written at piece image) (TornFrom at piece outcomes) (image, here, torn_written at piece image)
 image_left (Synced ∷ calls) image outcomes here = image_left calls image (λ bytes. bytes ≡ image) refl
 
-pub image_stays : (disk : DiskState) (bytes : List ℕ) → disk_image disk ≡ Some bytes → disk_left_since disk (disk_clock disk) bytes
+pub image_stays : (disk : MemoryDiskView) (bytes : List ℕ) → disk_image disk ≡ Some bytes → disk_left_since disk (disk_clock disk) bytes
 image_stays disk bytes is =
     let all : take (length disk.made) disk.made ≡ disk.made = take_all (length disk.made) disk.made (omega arith) in
     let same : image_after disk.start disk.made ≡ bytes = cc in
@@ -65,7 +65,7 @@ image_stays disk bytes is =
     rw all (image_left disk.made disk.start (λ begun. begun ≡ disk.start) refl) in
     (length disk.made, omega arith, omega arith, subst (left_after disk.start (λ begun. begun ≡ disk.start) (take (length disk.made) disk.made)) same left)
 
-pub left_since_earlier : (disk : DiskState) (t u : ℕ) (bytes : List ℕ) → t ≤ u → disk_left_since disk u bytes → disk_left_since disk t bytes
+pub left_since_earlier : (disk : MemoryDiskView) (t u : ℕ) (bytes : List ℕ) → t ≤ u → disk_left_since disk u bytes → disk_left_since disk t bytes
 left_since_earlier disk t u bytes le left = (left.0, omega (arith, le, left.1), left.2, left.3)
 
 -- a disk that tells nothing has no image

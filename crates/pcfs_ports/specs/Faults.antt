@@ -6,5 +6,5 @@ abbrev pub HasRisen : ℕ → ℕ → Type 0
 HasRisen before now = now < 2 ^ 64 - 1 → before < now
 
 -- a count that is raised by one
-abbrev pub raised : ℕ → ℕ
-raised count = min (count + 1) (2 ^ 64 - 1)
+abbrev pub raise : ℕ → ℕ
+raise count = min (count + 1) (2 ^ 64 - 1)

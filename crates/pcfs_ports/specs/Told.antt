@@ -16,7 +16,7 @@ abbrev pub IsAtEnd : Option (List ℕ) → Type 0
 IsAtEnd told = IfSome told (λ left. left ≡ [])
 
 -- An input was read to its end: these bytes were left, and none are now.
-pub record ReadsWhole (old new : Option (List ℕ)) (bytes : List ℕ) : Type 0 where
+pub record ReadsToEnd (old new : Option (List ℕ)) (bytes : List ℕ) : Type 0 where
   pub all : IfSome old (λ left. left ≡ bytes)
   pub end : new ≡ option_map (λ _. []) old
 

@@ -27,7 +27,7 @@ pub trait Clock {
 }
 
 // The nearest moment.
-fn clamped(second: i64) -> i64
+fn nearest_moment(second: i64) -> i64
     ensures { IsMoment result }
 {
     second.clamp(FIRST_MOMENT, LAST_MOMENT)
@@ -57,7 +57,7 @@ impl Clock for SetClock {
     ghost gives = { λ _ second. IsMoment second };
 
     fn now(&self) -> i64 {
-        clamped(self.second.load(Ordering::SeqCst))
+        nearest_moment(self.second.load(Ordering::SeqCst))
     }
 }
 
@@ -80,7 +80,7 @@ impl<'a, R: rt::Clock> Clock for SystemClock<'a, R> {
 
     fn now(&self) -> i64 {
         match self.rt.since_1970() {
-            Ok(time) => clamped(i64::try_from(time.as_secs()).unwrap_or(LAST_MOMENT)),
+            Ok(time) => nearest_moment(i64::try_from(time.as_secs()).unwrap_or(LAST_MOMENT)),
             Err(_) => FIRST_MOMENT,
         }
     }

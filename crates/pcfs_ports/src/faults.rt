@@ -20,9 +20,9 @@ pub struct CallPlan {
 }
 
 impl Model for CallPlan {
-    ghost use Rattle.pcfs_ports.specs.Calls.{Calls};
+    ghost use Rattle.pcfs_ports.specs.Calls.{CallPlanView};
 
-    ghost Value = { Calls };
+    ghost Value = { CallPlanView };
 
     ghost view = { λ s. record { failing = s.failing; made = s.made; faults = s.faults } };
 }
@@ -40,7 +40,7 @@ impl CallPlan {
     }
 
     /// Whether the next call is to fail.
-    pub fn fails_next(&self) -> bool
+    pub fn is_next_to_fail(&self) -> bool
         ensures { IsTrue result ↔ FailsNext self.now }
     {
         let next = self.made;

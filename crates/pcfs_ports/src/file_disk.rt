@@ -1,7 +1,7 @@
 //! A disk over a file of the system.
 
 ghost use Rattle.std.specs.Prelude.{◌≡◌, ℕ, ◌≤◌, List, Option, None, IfOk, length, is_ok, if◌then◌else◌};
-ghost use Rattle.pcfs_ports.specs.Faults.{raised};
+ghost use Rattle.pcfs_ports.specs.Faults.{raise};
 ghost use Rattle.pcfs_ports.specs.DiskLaws.{untold};
 
 use super::disk::Disk;
@@ -267,7 +267,7 @@ mod tests {
     }
 
     // Whether writes past the end and over it are kept, and read back; an empty one too.
-    fn keeps<D: Disk>(disk: &mut D) -> bool {
+    fn has_kept_writes<D: Disk>(disk: &mut D) -> bool {
         let mut buf = [7u8; 8];
         disk.write_at(2, b"cde") == Ok(())
             && disk.sync() == Ok(())
@@ -283,7 +283,7 @@ mod tests {
         let _ = fs::remove_file(&rt, path);
         let mut disk = FileDisk::new(&rt, path);
         let is_absent = is_absent(&mut disk) && !fs::exists(&rt, path)?;
-        let is_kept = keeps(&mut disk);
+        let is_kept = has_kept_writes(&mut disk);
         let mut buf = [7u8; 8];
         let is_found = FileDisk::new(&rt, path).read(3, &mut buf) == Ok(3);
         fs::remove_file(&rt, path)?;

@@ -35,7 +35,7 @@ pub trait Listener {
     // How many faults it has had.
     ghost faults: { Self → ℕ };
 
-    /// Begins to listen on a port. `Failed` comes only where the count of faults rose.
+    /// Begins to listen on a port. `Failed` comes only if the count of faults rose.
     fn listen(&mut self, port: u16) -> Result<(), Failed>
         ensures waiting { waiting self.new ≡ waiting self.old }
         ensures risen { OnErr result (HasRisen (faults self.old) (faults self.new)) }
@@ -43,7 +43,7 @@ pub trait Listener {
 
     /// The next connection. It may wait for one.
     ///
-    /// `Closed` comes only where it is over, and none is still to come. `Failed` comes only where the count of faults rose.
+    /// `Closed` comes only if it is over, and none is still to come. `Failed` comes only if the count of faults rose.
     fn accept(&mut self, alloc: Global) -> Accepted<Self::In, Self::Out>
         ensures waiting { FallsBy (count_of result) (waiting self.old) (waiting self.new) }
         ensures closed { result ≡ Accepted.Closed → over self.new }
@@ -61,9 +61,9 @@ pub struct MemoryListener {
 }
 
 impl Model for MemoryListener {
-    ghost use Rattle.pcfs_ports.specs.MemoryListener.{ListenerState};
+    ghost use Rattle.pcfs_ports.specs.MemoryListener.{MemoryListenerView};
 
-    ghost Value = { ListenerState };
+    ghost Value = { MemoryListenerView };
 
     ghost view = { λ s. record { queue = s.queue.items; calls = s.plan } };
 }
@@ -106,7 +106,7 @@ impl Listener for MemoryListener {
         ensures ok { OnOk result (self.new ≡ record self.old { calls = after_call self.old.calls }) }
         ensures never_falls { self.old.calls.faults ≤ self.new.calls.faults }
     {
-        if self.plan.fails_next() {
+        if self.plan.is_next_to_fail() {
             self.plan.count_failed();
             return Err(Failed);
         }
@@ -126,7 +126,7 @@ impl Listener for MemoryListener {
 
         ensures never_falls { self.old.calls.faults ≤ self.new.calls.faults }
     {
-        if self.plan.fails_next() {
+        if self.plan.is_next_to_fail() {
             self.plan.count_failed();
             return Accepted::Failed;
         }

@@ -30,9 +30,9 @@ pub struct MemoryDisk {
 
 impl Model for MemoryDisk {
     ghost use Rattle.std.specs.Prelude.{◌≡◌};
-    ghost use Rattle.pcfs_ports.specs.MemoryDisk.{DiskState, image_after};
+    ghost use Rattle.pcfs_ports.specs.MemoryDisk.{MemoryDiskView, image_after};
 
-    ghost Value = { DiskState };
+    ghost Value = { MemoryDiskView };
 
     ghost view = { λ s. record { start = s.start; made = s.made; calls = s.plan; refused = s.refused } };
 
@@ -169,7 +169,7 @@ impl Disk for MemoryDisk {
         ensures time { Idles disk_clock disk_left_since self.old self.new }
         ensures never_falls { self.old.calls.faults ≤ self.new.calls.faults }
     {
-        if self.plan.fails_next() {
+        if self.plan.is_next_to_fail() {
             self.plan.count_failed();
             return Err(Failed);
         }
@@ -196,7 +196,7 @@ impl Disk for MemoryDisk {
             TornFrom at piece.now (LeftNow disk_clock disk_left_since self.old) bytes }
         ensures never_falls { self.old.calls.faults ≤ self.new.calls.faults }
     {
-        if self.plan.fails_next() {
+        if self.plan.is_next_to_fail() {
             self.plan.count_failed();
             return Err(Failed);
         }
@@ -226,7 +226,7 @@ impl Disk for MemoryDisk {
         ensures time { Idles disk_clock disk_left_since self.old self.new }
         ensures never_falls { self.old.calls.faults ≤ self.new.calls.faults }
     {
-        if self.plan.fails_next() {
+        if self.plan.is_next_to_fail() {
             self.plan.count_failed();
             return Err(Failed);
         }
@@ -257,7 +257,7 @@ mod tests {
     }
 
     // What four calls answer: whether a write, a sync, a second write and a read were done.
-    fn answers(disk: &mut MemoryDisk) -> [bool; 4] {
+    fn call_results(disk: &mut MemoryDisk) -> [bool; 4] {
         let mut buf = [0u8; 2];
         [
             disk.write_at(1, b"XY").is_ok(),
@@ -268,8 +268,8 @@ mod tests {
     }
 
     // Whether the disk answers so, then holds these bytes, and refused nothing.
-    fn goes(disk: &mut MemoryDisk, wanted: [bool; 4], held: &[u8]) -> bool {
-        answers(disk) == wanted && disk.image() == held && disk.refused() == 0
+    fn runs_as_planned(disk: &mut MemoryDisk, wanted: [bool; 4], held: &[u8]) -> bool {
+        call_results(disk) == wanted && disk.image() == held && disk.refused() == 0
     }
 
     #[test]
@@ -284,13 +284,13 @@ mod tests {
         ];
         for (failing, wanted, held) in cases {
             let mut disk = disk(rt.alloc(), b"abcd", failing)?;
-            assert!(rt; goes(&mut disk, wanted, held.as_bytes()));
+            assert!(rt; runs_as_planned(&mut disk, wanted, held.as_bytes()));
         }
         Ok(())
     }
 
     // Whether writes, reads past the end and a write that no memory holds go as they must.
-    fn remembers(disk: &mut MemoryDisk) -> bool {
+    fn has_memory_of_calls(disk: &mut MemoryDisk) -> bool {
         let mut buf = [0u8; 4];
         disk.write_at(3, b"D\xc3\xa9") == Ok(())
             && disk.sync() == Ok(())
@@ -307,7 +307,7 @@ mod tests {
         rt: HostRuntime,
     ) -> Result<(), Fail> {
         let mut disk = disk(rt.alloc(), b"abcd", &[])?;
-        assert!(rt; remembers(&mut disk));
+        assert!(rt; has_memory_of_calls(&mut disk));
         assert!(rt; disk.refused() == 1 && disk.image() == b"abcD\xc3\xa9".as_slice());
         Ok(())
     }

@@ -1,7 +1,7 @@
 //! Nonces: sixteen bytes at a time that a client has to sign.
 
 ghost use Rattle.std.specs.Prelude.{◌≡◌, ℕ, ◌<◌, ◌≤◌, ◌↔◌, ◌⊎◌, IfOk, IsErr, OnOk, OnErr, length, take, is_ok, if◌then◌else◌};
-ghost use Rattle.pcfs_ports.specs.Faults.{HasRisen, raised};
+ghost use Rattle.pcfs_ports.specs.Faults.{HasRisen, raise};
 ghost use Rattle.pcfs_ports.specs.Calls.{no_calls, FailsNext};
 ghost use Rattle.pcfs_ports.specs.MemorySource.{after_read, after_failed_read};
 
@@ -24,7 +24,7 @@ pub trait Nonces {
     // How many faults it has had.
     ghost faults: { Self → ℕ };
 
-    /// The next nonce. `Failed` comes only where the count of faults rose.
+    /// The next nonce. `Failed` comes only if the count of faults rose.
     fn next(&mut self) -> Result<[u8; 16], Failed>
         ensures risen { OnErr result (HasRisen (faults self.old) (faults self.new)) }
         ensures never_falls { faults self.old ≤ faults self.new };
@@ -41,10 +41,10 @@ pub struct ListNonces {
 
 impl Model for ListNonces {
     ghost use Rattle.std.specs.Prelude.{◌≤◌, drop, length};
-    ghost use Rattle.pcfs_ports.specs.MemorySource.{SourceState};
+    ghost use Rattle.pcfs_ports.specs.MemorySource.{MemorySourceView};
 
     // the bytes that are left, and the calls
-    ghost Value = { SourceState };
+    ghost Value = { MemorySourceView };
 
     ghost view = { λ s. record { left = drop s.at s.bytes; calls = s.plan } };
 
@@ -78,7 +78,7 @@ impl Nonces for ListNonces {
         ensures never_falls { self.old.calls.faults ≤ self.new.calls.faults }
     {
         let left = &self.bytes.as_slice()[self.at..];
-        if self.plan.fails_next() || left.len() < NONCE_LEN {
+        if self.plan.is_next_to_fail() || left.len() < NONCE_LEN {
             self.plan.count_failed();
             return Err(Failed);
         }
@@ -137,7 +137,7 @@ impl<'a, R: Files> Nonces for UrandomNonces<'a, R> {
     ghost faults = { λ s. s };
 
     fn next(&mut self) -> Result<[u8; 16], Failed>
-        ensures faults { self.new ≡ (if is_ok result then self.old else raised self.old) }
+        ensures faults { self.new ≡ (if is_ok result then self.old else raise self.old) }
         ensures risen { OnErr result (HasRisen self.old self.new) }
         ensures never_falls { self.old ≤ self.new }
     {

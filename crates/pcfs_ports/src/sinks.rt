@@ -2,7 +2,7 @@
 
 ghost use Rattle.std.specs.Prelude.{◌≡◌, ℕ, ◌+◌, ◌<◌, ◌≤◌, ◌⊎◌, List, [], ◌++◌, Option, None, Some, IfOk, IsErr, OnOk, OnErr, length, take, is_ok, if◌then◌else◌};
 ghost use Rattle.std.specs.Io.KnownBytes.{WriteAppends};
-ghost use Rattle.pcfs_ports.specs.Faults.{HasRisen, raised};
+ghost use Rattle.pcfs_ports.specs.Faults.{HasRisen, raise};
 ghost use Rattle.pcfs_ports.specs.Told.{with_back};
 ghost use Rattle.pcfs_ports.specs.Calls.{no_calls, FailsNext};
 ghost use Rattle.pcfs_ports.specs.MemorySink.{after_write, after_failed_write, after_refused_write};
@@ -25,10 +25,10 @@ pub trait Sink {
     // How many faults it has had.
     ghost faults: { Self → ℕ };
 
-    /// Adds the first bytes of `piece` behind those that are held, and answers how many: at least one
+    /// Adds the first bytes of `piece` after those that are held, and returns how many: at least one
     /// of a piece that is not empty.
     ///
-    /// `Failed` comes only where the count of faults rose, and adds nothing.
+    /// `Failed` comes only if the count of faults rose, and adds nothing.
     fn write(&mut self, piece: &[u8]) -> Result<usize, Failed>
         ensures bound { IfOk result (λ count. count ≤ length piece.now) }
         ensures progress { IfOk result (λ count. 0 < length piece.now → 0 < count) }
@@ -49,9 +49,9 @@ pub struct MemorySink {
 }
 
 impl Model for MemorySink {
-    ghost use Rattle.pcfs_ports.specs.MemorySink.{SinkState};
+    ghost use Rattle.pcfs_ports.specs.MemorySink.{MemorySinkView};
 
-    ghost Value = { SinkState };
+    ghost Value = { MemorySinkView };
 
     ghost view = { λ s. record { held = s.bytes; calls = s.plan; refused = s.refused } };
 }
@@ -90,7 +90,7 @@ impl Sink for MemorySink {
     ghost faults = { λ s. s.calls.faults };
 
     fn write(&mut self, piece: &[u8]) -> Result<usize, Failed>
-        // It fails where it is to, and else only where a growth is refused.
+        // It fails where it is to, and else only if a growth is refused.
         ensures planned { FailsNext self.old.calls → IsErr result × (self.new ≡ after_failed_write self.old) }
         ensures refused { OnErr result (
             FailsNext self.old.calls ⊎ (self.new ≡ after_refused_write self.old)) }
@@ -101,7 +101,7 @@ impl Sink for MemorySink {
 
         ensures never_falls { self.old.calls.faults ≤ self.new.calls.faults }
     {
-        if self.plan.fails_next() {
+        if self.plan.is_next_to_fail() {
             self.plan.count_failed();
             return Err(Failed);
         }
@@ -156,7 +156,7 @@ impl<W: Write> Sink for StdSink<W> {
 
         // What the writer itself tells of its bytes holds here too.
         ensures bytes { WriteAppends (W.contents self.old.0) (W.contents self.new.0) result piece.now }
-        ensures faults { self.new.1 ≡ (if is_ok result then self.old.1 else raised self.old.1) }
+        ensures faults { self.new.1 ≡ (if is_ok result then self.old.1 else raise self.old.1) }
         ensures never_falls { self.old.1 ≤ self.new.1 }
     {
         match self.writer.write(piece) {

@@ -2,7 +2,7 @@
 
 ghost use Rattle.std.specs.Prelude.{◌≡◌, ℕ, ◌<◌, ◌≤◌, ◌↔◌, List, Option, None, Some, IfOk, IsErr, OnErr, length, take, min, is_ok, if◌then◌else◌};
 ghost use Rattle.std.specs.Io.KnownBytes.{ReadConsumes};
-ghost use Rattle.pcfs_ports.specs.Faults.{HasRisen, raised};
+ghost use Rattle.pcfs_ports.specs.Faults.{HasRisen, raise};
 ghost use Rattle.pcfs_ports.specs.Told.{with_front, IsAtEnd};
 ghost use Rattle.pcfs_ports.specs.Calls.{no_calls, FailsNext};
 ghost use Rattle.pcfs_ports.specs.MemorySource.{after_read, after_failed_read};
@@ -25,10 +25,10 @@ pub trait Source {
     // How many faults it has had.
     ghost faults: { Self → ℕ };
 
-    /// Takes the next bytes into the front of `buf`, and answers how many.
+    /// Takes the next bytes into the front of `buf`, and returns how many.
     ///
-    /// No byte for a `buf` that is not empty is the end of the input. `Failed` comes only where the
-    /// count of faults rose, and takes nothing. What stands in `buf` behind the bytes that were
+    /// No byte for a `buf` that is not empty is the end of the input. `Failed` comes only if the
+    /// count of faults rose, and takes nothing. What stands in `buf` after the bytes that were
     /// taken, or at `Failed`, is left open.
     fn read(&mut self, buf: &mut [u8]) -> Result<usize, Failed>
         ensures bound { IfOk result (λ count. count ≤ length buf.new) }
@@ -51,9 +51,9 @@ pub struct MemorySource {
 
 impl Model for MemorySource {
     ghost use Rattle.std.specs.Prelude.{◌≤◌, drop, length};
-    ghost use Rattle.pcfs_ports.specs.MemorySource.{SourceState};
+    ghost use Rattle.pcfs_ports.specs.MemorySource.{MemorySourceView};
 
-    ghost Value = { SourceState };
+    ghost Value = { MemorySourceView };
 
     ghost view = { λ s. record { left = drop s.at s.bytes; calls = s.plan } };
 
@@ -80,7 +80,7 @@ impl Source for MemorySource {
     ghost faults = { λ s. s.calls.faults };
 
     fn read(&mut self, buf: &mut [u8]) -> Result<usize, Failed>
-        // It fails exactly where it is to, and else gives as many bytes as there are and fit.
+        // It fails exactly if it is to, and else gives as many bytes as there are and fit.
         ensures planned { IsErr result ↔ FailsNext self.old.calls }
         ensures failed { OnErr result (self.new ≡ after_failed_read self.old) }
         ensures count { IfOk result (λ count. count ≡ min (length buf.new) (length self.old.left)) }
@@ -88,7 +88,7 @@ impl Source for MemorySource {
         ensures taken { IfOk result (λ count. self.new ≡ after_read self.old count) }
         ensures never_falls { self.old.calls.faults ≤ self.new.calls.faults }
     {
-        if self.plan.fails_next() {
+        if self.plan.is_next_to_fail() {
             self.plan.count_failed();
             return Err(Failed);
         }
@@ -137,7 +137,7 @@ impl<R: Read> Source for StdSource<R> {
 
         // What the reader itself tells of its bytes holds here too.
         ensures bytes { ReadConsumes (R.remaining self.old.0) (R.remaining self.new.0) result buf.new }
-        ensures faults { self.new.1 ≡ (if is_ok result then self.old.1 else raised self.old.1) }
+        ensures faults { self.new.1 ≡ (if is_ok result then self.old.1 else raise self.old.1) }
         ensures never_falls { self.old.1 ≤ self.new.1 }
     {
         match self.reader.read(buf) {

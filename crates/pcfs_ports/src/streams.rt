@@ -2,7 +2,7 @@
 
 ghost use Rattle.std.specs.Prelude.{◌≡◌, ◌≢◌, ◌+◌, ◌<◌, ◌≤◌, IfOk, OnOk, OnErr, IsErrOf, length};
 ghost use Rattle.pcfs_ports.specs.Faults.{HasRisen};
-ghost use Rattle.pcfs_ports.specs.Told.{with_front, with_back, IsAtEnd, ReadsWhole, TakesFirst, TakesSome, HoldsSome};
+ghost use Rattle.pcfs_ports.specs.Told.{with_front, with_back, IsAtEnd, ReadsToEnd, TakesFirst, TakesSome, HoldsSome};
 ghost use Rattle.pcfs_ports.specs.declared.streams.TakeFault.TheVariants.{NoMemory as OutOfMemory, Failed as SourceFailed};
 
 use super::faults::Failed;
@@ -54,7 +54,7 @@ impl From<Failed> for TakeFault {
 
 /// Writes all of the bytes, in as many calls as the sink takes for it.
 ///
-/// `Failed` comes only where the sink's count of faults rose. Some first part may have been written
+/// `Failed` comes only if the sink's count of faults rose. Some first part may have been written
 /// then.
 pub fn write_all<O: Sink>(output: &mut O, bytes: &[u8]) -> Result<(), Failed>
     ensures ok { OnOk result (O.held output.new ≡ with_back (O.held output.old) bytes.now) }
@@ -76,7 +76,7 @@ fn zeros(alloc: Global, len: usize) -> Result<Vec<u8>, AllocError>
     vec![in alloc; 0u8; len]
 }
 
-// Moves bytes from the input behind those that were taken, by one read, and answers how many: none
+// Moves bytes from the input after those that were taken, by one read, and returns how many: none
 // at the end.
 fn take_piece<I: Source>(
     input: &mut I,
@@ -104,10 +104,10 @@ fn take_piece<I: Source>(
 /// Reads a source to its end.
 ///
 /// `TooLong` comes where `INPUT_LIMIT` bytes were taken and the end was not met before; it is not
-/// asked whether more follow. `Failed` comes only where the source's count of faults rose. `NoMemory`
+/// asked whether more follow. `Failed` comes only if the source's count of faults rose. `NoMemory`
 /// may come at any time. After a fault the bytes that were taken are lost.
 pub fn read_to_end<I: Source>(alloc: Global, input: &mut I) -> Result<Bytes, TakeFault>
-    ensures ok { IfOk result (λ bytes. ReadsWhole (I.left input.old) (I.left input.new) bytes) }
+    ensures ok { IfOk result (λ bytes. ReadsToEnd (I.left input.old) (I.left input.new) bytes) }
     ensures short { IfOk result (λ bytes. length bytes < INPUT_LIMIT) }
     ensures err { OnErr result (TakesSome (I.left input.old) (I.left input.new)) }
     ensures too_long { IsErrOf result TakeFault.TooLong →

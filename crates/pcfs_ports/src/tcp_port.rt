@@ -1,7 +1,7 @@
 //! A port of the system, on the loopback address.
 
 ghost use Rattle.std.specs.Prelude.{◌≡◌, ◌≢◌, ℕ, ◌≤◌, None, OnErr, is_ok, if◌then◌else◌};
-ghost use Rattle.pcfs_ports.specs.Faults.{raised, HasRisen};
+ghost use Rattle.pcfs_ports.specs.Faults.{raise, HasRisen};
 
 use super::accepted::Accepted;
 use super::faults::Failed;
@@ -84,7 +84,7 @@ where
     ghost faults = { λ s. s };
 
     fn listen(&mut self, port: u16) -> Result<(), Failed>
-        ensures faults { self.new ≡ (if is_ok result then self.old else raised self.old) }
+        ensures faults { self.new ≡ (if is_ok result then self.old else raise self.old) }
         ensures risen { OnErr result (HasRisen self.old self.new) }
         ensures never_falls { self.old ≤ self.new }
     {
@@ -103,7 +103,7 @@ where
     fn accept(&mut self, _alloc: Global) -> Accepted<StdSource<R::Stream>, StdSink<R::Stream>>
         ensures never_closed { result ≢ Accepted.Closed }
         ensures memory { result ≢ Accepted.NoMemory }
-        ensures failed { result ≡ Accepted.Failed → self.new ≡ raised self.old }
+        ensures failed { result ≡ Accepted.Failed → self.new ≡ raise self.old }
         ensures ok { result ≢ Accepted.Failed → self.new ≡ self.old }
         ensures risen { result ≡ Accepted.Failed → HasRisen self.old self.new }
         ensures never_falls { self.old ≤ self.new }
@@ -153,7 +153,7 @@ mod tests {
     }
 
     // Whether a client that connects is attended by the port, and its end is the end of the input.
-    fn serves(
+    fn has_served(
         rt: &HostRuntime,
         port: &mut TcpPort<'_, HostRuntime>,
         number: u16,
@@ -173,7 +173,7 @@ mod tests {
         let mut port = TcpPort::new(&rt);
         let number = listen_somewhere(&mut port).ok_or("no free port")?;
         let is_taken = TcpPort::new(&rt).listen(number) == Err(Failed);
-        let is_served = serves(&rt, &mut port, number)?;
+        let is_served = has_served(&rt, &mut port, number)?;
         assert!(rt; is_taken && is_served);
         Ok(())
     }

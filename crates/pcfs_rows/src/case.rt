@@ -26,7 +26,7 @@ pub struct Case {
 
 /// How a case ended: what its calls said and then what the run wrote, the run's status, and what was wanted of both.
 #[derive(Drop)]
-pub struct Ended {
+pub struct CaseEnd {
     pub found: Bytes,
     pub status: u8,
     pub wanted: Bytes,
@@ -149,7 +149,7 @@ impl Case {
     }
 
     /// Runs the case. Bad secrets count as a bad row.
-    pub fn run<R: Threads + Wait + Sync + AllocGlobal>(self, rt: &R) -> Result<Ended, RowFault> {
+    pub fn run<R: Threads + Wait + Sync + AllocGlobal>(self, rt: &R) -> Result<CaseEnd, RowFault> {
         let alloc = rt.alloc();
         let Case {
             texts: _,
@@ -169,7 +169,7 @@ impl Case {
             Err(_) => Err(RowFault::BadRow),
         };
         match unless_refused(found.extend(output.held()), status) {
-            Ok(status) => Ok(Ended {
+            Ok(status) => Ok(CaseEnd {
                 found,
                 status,
                 wanted,

@@ -1,6 +1,6 @@
 //! A file of rows: what stands before its first case begins each of its cases.
 
-use crate::case::{Case, Ended};
+use crate::case::{Case, CaseEnd};
 use crate::short_form::RowFault;
 use bl_syntax::{Bytes, NoMemory};
 use std::alloc::Global;
@@ -37,7 +37,7 @@ fn add_difference(
 }
 
 // Adds how the case ended, and returns whether it agrees.
-fn judge(alloc: Global, name: &str, ended: &Ended, report: &mut Bytes) -> Result<bool, NoMemory> {
+fn judge(alloc: Global, name: &str, ended: &CaseEnd, report: &mut Bytes) -> Result<bool, NoMemory> {
     let found = ended.found.as_slice();
     let wanted = ended.wanted.as_slice();
     if found != wanted {

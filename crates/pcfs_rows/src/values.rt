@@ -1,7 +1,7 @@
 //! Rows that call the crates below directly, for what no line shows: written texts, and values that have no text.
 
 use crate::short_form::{RowFault, number_of, parts_at};
-use access_history::{Reply, World, create_refusal, created_row};
+use access_history::{Reply, TreeRows, create_refusal, created_row};
 use bl_codec::{read_formula, read_statement};
 use bl_syntax::{Bytes, Goal, NoMemory, NodeId, Perm, Principal, Statement, Term};
 use bl_text::{
@@ -9,14 +9,14 @@ use bl_text::{
     print_term,
 };
 use line_text::read_hex;
-use line_wire::{unproved, write_reply};
+use line_wire::{proof_fault_reply, write_reply};
 use proof_term::{ProofTree, read_proof};
 use proof_text::{parse_proof, print_proof};
 use proof_verifier::{CheckFault, Checked, Cite, Cites, check, verdict};
 use std::alloc::Global;
 
 // The same outcome, as that of a row.
-fn ended(outcome: Result<(), NoMemory>) -> Result<(), RowFault> {
+fn value_end(outcome: Result<(), NoMemory>) -> Result<(), RowFault> {
     match outcome {
         Ok(()) => Ok(()),
         Err(_) => Err(RowFault::NoMemory),
@@ -33,14 +33,14 @@ fn add_fault(alloc: Global, fault: TextFault, out: &mut Bytes) -> Result<(), Row
         TextFault::TooLarge(place) => (5, place),
         TextFault::NoMemory => return Err(RowFault::NoMemory),
     };
-    ended(write_reply(alloc, out, &Reply::BadText(number, place as u64)))
+    value_end(write_reply(alloc, out, &Reply::BadText(number, place as u64)))
 }
 
 fn add_formula(alloc: Global, text: &[u8], out: &mut Bytes) -> Result<(), RowFault> {
     match parse_formula(alloc, text) {
         Ok(formula) => {
-            ended(print_formula(&formula, out))?;
-            ended(out.push(b'\n'))
+            value_end(print_formula(&formula, out))?;
+            value_end(out.push(b'\n'))
         }
         Err(fault) => add_fault(alloc, fault, out),
     }
@@ -49,8 +49,8 @@ fn add_formula(alloc: Global, text: &[u8], out: &mut Bytes) -> Result<(), RowFau
 fn add_statement(alloc: Global, text: &[u8], out: &mut Bytes) -> Result<(), RowFault> {
     match parse_statement(alloc, text) {
         Ok(statement) => {
-            ended(print_statement(&statement, out))?;
-            ended(out.push(b'\n'))
+            value_end(print_statement(&statement, out))?;
+            value_end(out.push(b'\n'))
         }
         Err(fault) => add_fault(alloc, fault, out),
     }
@@ -59,8 +59,8 @@ fn add_statement(alloc: Global, text: &[u8], out: &mut Bytes) -> Result<(), RowF
 fn add_proof(alloc: Global, text: &[u8], out: &mut Bytes) -> Result<(), RowFault> {
     match parse_proof(alloc, text) {
         Ok(proof) => {
-            ended(print_proof(&proof, out))?;
-            ended(out.push(b'\n'))
+            value_end(print_proof(&proof, out))?;
+            value_end(out.push(b'\n'))
         }
         Err(fault) => add_fault(alloc, fault, out),
     }
@@ -69,8 +69,8 @@ fn add_proof(alloc: Global, text: &[u8], out: &mut Bytes) -> Result<(), RowFault
 fn add_time(alloc: Global, text: &[u8], out: &mut Bytes) -> Result<(), RowFault> {
     match parse_time(text) {
         Ok(time) => {
-            ended(print_term(&Term::Time(time), out))?;
-            ended(out.push(b'\n'))
+            value_end(print_term(&Term::Time(time), out))?;
+            value_end(out.push(b'\n'))
         }
         Err(fault) => add_fault(alloc, fault, out),
     }
@@ -90,15 +90,15 @@ fn add_written(alloc: Global, word: &str, out: &mut Bytes) -> Result<(), RowFaul
     let bytes = bytes_of(alloc, word)?;
     match read_formula(alloc, bytes.as_slice()) {
         Ok((formula, _)) => {
-            ended(print_formula(&formula, out))?;
-            ended(out.push(b'\n'))
+            value_end(print_formula(&formula, out))?;
+            value_end(out.push(b'\n'))
         }
         Err(_) => Err(RowFault::BadRow),
     }
 }
 
 // The statement alone, cited as number 1.
-fn cited(alloc: Global, statement: Statement) -> Option<Cites> {
+fn cited_statements(alloc: Global, statement: Statement) -> Option<Cites> {
     let mut cites = Vec::new(alloc);
     match cites.push(Cite {
         number: 1,
@@ -111,8 +111,8 @@ fn cited(alloc: Global, statement: Statement) -> Option<Cites> {
 
 // Adds the fault of a proof.
 fn add_refused(alloc: Global, fault: CheckFault, out: &mut Bytes) -> Result<(), RowFault> {
-    match unproved(fault) {
-        Ok(reply) => ended(write_reply(alloc, out, &reply)),
+    match proof_fault_reply(fault) {
+        Ok(reply) => value_end(write_reply(alloc, out, &reply)),
         Err(_) => Err(RowFault::NoMemory),
     }
 }
@@ -126,7 +126,7 @@ fn add_verified(
     out: &mut Bytes,
 ) -> Result<(), RowFault> {
     match verdict(alloc, cites, goal, proof) {
-        Ok(grant) => ended(write_reply(alloc, out, &Reply::Checked(grant))),
+        Ok(grant) => value_end(write_reply(alloc, out, &Reply::Checked(grant))),
         Err(fault) => add_refused(alloc, fault, out),
     }
 }
@@ -134,7 +134,7 @@ fn add_verified(
 // Adds what was granted, and what the proof that was kept grants.
 fn add_kept(alloc: Global, checked: &Checked, out: &mut Bytes) -> Result<(), RowFault> {
     match checked.grant().copy(alloc) {
-        Ok(grant) => ended(write_reply(alloc, out, &Reply::Checked(grant)))?,
+        Ok(grant) => value_end(write_reply(alloc, out, &Reply::Checked(grant)))?,
         Err(_) => return Err(RowFault::NoMemory),
     }
     add_verified(
@@ -186,7 +186,7 @@ fn add_both(
 fn cites_of(alloc: Global, word: &str) -> Result<Cites, RowFault> {
     let bytes = bytes_of(alloc, word)?;
     match read_statement(alloc, bytes.as_slice()) {
-        Ok((statement, _)) => cited(alloc, statement).ok_or(RowFault::NoMemory),
+        Ok((statement, _)) => cited_statements(alloc, statement).ok_or(RowFault::NoMemory),
         Err(_) => Err(RowFault::BadRow),
     }
 }
@@ -221,7 +221,7 @@ fn add_judged(alloc: Global, text: &str, out: &mut Bytes) -> Result<(), RowFault
 // The refusal of a file of this name, if the tree also has the file `notes` in its root and this next number.
 fn refusal_in(
     alloc: Global,
-    world: &World,
+    world: &TreeRows,
     next: u64,
     directory: u64,
     name: &str,
@@ -234,7 +234,7 @@ fn refusal_in(
 
 // The same for a copy of the tree with the root alone.
 fn refusal(alloc: Global, next: u64, directory: u64, name: &str) -> Result<Option<u32>, RowFault> {
-    match World::new(alloc) {
+    match TreeRows::new(alloc) {
         Ok(world) => match world.copy(alloc) {
             Ok(copied) => refusal_in(alloc, &copied, next, directory, name),
             Err(_) => Err(RowFault::NoMemory),
@@ -278,7 +278,7 @@ pub fn add_value(
         "written" => add_written(alloc, text, out),
         "judged" => add_judged(alloc, text, out),
         "refusal" => add_refusal(alloc, text, out),
-        "nomemory" => ended(write_reply(alloc, out, &Reply::NoMemory)),
+        "nomemory" => value_end(write_reply(alloc, out, &Reply::NoMemory)),
         _ => Err(RowFault::BadRow),
     }
 }

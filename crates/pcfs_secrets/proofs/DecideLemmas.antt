@@ -5,10 +5,10 @@ use Rattle.std.proofs.lemmas.Bool.{eqb-true, eqb-false, ltb-true, ltb-false, fal
 use Rattle.std.proofs.lemmas.List.{append_cancel_left, take-append-drop}
 use Rattle.bl_syntax.specs.Names.{is_principal_name}
 use Rattle.line_text.specs.HexWord.{IsHex}
-use Rattle.line_text.proofs.DecideHex.{DecidesHex, decided_hex}
+use Rattle.line_text.proofs.IsHexLemmas.{DecidesHex, decided_hex}
 use Rattle.line_text.proofs.HexLemmas.{IsHex-same}
 use Rattle.line_text.proofs.WordLemmas.{stop_place, IsSplit-at_word, HasNo-principal}
-use Rattle.policy_statement.specs.Ring.{Key, HasKey, key_of}
+use Rattle.policy_statement.specs.Ring.{KeyView, HasKey, key_of}
 use Rattle.pcfs_secrets.specs.declared.secrets.Secrets.{Secrets}
 use Rattle.pcfs_secrets.specs.SecretLines.{IsKeyWord, IsSealLine, seal_line, IsKeyLine, key_line, GivesKey, GiveKeys, IsBadAt}
 use Rattle.pcfs_secrets.specs.SecretsFile.{IsSecrets, IsFirstBad, no_line, no_seal, no_key}
@@ -69,17 +69,17 @@ decided_seal : (line : List ℕ) → DecidesSeal line
 decided_seal line = seal_front line (decided_front (codes "seal ") line)
 
 abbrev DecidesKeyLine : List ℕ → Type 0
-DecidesKeyLine line = ((k : Key) × IsKeyLine line k) ⊎ ((k : Key) → IsKeyLine line k → ⊥)
+DecidesKeyLine line = ((k : KeyView) × IsKeyLine line k) ⊎ ((k : KeyView) → IsKeyLine line k → ⊥)
 
 -- a line with a key falls at its first space
-pub record FallsAt (rest : List ℕ) (k : Key) : Type 0 where
+pub record FallsAt (rest : List ℕ) (k : KeyView) : Type 0 where
   pub word : List ℕ
   pub named : IsTrue (is_principal_name k.who)
   pub name_is : take (stop_place 32 rest) rest ≡ k.who
   pub behind_is : drop (stop_place 32 rest) rest ≡ 32 ∷ word
   pub key_is : IsKeyWord word k.key
 
-falls_at : (line rest : List ℕ) (k : Key) → line ≡ codes "key " ++ rest → IsKeyLine line k → FallsAt rest k
+falls_at : (line rest : List ℕ) (k : KeyView) → line ≡ codes "key " ++ rest → IsKeyLine line k → FallsAt rest k
 falls_at line rest k line_is is =
     let parts = name_and_word is in
     let rest_is = append_cancel_left (codes "key ") rest (k.who ++ 32 ∷ parts.word) (sym line_is ∙ parts.line_is) in
@@ -92,7 +92,7 @@ key_step line rest word line_is behind_is false named _ = inr (λ k is.
     false≢true (sym named ∙ ap is_principal_name falls.name_is ∙ falls.named))
 key_step line rest word line_is behind_is true named (inl h) =
     let name : List ℕ = take (stop_place 32 rest) rest in
-    let k : Key = record { who = name; key = h.0 } in
+    let k : KeyView = record { who = name; key = h.0 } in
     let rest_is : rest ≡ name ++ 32 ∷ word = sym (take-append-drop (stop_place 32 rest) rest) ∙ ap (λ b. name ++ b) behind_is in
     inl (k, subst (λ l. IsKeyLine l k) (sym (line_is ∙ ap (λ r. codes "key " ++ r) rest_is)) (key_line name word h.0 named h.1))
 key_step line rest word line_is behind_is true named (inr none) = inr (λ k is.
@@ -111,33 +111,33 @@ key_front line (inr none) = inr (λ k is. let parts = name_and_word is in none (
 
 -- ---- the ring
 
-abbrev DecidesGiven : List Key → List ℕ → Type 0
-DecidesGiven ring line = ((k : Key) × GivesKey ring line k) ⊎ ((k : Key) → GivesKey ring line k → ⊥)
+abbrev DecidesGiven : List KeyView → List ℕ → Type 0
+DecidesGiven ring line = ((k : KeyView) × GivesKey ring line k) ⊎ ((k : KeyView) → GivesKey ring line k → ⊥)
 
 unknown : {A : Type 0} (o : Option A) → IsSome o ⊎ (IsSome o → ⊥)
 unknown None = inr (λ h. cc)
 unknown (Some x) = inl refl
 
-known_step : (ring : List Key) (line : List ℕ) (k : Key) → IsKeyLine line k → IsSome (key_of ring k.who) ⊎ (IsSome (key_of ring k.who) → ⊥) → DecidesGiven ring line
+known_step : (ring : List KeyView) (line : List ℕ) (k : KeyView) → IsKeyLine line k → IsSome (key_of ring k.who) ⊎ (IsSome (key_of ring k.who) → ⊥) → DecidesGiven ring line
 known_step ring line k is (inl known) = inr (λ other gives. gives.unknown (subst (λ l. HasKey ring l.who) (IsKeyLine-same line k other is gives.line_is) known))
 known_step ring line k is (inr none) = inl (k, record { line_is = is; unknown = none })
 
-given_step : (ring : List Key) (line : List ℕ) → DecidesKeyLine line → DecidesGiven ring line
+given_step : (ring : List KeyView) (line : List ℕ) → DecidesKeyLine line → DecidesGiven ring line
 given_step ring line (inl h) = known_step ring line h.0 h.1 (unknown (key_of ring h.0.who))
 given_step ring line (inr none) = inr (λ k gives. none k gives.line_is)
 
-abbrev DecidesLines : List Key → List (List ℕ) → Type 0
-DecidesLines ring lines = ((after : List Key) × GiveKeys ring lines after) ⊎ ((place : ℕ) × IsBadAt ring lines place)
+abbrev DecidesLines : List KeyView → List (List ℕ) → Type 0
+DecidesLines ring lines = ((after : List KeyView) × GiveKeys ring lines after) ⊎ ((place : ℕ) × IsBadAt ring lines place)
 
-more_step : (ring : List Key) (line : List ℕ) (lines : List (List ℕ)) (k : Key) → GivesKey ring line k → DecidesLines (ring ++ k ∷ []) lines → DecidesLines ring (line ∷ lines)
+more_step : (ring : List KeyView) (line : List ℕ) (lines : List (List ℕ)) (k : KeyView) → GivesKey ring line k → DecidesLines (ring ++ k ∷ []) lines → DecidesLines ring (line ∷ lines)
 more_step ring line lines k gives (inl h) = inl (h.0, (k, gives, h.1))
 more_step ring line lines k gives (inr h) = inr (suc h.0, (k, gives, h.1))
 
-lines_step : (ring : List Key) (line : List ℕ) (lines : List (List ℕ)) → DecidesGiven ring line → ((k : Key) → DecidesLines (ring ++ k ∷ []) lines) → DecidesLines ring (line ∷ lines)
+lines_step : (ring : List KeyView) (line : List ℕ) (lines : List (List ℕ)) → DecidesGiven ring line → ((k : KeyView) → DecidesLines (ring ++ k ∷ []) lines) → DecidesLines ring (line ∷ lines)
 lines_step ring line lines (inl h) rest = more_step ring line lines h.0 h.1 (rest h.0)
 lines_step ring line lines (inr none) rest = inr (zero, none)
 
-decided_lines : (ring : List Key) (lines : List (List ℕ)) → DecidesLines ring lines
+decided_lines : (ring : List KeyView) (lines : List (List ℕ)) → DecidesLines ring lines
 decided_lines ring [] = inl (ring, refl)
 decided_lines ring (line ∷ lines) = lines_step ring line lines (given_step ring line (key_front line (decided_front (codes "key ") line))) (λ k. decided_lines (ring ++ k ∷ []) lines)
 

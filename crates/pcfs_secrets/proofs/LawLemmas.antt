@@ -2,7 +2,7 @@
 use Rattle.std.proofs.Common.{◌≡◌, ℕ, zero, suc, ◌+◌, List, [], ◌∷◌, ◌++◌, codes, refl, sym, ap, ◌∙◌, subst, ◌⊎◌, inl, inr}
 use Rattle.std.proofs.lemmas.List.{append_cancel_left}
 use Rattle.line_text.proofs.HexLemmas.{IsHex-same}
-use Rattle.policy_statement.specs.Ring.{Key}
+use Rattle.policy_statement.specs.Ring.{KeyView}
 use Rattle.pcfs_secrets.specs.declared.secrets.Secrets.{Secrets}
 use Rattle.pcfs_secrets.specs.SecretLines.{IsKeyWord, IsSealLine, GiveKeys, IsBadAt}
 use Rattle.pcfs_secrets.specs.SecretsFile.{IsSecrets, IsFirstBad, no_line, no_seal, no_key}
@@ -15,7 +15,7 @@ IsSealLine-same line a b first second =
     let same = append_cancel_left (codes "seal ") one.word other.word (sym one.line_is ∙ other.line_is) in
     IsHex-same other.word a b (subst (λ w. IsKeyWord w a) same one.key_is).hex other.key_is.hex
 
-one_ring : (ring : List Key) (lines : List (List ℕ)) (a b : List Key) → GiveKeys ring lines a → GiveKeys ring lines b → a ≡ b
+one_ring : (ring : List KeyView) (lines : List (List ℕ)) (a b : List KeyView) → GiveKeys ring lines a → GiveKeys ring lines b → a ≡ b
 one_ring ring [] a b first second = sym first ∙ second
 one_ring ring (line ∷ lines) a b first second =
     let same = IsKeyLine-same line second.0 first.0 second.1.line_is first.1.line_is in
@@ -28,7 +28,7 @@ one_reading (line ∷ lines) a b first second =
     let rings = one_ring [] lines a.ring b.ring first.1 second.1 in
     ap (λ key. let s : Secrets = record { seal_key = key; ring = a.ring } in s) keys ∙ ap (λ ring. let s : Secrets = record { seal_key = b.seal_key; ring = ring } in s) rings
 
-one_place : (ring : List Key) (lines : List (List ℕ)) (m n : ℕ) → IsBadAt ring lines m → IsBadAt ring lines n → m ≡ n
+one_place : (ring : List KeyView) (lines : List (List ℕ)) (m n : ℕ) → IsBadAt ring lines m → IsBadAt ring lines n → m ≡ n
 one_place ring [] m n first second = absurd first
 one_place ring (line ∷ lines) zero zero first second = refl
 one_place ring (line ∷ lines) zero (suc n) first second = absurd (first second.0 second.1)
@@ -37,7 +37,7 @@ one_place ring (line ∷ lines) (suc m) (suc n) first second =
     let same = IsKeyLine-same line second.0 first.0 second.1.line_is first.1.line_is in
     ap suc (one_place (ring ++ first.0 ∷ []) lines m n first.2 (subst (λ k. IsBadAt (ring ++ k ∷ []) lines n) same second.2))
 
-never_given : (ring : List Key) (lines : List (List ℕ)) (after : List Key) (place : ℕ) → GiveKeys ring lines after → IsBadAt ring lines place → ⊥
+never_given : (ring : List KeyView) (lines : List (List ℕ)) (after : List KeyView) (place : ℕ) → GiveKeys ring lines after → IsBadAt ring lines place → ⊥
 never_given ring [] after place given bad = bad
 never_given ring (line ∷ lines) after zero given bad = bad given.0 given.1
 never_given ring (line ∷ lines) after (suc place) given bad =

@@ -4,7 +4,7 @@ use Rattle.line_text.specs.Lines.{lines_of}
 use Rattle.pcfs_secrets.specs.declared.secrets.Secrets.{Secrets}
 use Rattle.pcfs_secrets.specs.declared.fault.SecretFault.{SecretFault}
 use Rattle.pcfs_secrets.specs.declared.fault.SecretFault.TheVariants.{BadLine, NoMemory}
-use Rattle.policy_statement.specs.Ring.{Key}
+use Rattle.policy_statement.specs.Ring.{KeyView}
 use Rattle.pcfs_secrets.specs.SecretLines.{IsSealLine, GiveKeys, IsBadAt}
 
 -- the lines are those of a secrets file, with these secrets
@@ -19,7 +19,7 @@ pub data IsFirstBad : List (List ℕ) → ℕ → Type 0 where
   no_key : (line key : List ℕ) (lines : List (List ℕ)) (place : ℕ) → IsSealLine line key → IsBadAt [] lines place → IsFirstBad (line ∷ lines) (place + 2)
 
 -- why not all of these lines gave their keys, where the first of them is line 2
-abbrev pub IsFaultOfKeys : List Key → List (List ℕ) → SecretFault → Type 0
+abbrev pub IsFaultOfKeys : List KeyView → List (List ℕ) → SecretFault → Type 0
 IsFaultOfKeys ring lines (BadLine number) = (place : ℕ) × IsBadAt ring lines place × (number ≡ place + 2)
 IsFaultOfKeys ring lines NoMemory = Unit {0}
 

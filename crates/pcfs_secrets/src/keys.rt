@@ -1,4 +1,4 @@
-//! The keys of the lines behind the first.
+//! The keys of the lines after the first.
 
 ghost use Rattle.std.specs.Prelude.{OnOk, IfErr};
 ghost use Rattle.line_text.specs.Lines.{lines_of};

@@ -33,7 +33,7 @@ impl Secrets {
     }
 
     /// The secrets of a secrets file: the line `seal HEX`, and then lines `key NAME HEX`, each with a name of its own.
-    /// A key is at most 1,024 bytes, in hexadecimal, `-` for no bytes. `BadLine` is answered exactly where the text has
+    /// A key is at most 1,024 bytes, in hexadecimal, `-` for no bytes. `BadLine` is returned exactly if the text has
     /// a first bad line.
     pub fn parse(alloc: Global, text: &[u8]) -> Result<Secrets, SecretFault>
         ensures { ReadsSecrets text.now result }
@@ -44,18 +44,22 @@ impl Secrets {
         }
     }
 
-    // The secrets of the first line and those behind it.
+    // The secrets of the first line and those after it.
     fn read(alloc: Global, line: &[u8], others: &[u8]) -> Result<Secrets, SecretFault>
         ensures { ReadsLines (line.now ∷ lines_of others.now) result }
     {
         match read_seal(alloc, line)? {
-            Some(seal_key) => Secrets::sealed(alloc, seal_key, others),
+            Some(seal_key) => Secrets::secrets_with_seal(alloc, seal_key, others),
             None => Err(SecretFault::BadLine(1)),
         }
     }
 
     // The secrets with this key of the seal, and the keys of the lines.
-    fn sealed(alloc: Global, seal_key: Bytes, lines: &[u8]) -> Result<Secrets, SecretFault>
+    fn secrets_with_seal(
+        alloc: Global,
+        seal_key: Bytes,
+        lines: &[u8],
+    ) -> Result<Secrets, SecretFault>
         ensures ok { IfOk result (λ secrets. (secrets.seal_key ≡ seal_key) × GiveKeys [] (lines_of lines.now) secrets.ring) }
         ensures err { IfErr result (IsFaultOfKeys [] (lines_of lines.now)) }
     {

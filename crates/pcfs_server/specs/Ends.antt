@@ -17,7 +17,7 @@ HasTaken (Done n) old new = FallsBy n old new
 HasTaken (NetFault n) old new = FallsBy n old new ⊎ FallsBy (n + 1) old new
 HasTaken (NoMemory n) old new = FallsBy n old new ⊎ FallsBy (n + 1) old new
 
--- Done exactly where `count` connections were attended or the listener is over, and then none waits.
+-- Done exactly if `count` connections were attended or the listener is over, and then none waits.
 abbrev pub HasCause : ServeEnd → ℕ → Type 0 → Option ℕ → Type 0
 HasCause (Done n) count over waiting =
     (n ≡ count) ⊎ ((n < count) × over × IfSome waiting (λ left. left ≡ 0))

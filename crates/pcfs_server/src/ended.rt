@@ -7,14 +7,14 @@ use std::sync::{Condvar, Mutex, Wait};
 ///
 /// A thread tells its key as the last that it does. Who waits for one sleeps until then.
 #[derive(Drop)]
-pub(crate) struct Ended {
+pub(crate) struct EndedThreads {
     keys: Mutex<Vec<usize>>,
     bell: Condvar,
 }
 
-impl Ended {
-    pub(crate) fn new(alloc: Global) -> Ended {
-        Ended {
+impl EndedThreads {
+    pub(crate) fn new(alloc: Global) -> EndedThreads {
+        EndedThreads {
             keys: Mutex::new(Vec::new(alloc)),
             bell: Condvar::new(),
         }

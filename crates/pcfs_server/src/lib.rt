@@ -4,7 +4,7 @@
 //! token that the service admitted was attended at most once and has left.
 #![tactic(auto)]
 
-mod desk;
+mod both;
 mod end;
 mod ended;
 pub mod laws;

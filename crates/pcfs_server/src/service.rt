@@ -54,7 +54,7 @@ pub trait Service<I: Source, O: Sink> {
     // What no call changes of the door.
     ghost kept: { Self.Door → Self.Kept };
 
-    /// Admits a connection. `Failed` comes only where the door's count of faults rose.
+    /// Admits a connection. `Failed` comes only if the door's count of faults rose.
     fn admit(&self, alloc: Global, door: &mut Self::Door) -> Result<Self::Token, AdmitFault>
         requires belongs { is_door self.now door.old }
         requires room { 0 < room door.old }

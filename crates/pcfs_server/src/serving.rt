@@ -6,9 +6,9 @@ ghost use Rattle.pcfs_ports.specs.Faults.{HasRisen};
 ghost use Rattle.pcfs_server.specs.Table.{AllHave};
 ghost use Rattle.pcfs_server.specs.Ends.{number_of, HasTaken, HasCause, IsNetFault};
 
-use super::desk::{Desk, Front};
 use super::end::ServeEnd;
-use super::ended::Ended;
+use super::ended::EndedThreads;
+use super::listener_and_door::{Front, ListenerAndDoor};
 use super::service::{AdmitFault, Service};
 use super::threads::{Table, begin, make_room};
 use pcfs_ports::{Accepted, Listener};
@@ -31,7 +31,7 @@ fn accept_all<
     scope: &Scope<'s, &'e ()>,
     alloc: Global,
     service: &'e H,
-    ended: &'e Ended,
+    ended: &'e EndedThreads,
     table: &mut Table<L::In, L::Out, H, H::Token>,
     front: &mut F,
     count: u64,
@@ -94,7 +94,7 @@ fn serve<
     scope: &Scope<'s, &'e ()>,
     alloc: Global,
     service: &'e H,
-    ended: &'e Ended,
+    ended: &'e EndedThreads,
     front: &mut F,
     count: u64,
     most: usize,
@@ -139,7 +139,7 @@ fn serve_in_scope<
     rt: &'e R,
     alloc: Global,
     service: &'e H,
-    ended: &'e Ended,
+    ended: &'e EndedThreads,
     front: &mut F,
     count: u64,
     most: usize,
@@ -232,17 +232,17 @@ pub fn serve_conns<R: Threads + Wait + Sync, L: Listener, H: Service<L::In, L::O
     if count > 0 && listener.listen(port).is_err() {
         return ServeEnd::NetFault(0);
     }
-    let ended = Ended::new(alloc);
-    let mut desk = Desk {
+    let ended = EndedThreads::new(alloc);
+    let mut both = ListenerAndDoor {
         listener: &mut *listener,
         door: &mut *door,
         end: ServeEnd::Done(0),
     };
-    serve_in_scope(rt, alloc, service, &ended, &mut desk, count, most);
-    let Desk {
+    serve_in_scope(rt, alloc, service, &ended, &mut both, count, most);
+    let ListenerAndDoor {
         listener: _,
         door: _,
         end,
-    } = desk;
+    } = both;
     end
 }

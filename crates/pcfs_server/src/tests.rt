@@ -14,7 +14,7 @@ use std::thread::Threads;
 
 // How many tokens were made, are out, and were attended and left. One admission may be to fail.
 #[derive(Drop)]
-struct Gate {
+struct EchoGate {
     made: u64,
     out: u64,
     served: u64,
@@ -24,7 +24,7 @@ struct Gate {
 }
 
 #[derive(Drop)]
-struct Pass {
+struct EchoPass {
     attended: bool,
 }
 
@@ -44,10 +44,10 @@ impl Counting {
     }
 }
 
-fn open_gate(failing: Option<u64>) -> Gate
+fn open_gate(failing: Option<u64>) -> EchoGate
     ensures { result.made ≡ 0 }
 {
-    Gate {
+    EchoGate {
         made: 0,
         out: 0,
         served: 0,
@@ -69,9 +69,9 @@ fn echo<I: Source, O: Sink>(input: &mut I, output: &mut O) {
 impl<I: Source, O: Sink> Service<I, O> for Counting {
     ghost use Rattle.std.specs.Prelude.{◌-◌, ◌^◌};
 
-    type Door = Gate;
+    type Door = EchoGate;
 
-    type Token = Pass;
+    type Token = EchoPass;
 
     type Kept = ();
 
@@ -91,26 +91,26 @@ impl<I: Source, O: Sink> Service<I, O> for Counting {
 
     ghost kept = { λ _. tt };
 
-    fn admit(&self, _alloc: Global, door: &mut Gate) -> Result<Pass, AdmitFault> {
+    fn admit(&self, _alloc: Global, door: &mut EchoGate) -> Result<EchoPass, AdmitFault> {
         if door.failing == Some(door.made) {
             door.faults = door.faults.saturating_add(1);
             return Err(AdmitFault::Failed);
         }
-        *door = Gate {
+        *door = EchoGate {
             made: door.made + 1,
             out: door.out + 1,
             served: door.served,
             faults: door.faults,
             failing: door.failing,
         };
-        Ok(Pass { attended: false })
+        Ok(EchoPass { attended: false })
     }
 
     fn attend<R: Wait>(
         &self,
         _rt: &R,
         _alloc: Global,
-        token: &mut Pass,
+        token: &mut EchoPass,
         input: &mut I,
         output: &mut O,
     ) {
@@ -125,13 +125,13 @@ impl<I: Source, O: Sink> Service<I, O> for Counting {
         token.attended = true;
     }
 
-    fn leave(&self, door: &mut Gate, token: Pass) {
+    fn leave(&self, door: &mut EchoGate, token: EchoPass) {
         let served = if token.attended {
             door.served + 1
         } else {
             door.served
         };
-        *door = Gate {
+        *door = EchoGate {
             made: door.made,
             out: door.out - 1,
             served,

@@ -4,8 +4,8 @@ ghost use Rattle.std.specs.Prelude.{◌≡◌, ℕ, ◌+◌, ◌<◌, ◌≤◌,
 ghost use Rattle.slab.specs.Slab.{slab_len};
 ghost use Rattle.pcfs_server.specs.Table.{AllHave};
 
-use super::desk::Front;
-use super::ended::Ended;
+use super::ended::EndedThreads;
+use super::listener_and_door::Front;
 use super::service::Service;
 use pcfs_ports::{Listener, Sink, Source};
 use slab::Slab;
@@ -39,7 +39,7 @@ fn promise<I, O, H>(service: &H) -> Attends<I, O, H>
 }
 
 // Attends a connection, and then lets go of it.
-fn attended<R: Wait, I: Source + Drop, O: Sink + Drop, H: Service<I, O>>(
+fn attend_and_close<R: Wait, I: Source + Drop, O: Sink + Drop, H: Service<I, O>>(
     rt: &R,
     alloc: Global,
     service: &H,
@@ -91,7 +91,7 @@ fn join_one<R: Threads, L: Listener, H: Service<L::In, L::Out>, F: Front<L, H>>(
 pub(crate) fn make_room<R: Threads + Wait, L: Listener, H: Service<L::In, L::Out>, F: Front<L, H>>(
     rt: &R,
     service: &H,
-    ended: &Ended,
+    ended: &EndedThreads,
     table: &mut Table<L::In, L::Out, H, H::Token>,
     front: &mut F,
     most: usize,
@@ -135,7 +135,7 @@ pub(crate) fn begin<
     scope: &Scope<'s, &'e ()>,
     alloc: Global,
     service: &'e H,
-    ended: &'e Ended,
+    ended: &'e EndedThreads,
     table: &mut Table<L::In, L::Out, H, H::Token>,
     front: &mut F,
     token: H::Token,
@@ -171,7 +171,7 @@ where
         requires { H.is_token service.now token × (H.attended token ≡ false) }
         ensures { H.is_token service.entry.now result × (H.attended result ≡ true) }
     {
-        let token = attended(rt, alloc, service, token, input, output);
+        let token = attend_and_close(rt, alloc, service, token, input, output);
         ended.tell(rt, key);
         token
     };

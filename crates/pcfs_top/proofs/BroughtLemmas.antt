@@ -10,9 +10,9 @@ use Rattle.line_wire.specs.declared.command.ProcapWord.TheVariants as words
 use Rattle.op_gate.specs.Issued.{IsProcapOf}
 use Rattle.pcfs_top.specs.declared.brought.Brought.{Brought}
 use Rattle.pcfs_top.specs.declared.brought.Brought.TheVariants as found
-use Rattle.pcfs_top.specs.Brought.{IsBroughtBy, AreAdded}
+use Rattle.pcfs_top.specs.Brought.{IsBroughtBy, AreProcapsAdded}
 use Rattle.access_history.specs.Replay.{replay}
-use Rattle.pcfs_top.specs.Desk.{Seated}
+use Rattle.pcfs_top.specs.Interpreter.{InterpreterView}
 use Rattle.pcfs_top.specs.Script.{BringsProcap, held, issued, NamesIssue, AreBrought, IsFirstUnissued}
 
 -- a word brings its own procap
@@ -31,8 +31,8 @@ NamesIssue-brought key issues _ _ (held p) = tt
 NamesIssue-brought key issues _ _ (issued number issue numbered) = (issue, numbered)
 
 -- no word brings anything
-pub AreAdded-none : (key : List ℕ) (issues : List Issue) (words : List ProcapWord) (before : List Sealed) → words ≡ [] → AreAdded key issues words before before None
-AreAdded-none key issues words before is = subst (λ (ws : List ProcapWord). AreAdded key issues ws before before None) (sym is) ([], tt, sym (append-nil before))
+pub AreAdded-none : (key : List ℕ) (issues : List Issue) (words : List ProcapWord) (before : List Sealed) → words ≡ [] → AreProcapsAdded key issues words before before None
+AreAdded-none key issues words before is = subst (λ (ws : List ProcapWord). AreProcapsAdded key issues ws before before None) (sym is) ([], tt, sym (append-nil before))
 
 further : (key : List ℕ) (issues : List Issue) (word : ProcapWord) (others : List ProcapWord) (p : Sealed) (number : ℕ) → BringsProcap key issues word p → IsFirstUnissued issues others number → IsFirstUnissued issues (word ∷ others) number
 further key issues word others p number brings later = record {
@@ -48,16 +48,16 @@ further key issues word others p number brings later = record {
 }
 
 one_more : (key : List ℕ) (issues : List Issue) (word : ProcapWord) (others : List ProcapWord) (before mid after : List Sealed) (p : Sealed) (told : Option ℕ) → BringsProcap key issues word p → mid ≡ before ++ p ∷ [] →
-    AreAdded key issues others mid after told → AreAdded key issues (word ∷ others) before after told
+    AreProcapsAdded key issues others mid after told → AreProcapsAdded key issues (word ∷ others) before after told
 one_more key issues word others before mid after p None brings mid_is added =
     (p ∷ added.0, (brings, added.1), added.2 ∙ ap (λ (ps : List Sealed). ps ++ added.0) mid_is ∙ append_assoc before (p ∷ []) added.0)
 one_more key issues word others before mid after p (Some number) brings mid_is later = further key issues word others p number brings later
 
 -- the first word brings a procap
 pub AreAdded-more : (key : List ℕ) (issues : List Issue) (words : List ProcapWord) (word : ProcapWord) (others : List ProcapWord) (before mid after : List Sealed) (brought : Brought) (p : Sealed) (told : Option ℕ) → words ≡ word ∷ others →
-    brought ≡ found.Procap p → IsBroughtBy key issues word brought → mid ≡ before ++ p ∷ [] → AreAdded key issues others mid after told → AreAdded key issues words before after told
+    brought ≡ found.Procap p → IsBroughtBy key issues word brought → mid ≡ before ++ p ∷ [] → AreProcapsAdded key issues others mid after told → AreProcapsAdded key issues words before after told
 AreAdded-more key issues words word others before mid after brought p told is found_is brings mid_is added =
-    subst (λ (ws : List ProcapWord). AreAdded key issues ws before after told) (sym is)
+    subst (λ (ws : List ProcapWord). AreProcapsAdded key issues ws before after told) (sym is)
     (one_more key issues word others before mid after p told (subst (IsBroughtBy key issues word) found_is brings) mid_is added)
 
 here : (issues : List Issue) (word : ProcapWord) (others : List ProcapWord) (number : ℕ) → word ≡ words.Issue number → ((issue : Issue) → IsNumbered issues number issue → ⊥) → IsFirstUnissued issues (word ∷ others) number
@@ -68,15 +68,15 @@ here issues word others number is none = record {
 
 -- the first word names an issue which is not there
 pub AreAdded-unissued : (key : List ℕ) (issues : List Issue) (words : List ProcapWord) (word : ProcapWord) (others : List ProcapWord) (before after : List Sealed) (brought : Brought) (number : ℕ) → words ≡ word ∷ others →
-    brought ≡ found.Unissued number → IsBroughtBy key issues word brought → AreAdded key issues words before after (Some number)
+    brought ≡ found.Unissued number → IsBroughtBy key issues word brought → AreProcapsAdded key issues words before after (Some number)
 AreAdded-unissued key issues words word others before after brought number is found_is brings =
     let none : IsBroughtBy key issues word (found.Unissued number) = subst (IsBroughtBy key issues word) found_is brings in
-    subst (λ (ws : List ProcapWord). AreAdded key issues ws before after (Some number)) (sym is) (here issues word others number none.0 none.1)
+    subst (λ (ws : List ProcapWord). AreProcapsAdded key issues ws before after (Some number)) (sym is) (here issues word others number none.0 none.1)
 
 -- what was added to nothing is what the words bring
-pub AreBrought-added : (key : List ℕ) (issues : List Issue) (words : List ProcapWord) (none added : List Sealed) (told : Option ℕ) → told ≡ None → none ≡ [] → AreAdded key issues words none added told → AreBrought key issues words added
+pub AreBrought-added : (key : List ℕ) (issues : List Issue) (words : List ProcapWord) (none added : List Sealed) (told : Option ℕ) → told ≡ None → none ≡ [] → AreProcapsAdded key issues words none added told → AreBrought key issues words added
 AreBrought-added key issues words none added told is empty all =
-    let a : AreAdded key issues words none added None = subst (AreAdded key issues words none added) is all in
+    let a : AreProcapsAdded key issues words none added None = subst (AreProcapsAdded key issues words none added) is all in
     subst (AreBrought key issues words) (sym (a.2 ∙ ap (λ (ps : List Sealed). ps ++ a.0) empty)) a.1
 
 -- the words begin with the first
@@ -84,22 +84,22 @@ pub first_word : (words : List ProcapWord) (word : ProcapWord) → 1 ≤ length 
 first_word [] word some is = absurd (omega (arith, some))
 first_word (w ∷ ws) word some is = ap (λ (x : ProcapWord). x ∷ ws) (sym is)
 
--- and those behind it end them
+-- and those after it end them
 pub first_and_others : (words : List ProcapWord) (word : ProcapWord) → 1 ≤ length words → word ≡ get_or words 0 word → words ≡ word ∷ take (length words - 1) (drop 1 words)
 first_and_others [] word some is = absurd (omega (arith, some))
 first_and_others (w ∷ ws) word some is = ap (λ (x : ProcapWord). x ∷ ws) (sym is) ∙ ap (λ (t : List ProcapWord). word ∷ t) (sym (take_all (length (w ∷ ws) - 1) ws (omega arith)))
 
--- what a desk was told of the words, in its own state
-pub unissued_seated : (inside seated : Seated) (shown words : List ProcapWord) (none added : List Sealed) (told : Option ℕ) (number : ℕ) → inside ≡ seated → shown ≡ words → told ≡ Some number →
-    AreAdded inside.secrets.seal_key (replay inside.base inside.standing.events).issues shown none added told → IsFirstUnissued (replay seated.base seated.standing.events).issues words number
+-- what an interpreter was told of the words, in its own state
+pub unissued_seated : (inside seated : InterpreterView) (shown words : List ProcapWord) (none added : List Sealed) (told : Option ℕ) (number : ℕ) → inside ≡ seated → shown ≡ words → told ≡ Some number →
+    AreProcapsAdded inside.secrets.seal_key (replay inside.base inside.standing.events).issues shown none added told → IsFirstUnissued (replay seated.base seated.standing.events).issues words number
 unissued_seated inside seated shown words none added told number same words_are is all =
-    let first : IsFirstUnissued (replay inside.base inside.standing.events).issues shown number = subst (AreAdded inside.secrets.seal_key (replay inside.base inside.standing.events).issues shown none added) is all in
-    subst (λ (s : Seated). IsFirstUnissued (replay s.base s.standing.events).issues words number) same
+    let first : IsFirstUnissued (replay inside.base inside.standing.events).issues shown number = subst (AreProcapsAdded inside.secrets.seal_key (replay inside.base inside.standing.events).issues shown none added) is all in
+    subst (λ (s : InterpreterView). IsFirstUnissued (replay s.base s.standing.events).issues words number) same
     (subst (λ (ws : List ProcapWord). IsFirstUnissued (replay inside.base inside.standing.events).issues ws number) words_are first)
 
-pub brought_seated : (inside seated : Seated) (shown words : List ProcapWord) (none added : List Sealed) (told : Option ℕ) → inside ≡ seated → shown ≡ words → told ≡ None → none ≡ [] →
-    AreAdded inside.secrets.seal_key (replay inside.base inside.standing.events).issues shown none added told → AreBrought seated.secrets.seal_key (replay seated.base seated.standing.events).issues words added
+pub brought_seated : (inside seated : InterpreterView) (shown words : List ProcapWord) (none added : List Sealed) (told : Option ℕ) → inside ≡ seated → shown ≡ words → told ≡ None → none ≡ [] →
+    AreProcapsAdded inside.secrets.seal_key (replay inside.base inside.standing.events).issues shown none added told → AreBrought seated.secrets.seal_key (replay seated.base seated.standing.events).issues words added
 brought_seated inside seated shown words none added told same words_are is empty all =
-    subst (λ (s : Seated). AreBrought s.secrets.seal_key (replay s.base s.standing.events).issues words added) same
+    subst (λ (s : InterpreterView). AreBrought s.secrets.seal_key (replay s.base s.standing.events).issues words added) same
     (subst (λ (ws : List ProcapWord). AreBrought inside.secrets.seal_key (replay inside.base inside.standing.events).issues ws added) words_are
     (AreBrought-added inside.secrets.seal_key (replay inside.base inside.standing.events).issues shown none added told is empty all))

@@ -1,5 +1,5 @@
 pub mod BroughtLemmas
-pub mod Ending
-pub mod OneAnswer
+pub mod EndsWithLemmas
+pub mod AnswersLineLemmas
 pub mod RunLemmas
-pub mod Running
+pub mod ScriptLemmas

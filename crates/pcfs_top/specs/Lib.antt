@@ -1,7 +1,7 @@
 pub mod Admin
 pub mod Brought
-pub mod Desk
-pub mod DeskCode
+pub mod Interpreter
+pub mod InterpreterCode
 pub mod Laws
 pub mod Run
 pub mod Script

@@ -2,7 +2,7 @@
 
 ghost use Rattle.std.specs.Prelude.{IfOk};
 ghost use Rattle.access_history.specs.Replay.{replay};
-ghost use Rattle.pcfs_top.specs.Brought.{IsBroughtBy, AreAdded};
+ghost use Rattle.pcfs_top.specs.Brought.{IsBroughtBy, AreProcapsAdded};
 
 use access_history::Procaps;
 use bl_syntax::NoMemory;
@@ -40,7 +40,7 @@ pub fn add_procaps(
     words: &[ProcapWord],
     procaps: &mut Procaps,
 ) -> Result<Option<u64>, NoMemory>
-    ensures { IfOk result (AreAdded gate.now.key (replay gate.now.base gate.now.events).issues words.now procaps.old procaps.new) }
+    ensures { IfOk result (AreProcapsAdded gate.now.key (replay gate.now.base gate.now.events).issues words.now procaps.old procaps.new) }
 {
     match words {
         [] => Ok(None),

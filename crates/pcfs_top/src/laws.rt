@@ -7,7 +7,7 @@ pub fn runs_are_lawful()
     ensures { RunsAreLawful }
 {}
 
-/// A line has one answer where the script stands, want of memory aside.
+/// A line has one answer where the script stands, out of memory aside.
 pub fn lines_have_one_answer()
     ensures { LinesHaveOneAnswer }
 {}

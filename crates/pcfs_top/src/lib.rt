@@ -5,7 +5,7 @@
 #![tactic(auto)]
 
 mod brought;
-mod desk;
+mod interpreter;
 mod laws;
 pub mod run;
 mod script;

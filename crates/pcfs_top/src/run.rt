@@ -40,7 +40,7 @@ fn is_script(words: &Vec<String>) -> bool
     }
 }
 
-// Writes a last line, and answers the status, or that the output failed.
+// Writes a last line, and returns the status, or that the output failed.
 fn tell<O: Sink>(output: &mut O, line: &[u8], status: u8) -> u8
     ensures { ((result ≡ status) × (O.held output.new ≡ with_back (O.held output.old) line.now))
         ⊎ ((result ≡ WRITE_FAULT) × HasRisen (O.faults output.old) (O.faults output.new) × HoldsSome (O.held output.old) (O.held output.new) line.now) }

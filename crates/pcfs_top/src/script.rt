@@ -9,7 +9,7 @@ ghost use Rattle.line_wire.specs.ReplyText.{reply_text};
 ghost use Rattle.pcfs_top.specs.Run.{RunsWhole, RunsPart};
 ghost use Rattle.pcfs_top.specs.declared.script.ScriptFault.TheVariants.{NoMemory as OutOfMemory, Write as WriteFailed};
 
-use crate::desk::Desk;
+use crate::interpreter::Interpreter;
 use access_history::Reply;
 use bl_syntax::{Bytes, NoMemory};
 use line_text::first_line;
@@ -65,12 +65,12 @@ fn send<O: Sink>(
 fn answer_lines<O: Sink>(
     alloc: Global,
     secrets: &Secrets,
-    desk: &mut Desk,
+    interpreter: &mut Interpreter,
     input: &[u8],
     output: &mut O,
 ) -> Result<(), ScriptFault>
     requires short { length input.now < 2 ^ 30 }
-    requires fresh { desk.old ≡ record { secrets = secrets.now; base = fresh; standing = beginning } }
+    requires fresh { interpreter.old ≡ record { secrets = secrets.now; base = fresh; standing = beginning } }
     ensures ok { OnOk result ((written : List ℕ) × RunsWhole secrets.now input.now written × (O.held output.new ≡ with_back (O.held output.old) written)) }
     ensures err { OnErr result ((written : List ℕ) × RunsPart secrets.now input.now written × HoldsSome (O.held output.old) (O.held output.new) written) }
     ensures risen { IsErrOf result ScriptFault.Write → HasRisen (O.faults output.old) (O.faults output.new) }
@@ -79,7 +79,7 @@ fn answer_lines<O: Sink>(
     let mut buffer = Bytes::new(alloc);
     let mut rest = input;
     while let Some((line, others)) = first_line(rest) {
-        let reply = desk.reply_to(alloc, line);
+        let reply = interpreter.reply_to(alloc, line);
         send(alloc, &mut buffer, &reply, output)?;
         rest = others;
     }
@@ -89,7 +89,7 @@ fn answer_lines<O: Sink>(
 /// Runs the script of these lines over a store before its first event, under these secrets, and writes a line for each of them to the
 /// output: its reply, or `nomemory` where there was no memory for it, and then nothing changed.
 ///
-/// `Write` comes only where the output's count of faults rose. `NoMemory` comes where there was no memory for the
+/// `Write` comes only if the output's count of faults rose. `NoMemory` comes where there was no memory for the
 /// start, or for the text of a reply. After a fault some first part of the replies was written.
 pub fn run_script<O: Sink>(
     alloc: Global,
@@ -103,6 +103,6 @@ pub fn run_script<O: Sink>(
     ensures risen { IsErrOf result ScriptFault.Write → HasRisen (O.faults output.old) (O.faults output.new) }
     ensures never_falls { O.faults output.old ≤ O.faults output.new }
 {
-    let mut desk = Desk::fresh(alloc, secrets)?;
-    answer_lines(alloc, secrets, &mut desk, input, output)
+    let mut interpreter = Interpreter::fresh(alloc, secrets)?;
+    answer_lines(alloc, secrets, &mut interpreter, input, output)
 }

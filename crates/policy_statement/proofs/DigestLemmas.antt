@@ -9,10 +9,10 @@ use Rattle.std.proofs.lemmas.Bool.{cases_lt, false≢true}
 use Rattle.std.proofs.lemmas.List.{get_or_default}
 use Rattle.std.proofs.lemmas.List.Edits.{length-insert, get_or-insert_below, get_or-insert_at, get_or-insert_above}
 use Rattle.std.proofs.lemmas.List.Sorted.{IsNonDecreasingBy-insert, searched}
-use Rattle.bl_syntax.specs.Statement.{Saying}
+use Rattle.bl_syntax.specs.Statement.{StatementView}
 use Rattle.policy_statement.specs.Digest.{digest_of}
-use Rattle.policy_statement.specs.Registered.{Registered}
-use Rattle.policy_statement.specs.Registry.{numbered}
+use Rattle.policy_statement.specs.Registered.{RegisteredView}
+use Rattle.policy_statement.specs.Registry.{statement_of_number}
 use Rattle.policy_statement.specs.Digests.{IsMissing, IsPlace, HasDigests}
 
 -- what lies below a place and above it is not there
@@ -23,7 +23,7 @@ missing_between xs x place below above k lt same =
       | inr high ↦ let h = above k high lt in absurd (omega arith)
     ]
 
--- a digest that is missing behind an insertion was missing before, and is not the one that was inserted
+-- a digest that is missing after an insertion was missing before, and is not the one that was inserted
 pub missing-insert : (xs : List ℕ) (i y : ℕ) → i ≤ length xs → (d : ℕ) → IsMissing (insert xs i y) d → IsMissing xs d × (y ≢ d)
 missing-insert xs i y le d missing = (
   λ k lt same.
@@ -75,14 +75,14 @@ inserted xs new place x false new_is ok = absurd (false≢true ok)
 
 -- ---- entries
 
-place_push : (entries : List Registered) (e : Registered) (place : ℕ) (s : Saying) → option_map (λ entry. entry.statement) (slice_get (entries ++ e ∷ []) place) ≡ Some s
+place_push : (entries : List RegisteredView) (e : RegisteredView) (place : ℕ) (s : StatementView) → option_map (λ entry. entry.statement) (slice_get (entries ++ e ∷ []) place) ≡ Some s
     → (option_map (λ entry. entry.statement) (slice_get entries place) ≡ Some s) ⊎ (e.statement ≡ s)
 place_push [] e zero s found = inr cc
 place_push [] e (suc place) s found = cc
 place_push (entry ∷ entries) e zero s found = inl found
 place_push (entry ∷ entries) e (suc place) s found = place_push entries e place s found
 
-numbered_push : (entries : List Registered) (e : Registered) (number : ℕ) (s : Saying) → numbered (entries ++ e ∷ []) number ≡ Some s → (numbered entries number ≡ Some s) ⊎ (e.statement ≡ s)
+numbered_push : (entries : List RegisteredView) (e : RegisteredView) (number : ℕ) (s : StatementView) → statement_of_number (entries ++ e ∷ []) number ≡ Some s → (statement_of_number entries number ≡ Some s) ⊎ (e.statement ≡ s)
 numbered_push entries e zero s found = cc
 numbered_push entries e (suc place) s found = place_push entries e place s found
 
@@ -90,7 +90,7 @@ pub HasDigests-nothing : (digests : List ℕ) → HasDigests [] digests
 HasDigests-nothing digests zero s found missing = cc
 HasDigests-nothing digests (suc place) s found missing = cc
 
-pub HasDigests-push : (entries : List Registered) (e : Registered) (digest : ℕ) (digests more : List ℕ) → digest ≡ digest_of e.statement → HasDigests entries digests
+pub HasDigests-push : (entries : List RegisteredView) (e : RegisteredView) (digest : ℕ) (digests more : List ℕ) → digest ≡ digest_of e.statement → HasDigests entries digests
     → ((d : ℕ) → IsMissing more d → IsMissing digests d × (digest ≢ d)) → HasDigests (entries ++ e ∷ []) more
 HasDigests-push entries e digest digests more digest_is known added number s found missing =
     let before = added (digest_of s) missing in

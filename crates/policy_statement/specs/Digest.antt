@@ -8,8 +8,8 @@ use Rattle.bl_syntax.specs.declared.terms.Term.TheVariants.{Prin, File, Perm, Ti
 use Rattle.bl_syntax.specs.declared.terms.StatePred.{StatePred}
 use Rattle.bl_syntax.specs.declared.terms.StatePred.TheVariants.{Owner, HasXattr, InDir}
 use Rattle.bl_syntax.specs.Spelling.{permission_code, sort_code}
-use Rattle.bl_syntax.specs.Formula.{Form, atom, compare, state, both, either, implies, truth, falsity, forall_, exists_, says, on}
-use Rattle.bl_syntax.specs.Statement.{Saying}
+use Rattle.bl_syntax.specs.Formula.{FormulaView, atom, compare, state, both, either, implies, truth, falsity, forall_, exists_, says, on}
+use Rattle.bl_syntax.specs.Statement.{StatementView}
 
 -- what was mixed before, and one number more
 unfoldable pub mix : ℕ → ℕ → ℕ
@@ -42,7 +42,7 @@ mix_state before (Owner file owner) = mix_term (mix_term (mix before 11) file) o
 mix_state before (HasXattr file name value) = mix_term (mix_term (mix_term (mix before 12) file) name) value
 mix_state before (InDir file directory) = mix_term (mix_term (mix before 13) file) directory
 
-abbrev pub mix_formula : ℕ → Form → ℕ
+abbrev pub mix_formula : ℕ → FormulaView → ℕ
 mix_formula before (atom name terms) = mix_terms (mix_bytes (mix before 14) name) terms
 mix_formula before (compare c) = mix_term (mix_term (mix before 15) c.low) c.high
 mix_formula before (state s) = mix_state before s
@@ -56,5 +56,5 @@ mix_formula before (exists_ s a) = mix_formula (mix (mix before 22) (sort_code s
 mix_formula before (says k a) = mix_formula (mix_term (mix before 23) k) a
 mix_formula before (on a u v) = mix_term (mix_term (mix_formula (mix before 24) a) u) v
 
-unfoldable pub digest_of : Saying → ℕ
+unfoldable pub digest_of : StatementView → ℕ
 digest_of s = mix_time (mix_time (mix_formula (mix_bytes 0 s.who) s.body) s.from) s.to

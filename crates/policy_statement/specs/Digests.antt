@@ -1,10 +1,10 @@
 -- The digests of what is registered. This project's own; nothing but speed depends on it.
 use Rattle.std.specs.Prelude.{◌≡◌, ◌≢◌, ◌<◌, ◌≤◌, ℕ, List, length, slice_index, Some}
 use Rattle.std.specs.List.Sorted.{IsNonDecreasing}
-use Rattle.bl_syntax.specs.Statement.{Saying}
+use Rattle.bl_syntax.specs.Statement.{StatementView}
 use Rattle.policy_statement.specs.Digest.{digest_of}
-use Rattle.policy_statement.specs.Registered.{Registered}
-use Rattle.policy_statement.specs.Registry.{numbered}
+use Rattle.policy_statement.specs.Registered.{RegisteredView}
+use Rattle.policy_statement.specs.Registry.{statement_of_number}
 
 -- the digest is none of these
 abbrev pub IsMissing : List ℕ → ℕ → Type 0
@@ -17,11 +17,11 @@ pub record IsPlace (rising : List ℕ) (digest place : ℕ) : Type 0 where
   pub above : (k : ℕ) → place ≤ k → k < length rising → digest ≤ slice_index rising k
 
 -- no digest of what is registered is missing
-abbrev pub HasDigests : List Registered → List ℕ → Type 0
-HasDigests entries digests = (number : ℕ) (s : Saying) → numbered entries number ≡ Some s → IsMissing digests (digest_of s) → ⊥
+abbrev pub HasDigests : List RegisteredView → List ℕ → Type 0
+HasDigests entries digests = (number : ℕ) (s : StatementView) → statement_of_number entries number ≡ Some s → IsMissing digests (digest_of s) → ⊥
 
 -- there are at most 4,096 entries, and these are their digests in rising order
-pub record IsIndexed (entries : List Registered) (digests : List ℕ) : Type 0 where
+pub record IsIndexed (entries : List RegisteredView) (digests : List ℕ) : Type 0 where
   pub few : length entries ≤ 4096
   pub rising : IsNonDecreasing digests
   pub known : HasDigests entries digests

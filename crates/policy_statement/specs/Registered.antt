@@ -1,16 +1,16 @@
 -- What is registered. This project's own.
 use Rattle.std.specs.Prelude.{ℕ, List, ◌-◌, Vec, vec_len, vec_capacity}
 use Rattle.std.specs.declared.alloc.Global.{Global}
-use Rattle.bl_syntax.specs.Statement.{Saying}
+use Rattle.bl_syntax.specs.Statement.{StatementView}
 
 -- a statement, and the signature with which it was registered
-pub record Registered : Type 0 where
-  pub statement : Saying
+pub record RegisteredView : Type 0 where
+  pub statement : StatementView
   pub signature : List ℕ
 
 -- all that is registered, in order, and for how many more there is room
-pub record Register : Type 0 where
-  pub entries : List Registered
+pub record RegistryView : Type 0 where
+  pub entries : List RegisteredView
   pub spare : ℕ
 
 -- how many items a vector takes without growing

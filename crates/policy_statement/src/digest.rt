@@ -1,7 +1,7 @@
 //! A number that is the same for the same statement. It takes no memory.
 
 ghost use Rattle.std.specs.Prelude.{◌≡◌};
-ghost use Rattle.bl_syntax.specs.Formula.{formula};
+ghost use Rattle.bl_syntax.specs.Formula.{formula_view};
 ghost use Rattle.policy_statement.specs.Digest.{mix, mix_bytes, mix_time, mix_term, mix_terms, mix_state, mix_formula, digest_of};
 
 use bl_syntax::fields::{permission_code, sort_code};
@@ -71,7 +71,7 @@ fn mix_state(before: u64, s: &StatePred) -> u64
 }
 
 fn mix_formula(before: u64, f: &Formula) -> u64
-    ensures { result ≡ mix_formula before (formula f.now) }
+    ensures { result ≡ mix_formula before (formula_view f.now) }
 {
     match f {
         Formula::Atom(name, terms) => {

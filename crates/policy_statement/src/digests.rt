@@ -5,7 +5,7 @@ ghost use Rattle.std.specs.List.Sorted.{IsNonDecreasing};
 ghost use Rattle.policy_statement.specs.Registered.{spare_of};
 ghost use Rattle.policy_statement.specs.Digests.{IsMissing, IsPlace};
 
-/// Whether the digest is one of these; `false` only where it is not.
+/// Whether the digest is one of these; `false` only if it is not.
 pub fn has_digest(rising: &[u64], digest: u64) -> bool
     requires { IsNonDecreasing rising.now }
     ensures { result ≡ false → IsMissing rising.now digest }

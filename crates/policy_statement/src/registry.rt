@@ -4,7 +4,7 @@ ghost use Rattle.std.specs.Prelude.{◌≡◌, ◌≤◌, ◌<◌, ◌+◌, ◌�
 ghost use Rattle.std.specs.Option.{option_copied};
 ghost use Rattle.policy_statement.specs.Digest.{digest_of};
 ghost use Rattle.policy_statement.specs.Messages.{statement_message};
-ghost use Rattle.policy_statement.specs.Registry.{IsNew, MayRegister, numbered};
+ghost use Rattle.policy_statement.specs.Registry.{IsNewStatement, MayRegister, statement_of_number};
 ghost use Rattle.policy_statement.specs.declared.registry.RegisterFault.TheVariants as faults;
 
 use crate::digest::digest;
@@ -52,10 +52,10 @@ pub struct Registered {
 impl Model for Registered {
     ghost use Rattle.std.specs.Prelude.{◌≡◌};
     ghost use Rattle.policy_statement.specs.Digest.{digest_of};
-    ghost use Rattle.policy_statement.specs.Registered.{Registered};
+    ghost use Rattle.policy_statement.specs.Registered.{RegisteredView};
     ghost use Rattle.policy_statement.specs.RegisteredCode.{registered_code};
 
-    ghost Value = { Registered };
+    ghost Value = { RegisteredView };
 
     ghost coded = { registered_code };
 
@@ -115,13 +115,13 @@ pub struct Registry {
 
 impl Model for Registry {
     ghost use Rattle.std.specs.Prelude.{min};
-    ghost use Rattle.policy_statement.specs.Registered.{Register, spare_of};
-    ghost use Rattle.policy_statement.specs.RegisteredCode.{register_code};
+    ghost use Rattle.policy_statement.specs.Registered.{RegistryView, spare_of};
+    ghost use Rattle.policy_statement.specs.RegisteredCode.{registry_code};
     ghost use Rattle.policy_statement.specs.Digests.{IsIndexed};
 
-    ghost Value = { Register };
+    ghost Value = { RegistryView };
 
-    ghost coded = { register_code };
+    ghost coded = { registry_code };
 
     ghost view = { λ r. record { entries = r.entries.items; spare = min (spare_of r.entries) (spare_of r.digests) } };
 
@@ -206,9 +206,9 @@ impl Registry {
         self.entries.len() as u32
     }
 
-    /// The statement of a number; none exactly where nothing has that number.
+    /// The statement of a number; none exactly if nothing has that number.
     pub fn get(&self, number: u32) -> Option<&Statement>
-        ensures { option_copied result ≡ numbered self.now.entries number }
+        ensures { option_copied result ≡ statement_of_number self.now.entries number }
     {
         let place = number.checked_sub(1)? as usize;
         match self.entries.get(place) {
@@ -219,8 +219,8 @@ impl Registry {
 
     // The place of an equal statement, from 0.
     fn find(&self, s: &Statement) -> Option<usize>
-        ensures none { IsNone result → IsNew self.now.entries s.now }
-        ensures some { IfSome result (λ place. numbered self.now.entries (place + 1) ≡ Some s.now) }
+        ensures none { IsNone result → IsNewStatement self.now.entries s.now }
+        ensures some { IfSome result (λ place. statement_of_number self.now.entries (place + 1) ≡ Some s.now) }
         ensures within { IfSome result (λ place. place < 4096) }
     {
         let known = digest(s);
@@ -235,8 +235,8 @@ impl Registry {
 // The place among these of a statement that is the same as one with that digest.
 fn find_among(entries: &[Registered], s: &Statement, known: u64) -> Option<usize>
     requires { known ≡ digest_of s.now }
-    ensures none { IsNone result → IsNew entries.now s.now }
-    ensures some { IfSome result (λ place. numbered entries.now (place + 1) ≡ Some s.now) }
+    ensures none { IsNone result → IsNewStatement entries.now s.now }
+    ensures some { IfSome result (λ place. statement_of_number entries.now (place + 1) ≡ Some s.now) }
     ensures within { IfSome result (λ place. place < length entries.now) }
 {
     for (place, entry) in entries.iter().enumerate() {

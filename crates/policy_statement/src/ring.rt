@@ -37,9 +37,9 @@ struct Key {
 
 impl Model for Key {
     ghost use Rattle.std.specs.Prelude.{◌≡◌, []};
-    ghost use Rattle.policy_statement.specs.Ring.{Key};
+    ghost use Rattle.policy_statement.specs.Ring.{KeyView};
 
-    ghost Value = { Key };
+    ghost Value = { KeyView };
 
     ghost view = { λ k. record { who = k.who; key = k.empty.key } };
 
@@ -95,9 +95,9 @@ pub struct Keyring {
 
 impl Model for Keyring {
     ghost use Rattle.std.specs.Prelude.{List};
-    ghost use Rattle.policy_statement.specs.Ring.{Key};
+    ghost use Rattle.policy_statement.specs.Ring.{KeyView};
 
-    ghost Value = { List Key };
+    ghost Value = { List KeyView };
 
     ghost view = { λ r. r.keys.items };
 }
@@ -112,7 +112,7 @@ impl Keyring {
         }
     }
 
-    /// Gives the name this key. `Known` is answered exactly where it has one, which it keeps.
+    /// Gives the name this key. `Known` is returned exactly if it has one, which it keeps.
     pub fn add(&mut self, who: Principal, key: &[u8]) -> Result<(), KeyFault>
         ensures ok { OnOk result (self.new ≡ self.old ++ record { who = who; key = key.now } ∷ []) }
         ensures err { OnErr result (self.new ≡ self.old) }
@@ -125,7 +125,7 @@ impl Keyring {
         Ok(())
     }
 
-    /// The tag of the message under the key of the name; none exactly where the name has no key.
+    /// The tag of the message under the key of the name; none exactly if the name has no key.
     pub fn sign(&self, who: &Principal, message: &[u8]) -> Option<[u8; 32]>
         ensures { result ≡ tag_of self.now who.now message.now }
     {

@@ -21,7 +21,7 @@ by_either : {P Q R : Type 0} → P ⊎ Q → (P → R) → (Q → R) → R
 by_either (inl p) first second = first p
 by_either (inr q) first second = second q
 
--- the head of a list, or one behind it
+-- the head of a list, or one after it
 contains_cons : {A : Type 0} (y : A) (ys : List A) (x : A) → Contains (y ∷ ys) x → (y ≡ x) ⊎ Contains ys x
 contains_cons y ys x (zero, below, is) = inl is
 contains_cons y ys x (suc k, below, is) = inr (k, omega (arith, below), is)

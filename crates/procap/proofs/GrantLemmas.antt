@@ -6,7 +6,7 @@ use Rattle.bl_syntax.specs.declared.codec_fault.CodecFault.TheVariants as faults
 use Rattle.bl_syntax.specs.declared.terms.Constraint.{Constraint}
 use Rattle.bl_syntax.specs.declared.terms.StatePred.{StatePred}
 use Rattle.bl_syntax.specs.declared.grant.Goal.{Goal}
-use Rattle.bl_syntax.specs.Grant.{Granted, IsGrant, IsTimeCondition, IsStateCondition, AreDistinct}
+use Rattle.bl_syntax.specs.Grant.{GrantView, IsGrant, IsTimeCondition, IsStateCondition, AreDistinct}
 use Rattle.bl_syntax.specs.FormulaSpelling.{state_spelling}
 use Rattle.bl_syntax.specs.Reading.{◌>>=◌}
 use Rattle.bl_syntax.specs.Codec.{AreBytes, IsCodec}
@@ -84,7 +84,7 @@ grant_spelled bytes middle behind rest goal times states head first second =
     head.1 ∙ ap (λ (end : List ℕ). 71 ∷ 1 ∷ (goal_spelling goal ++ end)) conditions ∙ ap (λ (all : List ℕ). 71 ∷ 1 ∷ all) (sym (append_assoc (goal_spelling goal) (t ++ s) rest)) in
     (record { goal = head.0; times = first.spelled; states = second.spelled; grant = kept }, whole)
 
-grant_found : (input : ℕ) (bytes rest : List ℕ) (g : Granted) → AreBytes bytes → grant_at input bytes ≡ Ok (g, rest) → IsSpellableGrant g × (bytes ≡ grant_spelling g ++ rest)
+grant_found : (input : ℕ) (bytes rest : List ℕ) (g : GrantView) → AreBytes bytes → grant_at input bytes ≡ Ok (g, rest) → IsSpellableGrant g × (bytes ≡ grant_spelling g ++ rest)
 unfolding grant_at
 grant_found input bytes rest g fits e =
     let a = bind_ok (head_at input bytes) (λ goal. conditions_at time_condition_at may_follow_times 64 input goal.1 >>= λ times. conditions_at state_condition_at may_follow_states (64 - length times.0) input times.1 >>= λ states. Ok (granted goal.0 times.0 states.0, states.1)) (g, rest) e in
@@ -95,10 +95,10 @@ grant_found input bytes rest g fits e =
     let first = conditions_found IsSpellableTime time_condition_spelling time_condition_at may_follow_times time_codec 64 input a.0.1 b.0.0 b.0.1 fit_middle b.1 in
     let fit_behind : AreBytes b.0.1 = AreBytes-behind (list_spelling time_condition_spelling b.0.0) b.0.1 (subst AreBytes first.bytes_are fit_middle) in
     let second = conditions_found IsSpellableState state_spelling state_condition_at may_follow_states state_codec (64 - length b.0.0) input b.0.1 c.0.0 c.0.1 fit_behind c.1 in
-    subst (λ (q : Granted × List ℕ). IsSpellableGrant q.0 × (bytes ≡ grant_spelling q.0 ++ q.1)) (ok_is (granted a.0.0 b.0.0 c.0.0, c.0.1) (g, rest) c.2)
+    subst (λ (q : GrantView × List ℕ). IsSpellableGrant q.0 × (bytes ≡ grant_spelling q.0 ++ q.1)) (ok_is (granted a.0.0 b.0.0 c.0.0, c.0.1) (g, rest) c.2)
     (grant_spelled bytes a.0.1 b.0.1 c.0.1 a.0.0 b.0.0 c.0.0 head first second)
 
-grant_again : (input : ℕ) (g : Granted) (rest : List ℕ) → IsSpellableGrant g → grant_at input (grant_spelling g ++ rest) ≡ Ok (g, rest)
+grant_again : (input : ℕ) (g : GrantView) (rest : List ℕ) → IsSpellableGrant g → grant_at input (grant_spelling g ++ rest) ≡ Ok (g, rest)
 unfolding grant_at grant_spelling
 grant_again input g rest h =
     let t : List ℕ = list_spelling time_condition_spelling g.times in

@@ -16,7 +16,7 @@ abbrev pub AllFollow : {A : Type 0} → (List A → A → Bool) → List A → L
 AllFollow may_follow before [] = Unit {0}
 AllFollow may_follow before (x ∷ xs) = (may_follow before x ≡ true) × AllFollow may_follow (before ++ x ∷ []) xs
 
--- what was read behind the items before
+-- what was read after the items before
 pub record FoundItems {A : Type 0} (IsSpelled : A → Type 0) (spelling : A → List ℕ) (may_follow : List A → A → Bool) (count : ℕ) (before : List A) (bytes : List ℕ) (all : List A) (rest : List ℕ) : Type 0 where
   pub items : List A
   pub all_are : all ≡ before ++ items

@@ -10,10 +10,10 @@ use Rattle.bl_syntax.specs.declared.terms.Constraint.{Constraint}
 use Rattle.bl_syntax.specs.declared.terms.StatePred.{StatePred}
 use Rattle.bl_syntax.specs.declared.terms.StatePred.TheVariants.{Owner, HasXattr, InDir}
 use Rattle.bl_syntax.specs.declared.grant.Goal.{Goal}
-use Rattle.bl_syntax.specs.Spelling.{counted, permission_code, term_spelling, IsSpellable}
+use Rattle.bl_syntax.specs.Spelling.{with_length, permission_code, term_spelling, IsSpellable}
 use Rattle.bl_syntax.specs.FormulaSpelling.{state_spelling}
 use Rattle.bl_syntax.specs.FormulaReading.{is_formula_tag}
-use Rattle.bl_syntax.specs.Reading.{◌>>=◌, Reading, made, place, number_at, name_at, permission_of, permission_at, term_at}
+use Rattle.bl_syntax.specs.Reading.{◌>>=◌, Reading, map_reading, place, number_at, name_at, permission_of, permission_at, term_at}
 use Rattle.bl_syntax.specs.Codec.{AreBytes, IsCodec}
 use Rattle.bl_syntax.proofs.CodecLemmas.{bind_ok, by_test, ok_is, bind_memoryless, made_ok, made_memoryless, AreBytes-rest, AreBytes-behind, codec}
 use Rattle.bl_syntax.proofs.FieldLemmas.{wide64, number_found, number_again, number_memoryless, coded_found, coded_again, coded_memoryless, permission_back, permission_again}
@@ -83,7 +83,7 @@ time_found input bytes rest c fits e =
 
 time_again : (input : ℕ) (c : Constraint) (rest : List ℕ) → IsSpellableTime c → time_condition_at input (time_condition_spelling c ++ rest) ≡ Ok (c, rest)
 unfolding time_condition_at time_condition_spelling between
-time_again input c rest h = ap (made between) (two.again input (c.low, c.high) rest (h.low, h.high))
+time_again input c rest h = ap (map_reading between) (two.again input (c.low, c.high) rest (h.low, h.high))
 
 time_memoryless : (input : ℕ) (bytes : List ℕ) → time_condition_at input bytes ≡ Err faults.NoMemory → ⊥
 unfolding time_condition_at between
@@ -110,7 +110,7 @@ Spells bytes s rest = IsSpellableState s × (bytes ≡ state_spelling s ++ rest)
 -- a condition whose terms were read
 with_terms : {A : Type 0} (f : A → StatePred) (spelling : A → List ℕ) (IsSpelled : A → Type 0) (code : ℕ)
     → ((x : A) → IsSpelled x → IsSpellableState (f x)) → ((x : A) → state_spelling (f x) ≡ code ∷ spelling x)
-    → (tag : ℕ) (more rest : List ℕ) (s : StatePred) (r : Reading A) → tag ≡ code → ((x : A) → r ≡ Ok (x, rest) → IsSpelled x × (more ≡ spelling x ++ rest)) → made f r ≡ Ok (s, rest) → Spells (tag ∷ more) s rest
+    → (tag : ℕ) (more rest : List ℕ) (s : StatePred) (r : Reading A) → tag ≡ code → ((x : A) → r ≡ Ok (x, rest) → IsSpelled x × (more ≡ spelling x ++ rest)) → map_reading f r ≡ Ok (s, rest) → Spells (tag ∷ more) s rest
 with_terms f spelling IsSpelled code fits spelled tag more rest s r is found e =
     let m = made_ok f r s rest e in
     let it = found m.0 m.1 in
@@ -131,9 +131,9 @@ state_found input (tag ∷ more) rest s fits e = terms_found input (place input 
 
 state_again : (input : ℕ) (s : StatePred) (rest : List ℕ) → IsSpellableState s → state_condition_at input (state_spelling s ++ rest) ≡ Ok (s, rest)
 unfolding state_condition_at state_terms_at state_spelling
-state_again input (Owner file who) rest h = ap (made owner) (two.again input (file, who) rest (h.0, h.1.0))
-state_again input (HasXattr file name value) rest h = ap (made attribute) (three.again input (file, (name, value)) rest (h.0, (h.1.0, h.1.1.0)))
-state_again input (InDir file directory) rest h = ap (made within) (two.again input (file, directory) rest (h.0, h.1.0))
+state_again input (Owner file who) rest h = ap (map_reading owner) (two.again input (file, who) rest (h.0, h.1.0))
+state_again input (HasXattr file name value) rest h = ap (map_reading attribute) (three.again input (file, (name, value)) rest (h.0, (h.1.0, h.1.1.0)))
+state_again input (InDir file directory) rest h = ap (map_reading within) (two.again input (file, directory) rest (h.0, h.1.0))
 
 state_memoryless : (input : ℕ) (bytes : List ℕ) → state_condition_at input bytes ≡ Err faults.NoMemory → ⊥
 unfolding state_condition_at state_terms_at
@@ -162,18 +162,18 @@ goal_found input bytes rest g fits e =
     let b = bind_ok (number_at w64 a.0.1) (λ file. permission_at input file.1 >>= λ perm. Ok (wanted a.0.0 file.0 perm.0, perm.1)) (g, rest) a.2 in
     let c = bind_ok (permission_at input b.0.1) (λ perm. Ok (wanted a.0.0 b.0.0 perm.0, perm.1)) (g, rest) b.2 in
     let who = name_codec.found input bytes a.0.1 a.0.0 fits a.1 in
-    let file = number_found w64 (2 ^ 64) wide64 a.0.1 b.0.0 b.0.1 (AreBytes-behind (counted a.0.0) a.0.1 (subst AreBytes who.1 fits)) b.1 in
+    let file = number_found w64 (2 ^ 64) wide64 a.0.1 b.0.0 b.0.1 (AreBytes-behind (with_length a.0.0) a.0.1 (subst AreBytes who.1 fits)) b.1 in
     let perm : b.0.1 ≡ permission_code c.0.0 ∷ c.0.1 = coded_found permission_of permission_code permission_back input b.0.1 c.0.1 c.0.0 c.1 in
     let end : a.0.1 ≡ (to_be_bytes w64 b.0.0 ++ permission_code c.0.0 ∷ []) ++ c.0.1 = file.1 ∙ ap (λ (end : List ℕ). to_be_bytes w64 b.0.0 ++ end) perm ∙ sym (append_assoc (to_be_bytes w64 b.0.0) (permission_code c.0.0 ∷ []) c.0.1) in
-    let whole : bytes ≡ (counted a.0.0 ++ (to_be_bytes w64 b.0.0 ++ permission_code c.0.0 ∷ [])) ++ c.0.1 = who.1 ∙ ap (λ (end : List ℕ). counted a.0.0 ++ end) end ∙ sym (append_assoc (counted a.0.0) (to_be_bytes w64 b.0.0 ++ permission_code c.0.0 ∷ []) c.0.1) in
+    let whole : bytes ≡ (with_length a.0.0 ++ (to_be_bytes w64 b.0.0 ++ permission_code c.0.0 ∷ [])) ++ c.0.1 = who.1 ∙ ap (λ (end : List ℕ). with_length a.0.0 ++ end) end ∙ sym (append_assoc (with_length a.0.0) (to_be_bytes w64 b.0.0 ++ permission_code c.0.0 ∷ []) c.0.1) in
     let at_end : IsSpellableGoal (wanted a.0.0 b.0.0 c.0.0) = record { who = who.0; file = file.0 } in
-    subst (λ (q : Goal × List ℕ). IsSpellableGoal q.0 × (bytes ≡ (counted q.0.who ++ (to_be_bytes w64 q.0.file.0 ++ permission_code q.0.perm ∷ [])) ++ q.1)) (ok_is (wanted a.0.0 b.0.0 c.0.0, c.0.1) (g, rest) c.2) (at_end, whole)
+    subst (λ (q : Goal × List ℕ). IsSpellableGoal q.0 × (bytes ≡ (with_length q.0.who ++ (to_be_bytes w64 q.0.file.0 ++ permission_code q.0.perm ∷ [])) ++ q.1)) (ok_is (wanted a.0.0 b.0.0 c.0.0, c.0.1) (g, rest) c.2) (at_end, whole)
 
 goal_again : (input : ℕ) (g : Goal) (rest : List ℕ) → IsSpellableGoal g → goal_at input (goal_spelling g ++ rest) ≡ Ok (g, rest)
 unfolding goal_at goal_spelling
 goal_again input g rest h =
     rw (
-      append_assoc (counted g.who) (to_be_bytes w64 g.file.0 ++ permission_code g.perm ∷ []) rest,
+      append_assoc (with_length g.who) (to_be_bytes w64 g.file.0 ++ permission_code g.perm ∷ []) rest,
       append_assoc (to_be_bytes w64 g.file.0) (permission_code g.perm ∷ []) rest,
       name_codec.again input g.who (to_be_bytes w64 g.file.0 ++ permission_code g.perm ∷ rest) h.who,
       number_again w64 (2 ^ 64) wide64 g.file.0 (permission_code g.perm ∷ rest) h.file,

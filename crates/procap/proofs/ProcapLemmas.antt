@@ -4,19 +4,19 @@ use Rattle.std.proofs.lemmas.Bool.{ltb-false, le-ltb, lt-ltb, eqb-true}
 use Rattle.std.proofs.lemmas.List.{append-nil, take_at, drop_at, take-append-drop, length-append, length-take}
 use Rattle.bl_syntax.specs.declared.codec_fault.CodecFault.{CodecFault}
 use Rattle.bl_syntax.specs.declared.codec_fault.CodecFault.TheVariants as faults
-use Rattle.bl_syntax.specs.Grant.{Granted}
+use Rattle.bl_syntax.specs.Grant.{GrantView}
 use Rattle.bl_syntax.specs.Reading.{◌>>=◌, place}
-use Rattle.bl_syntax.specs.Codec.{AreBytes, IsCodec, StopsWith}
+use Rattle.bl_syntax.specs.Codec.{AreBytes, IsCodec, ReportsFault}
 use Rattle.bl_syntax.proofs.CodecLemmas.{bind_ok, by_test, ok_is, bind_memoryless, codec}
 use Rattle.procap.specs.declared.procap.Procap.{Procap}
 use Rattle.procap.specs.GrantSpelling.{grant_spelling}
 use Rattle.procap.specs.GrantReading.{grant_at}
-use Rattle.procap.specs.Procap.{procap_spelling, IsSpellableProcap, tag_at, procap_at, at_end, whole_procap, ReadsWhole}
+use Rattle.procap.specs.Procap.{procap_spelling, IsSpellableProcap, tag_at, procap_at, at_end, whole_procap, ReadsWholeProcap}
 use Rattle.procap.proofs.ItemsLemmas.{test_memoryless}
 use Rattle.procap.proofs.GrantLemmas.{grant_codec}
 use Rattle.procap.proofs.ReadingLemmas.{hands_on, stops_with}
 
-abbrev pub sealed : Granted → List ℕ → Procap
+abbrev pub sealed : GrantView → List ℕ → Procap
 sealed grant tag = record { grant = grant; tag = tag }
 
 tag_found : (bytes tag rest : List ℕ) → tag_at bytes ≡ Ok (tag, rest) → (length tag ≡ 32) × (bytes ≡ tag ++ rest)
@@ -64,15 +64,15 @@ procap_codec = codec IsSpellableProcap procap_spelling procap_at procap_found pr
 
 -- ---- calls
 
-pub grant_stops : (input : ℕ) (bytes : List ℕ) (fault : CodecFault) → StopsWith fault (grant_at input bytes) → StopsWith fault (procap_at input bytes)
+pub grant_stops : (input : ℕ) (bytes : List ℕ) (fault : CodecFault) → ReportsFault fault (grant_at input bytes) → ReportsFault fault (procap_at input bytes)
 unfolding procap_at
 grant_stops input bytes fault h = hands_on fault (grant_at input bytes) (λ grant. tag_at grant.1 >>= λ tag. Ok (sealed grant.0 tag.0, tag.1)) h
 
-pub tag_is_short : (input : ℕ) (bytes rest : List ℕ) (g : Granted) → grant_at input bytes ≡ Ok (g, rest) → length rest < 32 → procap_at input bytes ≡ Err faults.Short
+pub tag_is_short : (input : ℕ) (bytes rest : List ℕ) (g : GrantView) → grant_at input bytes ≡ Ok (g, rest) → length rest < 32 → procap_at input bytes ≡ Err faults.Short
 unfolding procap_at tag_at
 tag_is_short input bytes rest g e short = rw (e, lt-ltb _ _ short) refl
 
-pub procap_is_read : (input : ℕ) (bytes rest : List ℕ) (g : Granted) → grant_at input bytes ≡ Ok (g, rest) → 32 ≤ length rest → procap_at input bytes ≡ Ok (sealed g (take 32 rest), drop 32 rest)
+pub procap_is_read : (input : ℕ) (bytes rest : List ℕ) (g : GrantView) → grant_at input bytes ≡ Ok (g, rest) → 32 ≤ length rest → procap_at input bytes ≡ Ok (sealed g (take 32 rest), drop 32 rest)
 unfolding procap_at tag_at
 procap_is_read input bytes rest g e long = rw (e, le-ltb _ _ long) refl
 
@@ -98,13 +98,13 @@ whole_again p h =
     ap (procap_at (length (procap_spelling p))) (sym (append-nil (procap_spelling p))) ∙ procap_again (length (procap_spelling p)) p [] h in
     rw read refl
 
-pub reads_ok : (bytes : List ℕ) (p : Procap) → AreBytes bytes → whole_procap bytes ≡ Ok p → ReadsWhole IsSpellableProcap procap_spelling bytes (Ok p)
+pub reads_ok : (bytes : List ℕ) (p : Procap) → AreBytes bytes → whole_procap bytes ≡ Ok p → ReadsWholeProcap IsSpellableProcap procap_spelling bytes (Ok p)
 reads_ok bytes p fits e = record { found = whole_found bytes p fits e; refused = tt }
 
 differ : (p : Procap) (fault : CodecFault) (r : Result Procap CodecFault) → r ≡ Ok p → r ≡ Err fault → ⊥
 differ p fault r x y = cc
 
-pub reads_err : (bytes : List ℕ) (fault : CodecFault) → ((fault ≡ faults.NoMemory → ⊥) → whole_procap bytes ≡ Err fault) → ReadsWhole IsSpellableProcap procap_spelling bytes (Err fault)
+pub reads_err : (bytes : List ℕ) (fault : CodecFault) → ((fault ≡ faults.NoMemory → ⊥) → whole_procap bytes ≡ Err fault) → ReadsWholeProcap IsSpellableProcap procap_spelling bytes (Err fault)
 reads_err bytes fault e = record {
   found = tt;
   refused = λ memory p spelled is. differ p fault (whole_procap bytes) (ap whole_procap is ∙ whole_again p spelled) (e memory);
@@ -112,7 +112,7 @@ reads_err bytes fault e = record {
 
 -- ---- calls that read the whole input
 
-pub procap_stops : (bytes : List ℕ) (fault : CodecFault) → StopsWith fault (procap_at (length bytes) bytes) → StopsWith fault (whole_procap bytes)
+pub procap_stops : (bytes : List ℕ) (fault : CodecFault) → ReportsFault fault (procap_at (length bytes) bytes) → ReportsFault fault (whole_procap bytes)
 unfolding whole_procap
 procap_stops bytes fault h = hands_on fault (procap_at (length bytes) bytes) (at_end (length bytes)) h
 
@@ -126,5 +126,5 @@ unfolding whole_procap
 is_left_over bytes [] p e some = absurd cc
 is_left_over bytes (byte ∷ rest) p e some = rw e refl
 
-pub reads_stop : (bytes : List ℕ) (fault : CodecFault) → StopsWith fault (whole_procap bytes) → ReadsWhole IsSpellableProcap procap_spelling bytes (Err fault)
+pub reads_stop : (bytes : List ℕ) (fault : CodecFault) → ReportsFault fault (whole_procap bytes) → ReadsWholeProcap IsSpellableProcap procap_spelling bytes (Err fault)
 reads_stop bytes fault h = reads_err bytes fault (λ memory. stops_with fault (whole_procap bytes) h memory)

@@ -6,16 +6,16 @@ use Rattle.bl_syntax.specs.declared.codec_fault.CodecFault.TheVariants as faults
 use Rattle.bl_syntax.specs.declared.terms.Constraint.{Constraint}
 use Rattle.bl_syntax.specs.declared.terms.StatePred.{StatePred}
 use Rattle.bl_syntax.specs.declared.grant.Goal.{Goal}
-use Rattle.bl_syntax.specs.Grant.{Granted, IsTimeCondition, IsStateCondition}
+use Rattle.bl_syntax.specs.Grant.{GrantView, IsTimeCondition, IsStateCondition}
 use Rattle.bl_syntax.proofs.GrantLemmas.{granted}
 use Rattle.bl_syntax.specs.Reading.{◌>>=◌, Reading, place}
-use Rattle.bl_syntax.specs.Codec.{AreBytes, IsCodec, ReadsFront, StopsWith}
+use Rattle.bl_syntax.specs.Codec.{AreBytes, IsCodec, ReadsFront, ReportsFault}
 use Rattle.procap.specs.GrantReading.{time_condition_at, state_condition_at, may_follow_times, may_follow_states, items_at, count_at, conditions_at, head_at, grant_at}
 use Rattle.procap.proofs.ConditionLemmas.{time_may_follow, state_may_follow}
 use Rattle.procap.proofs.PartLemmas.{time_codec, state_codec}
 
 -- a fault that is read
-pub stops : {Y : Type 0} (fault : CodecFault) (read : Result Y CodecFault) → read ≡ Err fault → StopsWith fault read
+pub stops : {Y : Type 0} (fault : CodecFault) (read : Result Y CodecFault) → read ≡ Err fault → ReportsFault fault read
 stops faults.NoMemory read e = tt
 stops faults.Short read e = e
 stops (faults.BadTag place) read e = e
@@ -23,15 +23,15 @@ stops (faults.NotCanonical place) read e = e
 stops (faults.TooLarge place) read e = e
 
 -- a fault of the first of two steps
-pub hands_on : {Y W : Type 0} (fault : CodecFault) (read : Result Y CodecFault) (next : Y → Result W CodecFault) → StopsWith fault read → StopsWith fault (read >>= next)
+pub hands_on : {Y W : Type 0} (fault : CodecFault) (read : Result Y CodecFault) (next : Y → Result W CodecFault) → ReportsFault fault read → ReportsFault fault (read >>= next)
 hands_on faults.NoMemory read next e = tt
 hands_on faults.Short read next e = ap (λ r. r >>= next) e
 hands_on (faults.BadTag place) read next e = ap (λ r. r >>= next) e
 hands_on (faults.NotCanonical place) read next e = ap (λ r. r >>= next) e
 hands_on (faults.TooLarge place) read next e = ap (λ r. r >>= next) e
 
--- a fault that is no want of memory is the fault that is read
-pub stops_with : {Y : Type 0} (fault : CodecFault) (read : Result Y CodecFault) → StopsWith fault read → (fault ≡ faults.NoMemory → ⊥) → read ≡ Err fault
+-- a fault that is not out of memory is the fault that is read
+pub stops_with : {Y : Type 0} (fault : CodecFault) (read : Result Y CodecFault) → ReportsFault fault read → (fault ≡ faults.NoMemory → ⊥) → read ≡ Err fault
 stops_with faults.NoMemory read e memory = absurd (memory refl)
 stops_with faults.Short read e memory = e
 stops_with (faults.BadTag place) read e memory = e
@@ -95,19 +95,19 @@ times_at input bytes = conditions_at time_condition_at may_follow_times 64 input
 abbrev states_at : List Constraint → ℕ → List ℕ → Reading (List StatePred)
 states_at times input bytes = conditions_at state_condition_at may_follow_states (64 - length times) input bytes
 
--- the conditions on the server's state behind those on time
-abbrev with_states : ℕ → Goal → List Constraint × List ℕ → Reading Granted
+-- the conditions on the server's state after those on time
+abbrev with_states : ℕ → Goal → List Constraint × List ℕ → Reading GrantView
 with_states input goal times = states_at times.0 input times.1 >>= λ states. Ok (granted goal times.0 states.0, states.1)
 
--- all conditions behind a goal
-abbrev with_conditions : ℕ → Goal × List ℕ → Reading Granted
+-- all conditions after a goal
+abbrev with_conditions : ℕ → Goal × List ℕ → Reading GrantView
 with_conditions input goal = times_at input goal.1 >>= with_states input goal.0
 
 grant_is : (input : ℕ) (bytes : List ℕ) → grant_at input bytes ≡ (head_at input bytes >>= with_conditions input)
 unfolding grant_at
 grant_is input bytes = refl
 
-pub head_stops : (input : ℕ) (bytes : List ℕ) (fault : CodecFault) → head_at input bytes ≡ Err fault → StopsWith fault (grant_at input bytes)
+pub head_stops : (input : ℕ) (bytes : List ℕ) (fault : CodecFault) → head_at input bytes ≡ Err fault → ReportsFault fault (grant_at input bytes)
 head_stops input bytes fault e = rw (grant_is input bytes) (hands_on fault (head_at input bytes) (with_conditions input) (stops fault (head_at input bytes) e))
 
 behind_head : (input : ℕ) (bytes rest : List ℕ) (goal : Goal) → head_at input bytes ≡ Ok (goal, rest) → grant_at input bytes ≡ (times_at input rest >>= with_states input goal)
@@ -117,11 +117,11 @@ behind_times : (input : ℕ) (bytes rest behind : List ℕ) (goal : Goal) (times
     → grant_at input bytes ≡ with_states input goal (times, behind)
 behind_times input bytes rest behind goal times e h = behind_head input bytes rest goal e ∙ ap (λ (r : Reading (List Constraint)). r >>= with_states input goal) h
 
-pub times_stop : (input : ℕ) (bytes rest : List ℕ) (goal : Goal) (fault : CodecFault) → head_at input bytes ≡ Ok (goal, rest) → StopsWith fault (times_at input rest) → StopsWith fault (grant_at input bytes)
+pub times_stop : (input : ℕ) (bytes rest : List ℕ) (goal : Goal) (fault : CodecFault) → head_at input bytes ≡ Ok (goal, rest) → ReportsFault fault (times_at input rest) → ReportsFault fault (grant_at input bytes)
 times_stop input bytes rest goal fault e h = rw (behind_head input bytes rest goal e) (hands_on fault (times_at input rest) (with_states input goal) h)
 
 pub states_stop : (input : ℕ) (bytes rest behind : List ℕ) (goal : Goal) (times : List Constraint) (fault : CodecFault) → head_at input bytes ≡ Ok (goal, rest) → times_at input rest ≡ Ok (times, behind)
-    → StopsWith fault (states_at times input behind) → StopsWith fault (grant_at input bytes)
+    → ReportsFault fault (states_at times input behind) → ReportsFault fault (grant_at input bytes)
 states_stop input bytes rest behind goal times fault e h k =
     rw (behind_times input bytes rest behind goal times e h) (hands_on fault (states_at times input behind) (λ states. Ok (granted goal times states.0, states.1)) k)
 
@@ -134,7 +134,7 @@ grant_is_read input bytes rest behind end goal times states e h k =
 
 -- a call at the front of the bytes that found nothing
 pub front_stops : {X A : Type 0} (view : X → A) (IsSpelled : A → Type 0) (spelling : A → List ℕ) (at : ℕ → List ℕ → Reading A) (bytes : List ℕ) (fault : CodecFault)
-    → IsCodec IsSpelled spelling at → AreBytes bytes → StopsWith fault (at (length bytes) bytes) → ReadsFront view IsSpelled spelling bytes (Err fault)
+    → IsCodec IsSpelled spelling at → AreBytes bytes → ReportsFault fault (at (length bytes) bytes) → ReadsFront view IsSpelled spelling bytes (Err fault)
 front_stops view IsSpelled spelling at bytes fault codec fits h = record {
   found = tt;
   refused = λ memory. (codec.refused (length bytes) bytes fits).0 (ap is_err (stops_with fault (at (length bytes) bytes) h memory));

@@ -1,4 +1,4 @@
--- Reading grants from their canonical bytes, from the left: the value and the bytes behind it, or the first fault. The order of the faults is this project's
+-- Reading grants from their canonical bytes, from the left: the value and the bytes after it, or the first fault. The order of the faults is this project's
 -- own. A condition is read whole, and then tested as one field; the number of conditions is tested as soon as it is there.
 use Rattle.std.specs.Prelude.{ℕ, zero, suc, ◌-◌, List, [], ◌∷◌, ◌++◌, length, Bool, not, ◌&&◌, nat_lt, ◌==◌, if◌then◌else◌, Result, Ok, Err}
 use Rattle.std.specs.List.{list_any}
@@ -11,11 +11,11 @@ use Rattle.bl_syntax.specs.declared.terms.StatePred.TheVariants.{Owner, HasXattr
 use Rattle.bl_syntax.specs.declared.grant.Goal.{Goal}
 use Rattle.bl_syntax.specs.Equality.{constraint_eq, state_eq}
 use Rattle.bl_syntax.specs.ConditionTests.{is_time_condition, is_state_condition}
-use Rattle.bl_syntax.specs.Grant.{Granted}
-use Rattle.bl_syntax.specs.Reading.{◌>>=◌, Reading, place, made, number_at, name_at, permission_at, term_at}
+use Rattle.bl_syntax.specs.Grant.{GrantView}
+use Rattle.bl_syntax.specs.Reading.{◌>>=◌, Reading, place, map_reading, number_at, name_at, permission_at, term_at}
 use Rattle.bl_syntax.specs.FormulaReading.{is_formula_tag}
 
--- a byte that has this one value; the bytes behind it
+-- a byte that has this one value; the bytes after it
 unfoldable pub marker_at : ℕ → ℕ → List ℕ → Result (List ℕ) CodecFault
 marker_at value input [] = Err Short
 marker_at value input (byte ∷ rest) = if byte == value then Ok rest else Err (BadTag (place input (byte ∷ rest)))
@@ -37,14 +37,14 @@ both_at first_at second_at input bytes = do
 
 -- a condition on time, before it is tested
 unfoldable pub time_condition_at : ℕ → List ℕ → Reading Constraint
-time_condition_at input bytes = made (λ t. record { low = t.0; high = t.1 }) (both_at term_at term_at input bytes)
+time_condition_at input bytes = map_reading (λ t. record { low = t.0; high = t.1 }) (both_at term_at term_at input bytes)
 
 -- the terms of a condition on the server's state with this tag, which stands at the place
 unfoldable pub state_terms_at : ℕ → ℕ → ℕ → List ℕ → Reading StatePred
 state_terms_at input start tag rest =
-    if tag == 18 then made (λ t. Owner t.0 t.1) (both_at term_at term_at input rest) else
-    if tag == 19 then made (λ t. HasXattr t.0 t.1.0 t.1.1) (both_at term_at (both_at term_at term_at) input rest) else
-    if tag == 20 then made (λ t. InDir t.0 t.1) (both_at term_at term_at input rest) else
+    if tag == 18 then map_reading (λ t. Owner t.0 t.1) (both_at term_at term_at input rest) else
+    if tag == 19 then map_reading (λ t. HasXattr t.0 t.1.0 t.1.1) (both_at term_at (both_at term_at term_at) input rest) else
+    if tag == 20 then map_reading (λ t. InDir t.0 t.1) (both_at term_at term_at input rest) else
     if is_formula_tag tag then Err (NotCanonical start) else
     Err (BadTag start)
 
@@ -60,14 +60,14 @@ is_time_among before c = list_any (λ known. constraint_eq known c) before
 abbrev pub is_state_among : List StatePred → StatePred → Bool
 is_state_among before s = list_any (λ known. state_eq known s) before
 
--- whether the condition may stand behind these: it is in its form, and none of them
+-- whether the condition may stand after these: it is in its form, and none of them
 abbrev pub may_follow_times : List Constraint → Constraint → Bool
 may_follow_times before c = is_time_condition c && not (is_time_among before c)
 
 abbrev pub may_follow_states : List StatePred → StatePred → Bool
 may_follow_states before s = is_state_condition s && not (is_state_among before s)
 
--- so many conditions behind those before; each may follow
+-- so many conditions after those before; each may follow
 unfoldable pub items_at : {A : Type 0} → (ℕ → List ℕ → Reading A) → (List A → A → Bool) → ℕ → ℕ → List A → List ℕ → Reading (List A)
 items_at one_at may_follow zero input before bytes = Ok (before, bytes)
 items_at one_at may_follow (suc count) input before bytes = do
@@ -93,7 +93,7 @@ head_at input bytes = do
   goal_at input goal
 
 -- a grant: its head, and its conditions, at most 64 together
-unfoldable pub grant_at : ℕ → List ℕ → Reading Granted
+unfoldable pub grant_at : ℕ → List ℕ → Reading GrantView
 grant_at input bytes = do
   goal ← head_at input bytes
   times ← conditions_at time_condition_at may_follow_times 64 input goal.1

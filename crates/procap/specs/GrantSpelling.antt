@@ -7,13 +7,13 @@ use Rattle.bl_syntax.specs.declared.terms.StatePred.{StatePred}
 use Rattle.bl_syntax.specs.declared.grant.Goal.{Goal}
 use Rattle.bl_syntax.specs.Names.{is_principal_name}
 use Rattle.bl_syntax.specs.WellSorted.{terms_of_state}
-use Rattle.bl_syntax.specs.Grant.{Granted, IsGrant}
-use Rattle.bl_syntax.specs.Spelling.{counted, permission_code, term_spelling, IsSpellable}
+use Rattle.bl_syntax.specs.Grant.{GrantView, IsGrant}
+use Rattle.bl_syntax.specs.Spelling.{with_length, permission_code, term_spelling, IsSpellable}
 use Rattle.bl_syntax.specs.FormulaSpelling.{state_spelling}
 
 -- who may do it, the number of the file, and the permission
 unfoldable pub goal_spelling : Goal → List ℕ
-goal_spelling goal = counted goal.who ++ (to_be_bytes w64 goal.file.0 ++ permission_code goal.perm ∷ [])
+goal_spelling goal = with_length goal.who ++ (to_be_bytes w64 goal.file.0 ++ permission_code goal.perm ∷ [])
 
 -- a condition on time: the time that is not after the other, and the other
 unfoldable pub time_condition_spelling : Constraint → List ℕ
@@ -24,7 +24,7 @@ abbrev pub list_spelling : {A : Type 0} → (A → List ℕ) → List A → List
 list_spelling spelling items = length items ∷ flat_map spelling items
 
 -- the byte `G`, the version 1, the goal, and the conditions on time and on the server's state
-unfoldable pub grant_spelling : Granted → List ℕ
+unfoldable pub grant_spelling : GrantView → List ℕ
 grant_spelling g = 71 ∷ 1 ∷ (goal_spelling g.goal ++ (list_spelling time_condition_spelling g.times ++ list_spelling state_spelling g.states))
 
 -- the goal has a spelling
@@ -42,7 +42,7 @@ abbrev pub IsSpellableState : StatePred → Type 0
 IsSpellableState s = AllByRecursion IsSpellable (terms_of_state s)
 
 -- the grant has a spelling: its parts have one, and it keeps the rules of grants
-pub record IsSpellableGrant (g : Granted) : Type 0 where
+pub record IsSpellableGrant (g : GrantView) : Type 0 where
   pub goal : IsSpellableGoal g.goal
   pub times : AllByRecursion IsSpellableTime g.times
   pub states : AllByRecursion IsSpellableState g.states

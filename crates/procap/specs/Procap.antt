@@ -37,7 +37,7 @@ at_end input (x, byte ∷ rest) = Err (faults.NotCanonical (place input (byte �
 unfoldable pub whole_procap : List ℕ → Result Procap CodecFault
 whole_procap bytes = procap_at (length bytes) bytes >>= at_end (length bytes)
 
--- what a call read of the whole bytes: the value of which they are the spelling, or a fault, which comes only where they spell none, or for want of memory
-pub record ReadsWhole {A : Type 0} (IsSpelled : A → Type 0) (spelling : A → List ℕ) (bytes : List ℕ) (result : Result A CodecFault) : Type 0 where
+-- what a call read of the whole bytes: the value of which they are the spelling, or a fault, which comes only if they spell none, or because memory runs out
+pub record ReadsWholeProcap {A : Type 0} (IsSpelled : A → Type 0) (spelling : A → List ℕ) (bytes : List ℕ) (result : Result A CodecFault) : Type 0 where
   pub found : IfOk result (λ x. IsSpelled x × (bytes ≡ spelling x))
   pub refused : IfErr result (λ fault. (fault ≡ faults.NoMemory → ⊥) → (x : A) → IsSpelled x → bytes ≡ spelling x → ⊥)

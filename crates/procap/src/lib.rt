@@ -1,6 +1,6 @@
 //! Procaps: grants with a seal, the tag of HMAC-SHA256 of the grant's bytes under the store's key.
 //!
-//! A procap is genuine exactly where all bytes of its tag are its grant's. A grant and a procap have one spelling each:
+//! A procap is genuine exactly if all bytes of its tag are its grant's. A grant and a procap have one spelling each:
 //! what is read is spelled so, and any other bytes give their first fault from the left.
 #![tactic(auto)]
 

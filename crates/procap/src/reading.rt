@@ -2,13 +2,13 @@
 
 ghost use Rattle.std.specs.Prelude.{◌≡◌, ◌≤◌, ◌+◌, ◌-◌, ℕ, List, [], IsTrue, IfOk, length};
 ghost use Rattle.std.specs.List.{list_any};
-ghost use Rattle.bl_syntax.specs.Grant.{Granted};
-ghost use Rattle.bl_syntax.specs.Reading.{Gives, reading, term_at};
-ghost use Rattle.bl_syntax.specs.Codec.{GivesOrStops, ReadsFront};
+ghost use Rattle.bl_syntax.specs.Grant.{GrantView};
+ghost use Rattle.bl_syntax.specs.Reading.{GivesReading, reading, term_at};
+ghost use Rattle.bl_syntax.specs.Codec.{GivesReadingOrReports, ReadsFront};
 ghost use Rattle.bl_syntax.specs.FormulaReading.{is_formula_tag};
 ghost use Rattle.procap.specs.GrantSpelling.{grant_spelling, IsSpellableGrant};
 ghost use Rattle.procap.specs.GrantReading.{marker_at, goal_at, both_at, time_condition_at, state_terms_at, state_condition_at, is_time_among, is_state_among, may_follow_times, may_follow_states, items_at, count_at, conditions_at, head_at, grant_at};
-ghost use Rattle.procap.specs.Procap.{procap_spelling, IsSpellableProcap, procap_at, whole_procap, ReadsWhole};
+ghost use Rattle.procap.specs.Procap.{procap_spelling, IsSpellableProcap, procap_at, whole_procap, ReadsWholeProcap};
 
 use crate::procap::Procap;
 use bl_syntax::fields::{name_at, permission_at, place, term_at, u64_at};
@@ -30,7 +30,7 @@ const TAG_LENGTH: usize = 32;
 /// A byte that has this one value.
 #[tactic(auto, unfolding(crate::specs::GrantReading::marker_at))]
 fn marker_at(value: u8, input: usize, bytes: &[u8]) -> Result<&[u8], CodecFault>
-    ensures { Gives (λ x. x.now) result (marker_at value input bytes.now) }
+    ensures { GivesReading (λ x. x.now) result (marker_at value input bytes.now) }
 {
     match bytes {
         [] => Err(CodecFault::Short),
@@ -47,7 +47,7 @@ fn marker_at(value: u8, input: usize, bytes: &[u8]) -> Result<&[u8], CodecFault>
 /// A goal.
 #[tactic(auto, unfolding(crate::specs::GrantReading::goal_at))]
 fn goal_at(input: usize, bytes: &[u8]) -> Result<(Goal, &[u8]), CodecFault>
-    ensures { Gives (λ x. (x.0, x.1.now)) result (goal_at input bytes.now) }
+    ensures { GivesReading (λ x. (x.0, x.1.now)) result (goal_at input bytes.now) }
 {
     match name_at(input, bytes) {
         Err(fault) => Err(fault),
@@ -71,7 +71,7 @@ fn goal_at(input: usize, bytes: &[u8]) -> Result<(Goal, &[u8]), CodecFault>
 /// The byte of grants, the version, and the goal.
 #[tactic(auto, unfolding(crate::specs::GrantReading::head_at))]
 fn head_at(input: usize, bytes: &[u8]) -> Result<(Goal, &[u8]), CodecFault>
-    ensures { Gives (λ x. (x.0, x.1.now)) result (head_at input bytes.now) }
+    ensures { GivesReading (λ x. (x.0, x.1.now)) result (head_at input bytes.now) }
 {
     match marker_at(b'G', input, bytes) {
         Err(fault) => Err(fault),
@@ -85,7 +85,7 @@ fn head_at(input: usize, bytes: &[u8]) -> Result<(Goal, &[u8]), CodecFault>
 /// Two terms.
 #[tactic(auto, unfolding(crate::specs::GrantReading::both_at))]
 fn two_terms_at(input: usize, bytes: &[u8]) -> Result<((Term, Term), &[u8]), CodecFault>
-    ensures { Gives (λ x. (x.0, x.1.now)) result (both_at term_at term_at input bytes.now) }
+    ensures { GivesReading (λ x. (x.0, x.1.now)) result (both_at term_at term_at input bytes.now) }
 {
     match term_at(input, bytes) {
         Err(fault) => Err(fault),
@@ -99,7 +99,7 @@ fn two_terms_at(input: usize, bytes: &[u8]) -> Result<((Term, Term), &[u8]), Cod
 /// Three terms.
 #[tactic(auto, unfolding(crate::specs::GrantReading::both_at))]
 fn three_terms_at(input: usize, bytes: &[u8]) -> Result<((Term, (Term, Term)), &[u8]), CodecFault>
-    ensures { Gives (λ x. (x.0, x.1.now)) result (both_at term_at (both_at term_at term_at) input bytes.now) }
+    ensures { GivesReading (λ x. (x.0, x.1.now)) result (both_at term_at (both_at term_at term_at) input bytes.now) }
 {
     match term_at(input, bytes) {
         Err(fault) => Err(fault),
@@ -113,7 +113,7 @@ fn three_terms_at(input: usize, bytes: &[u8]) -> Result<((Term, (Term, Term)), &
 /// A condition on time, before it is tested.
 #[tactic(auto, unfolding(crate::specs::GrantReading::time_condition_at))]
 fn time_condition_at(input: usize, bytes: &[u8]) -> Result<(Constraint, &[u8]), CodecFault>
-    ensures { Gives (λ x. (x.0, x.1.now)) result (time_condition_at input bytes.now) }
+    ensures { GivesReading (λ x. (x.0, x.1.now)) result (time_condition_at input bytes.now) }
 {
     match two_terms_at(input, bytes) {
         Err(fault) => Err(fault),
@@ -135,7 +135,7 @@ fn state_terms_at(
     tag: u8,
     rest: &[u8],
 ) -> Result<(StatePred, &[u8]), CodecFault>
-    ensures { Gives (λ x. (x.0, x.1.now)) result (state_terms_at input start tag rest.now) }
+    ensures { GivesReading (λ x. (x.0, x.1.now)) result (state_terms_at input start tag rest.now) }
 {
     match tag {
         18 => match two_terms_at(input, rest) {
@@ -163,7 +163,7 @@ fn state_terms_at(
 /// A condition on the server's state, before it is tested.
 #[tactic(auto, unfolding(crate::specs::GrantReading::state_condition_at))]
 fn state_condition_at(input: usize, bytes: &[u8]) -> Result<(StatePred, &[u8]), CodecFault>
-    ensures { Gives (λ x. (x.0, x.1.now)) result (state_condition_at input bytes.now) }
+    ensures { GivesReading (λ x. (x.0, x.1.now)) result (state_condition_at input bytes.now) }
 {
     match bytes {
         [] => Err(CodecFault::Short),
@@ -183,14 +183,14 @@ fn is_state_among(before: &[StatePred], s: &StatePred) -> bool
     before.iter().any(|known| known == s)
 }
 
-/// Whether the condition may stand behind these.
+/// Whether the condition may stand after these.
 fn may_follow_times(before: &[Constraint], c: &Constraint) -> bool
     ensures { result ≡ may_follow_times before.now c.now }
 {
     is_time_condition(c) && !is_time_among(before, c)
 }
 
-/// Whether the condition may stand behind these.
+/// Whether the condition may stand after these.
 fn may_follow_states(before: &[StatePred], s: &StatePred) -> bool
     ensures { result ≡ may_follow_states before.now s.now }
 {
@@ -200,7 +200,7 @@ fn may_follow_states(before: &[StatePred], s: &StatePred) -> bool
 /// The number of conditions, at most so many.
 #[tactic(auto, unfolding(crate::specs::GrantReading::count_at))]
 fn count_at(most: usize, input: usize, bytes: &[u8]) -> Result<(usize, &[u8]), CodecFault>
-    ensures read { Gives (λ x. (x.0, x.1.now)) result (count_at most input bytes.now) }
+    ensures read { GivesReading (λ x. (x.0, x.1.now)) result (count_at most input bytes.now) }
     ensures few { IfOk result (λ x. x.0 ≤ most) }
 {
     match bytes {
@@ -216,7 +216,7 @@ fn count_at(most: usize, input: usize, bytes: &[u8]) -> Result<(usize, &[u8]), C
     }
 }
 
-/// So many conditions on time, which the grant gets behind its own.
+/// So many conditions on time, which the grant gets after its own.
 fn add_times_at<'a>(
     grant: &mut Grant,
     count: usize,
@@ -224,7 +224,7 @@ fn add_times_at<'a>(
     bytes: &'a [u8],
 ) -> Result<&'a [u8], CodecFault>
     requires { length grant.old.times + length grant.old.states + count ≤ 64 }
-    ensures read { GivesOrStops (λ rest. (grant.new.times, rest.now)) result (items_at time_condition_at may_follow_times count input grant.old.times bytes.now) }
+    ensures read { GivesReadingOrReports (λ rest. (grant.new.times, rest.now)) result (items_at time_condition_at may_follow_times count input grant.old.times bytes.now) }
     ensures others { IfOk result (λ _. grant.new ≡ record grant.old { times = grant.new.times }) }
     ensures counted { IfOk result (λ _. length grant.new.times ≡ length grant.old.times + count) }
 {
@@ -243,7 +243,7 @@ fn add_times_at<'a>(
     }
 }
 
-/// So many conditions on the server's state, which the grant gets behind its own.
+/// So many conditions on the server's state, which the grant gets after its own.
 fn add_states_at<'a>(
     grant: &mut Grant,
     count: usize,
@@ -251,7 +251,7 @@ fn add_states_at<'a>(
     bytes: &'a [u8],
 ) -> Result<&'a [u8], CodecFault>
     requires { length grant.old.times + length grant.old.states + count ≤ 64 }
-    ensures read { GivesOrStops (λ rest. (grant.new.states, rest.now)) result (items_at state_condition_at may_follow_states count input grant.old.states bytes.now) }
+    ensures read { GivesReadingOrReports (λ rest. (grant.new.states, rest.now)) result (items_at state_condition_at may_follow_states count input grant.old.states bytes.now) }
     ensures others { IfOk result (λ _. grant.new ≡ record grant.old { states = grant.new.states }) }
     ensures counted { IfOk result (λ _. length grant.new.states ≡ length grant.old.states + count) }
 {
@@ -274,7 +274,7 @@ fn add_states_at<'a>(
 fn times_at<'a>(grant: &mut Grant, input: usize, bytes: &'a [u8]) -> Result<&'a [u8], CodecFault>
     requires no_times { grant.old.times ≡ [] }
     requires no_states { grant.old.states ≡ [] }
-    ensures read { GivesOrStops (λ rest. (grant.new.times, rest.now)) result (conditions_at time_condition_at may_follow_times 64 input bytes.now) }
+    ensures read { GivesReadingOrReports (λ rest. (grant.new.times, rest.now)) result (conditions_at time_condition_at may_follow_times 64 input bytes.now) }
     ensures others { IfOk result (λ _. grant.new ≡ record grant.old { times = grant.new.times }) }
     ensures few { IfOk result (λ _. length grant.new.times ≤ 64) }
 {
@@ -288,7 +288,7 @@ fn times_at<'a>(grant: &mut Grant, input: usize, bytes: &'a [u8]) -> Result<&'a 
 fn states_at<'a>(grant: &mut Grant, input: usize, bytes: &'a [u8]) -> Result<&'a [u8], CodecFault>
     requires few { length grant.old.times ≤ 64 }
     requires no_states { grant.old.states ≡ [] }
-    ensures read { GivesOrStops (λ rest. (grant.new.states, rest.now)) result (conditions_at state_condition_at may_follow_states (64 - length grant.old.times) input bytes.now) }
+    ensures read { GivesReadingOrReports (λ rest. (grant.new.states, rest.now)) result (conditions_at state_condition_at may_follow_states (64 - length grant.old.times) input bytes.now) }
     ensures others { IfOk result (λ _. grant.new ≡ record grant.old { states = grant.new.states }) }
 {
     let left = MOST_CONDITIONS - grant.times().len();
@@ -300,7 +300,7 @@ fn states_at<'a>(grant: &mut Grant, input: usize, bytes: &'a [u8]) -> Result<&'a
 
 /// A grant.
 fn grant_at(alloc: Global, input: usize, bytes: &[u8]) -> Result<(Grant, &[u8]), CodecFault>
-    ensures { GivesOrStops (λ x. (x.0, x.1.now)) result (grant_at input bytes.now) }
+    ensures { GivesReadingOrReports (λ x. (x.0, x.1.now)) result (grant_at input bytes.now) }
 {
     match head_at(input, bytes) {
         Err(fault) => Err(fault),
@@ -329,7 +329,7 @@ fn tag_of(bytes: &[u8]) -> [u8; 32]
 
 /// Reads a grant at the front of the bytes, and tells how many bytes it takes.
 pub fn read_grant(alloc: Global, bytes: &[u8]) -> Result<(Grant, usize), CodecFault>
-    ensures exact { GivesOrStops (λ x. (x.0, x.1)) result (reading grant_at bytes.now) }
+    ensures exact { GivesReadingOrReports (λ x. (x.0, x.1)) result (reading grant_at bytes.now) }
     ensures front { ReadsFront (λ g. g) IsSpellableGrant grant_spelling bytes.now result }
 {
     match grant_at(alloc, bytes.len(), bytes) {
@@ -340,7 +340,7 @@ pub fn read_grant(alloc: Global, bytes: &[u8]) -> Result<(Grant, usize), CodecFa
 
 /// A procap.
 fn procap_at(alloc: Global, input: usize, bytes: &[u8]) -> Result<(Procap, &[u8]), CodecFault>
-    ensures { GivesOrStops (λ x. (x.0, x.1.now)) result (procap_at input bytes.now) }
+    ensures { GivesReadingOrReports (λ x. (x.0, x.1.now)) result (procap_at input bytes.now) }
 {
     match grant_at(alloc, input, bytes) {
         Err(fault) => Err(fault),
@@ -355,10 +355,10 @@ fn procap_at(alloc: Global, input: usize, bytes: &[u8]) -> Result<(Procap, &[u8]
     }
 }
 
-/// Reads a procap that is all of the bytes. Bytes behind it are `NotCanonical` at the first of them.
+/// Reads a procap that is all of the bytes. Bytes after it are `NotCanonical` at the first of them.
 pub fn read_procap(alloc: Global, bytes: &[u8]) -> Result<Procap, CodecFault>
-    ensures exact { GivesOrStops (λ p. p) result (whole_procap bytes.now) }
-    ensures whole { ReadsWhole IsSpellableProcap procap_spelling bytes.now result }
+    ensures exact { GivesReadingOrReports (λ p. p) result (whole_procap bytes.now) }
+    ensures whole { ReadsWholeProcap IsSpellableProcap procap_spelling bytes.now result }
 {
     match procap_at(alloc, bytes.len(), bytes) {
         Err(fault) => Err(fault),

@@ -2,15 +2,15 @@
 use Rattle.std.proofs.Common.{◌<◌, ℕ, arith}
 use Rattle.std.specs.Borrow.{Bor}
 use Rattle.proof_term.specs.declared.proof.Proof.{Proof}
-use Rattle.proof_term.specs.Proof.{Deduction, deduction, init, cons_r, inter_r, and_r, or_r1, or_r2, true_r, imp_r, forall_r, exists_r, says_r, at_r, cons_l, inter_l, and_l, or_l, false_l, imp_l, forall_l, exists_l, says_l, claim, at_l}
+use Rattle.proof_term.specs.Proof.{ProofView, proof_view, init, cons_r, inter_r, and_r, or_r1, or_r2, true_r, imp_r, forall_r, exists_r, says_r, at_r, cons_l, inter_l, and_l, or_l, false_l, imp_l, forall_l, exists_l, says_l, claim, at_l}
 use Rattle.proof_term.specs.Limits.{size}
 
 -- the nodes of a proof that is lent
 abbrev pub nodes_of : Bor Proof → ℕ
-nodes_of p = size (deduction p.now)
+nodes_of p = size (proof_view p.now)
 
 -- a proof has a node, its root
-pub size-pos : (d : Deduction) → 0 < size d
+pub size-pos : (d : ProofView) → 0 < size d
 size-pos (init h) = omega arith
 size-pos cons_r = omega arith
 size-pos inter_r = omega arith

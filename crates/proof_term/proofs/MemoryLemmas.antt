@@ -19,7 +19,7 @@ use Rattle.proof_term.specs.Faults.{of_field}
 use Rattle.proof_term.specs.Rules.{by_one, by_two}
 use Rattle.proof_term.specs.ProofReading.{◌>>=◌, field, ProofReading, of_hypothesis, of_term, interval_at, is_right, is_left, right_rule_at, left_rule_at, rule_at, rule_within, premises_at, proof_at, kept_proof_at}
 
--- a step that fails for want of memory: the first, or the second
+-- a step that fails because memory runs out: the first, or the second
 bind_memoryless : {A B : Type 0} (r : Result A ProofFault) (f : A → Result B ProofFault) → (r ≡ Err NoMemory → ⊥) → ((x : A) → f x ≡ Err NoMemory → ⊥) → (r >>= f) ≡ Err NoMemory → ⊥
 bind_memoryless (Ok x) f first second e = second x e
 bind_memoryless (Err d) f first second e = first cc

@@ -8,7 +8,7 @@ use Rattle.proof_term.specs.declared.rule.OnePremise.{OnePremise}
 use Rattle.proof_term.specs.declared.rule.TwoPremises.{TwoPremises}
 use Rattle.proof_term.specs.declared.rule.Rule.{Rule}
 use Rattle.proof_term.specs.declared.rule.Rule.TheVariants.{Axiom, One, Two}
-use Rattle.proof_term.specs.Proof.{Deduction}
+use Rattle.proof_term.specs.Proof.{ProofView}
 use Rattle.proof_term.specs.Limits.{size, depth}
 use Rattle.proof_term.specs.Rules.{by_axiom, by_one, by_two}
 use Rattle.proof_term.specs.ProofSpelling.{axiom_spelling, one_spelling, two_spelling, proof_spelling, IsSpellableAxiom, IsSpellableOne, IsSpellableTwo, NamesSpellable}
@@ -22,10 +22,10 @@ use Rattle.proof_term.proofs.ReadingLemmas.{proof_at-ok}
 spelling_axiom : (r : AxiomRule) → proof_spelling (by_axiom r) ≡ axiom_spelling r
 spelling_axiom r = folded_axiom axiom_spelling (λ r p. one_spelling r ++ p) (λ r p q. two_spelling r ++ (p ++ q)) r
 
-spelling_one : (r : OnePremise) (p : Deduction) → proof_spelling (by_one r p) ≡ one_spelling r ++ proof_spelling p
+spelling_one : (r : OnePremise) (p : ProofView) → proof_spelling (by_one r p) ≡ one_spelling r ++ proof_spelling p
 spelling_one r p = folded_one axiom_spelling (λ r p. one_spelling r ++ p) (λ r p q. two_spelling r ++ (p ++ q)) r p
 
-spelling_two : (r : TwoPremises) (p q : Deduction) → proof_spelling (by_two r p q) ≡ two_spelling r ++ (proof_spelling p ++ proof_spelling q)
+spelling_two : (r : TwoPremises) (p q : ProofView) → proof_spelling (by_two r p q) ≡ two_spelling r ++ (proof_spelling p ++ proof_spelling q)
 spelling_two r p q = folded_two axiom_spelling (λ r p. one_spelling r ++ p) (λ r p q. two_spelling r ++ (p ++ q)) r p q
 
 pub same : {A B : Type 0} → A ≡ B → A → B
@@ -34,15 +34,15 @@ same e x = subst (λ (X : Type 0). X) e x
 names_axiom : (r : AxiomRule) → NamesSpellable (by_axiom r) ≡ IsSpellableAxiom r
 names_axiom r = folded_axiom IsSpellableAxiom (λ r P. IsSpellableOne r × P) (λ r P Q. IsSpellableTwo r × (P × Q)) r
 
-pub names_one : (r : OnePremise) (p : Deduction) → NamesSpellable (by_one r p) ≡ (IsSpellableOne r × NamesSpellable p)
+pub names_one : (r : OnePremise) (p : ProofView) → NamesSpellable (by_one r p) ≡ (IsSpellableOne r × NamesSpellable p)
 names_one r p = folded_one IsSpellableAxiom (λ r P. IsSpellableOne r × P) (λ r P Q. IsSpellableTwo r × (P × Q)) r p
 
-pub names_two : (r : TwoPremises) (p q : Deduction) → NamesSpellable (by_two r p q) ≡ (IsSpellableTwo r × (NamesSpellable p × NamesSpellable q))
+pub names_two : (r : TwoPremises) (p q : ProofView) → NamesSpellable (by_two r p q) ≡ (IsSpellableTwo r × (NamesSpellable p × NamesSpellable q))
 names_two r p q = folded_two IsSpellableAxiom (λ r P. IsSpellableOne r × P) (λ r P Q. IsSpellableTwo r × (P × Q)) r p q
 
 -- ---- what was spelled is read again
 
-abbrev Again : Deduction → Type 0
+abbrev Again : ProofView → Type 0
 Again d = (levels nodes input : ℕ) (rest : List ℕ) → depth d ≤ levels → size d ≤ nodes → NamesSpellable d → proof_at levels nodes input (proof_spelling d ++ rest) ≡ Ok (d, (nodes - size d, rest))
 
 again_axiom : (r : AxiomRule) → Again (by_axiom r)
@@ -54,7 +54,7 @@ again_axiom r levels nodes input rest deep large names =
     proof_at-ok levels nodes input (proof_spelling (by_axiom r) ++ rest) rest (Axiom r) some_level root
     ∙ ap (λ (k : ℕ). Ok (by_axiom r, (nodes - k, rest))) (sym (size_axiom r))
 
-again_one : (r : OnePremise) (p : Deduction) → Again p → Again (by_one r p)
+again_one : (r : OnePremise) (p : ProofView) → Again p → Again (by_one r p)
 unfolding rule_spelling
 again_one r p again levels nodes input rest deep large names =
     let some_level : 0 < levels = omega (arith, depth_one r p) in
@@ -68,7 +68,7 @@ again_one r p again levels nodes input rest deep large names =
     ∙ ap (λ (x : ProofReading). x >>= λ y. Ok (by_one r y.0, y.1)) inner
     ∙ ap (λ (k : ℕ). Ok (by_one r p, (k, rest))) left
 
-again_two : (r : TwoPremises) (p q : Deduction) → Again p → Again q → Again (by_two r p q)
+again_two : (r : TwoPremises) (p q : ProofView) → Again p → Again q → Again (by_two r p q)
 unfolding rule_spelling
 again_two r p q again_p again_q levels nodes input rest deep large names =
     let some_level : 0 < levels = omega (arith, depth_two r p q) in
@@ -85,12 +85,12 @@ again_two r p q again_p again_q levels nodes input rest deep large names =
     ∙ ap (λ (x : ProofReading). x >>= λ z. Ok (by_two r p z.0, z.1)) second
     ∙ ap (λ (k : ℕ). Ok (by_two r p q, (k, rest))) left
 
-pub proof_again : (d : Deduction) → Again d
+pub proof_again : (d : ProofView) → Again d
 proof_again d = by_premises Again again_axiom again_one again_two d
 
 -- ---- what is read was spelled so
 
-pub record FoundProof (levels nodes : ℕ) (bytes : List ℕ) (d : Deduction) (left : ℕ) (rest : List ℕ) : Type 0 where
+pub record FoundProof (levels nodes : ℕ) (bytes : List ℕ) (d : ProofView) (left : ℕ) (rest : List ℕ) : Type 0 where
   pub names : NamesSpellable d
   pub bytes_are : bytes ≡ proof_spelling d ++ rest
   pub nodes_are : size d + left ≡ nodes
@@ -98,15 +98,15 @@ pub record FoundProof (levels nodes : ℕ) (bytes : List ℕ) (d : Deduction) (l
 
 -- what is read at some levels was spelled so
 abbrev Finds : ℕ → ℕ → Type 0
-Finds levels input = (nodes : ℕ) (bytes rest : List ℕ) (d : Deduction) (left : ℕ) → AreBytes bytes → proof_at levels nodes input bytes ≡ Ok (d, (left, rest)) → FoundProof levels nodes bytes d left rest
+Finds levels input = (nodes : ℕ) (bytes rest : List ℕ) (d : ProofView) (left : ℕ) → AreBytes bytes → proof_at levels nodes input bytes ≡ Ok (d, (left, rest)) → FoundProof levels nodes bytes d left rest
 
 behind : (bytes front rest : List ℕ) → AreBytes bytes → bytes ≡ front ++ rest → AreBytes rest
 behind bytes front rest fits e = AreBytes-behind front rest (subst AreBytes e fits)
 
-whole : (levels nodes : ℕ) (bytes : List ℕ) (x y : Deduction × (ℕ × List ℕ)) → ◌≡◌ {A = ProofReading} (Ok x) (Ok y) → FoundProof levels nodes bytes x.0 x.1.0 x.1.1 → FoundProof levels nodes bytes y.0 y.1.0 y.1.1
-whole levels nodes bytes x y e found = subst (λ (z : Deduction × (ℕ × List ℕ)). FoundProof levels nodes bytes z.0 z.1.0 z.1.1) (ok_is x y e) found
+whole : (levels nodes : ℕ) (bytes : List ℕ) (x y : ProofView × (ℕ × List ℕ)) → ◌≡◌ {A = ProofReading} (Ok x) (Ok y) → FoundProof levels nodes bytes x.0 x.1.0 x.1.1 → FoundProof levels nodes bytes y.0 y.1.0 y.1.1
+whole levels nodes bytes x y e found = subst (λ (z : ProofView × (ℕ × List ℕ)). FoundProof levels nodes bytes z.0 z.1.0 z.1.1) (ok_is x y e) found
 
-premises_found : (levels input : ℕ) → Finds levels input → (nodes : ℕ) (bytes more rest : List ℕ) (r : Rule) (d : Deduction) (left : ℕ) → AreBytes more → Found (suc levels) nodes bytes r more
+premises_found : (levels input : ℕ) → Finds levels input → (nodes : ℕ) (bytes more rest : List ℕ) (r : Rule) (d : ProofView) (left : ℕ) → AreBytes more → Found (suc levels) nodes bytes r more
     → premises_at (λ some next. proof_at levels some input next) r (nodes - 1) more ≡ Ok (d, (left, rest)) → FoundProof (suc levels) nodes bytes d left rest
 unfolding rule_spelling
 premises_found levels input finds nodes bytes more rest (Axiom r) d left fits root e =
@@ -147,7 +147,7 @@ premises_found levels input finds nodes bytes more rest (Two r) d left fits root
       levels_are = omega (arith, depth_two r b.0.0 c.0.0);
     })
 
-none : (x : Deduction × (ℕ × List ℕ)) → ◌≡◌ {A = ProofReading} (Err Short) (Ok x) → ⊥
+none : (x : ProofView × (ℕ × List ℕ)) → ◌≡◌ {A = ProofReading} (Err Short) (Ok x) → ⊥
 none x e = cc
 
 pub proof_found : (levels input : ℕ) → Finds levels input

@@ -20,7 +20,7 @@ use Rattle.proof_term.specs.declared.rule.TwoPremises.{TwoPremises}
 use Rattle.proof_term.specs.declared.rule.Axiom.TheVariants.{Init, ConsR, InterR, TrueR, FalseL}
 use Rattle.proof_term.specs.declared.rule.OnePremise.TheVariants.{OrR1, OrR2, ImpR, ForallR, ExistsR, SaysR, AtR, ConsL, InterL, AndL, ForallL, ExistsL, SaysL, Claim, AtL}
 use Rattle.proof_term.specs.declared.rule.TwoPremises.TheVariants.{AndR, OrL, ImpL}
-use Rattle.proof_term.specs.ProofSpelling.{hypothesis, axiom_spelling, one_spelling, two_spelling, IsNumbered, IsSpellableAxiom, IsSpellableOne, IsSpellableTwo}
+use Rattle.proof_term.specs.ProofSpelling.{hypothesis, axiom_spelling, one_spelling, two_spelling, IsSpellableHypothesis, IsSpellableAxiom, IsSpellableOne, IsSpellableTwo}
 use Rattle.proof_term.specs.ProofReading.{◌>>=◌, field, of_hypothesis, of_term, of_instance, interval_at, is_right, is_left, right_rule_at, left_rule_at, rule_at, rule_within}
 
 unfoldable pub rule_spelling : Rule → List ℕ
@@ -52,19 +52,19 @@ field_ok (Err d) x e = absurd cc
 
 -- ---- what was spelled is read again
 
-hypothesis_again : {B : Type 0} (f : ℕ × List ℕ → Result B ProofFault) (h : ℕ) (rest : List ℕ) → IsNumbered h → (field (number_at w16 (hypothesis h ++ rest)) >>= f) ≡ f (h, rest)
+hypothesis_again : {B : Type 0} (f : ℕ × List ℕ → Result B ProofFault) (h : ℕ) (rest : List ℕ) → IsSpellableHypothesis h → (field (number_at w16 (hypothesis h ++ rest)) >>= f) ≡ f (h, rest)
 hypothesis_again {B} f h rest lt = ap (λ (r : Result (ℕ × List ℕ) CodecFault). field r >>= f) (number_again w16 (2 ^ 16) wide16 h rest lt)
 
 named_again : {B : Type 0} (f : Term × List ℕ → Result B ProofFault) (input : ℕ) (t : Term) (rest : List ℕ) → IsSpellable t → (field (term_at input (term_spelling t ++ rest)) >>= f) ≡ f (t, rest)
 named_again {B} f input t rest spelled = ap (λ (r : Result (Term × List ℕ) CodecFault). field r >>= f) (term_again input t rest spelled)
 
-of_hypothesis_again : (rule : ℕ → Rule) (h : ℕ) (rest : List ℕ) → IsNumbered h → of_hypothesis rule (hypothesis h ++ rest) ≡ Ok (rule h, rest)
+of_hypothesis_again : (rule : ℕ → Rule) (h : ℕ) (rest : List ℕ) → IsSpellableHypothesis h → of_hypothesis rule (hypothesis h ++ rest) ≡ Ok (rule h, rest)
 of_hypothesis_again rule h rest lt = hypothesis_again (λ x. Ok (rule x.0, x.1)) h rest lt
 
 of_term_again : (rule : Term → Rule) (input : ℕ) (t : Term) (rest : List ℕ) → IsSpellable t → of_term rule input (term_spelling t ++ rest) ≡ Ok (rule t, rest)
 of_term_again rule input t rest spelled = named_again (λ x. Ok (rule x.0, x.1)) input t rest spelled
 
-of_instance_again : (rule : ℕ → Term → Rule) (input h : ℕ) (t : Term) (rest : List ℕ) → IsNumbered h → IsSpellable t → of_instance rule input ((hypothesis h ++ term_spelling t) ++ rest) ≡ Ok (rule h t, rest)
+of_instance_again : (rule : ℕ → Term → Rule) (input h : ℕ) (t : Term) (rest : List ℕ) → IsSpellableHypothesis h → IsSpellable t → of_instance rule input ((hypothesis h ++ term_spelling t) ++ rest) ≡ Ok (rule h t, rest)
 of_instance_again rule input h t rest lt spelled =
     ap (of_instance rule input) (append_assoc (hypothesis h) (term_spelling t) rest)
     ∙ hypothesis_again (λ x. of_term (rule x.0) input x.1) h (term_spelling t ++ rest) lt
@@ -76,7 +76,7 @@ interval_again input h t1 t2 rest first second =
     ∙ named_again (λ t. of_term (λ u. Two (ImpL h t.0 u)) input t.1) input t1 (term_spelling t2 ++ rest) first
     ∙ of_term_again (λ u. Two (ImpL h t1 u)) input t2 rest second
 
-implication_again : (input h : ℕ) (t1 t2 : Term) (rest : List ℕ) → IsNumbered h → IsSpellable t1 → IsSpellable t2
+implication_again : (input h : ℕ) (t1 t2 : Term) (rest : List ℕ) → IsSpellableHypothesis h → IsSpellable t1 → IsSpellable t2
     → (field (number_at w16 ((hypothesis h ++ (term_spelling t1 ++ term_spelling t2)) ++ rest)) >>= λ x. interval_at input x.0 x.1) ≡ Ok (Two (ImpL h t1 t2), rest)
 implication_again input h t1 t2 rest lt first second =
     ap (λ (bytes : List ℕ). field (number_at w16 bytes) >>= λ x. interval_at input x.0 x.1) (append_assoc (hypothesis h) (term_spelling t1 ++ term_spelling t2) rest)
@@ -147,14 +147,14 @@ fields_found tag code more fields rest rule r is fits spelled parts same =
     (fits, ap (λ (k : ℕ). k ∷ more) (eqb-true tag code is) ∙ ap (λ (b : List ℕ). code ∷ b) parts ∙ ap (λ (b : List ℕ). b ++ rest) (sym spelled))
 
 -- the hypothesis that was read
-hypothesis_found : (more rest : List ℕ) (h : ℕ) → AreBytes more → field (number_at w16 more) ≡ Ok (h, rest) → IsNumbered h × (more ≡ hypothesis h ++ rest)
+hypothesis_found : (more rest : List ℕ) (h : ℕ) → AreBytes more → field (number_at w16 more) ≡ Ok (h, rest) → IsSpellableHypothesis h × (more ≡ hypothesis h ++ rest)
 hypothesis_found more rest h fits e = number_found w16 (2 ^ 16) wide16 more h rest fits (field_ok (number_at w16 more) (h, rest) e)
 
 -- the term that was read
 named_found : (input : ℕ) (more rest : List ℕ) (t : Term) → AreBytes more → field (term_at input more) ≡ Ok (t, rest) → IsSpellable t × (more ≡ term_spelling t ++ rest)
 named_found input more rest t fits e = term_found input more rest t fits (field_ok (term_at input more) (t, rest) e)
 
-of_hypothesis_found : (rule : ℕ → Rule) (code : ℕ) → ((h : ℕ) → IsNumbered h → IsSpellableRule (rule h)) → ((h : ℕ) → rule_spelling (rule h) ≡ code ∷ hypothesis h)
+of_hypothesis_found : (rule : ℕ → Rule) (code : ℕ) → ((h : ℕ) → IsSpellableHypothesis h → IsSpellableRule (rule h)) → ((h : ℕ) → rule_spelling (rule h) ≡ code ∷ hypothesis h)
     → (tag : ℕ) (more rest : List ℕ) (r : Rule) → eqb tag code ≡ true → AreBytes more → of_hypothesis rule more ≡ Ok (r, rest) → Spells (tag ∷ more) r rest
 of_hypothesis_found rule code fits spelled tag more rest r is bytes e =
     let b = bind_ok (field (number_at w16 more)) (λ h. Ok (rule h.0, h.1)) (r, rest) e in
@@ -178,7 +178,7 @@ of_term_found rule code fits spelled input tag more rest r is bytes e =
     let t = last_found rule input more rest r bytes e in
     fields_found tag code more (term_spelling t.0) rest (rule t.0) r is (fits t.0 t.1.0) (spelled t.0) t.1.1.0 t.1.1.1
 
--- two fields behind one another
+-- two fields after one another
 two_parts : (more x middle y rest : List ℕ) → more ≡ x ++ middle → middle ≡ y ++ rest → more ≡ (x ++ y) ++ rest
 two_parts more x middle y rest first second = first ∙ ap (λ (b : List ℕ). x ++ b) second ∙ sym (append_assoc x y rest)
 

@@ -7,18 +7,18 @@ use Rattle.proof_term.specs.declared.rule.OnePremise.{OnePremise}
 use Rattle.proof_term.specs.declared.rule.OnePremise.TheVariants as one
 use Rattle.proof_term.specs.declared.rule.TwoPremises.{TwoPremises}
 use Rattle.proof_term.specs.declared.rule.TwoPremises.TheVariants as two
-use Rattle.proof_term.specs.Proof.{Deduction, init, cons_r, inter_r, and_r, or_r1, or_r2, true_r, imp_r, forall_r, exists_r, says_r, at_r, cons_l, inter_l, and_l, or_l, false_l, imp_l, forall_l, exists_l, says_l, claim, at_l}
+use Rattle.proof_term.specs.Proof.{ProofView, init, cons_r, inter_r, and_r, or_r1, or_r2, true_r, imp_r, forall_r, exists_r, says_r, at_r, cons_l, inter_l, and_l, or_l, false_l, imp_l, forall_l, exists_l, says_l, claim, at_l}
 use Rattle.proof_term.specs.Limits.{size, depth}
-use Rattle.proof_term.specs.Rules.{by_axiom, by_one, by_two, folded}
+use Rattle.proof_term.specs.Rules.{by_axiom, by_one, by_two, fold_proof}
 
-pub folded_axiom {ℓ} : {A : Type ℓ} (a : Axiom → A) (f : OnePremise → A → A) (g : TwoPremises → A → A → A) (r : Axiom) → folded a f g (by_axiom r) ≡ a r
+pub folded_axiom {ℓ} : {A : Type ℓ} (a : Axiom → A) (f : OnePremise → A → A) (g : TwoPremises → A → A → A) (r : Axiom) → fold_proof a f g (by_axiom r) ≡ a r
 folded_axiom a f g (axioms.Init h) = refl
 folded_axiom a f g axioms.ConsR = refl
 folded_axiom a f g axioms.InterR = refl
 folded_axiom a f g axioms.TrueR = refl
 folded_axiom a f g (axioms.FalseL h) = refl
 
-pub folded_one {ℓ} : {A : Type ℓ} (a : Axiom → A) (f : OnePremise → A → A) (g : TwoPremises → A → A → A) (r : OnePremise) (p : Deduction) → folded a f g (by_one r p) ≡ f r (folded a f g p)
+pub folded_one {ℓ} : {A : Type ℓ} (a : Axiom → A) (f : OnePremise → A → A) (g : TwoPremises → A → A → A) (r : OnePremise) (p : ProofView) → fold_proof a f g (by_one r p) ≡ f r (fold_proof a f g p)
 folded_one a f g one.OrR1 p = refl
 folded_one a f g one.OrR2 p = refl
 folded_one a f g one.ImpR p = refl
@@ -35,7 +35,7 @@ folded_one a f g (one.SaysL h) p = refl
 folded_one a f g (one.Claim h) p = refl
 folded_one a f g (one.AtL h) p = refl
 
-pub folded_two {ℓ} : {A : Type ℓ} (a : Axiom → A) (f : OnePremise → A → A) (g : TwoPremises → A → A → A) (r : TwoPremises) (p q : Deduction) → folded a f g (by_two r p q) ≡ g r (folded a f g p) (folded a f g q)
+pub folded_two {ℓ} : {A : Type ℓ} (a : Axiom → A) (f : OnePremise → A → A) (g : TwoPremises → A → A → A) (r : TwoPremises) (p q : ProofView) → fold_proof a f g (by_two r p q) ≡ g r (fold_proof a f g p) (fold_proof a f g q)
 folded_two a f g two.AndR p q = refl
 folded_two a f g (two.OrL h) p q = refl
 folded_two a f g (two.ImpL h t1 t2) p q = refl
@@ -47,7 +47,7 @@ size_axiom axioms.InterR = refl
 size_axiom axioms.TrueR = refl
 size_axiom (axioms.FalseL h) = refl
 
-pub size_one : (r : OnePremise) (p : Deduction) → size (by_one r p) ≡ 1 + size p
+pub size_one : (r : OnePremise) (p : ProofView) → size (by_one r p) ≡ 1 + size p
 size_one one.OrR1 p = refl
 size_one one.OrR2 p = refl
 size_one one.ImpR p = refl
@@ -64,7 +64,7 @@ size_one (one.SaysL h) p = refl
 size_one (one.Claim h) p = refl
 size_one (one.AtL h) p = refl
 
-pub size_two : (r : TwoPremises) (p q : Deduction) → size (by_two r p q) ≡ 1 + size p + size q
+pub size_two : (r : TwoPremises) (p q : ProofView) → size (by_two r p q) ≡ 1 + size p + size q
 size_two two.AndR p q = refl
 size_two (two.OrL h) p q = refl
 size_two (two.ImpL h t1 t2) p q = refl
@@ -76,7 +76,7 @@ depth_axiom axioms.InterR = refl
 depth_axiom axioms.TrueR = refl
 depth_axiom (axioms.FalseL h) = refl
 
-pub depth_one : (r : OnePremise) (p : Deduction) → depth (by_one r p) ≡ 1 + depth p
+pub depth_one : (r : OnePremise) (p : ProofView) → depth (by_one r p) ≡ 1 + depth p
 depth_one one.OrR1 p = refl
 depth_one one.OrR2 p = refl
 depth_one one.ImpR p = refl
@@ -93,13 +93,13 @@ depth_one (one.SaysL h) p = refl
 depth_one (one.Claim h) p = refl
 depth_one (one.AtL h) p = refl
 
-pub depth_two : (r : TwoPremises) (p q : Deduction) → depth (by_two r p q) ≡ 1 + max (depth p) (depth q)
+pub depth_two : (r : TwoPremises) (p q : ProofView) → depth (by_two r p q) ≡ 1 + max (depth p) (depth q)
 depth_two two.AndR p q = refl
 depth_two (two.OrL h) p q = refl
 depth_two (two.ImpL h t1 t2) p q = refl
 
 -- induction by the number of premises
-pub by_premises : (P : Deduction → Type 0) → ((r : Axiom) → P (by_axiom r)) → ((r : OnePremise) (p : Deduction) → P p → P (by_one r p)) → ((r : TwoPremises) (p q : Deduction) → P p → P q → P (by_two r p q)) → (d : Deduction) → P d
+pub by_premises : (P : ProofView → Type 0) → ((r : Axiom) → P (by_axiom r)) → ((r : OnePremise) (p : ProofView) → P p → P (by_one r p)) → ((r : TwoPremises) (p q : ProofView) → P p → P q → P (by_two r p q)) → (d : ProofView) → P d
 by_premises P a f g (init h) = a (axioms.Init h)
 by_premises P a f g cons_r = a axioms.ConsR
 by_premises P a f g inter_r = a axioms.InterR

@@ -10,8 +10,8 @@ use Rattle.proof_term.specs.declared.rule.OnePremise.{OnePremise}
 use Rattle.proof_term.specs.declared.rule.OnePremise.TheVariants as one
 use Rattle.proof_term.specs.declared.rule.TwoPremises.{TwoPremises}
 use Rattle.proof_term.specs.declared.rule.TwoPremises.TheVariants as two
-use Rattle.proof_term.specs.Proof.{Deduction}
-use Rattle.proof_term.specs.Limits.{HasTimesInRange, IsKept}
+use Rattle.proof_term.specs.Proof.{ProofView}
+use Rattle.proof_term.specs.Limits.{HasTimesInRange, IsKeptProof}
 use Rattle.proof_term.specs.Rules.{by_axiom, by_one, by_two}
 use Rattle.proof_term.specs.RuleTimes.{IsOneInRange, IsTwoInRange}
 use Rattle.proof_term.specs.ProofSpelling.{IsSpellableOne, IsSpellableTwo, NamesSpellable, IsSpellableProof}
@@ -19,7 +19,7 @@ use Rattle.proof_term.proofs.ShapeLemmas.{by_premises}
 use Rattle.proof_term.proofs.ProofLemmas.{same, names_one, names_two}
 
 -- the times of a rule and of its premises are those of the proof
-one_parts : (r : OnePremise) (p : Deduction) → HasTimesInRange (by_one r p) → IsOneInRange r × HasTimesInRange p
+one_parts : (r : OnePremise) (p : ProofView) → HasTimesInRange (by_one r p) → IsOneInRange r × HasTimesInRange p
 one_parts one.OrR1 p h = (tt, h)
 one_parts one.OrR2 p h = (tt, h)
 one_parts one.ImpR p h = (tt, h)
@@ -36,15 +36,15 @@ one_parts (one.SaysL n) p h = (tt, h)
 one_parts (one.Claim n) p h = (tt, h)
 one_parts (one.AtL n) p h = (tt, h)
 
-two_parts : (r : TwoPremises) (p q : Deduction) → HasTimesInRange (by_two r p q) → IsTwoInRange r × (HasTimesInRange p × HasTimesInRange q)
+two_parts : (r : TwoPremises) (p q : ProofView) → HasTimesInRange (by_two r p q) → IsTwoInRange r × (HasTimesInRange p × HasTimesInRange q)
 two_parts two.AndR p q h = (tt, h)
 two_parts (two.OrL h) p q k = (tt, k)
 two_parts (two.ImpL h t1 t2) p q k = k
 
-pub times_of_one : (r : OnePremise) (p d : Deduction) → by_one r p ≡ d → HasTimesInRange d → IsOneInRange r × HasTimesInRange p
+pub times_of_one : (r : OnePremise) (p d : ProofView) → by_one r p ≡ d → HasTimesInRange d → IsOneInRange r × HasTimesInRange p
 times_of_one r p d e h = one_parts r p (subst HasTimesInRange (sym e) h)
 
-pub times_of_two : (r : TwoPremises) (p q d : Deduction) → by_two r p q ≡ d → HasTimesInRange d → IsTwoInRange r × (HasTimesInRange p × HasTimesInRange q)
+pub times_of_two : (r : TwoPremises) (p q d : ProofView) → by_two r p q ≡ d → HasTimesInRange d → IsTwoInRange r × (HasTimesInRange p × HasTimesInRange q)
 times_of_two r p q d e h = two_parts r p q (subst HasTimesInRange (sym e) h)
 
 -- a term that has a spelling has its time in range
@@ -65,7 +65,7 @@ times_axiom axioms.InterR = tt
 times_axiom axioms.TrueR = tt
 times_axiom (axioms.FalseL h) = tt
 
-times_one : (r : OnePremise) (p : Deduction) → IsSpellableOne r → HasTimesInRange p → HasTimesInRange (by_one r p)
+times_one : (r : OnePremise) (p : ProofView) → IsSpellableOne r → HasTimesInRange p → HasTimesInRange (by_one r p)
 times_one one.OrR1 p s h = h
 times_one one.OrR2 p s h = h
 times_one one.ImpR p s h = h
@@ -82,20 +82,20 @@ times_one (one.SaysL n) p s h = h
 times_one (one.Claim n) p s h = h
 times_one (one.AtL n) p s h = h
 
-times_two : (r : TwoPremises) (p q : Deduction) → IsSpellableTwo r → HasTimesInRange p × HasTimesInRange q → HasTimesInRange (by_two r p q)
+times_two : (r : TwoPremises) (p q : ProofView) → IsSpellableTwo r → HasTimesInRange p × HasTimesInRange q → HasTimesInRange (by_two r p q)
 times_two two.AndR p q s h = h
 times_two (two.OrL n) p q s h = h
 times_two (two.ImpL n t1 t2) p q s h = ((time_of t1 s.1.0, time_of t2 s.1.1), h)
 
-abbrev Timed : Deduction → Type 0
+abbrev Timed : ProofView → Type 0
 Timed d = NamesSpellable d → HasTimesInRange d
 
-names_times : (d : Deduction) → Timed d
+names_times : (d : ProofView) → Timed d
 names_times d = by_premises Timed
     (λ r s. times_axiom r)
     (λ r p h s. let parts = same (names_one r p) s in times_one r p parts.0 (h parts.1))
     (λ r p q h k s. let parts = same (names_two r p q) s in times_two r p q parts.0 (h parts.1.0, k parts.1.1))
     d
 
-pub IsKept-from_spellable : (d : Deduction) → IsSpellableProof d → IsKept d
+pub IsKept-from_spellable : (d : ProofView) → IsSpellableProof d → IsKeptProof d
 IsKept-from_spellable d h = record { within_limits = h.within_limits; times_in_range = names_times d h.names }

@@ -1,10 +1,10 @@
 -- The size of a proof, and which proofs are kept. The limits are this project's own.
 use Rattle.std.specs.Prelude.{◌≡◌, ℕ, ◌+◌, ◌≤◌, max}
 use Rattle.bl_syntax.specs.Terms.{HasTimeInRange}
-use Rattle.proof_term.specs.Proof.{Deduction, init, cons_r, inter_r, and_r, or_r1, or_r2, true_r, imp_r, forall_r, exists_r, says_r, at_r, cons_l, inter_l, and_l, or_l, false_l, imp_l, forall_l, exists_l, says_l, claim, at_l}
+use Rattle.proof_term.specs.Proof.{ProofView, init, cons_r, inter_r, and_r, or_r1, or_r2, true_r, imp_r, forall_r, exists_r, says_r, at_r, cons_l, inter_l, and_l, or_l, false_l, imp_l, forall_l, exists_l, says_l, claim, at_l}
 
 -- the number of its nodes: one for each use of a rule
-abbrev pub size : Deduction → ℕ
+abbrev pub size : ProofView → ℕ
 size (init h) = 1
 size cons_r = 1
 size inter_r = 1
@@ -30,7 +30,7 @@ size (claim h p) = 1 + size p
 size (at_l h p) = 1 + size p
 
 -- the number of nodes from the root down to the farthest node, both counted: a rule without premises has depth 1
-abbrev pub depth : Deduction → ℕ
+abbrev pub depth : ProofView → ℕ
 depth (init h) = 1
 depth cons_r = 1
 depth inter_r = 1
@@ -56,7 +56,7 @@ depth (claim h p) = 1 + depth p
 depth (at_l h p) = 1 + depth p
 
 -- the times that its terms name lie in the range of moments
-abbrev pub HasTimesInRange : Deduction → Type 0
+abbrev pub HasTimesInRange : ProofView → Type 0
 HasTimesInRange (init h) = Unit {0}
 HasTimesInRange cons_r = Unit {0}
 HasTimesInRange inter_r = Unit {0}
@@ -82,16 +82,16 @@ HasTimesInRange (claim h p) = HasTimesInRange p
 HasTimesInRange (at_l h p) = HasTimesInRange p
 
 -- at most 4,096 nodes, and a depth of at most 200
-pub record IsWithinLimits (d : Deduction) : Type 0 where
+pub record IsProofWithinLimits (d : ProofView) : Type 0 where
   pub nodes : size d ≤ 4096
   pub levels : depth d ≤ 200
 
 -- a proof that is kept: within the limits, with all times in the range of moments
-pub record IsKept (d : Deduction) : Type 0 where
-  pub within_limits : IsWithinLimits d
+pub record IsKeptProof (d : ProofView) : Type 0 where
+  pub within_limits : IsProofWithinLimits d
   pub times_in_range : HasTimesInRange d
 
 -- it has so many nodes, and this depth
-pub record HasMeasure (d : Deduction) (nodes levels : ℕ) : Type 0 where
+pub record HasMeasure (d : ProofView) (nodes levels : ℕ) : Type 0 where
   pub nodes_are : nodes ≡ size d
   pub levels_are : levels ≡ depth d

@@ -1,4 +1,4 @@
--- The reading of a proof behind the tag of its root.
+-- The reading of a proof after the tag of its root.
 use Rattle.std.specs.Prelude.{ℕ, List}
 use Rattle.proof_term.specs.ProofReading.{◌>>=◌, ProofReading, rule_at, premises_at}
 

@@ -5,20 +5,20 @@ use Rattle.std.proofs.lemmas.List.{append-nil}
 use Rattle.std.specs.Coded.{Coded, code_by, coded×, coded_ℕ, coded_list}
 use Rattle.bl_syntax.specs.declared.terms.Term.{Term}
 use Rattle.bl_syntax.specs.contracts.terms.Term as term
-use Rattle.proof_term.specs.Proof.{Deduction, init, cons_r, inter_r, and_r, or_r1, or_r2, true_r, imp_r, forall_r, exists_r, says_r, at_r, cons_l, inter_l, and_l, or_l, false_l, imp_l, forall_l, exists_l, says_l, claim, at_l}
+use Rattle.proof_term.specs.Proof.{ProofView, init, cons_r, inter_r, and_r, or_r1, or_r2, true_r, imp_r, forall_r, exists_r, says_r, at_r, cons_l, inter_l, and_l, or_l, false_l, imp_l, forall_l, exists_l, says_l, claim, at_l}
 
 -- a node without its children: its rule, its hypothesis (0 where the rule names none) and its terms
-abbrev Node : Type 0
-Node = ℕ × (ℕ × List Term)
+abbrev ProofNode : Type 0
+ProofNode = ℕ × (ℕ × List Term)
 
-abbrev node_code : Coded Node
+abbrev node_code : Coded ProofNode
 node_code = coded× coded_ℕ (coded× coded_ℕ (coded_list term.the_row.coded))
 
-abbrev node : ℕ → ℕ → List Term → Node
+abbrev node : ℕ → ℕ → List Term → ProofNode
 node rule h terms = (rule, (h, terms))
 
 -- the nodes of a proof, children first
-abbrev nodes : Deduction → List Node
+abbrev nodes : ProofView → List ProofNode
 nodes (init h) = node 0 h [] ∷ []
 nodes cons_r = node 1 0 [] ∷ []
 nodes inter_r = node 2 0 [] ∷ []
@@ -44,25 +44,25 @@ nodes (claim h p) = nodes p ++ node 21 h [] ∷ []
 nodes (at_l h p) = nodes p ++ node 22 h [] ∷ []
 
 -- the two newest proofs become one
-abbrev join : (Deduction → Deduction → Deduction) → List Deduction → List Deduction
+abbrev join : (ProofView → ProofView → ProofView) → List ProofView → List ProofView
 join f (q ∷ p ∷ rest) = f p q ∷ rest
 join f _ = []
 
 -- the newest proof becomes another
-abbrev wrap : (Deduction → Deduction) → List Deduction → List Deduction
+abbrev wrap : (ProofView → ProofView) → List ProofView → List ProofView
 wrap f (p ∷ rest) = f p ∷ rest
 wrap f _ = []
 
-abbrev by_term : (Term → Deduction → Deduction) → List Term → List Deduction → List Deduction
+abbrev by_term : (Term → ProofView → ProofView) → List Term → List ProofView → List ProofView
 by_term f (t ∷ []) proofs = wrap (f t) proofs
 by_term f _ proofs = []
 
-abbrev by_terms : (Term → Term → Deduction → Deduction → Deduction) → List Term → List Deduction → List Deduction
+abbrev by_terms : (Term → Term → ProofView → ProofView → ProofView) → List Term → List ProofView → List ProofView
 by_terms f (t1 ∷ t2 ∷ []) proofs = join (f t1 t2) proofs
 by_terms f _ proofs = []
 
 -- the proofs so far, after one more node
-abbrev after_node : Node → List Deduction → List Deduction
+abbrev after_node : ProofNode → List ProofView → List ProofView
 after_node n proofs =
     if n.0 == 0 then init n.1.0 ∷ proofs else
     if n.0 == 1 then cons_r ∷ proofs else
@@ -88,24 +88,24 @@ after_node n proofs =
     if n.0 == 21 then wrap (claim n.1.0) proofs else
     wrap (at_l n.1.0) proofs
 
-abbrev built : List Node → List Deduction → List Deduction
-built [] proofs = proofs
-built (n ∷ ns) proofs = built ns (after_node n proofs)
+abbrev build : List ProofNode → List ProofView → List ProofView
+build [] proofs = proofs
+build (n ∷ ns) proofs = build ns (after_node n proofs)
 
 -- the nodes of a proof make it
-abbrev Makes : Deduction → Type 0
-Makes d = (rest : List Node) (proofs : List Deduction) → built (nodes d ++ rest) proofs ≡ built rest (d ∷ proofs)
+abbrev MakesProof : ProofView → Type 0
+MakesProof d = (rest : List ProofNode) (proofs : List ProofView) → build (nodes d ++ rest) proofs ≡ build rest (d ∷ proofs)
 
-after_two : (p q : Deduction) (n : Node) → Makes p → Makes q → (rest : List Node) (proofs : List Deduction) → built ((nodes p ++ (nodes q ++ n ∷ [])) ++ rest) proofs ≡ built rest (after_node n (q ∷ p ∷ proofs))
+after_two : (p q : ProofView) (n : ProofNode) → MakesProof p → MakesProof q → (rest : List ProofNode) (proofs : List ProofView) → build ((nodes p ++ (nodes q ++ n ∷ [])) ++ rest) proofs ≡ build rest (after_node n (q ∷ p ∷ proofs))
 after_two p q n makes_p makes_q rest proofs =
-    ap (λ (ns : List Node). built ns proofs) (append_assoc (nodes p) (nodes q ++ n ∷ []) rest ∙ ap (λ (ns : List Node). nodes p ++ ns) (append_assoc (nodes q) (n ∷ []) rest))
+    ap (λ (ns : List ProofNode). build ns proofs) (append_assoc (nodes p) (nodes q ++ n ∷ []) rest ∙ ap (λ (ns : List ProofNode). nodes p ++ ns) (append_assoc (nodes q) (n ∷ []) rest))
     ∙ makes_p (nodes q ++ (n ∷ rest)) proofs ∙ makes_q (n ∷ rest) (p ∷ proofs)
 
-after_one : (p : Deduction) (n : Node) → Makes p → (rest : List Node) (proofs : List Deduction) → built ((nodes p ++ n ∷ []) ++ rest) proofs ≡ built rest (after_node n (p ∷ proofs))
+after_one : (p : ProofView) (n : ProofNode) → MakesProof p → (rest : List ProofNode) (proofs : List ProofView) → build ((nodes p ++ n ∷ []) ++ rest) proofs ≡ build rest (after_node n (p ∷ proofs))
 after_one p n makes_p rest proofs =
-    ap (λ (ns : List Node). built ns proofs) (append_assoc (nodes p) (n ∷ []) rest) ∙ makes_p (n ∷ rest) proofs
+    ap (λ (ns : List ProofNode). build ns proofs) (append_assoc (nodes p) (n ∷ []) rest) ∙ makes_p (n ∷ rest) proofs
 
-built-nodes : (d : Deduction) → Makes d
+built-nodes : (d : ProofView) → MakesProof d
 built-nodes (init h) rest proofs = refl
 built-nodes cons_r rest proofs = refl
 built-nodes inter_r rest proofs = refl
@@ -130,13 +130,13 @@ built-nodes (says_l h p) rest proofs = after_one p (node 20 h []) (built-nodes p
 built-nodes (claim h p) rest proofs = after_one p (node 21 h []) (built-nodes p) rest proofs
 built-nodes (at_l h p) rest proofs = after_one p (node 22 h []) (built-nodes p) rest proofs
 
-abbrev newest : List Deduction → Deduction
-newest [] = true_r
-newest (d ∷ proofs) = d
+abbrev newest_proof : List ProofView → ProofView
+newest_proof [] = true_r
+newest_proof (d ∷ proofs) = d
 
-pub made_again : (d : Deduction) → newest (built (nodes d) []) ≡ d
-made_again d = ap (λ (ns : List Node). newest (built ns [])) (sym (append-nil (nodes d))) ∙ ap newest (built-nodes d [] [])
+pub rebuild : (d : ProofView) → newest_proof (build (nodes d) []) ≡ d
+rebuild d = ap (λ (ns : List ProofNode). newest_proof (build ns [])) (sym (append-nil (nodes d))) ∙ ap newest_proof (built-nodes d [] [])
 
 -- a proof is told apart by its nodes
-abbrev pub proof_code : Coded Deduction
-proof_code = code_by (List Node) (coded_list node_code) nodes (λ ns. newest (built ns [])) made_again
+abbrev pub proof_code : Coded ProofView
+proof_code = code_by (List ProofNode) (coded_list node_code) nodes (λ ns. newest_proof (build ns [])) rebuild

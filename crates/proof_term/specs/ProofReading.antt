@@ -1,4 +1,4 @@
--- Reading a proof's canonical bytes from the left: the proof and the bytes behind it, or the first fault. The order of the faults is this project's own.
+-- Reading a proof's canonical bytes from the left: the proof and the bytes after it, or the first fault. The order of the faults is this project's own.
 -- At a node the tag is tested first, then the number of nodes, then the depth, and then the fields in order.
 use Rattle.std.specs.Prelude.{◌≡◌, ◌-◌, ℕ, zero, suc, List, [], ◌∷◌, length, Bool, ◌&&◌, ◌||◌, nat_le, ◌==◌, if◌then◌else◌, Result, Ok, Err}
 use Rattle.std.specs.Int.{w16}
@@ -12,11 +12,11 @@ use Rattle.proof_term.specs.declared.rule.Rule.TheVariants.{Axiom, One, Two}
 use Rattle.proof_term.specs.declared.rule.Axiom.TheVariants.{Init, ConsR, InterR, TrueR, FalseL}
 use Rattle.proof_term.specs.declared.rule.OnePremise.TheVariants.{OrR1, OrR2, ImpR, ForallR, ExistsR, SaysR, AtR, ConsL, InterL, AndL, ForallL, ExistsL, SaysL, Claim, AtL}
 use Rattle.proof_term.specs.declared.rule.TwoPremises.TheVariants.{AndR, OrL, ImpL}
-use Rattle.proof_term.specs.Proof.{Deduction}
+use Rattle.proof_term.specs.Proof.{ProofView}
 use Rattle.proof_term.specs.Rules.{by_axiom, by_one, by_two}
 use Rattle.proof_term.specs.Faults.{of_field}
 
--- one reading, and then another of the bytes behind it, unless the first has a fault
+-- one reading, and then another of the bytes after it, unless the first has a fault
 infixl 10 ◌>>=◌
 abbrev pub ◌>>=◌ : {A B : Type 0} → Result A ProofFault → (A → Result B ProofFault) → Result B ProofFault
 (Ok x) >>= f = f x
@@ -27,7 +27,7 @@ abbrev pub field : {A : Type 0} → Result A CodecFault → Result A ProofFault
 field (Ok x) = Ok x
 field (Err e) = Err (of_field e)
 
--- a rule and the bytes behind its fields, or a fault
+-- a rule and the bytes after its fields, or a fault
 abbrev pub RuleReading : Type 0
 RuleReading = Result (Rule × List ℕ) ProofFault
 
@@ -100,9 +100,9 @@ left_rule_at input start tag rest =
 unfoldable pub rule_at : ℕ → ℕ → ℕ → List ℕ → RuleReading
 rule_at input start tag rest = if is_right tag then right_rule_at input start tag rest else left_rule_at input start tag rest
 
--- a proof, how many nodes are left of those that may still be read, and the bytes behind it, or a fault
+-- a proof, how many nodes are left of those that may still be read, and the bytes after it, or a fault
 abbrev pub ProofReading : Type 0
-ProofReading = Result (Deduction × (ℕ × List ℕ)) ProofFault
+ProofReading = Result (ProofView × (ℕ × List ℕ)) ProofFault
 
 -- the proof by a rule, whose premises are read in order
 abbrev pub premises_at : (ℕ → List ℕ → ProofReading) → Rule → ℕ → List ℕ → ProofReading
@@ -131,23 +131,23 @@ proof_at zero nodes input bytes = rule_within 0 nodes input bytes >>= λ rule. E
 proof_at (suc levels) nodes input bytes =
     rule_within (suc levels) nodes input bytes >>= λ rule. premises_at (λ left rest. proof_at levels left input rest) rule.0 (nodes - 1) rule.1
 
--- a proof within the limits and the bytes behind it, or the first fault
-unfoldable pub kept_proof_at : ℕ → List ℕ → Result (Deduction × List ℕ) ProofFault
+-- a proof within the limits and the bytes after it, or the first fault
+unfoldable pub kept_proof_at : ℕ → List ℕ → Result (ProofView × List ℕ) ProofFault
 kept_proof_at input bytes = proof_at 200 4096 input bytes >>= λ x. Ok (x.0, x.1.1)
 
 -- the proof that begins an input and how many bytes it takes, or the first fault
-abbrev pub proof_reading : List ℕ → Result (Deduction × ℕ) ProofFault
+abbrev pub proof_reading : List ℕ → Result (ProofView × ℕ) ProofFault
 proof_reading bytes = kept_proof_at (length bytes) bytes >>= λ x. Ok (x.0, length bytes - length x.1)
 
 -- what a function returned, seen by view, is what is read, unless there was no memory
-abbrev pub Fails : {Y : Type 0} → ProofFault → Result Y ProofFault → Type 0
-Fails NoMemory read = Unit {0}
-Fails Short read = read ≡ Err Short
-Fails (BadTag at) read = read ≡ Err (BadTag at)
-Fails (TooLarge at) read = read ≡ Err (TooLarge at)
-Fails (TooDeep at) read = read ≡ Err (TooDeep at)
-Fails (BadTerm fault) read = read ≡ Err (BadTerm fault)
+abbrev pub ReportsProofFault : {Y : Type 0} → ProofFault → Result Y ProofFault → Type 0
+ReportsProofFault NoMemory read = Unit {0}
+ReportsProofFault Short read = read ≡ Err Short
+ReportsProofFault (BadTag at) read = read ≡ Err (BadTag at)
+ReportsProofFault (TooLarge at) read = read ≡ Err (TooLarge at)
+ReportsProofFault (TooDeep at) read = read ≡ Err (TooDeep at)
+ReportsProofFault (BadTerm fault) read = read ≡ Err (BadTerm fault)
 
-abbrev pub Gives : {X Y : Type 0} → (X → Y) → Result X ProofFault → Result Y ProofFault → Type 0
-Gives view (Ok x) read = read ≡ Ok (view x)
-Gives view (Err e) read = Fails e read
+abbrev pub GivesProofReading : {X Y : Type 0} → (X → Y) → Result X ProofFault → Result Y ProofFault → Type 0
+GivesProofReading view (Ok x) read = read ≡ Ok (view x)
+GivesProofReading view (Err e) read = ReportsProofFault e read

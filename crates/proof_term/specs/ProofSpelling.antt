@@ -9,9 +9,9 @@ use Rattle.proof_term.specs.declared.rule.OnePremise.{OnePremise}
 use Rattle.proof_term.specs.declared.rule.OnePremise.TheVariants.{OrR1, OrR2, ImpR, ForallR, ExistsR, SaysR, AtR, ConsL, InterL, AndL, ForallL, ExistsL, SaysL, Claim, AtL}
 use Rattle.proof_term.specs.declared.rule.TwoPremises.{TwoPremises}
 use Rattle.proof_term.specs.declared.rule.TwoPremises.TheVariants.{AndR, OrL, ImpL}
-use Rattle.proof_term.specs.Proof.{Deduction}
-use Rattle.proof_term.specs.Limits.{IsWithinLimits}
-use Rattle.proof_term.specs.Rules.{folded}
+use Rattle.proof_term.specs.Proof.{ProofView}
+use Rattle.proof_term.specs.Limits.{IsProofWithinLimits}
+use Rattle.proof_term.specs.Rules.{fold_proof}
 
 -- the number of a hypothesis
 abbrev pub hypothesis : ℕ → List ℕ
@@ -47,19 +47,19 @@ two_spelling (OrL h) = 0x14 ∷ hypothesis h
 two_spelling (ImpL h t1 t2) = 0x16 ∷ hypothesis h ++ (term_spelling t1 ++ term_spelling t2)
 
 -- the rule at the root, and then the premises
-abbrev pub proof_spelling : Deduction → List ℕ
-proof_spelling d = folded axiom_spelling (λ r p. one_spelling r ++ p) (λ r p q. two_spelling r ++ (p ++ q)) d
+abbrev pub proof_spelling : ProofView → List ℕ
+proof_spelling d = fold_proof axiom_spelling (λ r p. one_spelling r ++ p) (λ r p q. two_spelling r ++ (p ++ q)) d
 
 -- what the rule names has a spelling: a hypothesis whose number fits two bytes, and terms that have one
-abbrev pub IsNumbered : ℕ → Type 0
-IsNumbered h = h < 2 ^ 16
+abbrev pub IsSpellableHypothesis : ℕ → Type 0
+IsSpellableHypothesis h = h < 2 ^ 16
 
 abbrev pub IsSpellableAxiom : Axiom → Type 0
-IsSpellableAxiom (Init h) = IsNumbered h
+IsSpellableAxiom (Init h) = IsSpellableHypothesis h
 IsSpellableAxiom ConsR = Unit {0}
 IsSpellableAxiom InterR = Unit {0}
 IsSpellableAxiom TrueR = Unit {0}
-IsSpellableAxiom (FalseL h) = IsNumbered h
+IsSpellableAxiom (FalseL h) = IsSpellableHypothesis h
 
 abbrev pub IsSpellableOne : OnePremise → Type 0
 IsSpellableOne OrR1 = Unit {0}
@@ -69,25 +69,25 @@ IsSpellableOne ForallR = Unit {0}
 IsSpellableOne (ExistsR t) = IsSpellable t
 IsSpellableOne SaysR = Unit {0}
 IsSpellableOne AtR = Unit {0}
-IsSpellableOne (ConsL h) = IsNumbered h
-IsSpellableOne (InterL h) = IsNumbered h
-IsSpellableOne (AndL h) = IsNumbered h
-IsSpellableOne (ForallL h t) = IsNumbered h × IsSpellable t
-IsSpellableOne (ExistsL h) = IsNumbered h
-IsSpellableOne (SaysL h) = IsNumbered h
-IsSpellableOne (Claim h) = IsNumbered h
-IsSpellableOne (AtL h) = IsNumbered h
+IsSpellableOne (ConsL h) = IsSpellableHypothesis h
+IsSpellableOne (InterL h) = IsSpellableHypothesis h
+IsSpellableOne (AndL h) = IsSpellableHypothesis h
+IsSpellableOne (ForallL h t) = IsSpellableHypothesis h × IsSpellable t
+IsSpellableOne (ExistsL h) = IsSpellableHypothesis h
+IsSpellableOne (SaysL h) = IsSpellableHypothesis h
+IsSpellableOne (Claim h) = IsSpellableHypothesis h
+IsSpellableOne (AtL h) = IsSpellableHypothesis h
 
 abbrev pub IsSpellableTwo : TwoPremises → Type 0
 IsSpellableTwo AndR = Unit {0}
-IsSpellableTwo (OrL h) = IsNumbered h
-IsSpellableTwo (ImpL h t1 t2) = IsNumbered h × (IsSpellable t1 × IsSpellable t2)
+IsSpellableTwo (OrL h) = IsSpellableHypothesis h
+IsSpellableTwo (ImpL h t1 t2) = IsSpellableHypothesis h × (IsSpellable t1 × IsSpellable t2)
 
 -- what all rules of the proof name has a spelling
-abbrev pub NamesSpellable : Deduction → Type 0
-NamesSpellable d = folded IsSpellableAxiom (λ r P. IsSpellableOne r × P) (λ r P Q. IsSpellableTwo r × (P × Q)) d
+abbrev pub NamesSpellable : ProofView → Type 0
+NamesSpellable d = fold_proof IsSpellableAxiom (λ r P. IsSpellableOne r × P) (λ r P Q. IsSpellableTwo r × (P × Q)) d
 
 -- the proof has a spelling: it is within the limits, and what it names has one
-pub record IsSpellableProof (d : Deduction) : Type 0 where
-  pub within_limits : IsWithinLimits d
+pub record IsSpellableProof (d : ProofView) : Type 0 where
+  pub within_limits : IsProofWithinLimits d
   pub names : NamesSpellable d

@@ -16,8 +16,8 @@ use Rattle.proof_term.specs.declared.kinds.Termed.{Termed}
 use Rattle.proof_term.specs.declared.kinds.Termed.TheVariants as termed
 
 -- the tag of a rule that names terms
-abbrev pub names_terms : ℕ → Bool
-names_terms tag = tag == 0x0a || tag == 0x16 || tag == 0x17
+abbrev pub has_terms : ℕ → Bool
+has_terms tag = tag == 0x0a || tag == 0x16 || tag == 0x17
 
 abbrev pub one_rule : PlainOne → OnePremise
 one_rule plain_ones.OrR1 = ones.OrR1

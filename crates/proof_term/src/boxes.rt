@@ -2,7 +2,7 @@
 //! goes through proofs level by level holds boxes alone, and leaves it to these to make the proof that a box holds.
 
 ghost use Rattle.std.specs.Prelude.{◌≡◌, IfOk};
-ghost use Rattle.proof_term.specs.Proof.{deduction, exists_r, forall_l, imp_l};
+ghost use Rattle.proof_term.specs.Proof.{proof_view, exists_r, forall_l, imp_l};
 ghost use Rattle.proof_term.specs.Rules.{by_axiom, by_one, by_two};
 ghost use Rattle.proof_term.specs.RuleKinds.{one_rule, two_rule};
 
@@ -15,7 +15,7 @@ use std::alloc::Global;
 /// The proof by a rule alone.
 #[inline(never)]
 pub fn by_axiom(alloc: Global, r: Axiom) -> Result<Box<Proof>, NoMemory>
-    ensures { IfOk result (λ b. deduction b.value ≡ by_axiom r) }
+    ensures { IfOk result (λ b. proof_view b.value ≡ by_axiom r) }
 {
     Ok(Box::new(alloc, r.proof())?)
 }
@@ -23,7 +23,7 @@ pub fn by_axiom(alloc: Global, r: Axiom) -> Result<Box<Proof>, NoMemory>
 /// The proof by a rule that names no term, from the proof of its premise.
 #[inline(never)]
 pub fn by_one(alloc: Global, r: PlainOne, p: Box<Proof>) -> Result<Box<Proof>, NoMemory>
-    ensures { IfOk result (λ b. deduction b.value ≡ by_one (one_rule r) (deduction p.value)) }
+    ensures { IfOk result (λ b. proof_view b.value ≡ by_one (one_rule r) (proof_view p.value)) }
 {
     Ok(Box::new(alloc, r.proof(p))?)
 }
@@ -36,7 +36,7 @@ pub fn by_two(
     p: Box<Proof>,
     q: Box<Proof>,
 ) -> Result<Box<Proof>, NoMemory>
-    ensures { IfOk result (λ b. deduction b.value ≡ by_two (two_rule r) (deduction p.value) (deduction q.value)) }
+    ensures { IfOk result (λ b. proof_view b.value ≡ by_two (two_rule r) (proof_view p.value) (proof_view q.value)) }
 {
     Ok(Box::new(alloc, r.proof(p, q))?)
 }
@@ -44,7 +44,7 @@ pub fn by_two(
 /// The proof about one, from its instance at the term.
 #[inline(never)]
 pub fn by_witness(alloc: Global, t: &Term, p: Box<Proof>) -> Result<Box<Proof>, NoMemory>
-    ensures { IfOk result (λ b. deduction b.value ≡ exists_r t.now (deduction p.value)) }
+    ensures { IfOk result (λ b. proof_view b.value ≡ exists_r t.now (proof_view p.value)) }
 {
     Ok(Box::new(alloc, Proof::ExistsR(*t, p))?)
 }
@@ -52,7 +52,7 @@ pub fn by_witness(alloc: Global, t: &Term, p: Box<Proof>) -> Result<Box<Proof>, 
 /// The proof that uses the instance at the term.
 #[inline(never)]
 pub fn by_instance(alloc: Global, h: u16, t: &Term, p: Box<Proof>) -> Result<Box<Proof>, NoMemory>
-    ensures { IfOk result (λ b. deduction b.value ≡ forall_l h t.now (deduction p.value)) }
+    ensures { IfOk result (λ b. proof_view b.value ≡ forall_l h t.now (proof_view p.value)) }
 {
     Ok(Box::new(alloc, Proof::ForallL(h, *t, p))?)
 }
@@ -67,7 +67,7 @@ pub fn by_interval(
     p: Box<Proof>,
     q: Box<Proof>,
 ) -> Result<Box<Proof>, NoMemory>
-    ensures { IfOk result (λ b. deduction b.value ≡ imp_l h t1.now t2.now (deduction p.value) (deduction q.value)) }
+    ensures { IfOk result (λ b. proof_view b.value ≡ imp_l h t1.now t2.now (proof_view p.value) (proof_view q.value)) }
 {
     Ok(Box::new(alloc, Proof::ImpL(h, *t1, *t2, p, q))?)
 }

@@ -1,7 +1,7 @@
 //! Rules by whether they name terms. Those that name none are small, and so are the calls that read them.
 
 ghost use Rattle.std.specs.Prelude.{◌≡◌};
-ghost use Rattle.proof_term.specs.Proof.{deduction};
+ghost use Rattle.proof_term.specs.Proof.{proof_view};
 ghost use Rattle.proof_term.specs.Rules.{by_one, by_two};
 ghost use Rattle.proof_term.specs.RuleKinds.{one_rule, two_rule};
 
@@ -53,7 +53,7 @@ pub enum Termed {
 impl PlainOne {
     /// The proof by the rule from the proof of its premise.
     pub fn proof(self, p: Box<Proof>) -> Proof
-        ensures { deduction result ≡ by_one (one_rule self) (deduction p.value) }
+        ensures { proof_view result ≡ by_one (one_rule self) (proof_view p.value) }
     {
         match self {
             PlainOne::OrR1 => Proof::OrR1(p),
@@ -76,7 +76,7 @@ impl PlainOne {
 impl PlainTwo {
     /// The proof by the rule from the proofs of its premises.
     pub fn proof(self, p: Box<Proof>, q: Box<Proof>) -> Proof
-        ensures { deduction result ≡ by_two (two_rule self) (deduction p.value) (deduction q.value) }
+        ensures { proof_view result ≡ by_two (two_rule self) (proof_view p.value) (proof_view q.value) }
     {
         match self {
             PlainTwo::AndR => Proof::AndR(p, q),

@@ -2,7 +2,7 @@
 
 ghost use Rattle.std.specs.Prelude.{◌≤◌, ◌<◌, ◌-◌, ◌↔◌, IsTrue};
 ghost use Rattle.std.specs.Option.{SomeIff};
-ghost use Rattle.proof_term.specs.Proof.{deduction};
+ghost use Rattle.proof_term.specs.Proof.{proof_view};
 ghost use Rattle.proof_term.specs.Limits.{size, depth};
 
 use crate::premises::Premises;
@@ -26,8 +26,8 @@ pub struct Measured {
 /// than there are levels.
 pub fn measure(p: &Proof, nodes: u16, levels: u8) -> Option<Measured>
     ensures { SomeIff result
-        ((size (deduction p.now) ≤ nodes) × (depth (deduction p.now) ≤ levels))
-        (record { nodes_left = nodes - size (deduction p.now); depth = depth (deduction p.now) }) }
+        ((size (proof_view p.now) ≤ nodes) × (depth (proof_view p.now) ≤ levels))
+        (record { nodes_left = nodes - size (proof_view p.now); depth = depth (proof_view p.now) }) }
 {
     let premises = Premises::of(p);
     let left = nodes.checked_sub(1)?;
@@ -58,7 +58,7 @@ pub fn measure(p: &Proof, nodes: u16, levels: u8) -> Option<Measured>
 /// Whether a proof has more nodes than are kept. It calls nothing that calls itself, so the depth
 /// of the proof plays no part, and looks at no more nodes than that.
 pub fn is_too_large(p: &Proof) -> bool
-    ensures { IsTrue result ↔ (MOST_NODES < size (deduction p.now)) }
+    ensures { IsTrue result ↔ (MOST_NODES < size (proof_view p.now)) }
 {
     // The second premises on the way to the node: each belongs to a node that was passed.
     let mut waiting = [p; MOST_NODES as usize];

@@ -12,14 +12,14 @@ pub enum Premises<'a> {
 
 impl<'a> Premises<'a> {
     ghost use Rattle.std.specs.Prelude.{◌≡◌, ◌+◌};
-    ghost use Rattle.proof_term.specs.Proof.{deduction};
+    ghost use Rattle.proof_term.specs.Proof.{proof_view};
     ghost use Rattle.proof_term.specs.Limits.{size, depth};
-    ghost use Rattle.proof_term.specs.Premises.{found, sizes, deepest};
+    ghost use Rattle.proof_term.specs.Premises.{premises_found, sizes, greatest_depth};
 
     /// The proofs of the premises of the rule at the root.
     pub fn of(p: &'a Proof) -> Premises<'a>
-        ensures nodes { size (deduction p.now) ≡ 1 + sizes (found result) }
-        ensures levels { depth (deduction p.now) ≡ 1 + deepest (found result) }
+        ensures nodes { size (proof_view p.now) ≡ 1 + sizes (premises_found result) }
+        ensures levels { depth (proof_view p.now) ≡ 1 + greatest_depth (premises_found result) }
     {
         match p {
             Proof::Init(_) | Proof::ConsR | Proof::InterR | Proof::TrueR | Proof::FalseL(_) => {

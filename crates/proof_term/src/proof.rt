@@ -59,18 +59,18 @@ pub enum Proof {
 
 impl Proof {
     ghost use Rattle.std.specs.Prelude.{◌≡◌, IfOk};
-    ghost use Rattle.proof_term.specs.Proof.{deduction};
+    ghost use Rattle.proof_term.specs.Proof.{proof_view};
 
     /// An equal proof in memory of its own.
     pub fn copy(&self, alloc: Global) -> Result<Proof, NoMemory>
-        ensures { IfOk result (λ copied. deduction copied ≡ deduction self.now) }
+        ensures { IfOk result (λ copied. proof_view copied ≡ proof_view self.now) }
     {
         Ok(Box::into_inner(self.boxed_copy(alloc)?))
     }
 
     /// The same in a box. It calls itself as deep as the proof is, and holds neither proofs nor terms on the stack.
     fn boxed_copy(&self, alloc: Global) -> Result<Box<Proof>, NoMemory>
-        ensures { IfOk result (λ copied. deduction copied.value ≡ deduction self.now) }
+        ensures { IfOk result (λ copied. proof_view copied.value ≡ proof_view self.now) }
     {
         match self {
             Proof::Init(h) => by_axiom(alloc, Axiom::Init(*h)),

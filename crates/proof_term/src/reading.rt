@@ -1,12 +1,12 @@
 //! The reader of proofs.
 
 ghost use Rattle.std.specs.Prelude.{◌≡◌, ◌≢◌, ◌<◌, ◌⊎◌, ℕ, true, false, OnOk, IfOk, IfErr};
-ghost use Rattle.proof_term.specs.Proof.{deduction};
+ghost use Rattle.proof_term.specs.Proof.{proof_view};
 ghost use Rattle.bl_syntax.specs.Reading.{place};
-ghost use Rattle.proof_term.specs.ProofReading.{Gives, Fails, is_right, is_left, right_rule_at, left_rule_at, interval_at, rule_at, rule_within, premises_at, proof_at, proof_reading};
-ghost use Rattle.proof_term.specs.RuleKinds.{names_terms, plain_rule, termed_rule};
+ghost use Rattle.proof_term.specs.ProofReading.{GivesProofReading, ReportsProofFault, is_right, is_left, right_rule_at, left_rule_at, interval_at, rule_at, rule_within, premises_at, proof_at, proof_reading};
+ghost use Rattle.proof_term.specs.RuleKinds.{has_terms, plain_rule, termed_rule};
 ghost use Rattle.proof_term.specs.NodeReading.{behind_tag};
-ghost use Rattle.proof_term.specs.ProofCodec.{ReadsProof};
+ghost use Rattle.proof_term.specs.ProofCodec.{ReadsProofBytes};
 
 use crate::boxes::{by_axiom, by_instance, by_interval, by_one, by_two, by_witness};
 use crate::fault::ProofFault;
@@ -22,8 +22,8 @@ use std::alloc::Global;
 /// Reads a proof of at most 4,096 nodes and a depth of at most 200: the proof whose canonical bytes begin the input and
 /// how many bytes it takes, or the first fault. Bytes may follow the proof.
 pub fn read_proof(alloc: Global, bytes: &[u8]) -> Result<(ProofTree, usize), ProofFault>
-    ensures exact { Gives (λ x. (x.0, x.1)) result (proof_reading bytes.now) }
-    ensures front { ReadsProof bytes.now result }
+    ensures exact { GivesProofReading (λ x. (x.0, x.1)) result (proof_reading bytes.now) }
+    ensures front { ReadsProofBytes bytes.now result }
 {
     match proof_at(alloc, MOST_LEVELS, MOST_NODES, bytes.len(), bytes) {
         Ok((root, _nodes_left, rest)) => Ok((
@@ -46,8 +46,8 @@ fn is_left(tag: u8) -> bool
     17 <= tag && tag <= 27
 }
 
-fn names_terms(tag: u8) -> bool
-    ensures { result ≡ names_terms tag }
+fn has_terms(tag: u8) -> bool
+    ensures { result ≡ has_terms tag }
 {
     tag == 0x0a || tag == 0x16 || tag == 0x17
 }
@@ -56,7 +56,7 @@ fn names_terms(tag: u8) -> bool
 #[tactic(auto, unfolding(crate::specs::ProofReading::right_rule_at))]
 fn plain_right_rule_at(start: usize, tag: u8, rest: &[u8]) -> Result<(Plain, &[u8]), ProofFault>
     requires { tag ≢ 0x0a }
-    ensures { (input : ℕ) → Gives (λ x. (plain_rule x.0, x.1.now)) result (right_rule_at input start tag rest.now) }
+    ensures { (input : ℕ) → GivesProofReading (λ x. (plain_rule x.0, x.1.now)) result (right_rule_at input start tag rest.now) }
 {
     match tag {
         0x01 => {
@@ -82,7 +82,7 @@ fn plain_right_rule_at(start: usize, tag: u8, rest: &[u8]) -> Result<(Plain, &[u
 fn plain_left_rule_at(start: usize, tag: u8, rest: &[u8]) -> Result<(Plain, &[u8]), ProofFault>
     requires one { tag ≢ 0x16 }
     requires other { tag ≢ 0x17 }
-    ensures { (input : ℕ) → Gives (λ x. (plain_rule x.0, x.1.now)) result (left_rule_at input start tag rest.now) }
+    ensures { (input : ℕ) → GivesProofReading (λ x. (plain_rule x.0, x.1.now)) result (left_rule_at input start tag rest.now) }
 {
     if !is_left(tag) {
         return Err(ProofFault::BadTag(start));
@@ -104,8 +104,8 @@ fn plain_left_rule_at(start: usize, tag: u8, rest: &[u8]) -> Result<(Plain, &[u8
 /// The rule with that tag, which stands at `start`, where it names no term.
 #[tactic(auto, unfolding(crate::specs::ProofReading::rule_at))]
 fn plain_rule_at(start: usize, tag: u8, rest: &[u8]) -> Result<(Plain, &[u8]), ProofFault>
-    requires { names_terms tag ≡ false }
-    ensures { (input : ℕ) → Gives (λ x. (plain_rule x.0, x.1.now)) result (rule_at input start tag rest.now) }
+    requires { has_terms tag ≡ false }
+    ensures { (input : ℕ) → GivesProofReading (λ x. (plain_rule x.0, x.1.now)) result (rule_at input start tag rest.now) }
 {
     if is_right(tag) {
         plain_right_rule_at(start, tag, rest)
@@ -117,7 +117,7 @@ fn plain_rule_at(start: usize, tag: u8, rest: &[u8]) -> Result<(Plain, &[u8]), P
 /// The two times between which an implication is used.
 #[inline(never)]
 fn interval_at(input: usize, h: u16, bytes: &[u8]) -> Result<(Termed, &[u8]), ProofFault>
-    ensures { Gives (λ x. (termed_rule x.0, x.1.now)) result (interval_at input h bytes.now) }
+    ensures { GivesProofReading (λ x. (termed_rule x.0, x.1.now)) result (interval_at input h bytes.now) }
 {
     match term_at(input, bytes) {
         Ok((t1, rest)) => match term_at(input, rest) {
@@ -132,7 +132,7 @@ fn interval_at(input: usize, h: u16, bytes: &[u8]) -> Result<(Termed, &[u8]), Pr
 #[tactic(auto, unfolding(crate::specs::ProofReading::left_rule_at))]
 fn termed_left_rule_at(input: usize, tag: u8, rest: &[u8]) -> Result<(Termed, &[u8]), ProofFault>
     requires { (tag ≡ 0x16) ⊎ (tag ≡ 0x17) }
-    ensures { (start : ℕ) → Gives (λ x. (termed_rule x.0, x.1.now)) result (left_rule_at input start tag rest.now) }
+    ensures { (start : ℕ) → GivesProofReading (λ x. (termed_rule x.0, x.1.now)) result (left_rule_at input start tag rest.now) }
 {
     let (h, rest) = u16_at(rest)?;
     if tag == 0x16 {
@@ -148,8 +148,8 @@ fn termed_left_rule_at(input: usize, tag: u8, rest: &[u8]) -> Result<(Termed, &[
 /// The rule with that tag that names terms.
 #[tactic(auto, unfolding(crate::specs::ProofReading::rule_at, crate::specs::ProofReading::right_rule_at))]
 fn termed_rule_at(input: usize, tag: u8, rest: &[u8]) -> Result<(Termed, &[u8]), ProofFault>
-    requires { names_terms tag ≡ true }
-    ensures { (start : ℕ) → Gives (λ x. (termed_rule x.0, x.1.now)) result (rule_at input start tag rest.now) }
+    requires { has_terms tag ≡ true }
+    ensures { (start : ℕ) → GivesProofReading (λ x. (termed_rule x.0, x.1.now)) result (rule_at input start tag rest.now) }
 {
     if tag == 0x0a {
         match term_at(input, rest) {
@@ -161,12 +161,12 @@ fn termed_rule_at(input: usize, tag: u8, rest: &[u8]) -> Result<(Termed, &[u8]),
     }
 }
 
-/// The tag at the root of a proof of at most so many levels and nodes, and the bytes behind it: the tag is tested
+/// The tag at the root of a proof of at most so many levels and nodes, and the bytes after it: the tag is tested
 /// first, then the nodes, then the levels.
 #[tactic(auto, unfolding(crate::specs::ProofReading::rule_within))]
 fn tag_within(levels: u8, nodes: u16, input: usize, bytes: &[u8]) -> Result<(u8, &[u8]), ProofFault>
     ensures found { IfOk result (λ x. rule_within levels nodes input bytes.now ≡ rule_at input (place input bytes.now) x.0 x.1.now) }
-    ensures fault { IfErr result (λ fault. Fails fault (rule_within levels nodes input bytes.now)) }
+    ensures fault { IfErr result (λ fault. ReportsProofFault fault (rule_within levels nodes input bytes.now)) }
     ensures room { OnOk result ((0 < levels) × (0 < nodes)) }
 {
     match bytes {
@@ -189,7 +189,7 @@ fn tag_within(levels: u8, nodes: u16, input: usize, bytes: &[u8]) -> Result<(u8,
 
 // A function clears its locals when it begins, and a term is large: only the calls for rules with terms hold terms.
 
-/// A proof of at most so many levels and nodes, how many nodes are left, and the bytes behind it.
+/// A proof of at most so many levels and nodes, how many nodes are left, and the bytes after it.
 /// It calls itself no deeper than there are levels.
 #[cycle(proofs)]
 pub(crate) fn proof_at(
@@ -199,12 +199,12 @@ pub(crate) fn proof_at(
     input: usize,
     bytes: &[u8],
 ) -> Result<(Box<Proof>, u16, &[u8]), ProofFault>
-    ensures { Gives (λ x. (deduction x.0.value, (x.1, x.2.now))) result (proof_at levels nodes input bytes.now) }
+    ensures { GivesProofReading (λ x. (proof_view x.0.value, (x.1, x.2.now))) result (proof_at levels nodes input bytes.now) }
 {
     match tag_within(levels, nodes, input, bytes) {
         Ok((tag, rest)) => {
             let start = place(input, bytes);
-            if names_terms(tag) {
+            if has_terms(tag) {
                 termed_at(alloc, levels - 1, nodes - 1, input, start, tag, rest)
             } else {
                 plain_at(alloc, levels - 1, nodes - 1, input, start, tag, rest)
@@ -225,8 +225,8 @@ fn plain_at(
     tag: u8,
     rest: &[u8],
 ) -> Result<(Box<Proof>, u16, &[u8]), ProofFault>
-    requires { names_terms tag ≡ false }
-    ensures { Gives (λ x. (deduction x.0.value, (x.1, x.2.now))) result
+    requires { has_terms tag ≡ false }
+    ensures { GivesProofReading (λ x. (proof_view x.0.value, (x.1, x.2.now))) result
         (behind_tag (λ left more. proof_at levels left input more) nodes input start tag rest.now) }
 {
     match plain_rule_at(start, tag, rest) {
@@ -245,7 +245,7 @@ fn plain_premises_at(
     rule: Plain,
     bytes: &[u8],
 ) -> Result<(Box<Proof>, u16, &[u8]), ProofFault>
-    ensures { Gives (λ x. (deduction x.0.value, (x.1, x.2.now))) result
+    ensures { GivesProofReading (λ x. (proof_view x.0.value, (x.1, x.2.now))) result
         (premises_at (λ left rest. proof_at levels left input rest) (plain_rule rule) nodes bytes.now) }
 {
     match rule {
@@ -274,8 +274,8 @@ fn termed_at(
     tag: u8,
     rest: &[u8],
 ) -> Result<(Box<Proof>, u16, &[u8]), ProofFault>
-    requires { names_terms tag ≡ true }
-    ensures { Gives (λ x. (deduction x.0.value, (x.1, x.2.now))) result
+    requires { has_terms tag ≡ true }
+    ensures { GivesProofReading (λ x. (proof_view x.0.value, (x.1, x.2.now))) result
         (behind_tag (λ left more. proof_at levels left input more) nodes input start tag rest.now) }
 {
     match termed_rule_at(input, tag, rest) {
@@ -294,7 +294,7 @@ fn termed_premises_at<'a>(
     rule: &Termed,
     bytes: &'a [u8],
 ) -> Result<(Box<Proof>, u16, &'a [u8]), ProofFault>
-    ensures { Gives (λ x. (deduction x.0.value, (x.1, x.2.now))) result
+    ensures { GivesProofReading (λ x. (proof_view x.0.value, (x.1, x.2.now))) result
         (premises_at (λ left rest. proof_at levels left input rest) (termed_rule rule.now) nodes bytes.now) }
 {
     let (p, nodes, rest) = proof_at(alloc, levels, nodes, input, bytes)?;

@@ -1,7 +1,7 @@
 //! Rules with what they name, apart from the proofs of their premises.
 
 ghost use Rattle.std.specs.Prelude.{◌≡◌};
-ghost use Rattle.proof_term.specs.Proof.{deduction};
+ghost use Rattle.proof_term.specs.Proof.{proof_view};
 ghost use Rattle.proof_term.specs.Rules.{by_axiom, by_one, by_two};
 
 use crate::proof::Proof;
@@ -56,7 +56,7 @@ pub enum TwoPremises {
 impl Axiom {
     /// The proof by the rule alone.
     pub fn proof(self) -> Proof
-        ensures { deduction result ≡ by_axiom self }
+        ensures { proof_view result ≡ by_axiom self }
     {
         match self {
             Axiom::Init(h) => Proof::Init(h),
@@ -71,7 +71,7 @@ impl Axiom {
 impl OnePremise {
     /// The proof by the rule from the proof of its premise.
     pub fn proof(self, p: Box<Proof>) -> Proof
-        ensures { deduction result ≡ by_one self (deduction p.value) }
+        ensures { proof_view result ≡ by_one self (proof_view p.value) }
     {
         match self {
             OnePremise::OrR1 => Proof::OrR1(p),
@@ -96,7 +96,7 @@ impl OnePremise {
 impl TwoPremises {
     /// The proof by the rule from the proofs of its premises.
     pub fn proof(self, p: Box<Proof>, q: Box<Proof>) -> Proof
-        ensures { deduction result ≡ by_two self (deduction p.value) (deduction q.value) }
+        ensures { proof_view result ≡ by_two self (proof_view p.value) (proof_view q.value) }
     {
         match self {
             TwoPremises::AndR => Proof::AndR(p, q),
@@ -116,12 +116,12 @@ pub enum Parts<'a> {
 
 impl<'a> Parts<'a> {
     ghost use Rattle.std.specs.Prelude.{◌≡◌};
-    ghost use Rattle.proof_term.specs.Proof.{deduction};
-    ghost use Rattle.proof_term.specs.Parts.{joined};
+    ghost use Rattle.proof_term.specs.Proof.{proof_view};
+    ghost use Rattle.proof_term.specs.Parts.{join_parts};
 
     /// The parts of a proof.
     pub fn of(p: &'a Proof) -> Parts<'a>
-        ensures { joined result ≡ deduction p.now }
+        ensures { join_parts result ≡ proof_view p.now }
     {
         match p {
             Proof::Init(h) => Parts::Axiom(Axiom::Init(*h)),

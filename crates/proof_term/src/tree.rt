@@ -25,34 +25,34 @@ pub struct ProofTree {
 }
 
 impl Model for ProofTree {
-    ghost use Rattle.proof_term.specs.Proof.{Deduction, deduction};
-    ghost use Rattle.proof_term.specs.Limits.{HasMeasure, IsKept};
+    ghost use Rattle.proof_term.specs.Proof.{ProofView, proof_view};
+    ghost use Rattle.proof_term.specs.Limits.{HasMeasure, IsKeptProof};
     ghost use Rattle.proof_term.specs.ProofCode.{proof_code};
 
-    ghost Value = { Deduction };
+    ghost Value = { ProofView };
 
     ghost coded = { proof_code };
 
-    ghost view = { λ t. deduction t.root };
+    ghost view = { λ t. proof_view t.root };
 
-    ghost invariant = { λ t. IsKept (deduction t.root) × HasMeasure (deduction t.root) t.nodes t.levels };
+    ghost invariant = { λ t. IsKeptProof (proof_view t.root) × HasMeasure (proof_view t.root) t.nodes t.levels };
 }
 
 impl ProofTree {
     ghost use Rattle.std.specs.Prelude.{◌≡◌, ◌≤◌, ◌<◌, ◌↔◌, Err, IsOk, IfOk};
-    ghost use Rattle.proof_term.specs.Proof.{deduction};
-    ghost use Rattle.proof_term.specs.Limits.{size, depth, HasTimesInRange, IsWithinLimits, IsKept};
+    ghost use Rattle.proof_term.specs.Proof.{proof_view};
+    ghost use Rattle.proof_term.specs.Limits.{size, depth, HasTimesInRange, IsProofWithinLimits, IsKeptProof};
 
     /// Keeps a proof whose times are moments. A proof over both limits is too large. It takes no
     /// memory, and calls itself no deeper than 200, however deep the proof is; but a proof that is
     /// refused is dropped, and that is as deep as the proof.
     pub fn new(p: Proof) -> Result<ProofTree, LimitFault>
-        requires { HasTimesInRange (deduction p) }
-        ensures kept { IsOk result ↔ IsWithinLimits (deduction p) }
-        ensures same { IfOk result (λ tree. tree ≡ deduction p) }
-        ensures large { (result ≡ Err LimitFault.TooLarge) ↔ (4096 < size (deduction p)) }
+        requires { HasTimesInRange (proof_view p) }
+        ensures kept { IsOk result ↔ IsProofWithinLimits (proof_view p) }
+        ensures same { IfOk result (λ tree. tree ≡ proof_view p) }
+        ensures large { (result ≡ Err LimitFault.TooLarge) ↔ (4096 < size (proof_view p)) }
         ensures deep { (result ≡ Err LimitFault.TooDeep)
-            ↔ ((size (deduction p) ≤ 4096) × (200 < depth (deduction p))) }
+            ↔ ((size (proof_view p) ≤ 4096) × (200 < depth (proof_view p))) }
     {
         match measure(&p, MOST_NODES, MOST_LEVELS) {
             Some(m) => Ok(ProofTree {
@@ -72,8 +72,8 @@ impl ProofTree {
 
     /// Keeps a proof that is known to be within the limits. It takes no memory.
     pub(crate) fn keep(p: Box<Proof>) -> ProofTree
-        requires { IsKept (deduction p.value) }
-        ensures { result ≡ deduction p.value }
+        requires { IsKeptProof (proof_view p.value) }
+        ensures { result ≡ proof_view p.value }
     {
         let p = Box::into_inner(p);
         let m = measure(&p, MOST_NODES, MOST_LEVELS).unwrap();
@@ -100,8 +100,8 @@ impl ProofTree {
 
     /// The proof.
     pub fn root(&self) -> &Proof
-        ensures same { deduction result.now ≡ self.now }
-        ensures kept { IsKept self.now }
+        ensures same { proof_view result.now ≡ self.now }
+        ensures kept { IsKeptProof self.now }
     {
         &self.root
     }

@@ -1,10 +1,10 @@
 //! The writer of proofs.
 
 ghost use Rattle.std.specs.Prelude.{◌≡◌, ◌++◌, ◌∷◌, OnOk, OnErr};
-ghost use Rattle.proof_term.specs.Proof.{deduction};
+ghost use Rattle.proof_term.specs.Proof.{proof_view};
 ghost use Rattle.proof_term.specs.Limits.{HasTimesInRange};
 ghost use Rattle.proof_term.specs.RuleTimes.{IsOneInRange, IsTwoInRange};
-ghost use Rattle.proof_term.specs.ProofSpelling.{hypothesis, axiom_spelling, one_spelling, two_spelling, proof_spelling, IsNumbered, IsSpellableAxiom, IsSpellableOne, IsSpellableTwo, NamesSpellable, IsSpellableProof};
+ghost use Rattle.proof_term.specs.ProofSpelling.{hypothesis, axiom_spelling, one_spelling, two_spelling, proof_spelling, IsSpellableHypothesis, IsSpellableAxiom, IsSpellableOne, IsSpellableTwo, NamesSpellable, IsSpellableProof};
 ghost use Rattle.proof_term.specs.Writing.{Begins};
 
 use crate::proof::Proof;
@@ -29,9 +29,9 @@ pub fn write_proof(p: &ProofTree, out: &mut Bytes) -> Result<(), NoMemory>
 
 /// Adds the bytes of a proof, or a part of them where there is no memory. It calls itself as deep as the proof is.
 fn write_node(p: &Proof, out: &mut Bytes) -> Result<(), NoMemory>
-    requires { HasTimesInRange (deduction p.now) }
-    ensures ok { OnOk result (out.new ≡ out.old ++ proof_spelling (deduction p.now)) }
-    ensures names { OnOk result (NamesSpellable (deduction p.now)) }
+    requires { HasTimesInRange (proof_view p.now) }
+    ensures ok { OnOk result (out.new ≡ out.old ++ proof_spelling (proof_view p.now)) }
+    ensures names { OnOk result (NamesSpellable (proof_view p.now)) }
     ensures err { OnErr result (Begins out.old out.new) }
 {
     match Parts::of(p) {
@@ -116,7 +116,7 @@ fn write_two(r: &TwoPremises, out: &mut Bytes) -> Result<(), NoMemory>
 /// Adds a tag and the number of a hypothesis.
 fn put_hypothesis(tag: u8, h: u16, out: &mut Bytes) -> Result<(), NoMemory>
     ensures ok { OnOk result (out.new ≡ out.old ++ tag ∷ hypothesis h) }
-    ensures named { IsNumbered h }
+    ensures named { IsSpellableHypothesis h }
     ensures err { OnErr result (Begins out.old out.new) }
 {
     out.push(tag)?;

@@ -5,7 +5,7 @@ use Rattle.bl_syntax.specs.Terms.{HasTimeInRange}
 use Rattle.bl_tokens.specs.declared.faults.TextFault.{TextFault}
 use Rattle.bl_tokens.specs.declared.tokens.Token.{Token}
 use Rattle.bl_tokens.specs.declared.tokens.Token.TheVariants.{Name, LongWord, Variable, Constant, BadDate, SortName, Keyword, Sign, End, Bad}
-use Rattle.bl_tokens.specs.declared.tokens.Here.{Here}
+use Rattle.bl_tokens.specs.declared.tokens.Cursor.{Cursor}
 use Rattle.bl_tokens.specs.Ranges.{IsTokenInRange}
 use Rattle.bl_text.specs.Pieces.{term_of}
 
@@ -32,5 +32,5 @@ token_term_fits at End end left t fits h = never_ok _ t h
 token_term_fits at Bad end left t fits h = never_ok _ t h
 
 -- a term that a token in the range is lies in the range
-pub term_fits : (here : Here) (t : Term) → IsTokenInRange here.token → term_of [] here ≡ Ok t → HasTimeInRange t
+pub term_fits : (here : Cursor) (t : Term) → IsTokenInRange here.token → term_of [] here ≡ Ok t → HasTimeInRange t
 term_fits here t fits h = token_term_fits here.at here.token here.end here.left t fits h

@@ -1,13 +1,13 @@
-pub mod HeadAnswers
+pub mod HeadTotalLemmas
 pub mod HeadLemmas
 pub mod HeadTexts
 pub mod LexLemmas
-pub mod Outcomes
-pub mod PrintedTexts
+pub mod TotalLemmas
+pub mod RoundTripLemmas
 pub mod ReadLemmas
 pub mod Reader
 pub mod SentenceLemmas
-pub mod SettledLemmas
+pub mod SameTokensLemmas
 pub mod TermLemmas
 pub mod TextLemmas
 pub mod ViableLemmas

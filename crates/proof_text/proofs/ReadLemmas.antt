@@ -8,16 +8,16 @@ use Rattle.proof_term.specs.declared.rule.OnePremise.TheVariants as one
 use Rattle.proof_term.specs.declared.rule.TwoPremises.{TwoPremises}
 use Rattle.proof_term.specs.declared.rule.TwoPremises.TheVariants as two
 use Rattle.proof_term.specs.declared.rule.Rule.TheVariants as rules
-use Rattle.proof_term.specs.Proof.{Deduction}
+use Rattle.proof_term.specs.Proof.{ProofView}
 use Rattle.proof_term.specs.Rules.{by_axiom, by_one, by_two}
 use Rattle.proof_term.specs.RuleTimes.{IsOneInRange, IsTwoInRange}
 use Rattle.proof_term.specs.Limits.{HasTimesInRange}
 use Rattle.proof_term.proofs.ShapeLemmas.{size_axiom, size_one, size_two, depth_axiom, depth_one, depth_two}
-use Rattle.proof_text.specs.declared.places.Place.{Place}
-use Rattle.proof_text.specs.Places.{behind_sign}
+use Rattle.proof_text.specs.declared.cursor.ProofCursor.{ProofCursor}
+use Rattle.proof_text.specs.Cursor.{cursor_after_sign}
 use Rattle.proof_text.specs.Heads.{head}
 use Rattle.proof_text.specs.Proofs.{no_premise, one_premise, two_premises}
-use Rattle.proof_text.specs.Read.{ReadsProof}
+use Rattle.proof_text.specs.Read.{ReadsProofText}
 
 times_axiom : (r : Axiom) → HasTimesInRange (by_axiom r)
 times_axiom (axioms.Init h) = tt
@@ -26,7 +26,7 @@ times_axiom axioms.InterR = tt
 times_axiom axioms.TrueR = tt
 times_axiom (axioms.FalseL h) = tt
 
-times_one : (r : OnePremise) (p : Deduction) → IsOneInRange r → HasTimesInRange p → HasTimesInRange (by_one r p)
+times_one : (r : OnePremise) (p : ProofView) → IsOneInRange r → HasTimesInRange p → HasTimesInRange (by_one r p)
 times_one one.OrR1 p s h = h
 times_one one.OrR2 p s h = h
 times_one one.ImpR p s h = h
@@ -43,23 +43,23 @@ times_one (one.SaysL n) p s h = h
 times_one (one.Claim n) p s h = h
 times_one (one.AtL n) p s h = h
 
-times_two : (r : TwoPremises) (p q : Deduction) → IsTwoInRange r → HasTimesInRange p → HasTimesInRange q → HasTimesInRange (by_two r p q)
+times_two : (r : TwoPremises) (p q : ProofView) → IsTwoInRange r → HasTimesInRange p → HasTimesInRange q → HasTimesInRange (by_two r p q)
 times_two two.AndR p q s h k = (h, k)
 times_two (two.OrL n) p q s h k = (h, k)
 times_two (two.ImpL n t1 t2) p q s h k = (s, (h, k))
 
 -- a rule was read and its fields, and so many levels are left below it
-pub record Enters (text : List ℕ) (levels : ℕ) (here first : Place) : Type 0 where
+pub record Enters (text : List ℕ) (levels : ℕ) (here first : ProofCursor) : Type 0 where
   pub within : first.from ≤ length text
   pub left : first.left + 1 ≡ here.left
   pub some : 1 ≤ levels
 
-pub read_axiom : {text : List ℕ} {levels : ℕ} {here there : Place} {r : Axiom} {d : Deduction} → Enters text levels here there → head text levels here ≡ Ok (rules.Axiom r, there) → d ≡ by_axiom r
-    → ReadsProof text levels here there d
+pub read_axiom : {text : List ℕ} {levels : ℕ} {here there : ProofCursor} {r : Axiom} {d : ProofView} → Enters text levels here there → head text levels here ≡ Ok (rules.Axiom r, there) → d ≡ by_axiom r
+    → ReadsProofText text levels here there d
 read_axiom {text} {levels} {here} {there} {r} {d} enters h is =
     let size_is = size_axiom r in
     let depth_is = depth_axiom r in
-    subst (ReadsProof text levels here there) (sym is)
+    subst (ReadsProofText text levels here there) (sym is)
     (record {
       is_text = no_premise levels here there r (by_axiom r) h refl;
       within = enters.within;
@@ -68,13 +68,13 @@ read_axiom {text} {levels} {here} {there} {r} {d} enters h is =
       times = times_axiom r;
     })
 
-pub read_one : {text : List ℕ} {levels : ℕ} {here first mid there : Place} {r : OnePremise} {p d : Deduction} → Enters text levels here first → head text levels here ≡ Ok (rules.One r, first)
-    → IsOneInRange r → ReadsProof text (levels - 1) first mid p → behind_sign text signs.Close mid ≡ Ok there → there.from ≤ length text → there.left ≡ mid.left → d ≡ by_one r p
-    → ReadsProof text levels here there d
+pub read_one : {text : List ℕ} {levels : ℕ} {here first mid there : ProofCursor} {r : OnePremise} {p d : ProofView} → Enters text levels here first → head text levels here ≡ Ok (rules.One r, first)
+    → IsOneInRange r → ReadsProofText text (levels - 1) first mid p → cursor_after_sign text signs.Close mid ≡ Ok there → there.from ≤ length text → there.left ≡ mid.left → d ≡ by_one r p
+    → ReadsProofText text levels here there d
 read_one {text} {levels} {here} {first} {mid} {there} {r} {p} {d} enters h fits premise close within left is =
     let size_is = size_one r p in
     let depth_is = depth_one r p in
-    subst (ReadsProof text levels here there) (sym is)
+    subst (ReadsProofText text levels here there) (sym is)
     (record {
       is_text = one_premise levels here first mid there r p (by_one r p) h premise.is_text close refl;
       within = within;
@@ -83,14 +83,14 @@ read_one {text} {levels} {here} {first} {mid} {there} {r} {p} {d} enters h fits 
       times = times_one r p fits premise.times;
     })
 
-pub read_two : {text : List ℕ} {levels : ℕ} {here first mid second last there : Place} {r : TwoPremises} {p q d : Deduction} → Enters text levels here first
-    → head text levels here ≡ Ok (rules.Two r, first) → IsTwoInRange r → ReadsProof text (levels - 1) first mid p → behind_sign text signs.Comma mid ≡ Ok second → second.left ≡ mid.left
-    → ReadsProof text (levels - 1) second last q → behind_sign text signs.Close last ≡ Ok there → there.from ≤ length text → there.left ≡ last.left → d ≡ by_two r p q
-    → ReadsProof text levels here there d
+pub read_two : {text : List ℕ} {levels : ℕ} {here first mid second last there : ProofCursor} {r : TwoPremises} {p q d : ProofView} → Enters text levels here first
+    → head text levels here ≡ Ok (rules.Two r, first) → IsTwoInRange r → ReadsProofText text (levels - 1) first mid p → cursor_after_sign text signs.Comma mid ≡ Ok second → second.left ≡ mid.left
+    → ReadsProofText text (levels - 1) second last q → cursor_after_sign text signs.Close last ≡ Ok there → there.from ≤ length text → there.left ≡ last.left → d ≡ by_two r p q
+    → ReadsProofText text levels here there d
 read_two {text} {levels} {here} {first} {mid} {second} {last} {there} {r} {p} {q} {d} enters h fits premise comma passed other close within left is =
     let size_is = size_two r p q in
     let depth_is = depth_two r p q in
-    subst (ReadsProof text levels here there) (sym is)
+    subst (ReadsProofText text levels here there) (sym is)
     (record {
       is_text = two_premises levels here first mid second last there r p q (by_two r p q) h premise.is_text comma other.is_text close refl;
       within = within;

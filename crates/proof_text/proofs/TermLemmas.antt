@@ -25,21 +25,21 @@ use Rattle.bl_tokens.specs.declared.tokens.Token.{Token}
 use Rattle.bl_tokens.specs.declared.tokens.Token.TheVariants as tokens
 use Rattle.bl_tokens.specs.declared.tokens.Lexeme.{Lexeme}
 use Rattle.bl_tokens.specs.Classes.{is_in}
-use Rattle.bl_tokens.specs.Dates.{begins_date, is_moment}
+use Rattle.bl_tokens.specs.Dates.{has_date_front, is_moment}
 use Rattle.bl_tokens.specs.Words.{keyword, sort_named, constant_named, constant_or_name, sort_or_other, keyword_or_other, word_token}
-use Rattle.bl_tokens.specs.Tokens.{first_lexeme, sized, bad, begins_with, word_lexeme, file_lexeme, parameter_lexeme, text_lexeme, time_lexeme, minus_lexeme, integer_lexeme, negative_lexeme, digits_of, short_value, second_token}
+use Rattle.bl_tokens.specs.Tokens.{first_lexeme, sized_lexeme, bad_lexeme, has_first_byte, word_lexeme, file_lexeme, parameter_lexeme, text_lexeme, time_lexeme, minus_lexeme, integer_lexeme, negative_lexeme, digits_of, short_value, second_token}
 use Rattle.bl_tokens.proofs.DateLemmas.{both_true}
 use Rattle.bl_tokens.proofs.NumeralLemmas.{is_numeral_model}
 use Rattle.bl_text.specs.Printed.{term_text}
-use Rattle.proof_text.specs.Printable.{IsClosedTerm}
+use Rattle.proof_text.specs.RoundTrip.{IsClosedTerm}
 use Rattle.proof_text.proofs.LexLemmas.{Ends, prefix_stops, run_ends, unspaced, digit_no_space, numeral_decimal, digits_written}
 
 -- ---- files and parameters
 
-file_written : (n : ℕ) (ys : List ℕ) → n < 2 ^ 64 → Ends (is_in classes.Digit) ys → file_lexeme (decimal n ++ ys) ≡ sized (tokens.Constant (terms.File (record { 0 = n }))) (length (decimal n) + 1)
+file_written : (n : ℕ) (ys : List ℕ) → n < 2 ^ 64 → Ends (is_in classes.Digit) ys → file_lexeme (decimal n ++ ys) ≡ sized_lexeme (tokens.Constant (terms.File (record { 0 = n }))) (length (decimal n) + 1)
 file_written n ys fits ends = rw (digits_written n ys fits ends, numeral_decimal (2 ^ 64) n fits fits) refl
 
-parameter_written : (n : ℕ) (ys : List ℕ) → n < 2 ^ 32 → Ends (is_in classes.Digit) ys → parameter_lexeme (decimal n ++ ys) ≡ sized (tokens.Constant (terms.Param n)) (length (decimal n) + 1)
+parameter_written : (n : ℕ) (ys : List ℕ) → n < 2 ^ 32 → Ends (is_in classes.Digit) ys → parameter_lexeme (decimal n ++ ys) ≡ sized_lexeme (tokens.Constant (terms.Param n)) (length (decimal n) + 1)
 parameter_written n ys fits ends =
     let wide : n < 2 ^ 64 = omega (arith, fits) in rw (digits_written n ys wide ends, numeral_decimal (2 ^ 32) n wide fits) refl
 
@@ -102,28 +102,28 @@ lower_is_name x h = rw h refl
 all_name : (x : ℕ) (xs : List ℕ) → is_lower_case x ≡ true → IsTrue (list_all is_name_byte xs) → IsTrue (list_all (is_in classes.Name) (x ∷ xs))
 all_name x xs first others = rw (lower_is_name x first) others
 
-name_written : (name ys : List ℕ) → IsTrue (is_principal_name name) → Ends (is_in classes.Name) ys → first_lexeme (name ++ ys) ≡ sized (tokens.Name name) (length name)
+name_written : (name ys : List ℕ) → IsTrue (is_principal_name name) → Ends (is_in classes.Name) ys → first_lexeme (name ++ ys) ≡ sized_lexeme (tokens.Name name) (length name)
 name_written [] ys h ends = absurd (false≢true h)
 name_written (x ∷ xs) ys h ends =
     let identifier = both_true (is_identifier (x ∷ xs)) _ h in
     let parts = both_true (is_lower_case x && list_all is_name_byte xs) _ identifier.0 in
     let firsts = both_true (is_lower_case x) (list_all is_name_byte xs) parts.0 in
     taken (is_lower_case x) (word_lexeme (x ∷ (xs ++ ys))) _ firsts.0
-    ∙ ap (λ (w : List ℕ). sized (word_token w) (length w)) (run_ends (is_in classes.Name) (x ∷ xs) ys (all_name x xs firsts.0 firsts.1) ends)
-    ∙ ap (λ token. sized token (length (x ∷ xs))) (name_is (x ∷ xs) h)
+    ∙ ap (λ (w : List ℕ). sized_lexeme (word_token w) (length w)) (run_ends (is_in classes.Name) (x ∷ xs) ys (all_name x xs firsts.0 firsts.1) ends)
+    ∙ ap (λ token. sized_lexeme token (length (x ∷ xs))) (name_is (x ∷ xs) h)
 
 -- ---- text constants
 
 abbrev text_by : ℕ → List ℕ → List ℕ → Lexeme
-text_by len text behind = if begins_with 34 behind && is_text text then sized (tokens.Constant (terms.Text text)) (len + 2) else bad
+text_by len text behind = if has_first_byte 34 behind && is_text text then sized_lexeme (tokens.Constant (terms.Text text)) (len + 2) else bad_lexeme
 
-text_written : (c ys : List ℕ) → IsTrue (is_text c) → text_lexeme (c ++ 34 ∷ ys) ≡ sized (tokens.Constant (terms.Text c)) (length c + 2)
+text_written : (c ys : List ℕ) → IsTrue (is_text c) → text_lexeme (c ++ 34 ∷ ys) ≡ sized_lexeme (tokens.Constant (terms.Text c)) (length c + 2)
 text_written c ys h =
     let all = (both_true (list_all is_text_byte c) _ h).0 in
     ap (λ len. text_by len (take len (c ++ 34 ∷ ys)) (drop len (c ++ 34 ∷ ys))) (prefix_stops (is_in classes.Text) c 34 ys all refl)
     ∙ ap (λ (t : List ℕ). text_by (length c) t (drop (length c) (c ++ 34 ∷ ys))) (take-append_seam c (34 ∷ ys))
     ∙ ap (λ (t : List ℕ). text_by (length c) c t) (drop-append_seam c (34 ∷ ys))
-    ∙ ap (λ b. if b then sized (tokens.Constant (terms.Text c)) (length c + 2) else bad) h
+    ∙ ap (λ b. if b then sized_lexeme (tokens.Constant (terms.Text c)) (length c + 2) else bad_lexeme) h
 
 -- ---- times
 
@@ -139,7 +139,7 @@ digit_low : (x : ℕ) → is_digit x ≡ true → (x == 45) ≡ false
 digit_low x h = grind (arith, nat_tests)
 
 -- digits and a comma begin no date
-no_date : (ds ys : List ℕ) → IsTrue (list_all is_digit ds) → 0 < length ds → begins_date (ds ++ 44 ∷ ys) ≡ false
+no_date : (ds ys : List ℕ) → IsTrue (list_all is_digit ds) → 0 < length ds → has_date_front (ds ++ 44 ∷ ys) ≡ false
 no_date [] ys all some = absurd (omega (arith, some))
 no_date (a ∷ []) ys all some = and_left _ _ (and_left _ _ (and_left _ _ (and_left _ _ (and_left _ _ (and_right _ _ (and_right _ _ refl))))))
 no_date (a ∷ b ∷ []) ys all some = and_left _ _ (and_left _ _ (and_left _ _ (and_left _ _ (and_right _ _ refl))))
@@ -168,10 +168,10 @@ second_written s h = ap (λ b. if b then tokens.Constant (terms.Time (times.At s
 low_le : (m n : ℕ) → m ≤ n → nat_le m n ≡ true
 low_le m n h = grind (arith, nat_tests)
 
-integer_written : (n : ℕ) (ys : List ℕ) → n < 10 ^ 12 → is_moment (pos n) ≡ true → time_lexeme (decimal n ++ 44 ∷ ys) ≡ sized (tokens.Constant (terms.Time (times.At (pos n)))) (length (decimal n))
+integer_written : (n : ℕ) (ys : List ℕ) → n < 10 ^ 12 → is_moment (pos n) ≡ true → time_lexeme (decimal n ++ 44 ∷ ys) ≡ sized_lexeme (tokens.Constant (terms.Time (times.At (pos n)))) (length (decimal n))
 integer_written n ys lt moment =
     let fits : n < 2 ^ 64 = omega (arith, lt) in
-    left_out (begins_date (decimal n ++ 44 ∷ ys)) _ _ (no_date (decimal n) ys (digits_decimal is_numeral_model n fits) (decimal_nonempty n fits))
+    left_out (has_date_front (decimal n ++ 44 ∷ ys)) _ _ (no_date (decimal n) ys (digits_decimal is_numeral_model n fits) (decimal_nonempty n fits))
     ∙ ap integer_lexeme (digits_written n (44 ∷ ys) fits refl)
     ∙ rw (short_written n lt, second_written (pos n) moment) refl
 
@@ -208,7 +208,7 @@ minus_digits : (ds ys : List ℕ) → IsTrue (list_all is_digit ds) → 0 < leng
 minus_digits [] ys all some = absurd (omega (arith, some))
 minus_digits (x ∷ ds) ys all some = minus_digit x (ds ++ ys) (both_true (is_digit x) _ all).0
 
-negative_written : (n : ℕ) (ys : List ℕ) → suc n < 10 ^ 12 → is_moment (negsuc n) ≡ true → minus_lexeme (decimal (suc n) ++ 44 ∷ ys) ≡ sized (tokens.Constant (terms.Time (times.At (negsuc n)))) (length (decimal (suc n)) + 1)
+negative_written : (n : ℕ) (ys : List ℕ) → suc n < 10 ^ 12 → is_moment (negsuc n) ≡ true → minus_lexeme (decimal (suc n) ++ 44 ∷ ys) ≡ sized_lexeme (tokens.Constant (terms.Time (times.At (negsuc n)))) (length (decimal (suc n)) + 1)
 negative_written n ys lt moment =
     let fits : suc n < 2 ^ 64 = omega (arith, lt) in
     minus_digits (decimal (suc n)) (44 ∷ ys) (digits_decimal is_numeral_model (suc n) fits) (decimal_nonempty (suc n) fits)
@@ -227,11 +227,11 @@ one_more n = omega arith
 two_more : (xs : List ℕ) (x : ℕ) → length xs + 2 ≡ suc (length (xs ++ x ∷ []))
 two_more xs x = let parts = length-append xs (x ∷ []) in omega (arith, parts)
 
-resized : (token : Token) (m n : ℕ) → m ≡ n → sized token m ≡ sized token n
-resized token m n same = ap (sized token) same
+resized : (token : Token) (m n : ℕ) → m ≡ n → sized_lexeme token m ≡ sized_lexeme token n
+resized token m n same = ap (sized_lexeme token) same
 
 -- a term before a comma
-pub term_lexeme : (t : Term) (ys : List ℕ) → IsSpellable t → IsClosedTerm t → first_lexeme (term_text 0 t ++ 44 ∷ ys) ≡ sized (token_of t) (length (term_text 0 t))
+pub term_lexeme : (t : Term) (ys : List ℕ) → IsSpellable t → IsClosedTerm t → first_lexeme (term_text 0 t ++ 44 ∷ ys) ≡ sized_lexeme (token_of t) (length (term_text 0 t))
 term_lexeme (terms.Prin name) ys spelled closed = name_written name (44 ∷ ys) spelled refl
 term_lexeme (terms.File number) ys spelled closed = file_written number.0 (44 ∷ ys) spelled refl ∙ resized _ _ _ (one_more (length (decimal number.0)))
 term_lexeme (terms.Perm permissions.Read) ys spelled closed = refl

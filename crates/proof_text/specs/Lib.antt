@@ -1,11 +1,11 @@
 pub mod Heads
-pub mod Places
-pub mod Printable
+pub mod Cursor
+pub mod RoundTrip
 pub mod Printed
 pub mod Proofs
 pub mod Read
 pub mod Rules
 pub mod Sentences
-pub mod Settled
-pub mod Stops
+pub mod SameTokens
+pub mod FirstFaults
 pub mod Texts

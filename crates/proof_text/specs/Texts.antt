@@ -3,25 +3,25 @@ use Rattle.std.specs.Prelude.{◌≡◌, ℕ, List, Result, Ok, Err, if◌then�
 use Rattle.bl_tokens.specs.declared.faults.TextFault.{TextFault}
 use Rattle.bl_tokens.specs.declared.faults.TextFault.TheVariants.{Unexpected}
 use Rattle.bl_text.specs.Texts.{is_end}
-use Rattle.proof_term.specs.Proof.{Deduction}
-use Rattle.proof_text.specs.declared.places.Place.{Place}
-use Rattle.proof_text.specs.Places.{placed, token_at}
+use Rattle.proof_term.specs.Proof.{ProofView}
+use Rattle.proof_text.specs.declared.cursor.ProofCursor.{ProofCursor}
+use Rattle.proof_text.specs.Cursor.{cursor_at, token_at}
 use Rattle.proof_text.specs.Proofs.{IsProof}
-use Rattle.proof_text.specs.Stops.{ProofStops}
+use Rattle.proof_text.specs.FirstFaults.{ProofHasFirstFault}
 
 -- the beginning of a text. A proof may have 4,096 rules
-abbrev pub beginning : Place
-beginning = placed 0 4096
+abbrev pub beginning : ProofCursor
+beginning = cursor_at 0 4096
 
 -- nothing stands there but spaces
-unfoldable pub ended : List ℕ → Place → Result (Unit {0}) TextFault
-ended text here = if is_end (token_at text here).token then Ok tt else Err (Unexpected (token_at text here).at)
+unfoldable pub at_end : List ℕ → ProofCursor → Result (Unit {0}) TextFault
+at_end text here = if is_end (token_at text here).token then Ok tt else Err (Unexpected (token_at text here).at)
 
 -- the whole text is one of the proof, which has at most 200 levels
-pub data IsProofText (text : List ℕ) (d : Deduction) : Type 0 where
-  whole_proof : (there : Place) → IsProof text 200 beginning there d → ended text there ≡ Ok tt → IsProofText text d
+pub data IsProofText (text : List ℕ) (d : ProofView) : Type 0 where
+  whole_proof : (there : ProofCursor) → IsProof text 200 beginning there d → at_end text there ≡ Ok tt → IsProofText text d
 
 -- the text is none of a proof, and this is its first fault
 pub data ProofTextFault (text : List ℕ) : TextFault → Type 0 where
-  in_proof : (e : TextFault) → ProofStops text 200 beginning e → ProofTextFault text e
-  behind_proof : (there : Place) (d : Deduction) (e : TextFault) → IsProof text 200 beginning there d → ended text there ≡ Err e → ProofTextFault text e
+  in_proof : (e : TextFault) → ProofHasFirstFault text 200 beginning e → ProofTextFault text e
+  behind_proof : (there : ProofCursor) (d : ProofView) (e : TextFault) → IsProof text 200 beginning there d → at_end text there ≡ Err e → ProofTextFault text e

@@ -2,74 +2,82 @@
 
 ghost use Rattle.std.specs.Prelude.{◌≡◌, ◌+◌, ◌≤◌, length, IfOk, OnOk};
 ghost use Rattle.proof_text.specs.Read.{IsRuleInRange};
-ghost use Rattle.proof_text.specs.Heads.{before_premise, closed, opened, with_term, plain_head, with_instance, with_interval, citing_head, with_hypothesis, named_head, head};
+ghost use Rattle.proof_text.specs.Heads.{premise_head, finish_head, start_head, with_term, plain_head, with_instance, with_interval, citing_head, with_hypothesis, named_head, head};
 
-use crate::names::{CitingRule, PlainRule, RuleName};
-use crate::places::{
-    Place, behind_sign, hypothesis_at, one_fewer, room, rule_at, term_at, time_at,
+use crate::cursor::{
+    ProofCursor, cursor_after_sign, hypothesis_at, room, rule_at, take_rule, term_at, time_at,
 };
+use crate::names::{CitingRule, PlainRule, RuleName};
 use bl_tokens::{Sign, TextFault};
 use proof_term::{Axiom, OnePremise, Rule, TwoPremises};
 
-/// The rule, and what stands behind a comma.
-#[tactic(auto, unfolding(crate::specs::Heads::before_premise))]
-fn before_premise(text: &[u8], rule: Rule, here: Place) -> Result<(Rule, Place), TextFault>
+/// The rule, and what stands after a comma.
+#[tactic(auto, unfolding(crate::specs::Heads::premise_head))]
+fn premise_head(
+    text: &[u8],
+    rule: Rule,
+    here: ProofCursor,
+) -> Result<(Rule, ProofCursor), TextFault>
     requires within { here.from ≤ length text.now }
     requires ranged { IsRuleInRange rule }
-    ensures value { result ≡ before_premise text.now rule here }
+    ensures value { result ≡ premise_head text.now rule here }
     ensures within { IfOk result (λ r. r.1.from ≤ length text.now) }
     ensures ranged { IfOk result (λ r. IsRuleInRange r.0) }
     ensures left { IfOk result (λ r. r.1.left ≡ here.left) }
 {
-    let there = behind_sign(text, Sign::Comma, here)?;
+    let there = cursor_after_sign(text, Sign::Comma, here)?;
     Ok((rule, there))
 }
 
-/// The rule, and what stands behind the parenthesis that closes.
-#[tactic(auto, unfolding(crate::specs::Heads::closed))]
-fn closed(text: &[u8], rule: Rule, here: Place) -> Result<(Rule, Place), TextFault>
+/// The rule, and what stands after the parenthesis that closes.
+#[tactic(auto, unfolding(crate::specs::Heads::finish_head))]
+fn finish_head(text: &[u8], rule: Rule, here: ProofCursor) -> Result<(Rule, ProofCursor), TextFault>
     requires within { here.from ≤ length text.now }
     requires ranged { IsRuleInRange rule }
-    ensures value { result ≡ closed text.now rule here }
+    ensures value { result ≡ finish_head text.now rule here }
     ensures within { IfOk result (λ r. r.1.from ≤ length text.now) }
     ensures ranged { IfOk result (λ r. IsRuleInRange r.0) }
     ensures left { IfOk result (λ r. r.1.left ≡ here.left) }
 {
-    let there = behind_sign(text, Sign::Close, here)?;
+    let there = cursor_after_sign(text, Sign::Close, here)?;
     Ok((rule, there))
 }
 
-/// The rule, and what stands behind the parenthesis that opens.
-#[tactic(auto, unfolding(crate::specs::Heads::opened))]
-fn opened(text: &[u8], rule: Rule, here: Place) -> Result<(Rule, Place), TextFault>
+/// The rule, and what stands after the parenthesis that opens.
+#[tactic(auto, unfolding(crate::specs::Heads::start_head))]
+fn start_head(text: &[u8], rule: Rule, here: ProofCursor) -> Result<(Rule, ProofCursor), TextFault>
     requires within { here.from ≤ length text.now }
     requires ranged { IsRuleInRange rule }
-    ensures value { result ≡ opened text.now rule here }
+    ensures value { result ≡ start_head text.now rule here }
     ensures within { IfOk result (λ r. r.1.from ≤ length text.now) }
     ensures ranged { IfOk result (λ r. IsRuleInRange r.0) }
     ensures left { IfOk result (λ r. r.1.left ≡ here.left) }
 {
-    let there = behind_sign(text, Sign::Open, here)?;
+    let there = cursor_after_sign(text, Sign::Open, here)?;
     Ok((rule, there))
 }
 
 /// The rule `existsR`, which names a term.
 #[tactic(auto, unfolding(crate::specs::Heads::with_term))]
-fn with_term(text: &[u8], here: Place) -> Result<(Rule, Place), TextFault>
+fn with_term(text: &[u8], here: ProofCursor) -> Result<(Rule, ProofCursor), TextFault>
     requires { here.from ≤ length text.now }
     ensures value { result ≡ with_term text.now here }
     ensures within { IfOk result (λ r. r.1.from ≤ length text.now) }
     ensures ranged { IfOk result (λ r. IsRuleInRange r.0) }
     ensures left { IfOk result (λ r. r.1.left ≡ here.left) }
 {
-    let place = behind_sign(text, Sign::Open, here)?;
+    let place = cursor_after_sign(text, Sign::Open, here)?;
     let (term, place) = term_at(text, place)?;
-    before_premise(text, Rule::One(OnePremise::ExistsR(term)), place)
+    premise_head(text, Rule::One(OnePremise::ExistsR(term)), place)
 }
 
 /// The fields of a rule that names no hypothesis.
 #[tactic(auto, unfolding(crate::specs::Heads::plain_head))]
-fn plain_head(text: &[u8], rule: PlainRule, here: Place) -> Result<(Rule, Place), TextFault>
+fn plain_head(
+    text: &[u8],
+    rule: PlainRule,
+    here: ProofCursor,
+) -> Result<(Rule, ProofCursor), TextFault>
     requires { here.from ≤ length text.now }
     ensures value { result ≡ plain_head text.now rule here }
     ensures within { IfOk result (λ r. r.1.from ≤ length text.now) }
@@ -80,55 +88,55 @@ fn plain_head(text: &[u8], rule: PlainRule, here: Place) -> Result<(Rule, Place)
         PlainRule::ConsR => Ok((Rule::Axiom(Axiom::ConsR), here)),
         PlainRule::InterR => Ok((Rule::Axiom(Axiom::InterR), here)),
         PlainRule::TrueR => Ok((Rule::Axiom(Axiom::TrueR), here)),
-        PlainRule::AndR => opened(text, Rule::Two(TwoPremises::AndR), here),
-        PlainRule::OrR1 => opened(text, Rule::One(OnePremise::OrR1), here),
-        PlainRule::OrR2 => opened(text, Rule::One(OnePremise::OrR2), here),
-        PlainRule::ImpR => opened(text, Rule::One(OnePremise::ImpR), here),
-        PlainRule::ForallR => opened(text, Rule::One(OnePremise::ForallR), here),
+        PlainRule::AndR => start_head(text, Rule::Two(TwoPremises::AndR), here),
+        PlainRule::OrR1 => start_head(text, Rule::One(OnePremise::OrR1), here),
+        PlainRule::OrR2 => start_head(text, Rule::One(OnePremise::OrR2), here),
+        PlainRule::ImpR => start_head(text, Rule::One(OnePremise::ImpR), here),
+        PlainRule::ForallR => start_head(text, Rule::One(OnePremise::ForallR), here),
         PlainRule::ExistsR => with_term(text, here),
-        PlainRule::SaysR => opened(text, Rule::One(OnePremise::SaysR), here),
-        PlainRule::AtR => opened(text, Rule::One(OnePremise::AtR), here),
+        PlainRule::SaysR => start_head(text, Rule::One(OnePremise::SaysR), here),
+        PlainRule::AtR => start_head(text, Rule::One(OnePremise::AtR), here),
     }
 }
 
-/// The rule `forallL`, which names a term behind the hypothesis.
+/// The rule `forallL`, which names a term after the hypothesis.
 #[tactic(auto, unfolding(crate::specs::Heads::with_instance))]
-fn with_instance(text: &[u8], h: u16, here: Place) -> Result<(Rule, Place), TextFault>
+fn with_instance(text: &[u8], h: u16, here: ProofCursor) -> Result<(Rule, ProofCursor), TextFault>
     requires { here.from ≤ length text.now }
     ensures value { result ≡ with_instance text.now h here }
     ensures within { IfOk result (λ r. r.1.from ≤ length text.now) }
     ensures ranged { IfOk result (λ r. IsRuleInRange r.0) }
     ensures left { IfOk result (λ r. r.1.left ≡ here.left) }
 {
-    let place = behind_sign(text, Sign::Comma, here)?;
+    let place = cursor_after_sign(text, Sign::Comma, here)?;
     let (term, place) = term_at(text, place)?;
-    before_premise(text, Rule::One(OnePremise::ForallL(h, term)), place)
+    premise_head(text, Rule::One(OnePremise::ForallL(h, term)), place)
 }
 
-/// The rule `impL`, which names two times behind the hypothesis.
+/// The rule `impL`, which names two times after the hypothesis.
 #[tactic(auto, unfolding(crate::specs::Heads::with_interval))]
-fn with_interval(text: &[u8], h: u16, here: Place) -> Result<(Rule, Place), TextFault>
+fn with_interval(text: &[u8], h: u16, here: ProofCursor) -> Result<(Rule, ProofCursor), TextFault>
     requires { here.from ≤ length text.now }
     ensures value { result ≡ with_interval text.now h here }
     ensures within { IfOk result (λ r. r.1.from ≤ length text.now) }
     ensures ranged { IfOk result (λ r. IsRuleInRange r.0) }
     ensures left { IfOk result (λ r. r.1.left ≡ here.left) }
 {
-    let place = behind_sign(text, Sign::Comma, here)?;
+    let place = cursor_after_sign(text, Sign::Comma, here)?;
     let (from, place) = time_at(text, place)?;
-    let place = behind_sign(text, Sign::Comma, place)?;
+    let place = cursor_after_sign(text, Sign::Comma, place)?;
     let (to, place) = time_at(text, place)?;
-    before_premise(text, Rule::Two(TwoPremises::ImpL(h, from, to)), place)
+    premise_head(text, Rule::Two(TwoPremises::ImpL(h, from, to)), place)
 }
 
-/// The fields behind the hypothesis.
+/// The fields after the hypothesis.
 #[tactic(auto, unfolding(crate::specs::Heads::citing_head))]
 fn citing_head(
     text: &[u8],
     rule: CitingRule,
     h: u16,
-    here: Place,
-) -> Result<(Rule, Place), TextFault>
+    here: ProofCursor,
+) -> Result<(Rule, ProofCursor), TextFault>
     requires { here.from ≤ length text.now }
     ensures value { result ≡ citing_head text.now rule h here }
     ensures within { IfOk result (λ r. r.1.from ≤ length text.now) }
@@ -136,37 +144,45 @@ fn citing_head(
     ensures left { IfOk result (λ r. r.1.left ≡ here.left) }
 {
     match rule {
-        CitingRule::Init => closed(text, Rule::Axiom(Axiom::Init(h)), here),
-        CitingRule::FalseL => closed(text, Rule::Axiom(Axiom::FalseL(h)), here),
-        CitingRule::ConsL => before_premise(text, Rule::One(OnePremise::ConsL(h)), here),
-        CitingRule::InterL => before_premise(text, Rule::One(OnePremise::InterL(h)), here),
-        CitingRule::AndL => before_premise(text, Rule::One(OnePremise::AndL(h)), here),
-        CitingRule::OrL => before_premise(text, Rule::Two(TwoPremises::OrL(h)), here),
+        CitingRule::Init => finish_head(text, Rule::Axiom(Axiom::Init(h)), here),
+        CitingRule::FalseL => finish_head(text, Rule::Axiom(Axiom::FalseL(h)), here),
+        CitingRule::ConsL => premise_head(text, Rule::One(OnePremise::ConsL(h)), here),
+        CitingRule::InterL => premise_head(text, Rule::One(OnePremise::InterL(h)), here),
+        CitingRule::AndL => premise_head(text, Rule::One(OnePremise::AndL(h)), here),
+        CitingRule::OrL => premise_head(text, Rule::Two(TwoPremises::OrL(h)), here),
         CitingRule::ImpL => with_interval(text, h, here),
         CitingRule::ForallL => with_instance(text, h, here),
-        CitingRule::ExistsL => before_premise(text, Rule::One(OnePremise::ExistsL(h)), here),
-        CitingRule::SaysL => before_premise(text, Rule::One(OnePremise::SaysL(h)), here),
-        CitingRule::Claim => before_premise(text, Rule::One(OnePremise::Claim(h)), here),
-        CitingRule::AtL => before_premise(text, Rule::One(OnePremise::AtL(h)), here),
+        CitingRule::ExistsL => premise_head(text, Rule::One(OnePremise::ExistsL(h)), here),
+        CitingRule::SaysL => premise_head(text, Rule::One(OnePremise::SaysL(h)), here),
+        CitingRule::Claim => premise_head(text, Rule::One(OnePremise::Claim(h)), here),
+        CitingRule::AtL => premise_head(text, Rule::One(OnePremise::AtL(h)), here),
     }
 }
 
 /// The fields of a rule that names a hypothesis first.
 #[tactic(auto, unfolding(crate::specs::Heads::with_hypothesis))]
-fn with_hypothesis(text: &[u8], rule: CitingRule, here: Place) -> Result<(Rule, Place), TextFault>
+fn with_hypothesis(
+    text: &[u8],
+    rule: CitingRule,
+    here: ProofCursor,
+) -> Result<(Rule, ProofCursor), TextFault>
     requires { here.from ≤ length text.now }
     ensures value { result ≡ with_hypothesis text.now rule here }
     ensures within { IfOk result (λ r. r.1.from ≤ length text.now) }
     ensures ranged { IfOk result (λ r. IsRuleInRange r.0) }
     ensures left { IfOk result (λ r. r.1.left ≡ here.left) }
 {
-    let place = behind_sign(text, Sign::Open, here)?;
+    let place = cursor_after_sign(text, Sign::Open, here)?;
     let (h, place) = hypothesis_at(text, place)?;
     citing_head(text, rule, h, place)
 }
 
 #[tactic(auto, unfolding(crate::specs::Heads::named_head))]
-fn named_head(text: &[u8], name: RuleName, here: Place) -> Result<(Rule, Place), TextFault>
+fn named_head(
+    text: &[u8],
+    name: RuleName,
+    here: ProofCursor,
+) -> Result<(Rule, ProofCursor), TextFault>
     requires { here.from ≤ length text.now }
     ensures value { result ≡ named_head text.now name here }
     ensures within { IfOk result (λ r. r.1.from ≤ length text.now) }
@@ -183,7 +199,7 @@ fn named_head(text: &[u8], name: RuleName, here: Place) -> Result<(Rule, Place),
 /// what follows.
 #[tactic(auto, unfolding(crate::specs::Heads::head))]
 #[inline(never)]
-pub fn head(text: &[u8], levels: u8, here: Place) -> Result<(Rule, Place), TextFault>
+pub fn head(text: &[u8], levels: u8, here: ProofCursor) -> Result<(Rule, ProofCursor), TextFault>
     requires { here.from ≤ length text.now }
     ensures value { result ≡ head text.now levels here }
     ensures within { IfOk result (λ r. r.1.from ≤ length text.now) }
@@ -193,5 +209,5 @@ pub fn head(text: &[u8], levels: u8, here: Place) -> Result<(Rule, Place), TextF
 {
     let (name, place) = rule_at(text, here)?;
     room(text, levels, here)?;
-    named_head(text, name, one_fewer(place))
+    named_head(text, name, take_rule(place))
 }

@@ -4,11 +4,11 @@
 //! writes none has one first fault, with its place.
 #![tactic(auto)]
 
+mod cursor;
 mod heads;
 pub mod laws;
 mod names;
 mod parse;
-mod places;
 mod print;
 
 pub use bl_tokens::TextFault;

@@ -3,13 +3,13 @@
 ghost use Rattle.std.specs.Prelude.{◌≡◌, ◌≤◌, length, IfOk, IfErr, MatchResult};
 ghost use Rattle.bl_tokens.specs.declared.faults.TextFault.{TextFault};
 ghost use Rattle.bl_text.specs.Texts.{AreOneFault};
-ghost use Rattle.proof_term.specs.Proof.{Deduction, deduction};
-ghost use Rattle.proof_text.specs.Stops.{ProofStops};
-ghost use Rattle.proof_text.specs.Read.{ReadsProof};
-ghost use Rattle.proof_text.specs.Texts.{beginning, ended, IsProofText, ProofTextFault};
+ghost use Rattle.proof_term.specs.Proof.{ProofView, proof_view};
+ghost use Rattle.proof_text.specs.FirstFaults.{ProofHasFirstFault};
+ghost use Rattle.proof_text.specs.Read.{ReadsProofText};
+ghost use Rattle.proof_text.specs.Texts.{beginning, at_end, IsProofText, ProofTextFault};
 
+use crate::cursor::{ProofCursor, cursor_after_sign, token_at};
 use crate::heads::head;
-use crate::places::{Place, behind_sign, token_at};
 use bl_tokens::{Sign, TextFault, Token};
 use proof_term::{Proof, ProofTree, Rule};
 use std::alloc::Global;
@@ -24,7 +24,7 @@ const MOST_LEVELS: u8 = 200;
 pub fn parse_proof(alloc: Global, text: &[u8]) -> Result<ProofTree, TextFault>
     ensures read { IfOk result (IsProofText text.now) }
     ensures fault { IfErr result (ProofTextFault text.now) }
-    ensures every_proof { (d : Deduction) → IsProofText text.now d
+    ensures every_proof { (d : ProofView) → IsProofText text.now d
         → MatchResult result (λ p. p ≡ d) (λ e. e ≡ TextFault.NoMemory) }
     ensures every_fault { (e : TextFault) → ProofTextFault text.now e
         → MatchResult result (λ _. e ≡ TextFault.NoMemory) (λ d. AreOneFault d e) }
@@ -37,7 +37,7 @@ fn read_proof(alloc: Global, text: &[u8]) -> Result<ProofTree, TextFault>
     ensures fault { IfErr result (ProofTextFault text.now) }
 {
     let (p, there) = proof_at(alloc, text, MOST_LEVELS, beginning())?;
-    ended(text, there)?;
+    at_end(text, there)?;
     match ProofTree::new(Box::into_inner(p)) {
         Ok(tree) => Ok(tree),
         Err(_) => unreachable!(),
@@ -45,20 +45,20 @@ fn read_proof(alloc: Global, text: &[u8]) -> Result<ProofTree, TextFault>
 }
 
 /// The place of the first token.
-fn beginning() -> Place
+fn beginning() -> ProofCursor
     ensures { result ≡ beginning }
 {
-    Place {
+    ProofCursor {
         from: 0,
         left: MOST_NODES,
     }
 }
 
 /// Nothing stands there but spaces.
-#[tactic(auto, unfolding(crate::specs::Texts::ended))]
-fn ended(text: &[u8], here: Place) -> Result<(), TextFault>
+#[tactic(auto, unfolding(crate::specs::Texts::at_end))]
+fn at_end(text: &[u8], here: ProofCursor) -> Result<(), TextFault>
     requires { here.from ≤ length text.now }
-    ensures { result ≡ ended text.now here }
+    ensures { result ≡ at_end text.now here }
 {
     let token = token_at(text, here);
     match &token.token {
@@ -72,25 +72,25 @@ fn proof_at(
     alloc: Global,
     text: &[u8],
     levels: u8,
-    here: Place,
-) -> Result<(Box<Proof>, Place), TextFault>
+    here: ProofCursor,
+) -> Result<(Box<Proof>, ProofCursor), TextFault>
     requires { here.from ≤ length text.now }
-    ensures read { IfOk result (λ r. ReadsProof text.now levels here r.1 (deduction r.0.value)) }
-    ensures fault { IfErr result (λ e. ProofStops text.now levels here e) }
+    ensures read { IfOk result (λ r. ReadsProofText text.now levels here r.1 (proof_view r.0.value)) }
+    ensures fault { IfErr result (λ e. ProofHasFirstFault text.now levels here e) }
 {
     let (rule, first) = head(text, levels, here)?;
     match rule {
         Rule::Axiom(r) => Ok((Box::new(alloc, r.proof())?, first)),
         Rule::One(r) => {
             let (p, mid) = proof_at(alloc, text, levels - 1, first)?;
-            let there = behind_sign(text, Sign::Close, mid)?;
+            let there = cursor_after_sign(text, Sign::Close, mid)?;
             Ok((Box::new(alloc, r.proof(p))?, there))
         }
         Rule::Two(r) => {
             let (p, mid) = proof_at(alloc, text, levels - 1, first)?;
-            let second = behind_sign(text, Sign::Comma, mid)?;
+            let second = cursor_after_sign(text, Sign::Comma, mid)?;
             let (q, last) = proof_at(alloc, text, levels - 1, second)?;
-            let there = behind_sign(text, Sign::Close, last)?;
+            let there = cursor_after_sign(text, Sign::Close, last)?;
             Ok((Box::new(alloc, r.proof(p, q))?, there))
         }
     }

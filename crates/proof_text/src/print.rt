@@ -3,8 +3,8 @@
 
 ghost use Rattle.std.specs.Prelude.{◌≡◌, ◌++◌, OnOk, OnErr};
 ghost use Rattle.bl_text.specs.Written.{BeginsWith};
-ghost use Rattle.proof_term.specs.Proof.{deduction};
-ghost use Rattle.proof_text.specs.Printed.{cited, term_field, axiom_text, one_text, two_text, proof_text};
+ghost use Rattle.proof_term.specs.Proof.{proof_view};
+ghost use Rattle.proof_text.specs.Printed.{cited_text, term_field, axiom_text, one_text, two_text, proof_text};
 
 use bl_syntax::{Bytes, NoMemory, Term};
 use bl_text::{print_number, print_term};
@@ -24,7 +24,7 @@ pub fn print_proof(p: &ProofTree, out: &mut Bytes) -> Result<(), NoMemory>
 }
 
 fn write_proof(out: &mut Bytes, p: &Proof) -> Result<(), NoMemory>
-    ensures ok { OnOk result (out.new ≡ out.old ++ proof_text (deduction p.now)) }
+    ensures ok { OnOk result (out.new ≡ out.old ++ proof_text (proof_view p.now)) }
     ensures err { OnErr result (BeginsWith out.new out.old) }
 {
     match Parts::of(p) {
@@ -101,9 +101,9 @@ fn write_two(out: &mut Bytes, r: &TwoPremises) -> Result<(), NoMemory>
     }
 }
 
-/// Writes a rule's name with its parenthesis, the number of the hypothesis, and the sign behind it.
+/// Writes a rule's name with its parenthesis, the number of the hypothesis, and the sign after it.
 fn write_cited(out: &mut Bytes, name: &str, h: u16, sign: &str) -> Result<(), NoMemory>
-    ensures ok { OnOk result (out.new ≡ out.old ++ cited name.now h sign.now) }
+    ensures ok { OnOk result (out.new ≡ out.old ++ cited_text name.now h sign.now) }
     ensures err { OnErr result (BeginsWith out.new out.old) }
 {
     write(out, name)?;

@@ -15,14 +15,14 @@ use Rattle.bl_syntax.specs.declared.grant.Goal.{Goal}
 use Rattle.bl_syntax.specs.Formula.{state}
 use Rattle.bl_syntax.specs.Terms.{HasTimeInRange}
 use Rattle.bl_syntax.specs.WellSorted.{HasSort}
-use Rattle.bl_syntax.specs.Statement.{Saying, IsStatement}
-use Rattle.bl_syntax.specs.Grant.{Granted, IsTimeCondition, IsStateCondition}
+use Rattle.bl_syntax.specs.Statement.{StatementView, IsStatement}
+use Rattle.bl_syntax.specs.Grant.{GrantView, IsTimeCondition, IsStateCondition}
 use Rattle.bl_syntax.specs.Substitution.{instance_at}
-use Rattle.bl_syntax.specs.ConditionTests.{is_constant, is_ctime, is_time_condition, is_state_condition}
+use Rattle.bl_syntax.specs.ConditionTests.{is_constant_in_range, is_ctime, is_time_condition, is_state_condition}
 use Rattle.bl_syntax.proofs.ConditionTestLemmas.{Decides-is_in_range, Decides-time_condition, Decides-state_condition}
 use Rattle.bl_rules.specs.Sequent.{holds, claims}
 use Rattle.condition_set.specs.Conditions.{without_conditions}
-use Rattle.proof_term.specs.Proof.{Deduction, init, cons_r, inter_r, and_r, or_r1, or_r2, true_r, imp_r, forall_r, exists_r, says_r, at_r, cons_l, inter_l, and_l, or_l, false_l, imp_l, forall_l, exists_l, says_l, claim, at_l}
+use Rattle.proof_term.specs.Proof.{ProofView, init, cons_r, inter_r, and_r, or_r1, or_r2, true_r, imp_r, forall_r, exists_r, says_r, at_r, cons_l, inter_l, and_l, or_l, false_l, imp_l, forall_l, exists_l, says_l, claim, at_l}
 use Rattle.proof_term.specs.Limits.{size, HasTimesInRange}
 use Rattle.proof_verifier.specs.declared.fault.CheckFault.{CheckFault}
 use Rattle.proof_verifier.specs.declared.fault.CheckFault.TheVariants.{NotEntailed, NotInState}
@@ -34,14 +34,14 @@ use Rattle.proof_verifier.specs.Entailed.{is_entailed}
 use Rattle.proof_verifier.specs.Conditions.{keep_time, keep_state, time_condition, state_condition}
 use Rattle.proof_verifier.specs.Rules.{Answer, by_init, by_cons_r, by_inter_r, by_and_r, by_or_r1, by_or_r2, by_true_r, by_imp_r, by_forall_r, by_exists_r, by_says_r, by_at_r, by_cons_l, by_inter_l, by_and_l, by_or_l, by_false_l, by_imp_l, by_forall_l, by_exists_l, by_says_l, by_claim, by_at_l}
 use Rattle.proof_verifier.specs.Verdict.{answer, root, verdict, computed_verdict}
-use Rattle.proof_verifier.specs.WellFormed.{IsTermOf, IsClosed, IsInterval, IsWellFormed}
+use Rattle.proof_verifier.specs.WellFormed.{IsTermOf, IsClosed, IsInterval, IsWellFormedSequent}
 use Rattle.proof_verifier.proofs.SoundnessShapes.{Gives, gives_constraint, gives_state, gives_both, gives_either, gives_implies, gives_forall, gives_exists, gives_says, gives_on, gives_truth_at, gives_claim_at, gives_term, gives_strength, gives_same_atom}
 use Rattle.proof_verifier.proofs.WellFormedLemmas.{as_form, parts_of_both, parts_of_either, parts_of_implies, parts_of_says, parts_of_on, parts_of_compare, instance_of_forall, instance_of_exists, new_instance_of_forall, new_instance_of_exists, IsWellFormed-aim, IsWellFormed-learn, IsWellFormed-bound, IsWellFormed-observe, IsWellFormed-declare, IsWellFormed-speak, IsWellFormed-suppose, IsWellFormed-root}
 
 -- ---- conditions
 
 -- a term in scope is a parameter, the current time or a constant
-one_of_three : (parameters : List Sort) (sort : Sort) (t : Term) → HasSort parameters [] sort t → HasTimeInRange t → not (is_parameter t) ≡ (is_ctime t || is_constant t)
+one_of_three : (parameters : List Sort) (sort : Sort) (t : Term) → HasSort parameters [] sort t → HasTimeInRange t → not (is_parameter t) ≡ (is_ctime t || is_constant_in_range t)
 one_of_three parameters sort (Prin name) sorted in_range = refl
 one_of_three parameters sort (File number) sorted in_range = refl
 one_of_three parameters sort (Perm permission) sorted in_range = refl
@@ -52,7 +52,7 @@ one_of_three parameters sort (Param n) sorted in_range = refl
 one_of_three parameters sort (Bound n) sorted in_range = absurd (none-some sort sorted)
 
 -- one of another sort than times is a parameter or a constant
-one_of_two : (parameters : List Sort) (sort : Sort) (t : Term) → (sorts.Time ≡ sort → ⊥) → HasSort parameters [] sort t → HasTimeInRange t → not (is_parameter t) ≡ is_constant t
+one_of_two : (parameters : List Sort) (sort : Sort) (t : Term) → (sorts.Time ≡ sort → ⊥) → HasSort parameters [] sort t → HasTimeInRange t → not (is_parameter t) ≡ is_constant_in_range t
 one_of_two parameters sort (Prin name) other sorted in_range = refl
 one_of_two parameters sort (File number) other sorted in_range = refl
 one_of_two parameters sort (Perm permission) other sorted in_range = refl
@@ -73,7 +73,7 @@ not_either true y = refl
 not_either false y = refl
 
 -- no term is a parameter where each is a constant
-none_or_all : (terms : List Term) → AllByRecursion (λ (t : Term). not (is_parameter t) ≡ is_constant t) terms → not (list_any is_parameter terms) ≡ list_all is_constant terms
+none_or_all : (terms : List Term) → AllByRecursion (λ (t : Term). not (is_parameter t) ≡ is_constant_in_range t) terms → not (list_any is_parameter terms) ≡ list_all is_constant_in_range terms
 none_or_all [] h = refl
 none_or_all (t ∷ terms) h =
     not_either (is_parameter t) (list_any is_parameter terms) ∙ ap₂ (λ (x y : Bool). x && y) h.0 (none_or_all terms h.1)
@@ -138,7 +138,7 @@ chain_both {A} {B} {one} {two} {later} {other} first next = record {
 between : Term → Term → Constraint
 between u v = record { low = u; high = v }
 
-same_time : (node : ℕ) (s : Sequent) (u v : Term) (g : Granted) → IsInterval s.sorts u v
+same_time : (node : ℕ) (s : Sequent) (u v : Term) (g : GrantView) → IsInterval s.sorts u v
     → Same (time_condition by_rule node s.constraints u v g) (time_condition by_grant node s.constraints u v g)
 unfolding between
 same_time node s u v g h = record {
@@ -146,7 +146,7 @@ same_time node s u v g h = record {
       (time_left_over s.sorts (between u v) h);
 }
 
-same_fact : (node : ℕ) (s : Sequent) (fact : StatePred) (g : Granted) → IsClosed s.sorts (state fact)
+same_fact : (node : ℕ) (s : Sequent) (fact : StatePred) (g : GrantView) → IsClosed s.sorts (state fact)
     → Same (state_condition by_rule node s.facts fact g) (state_condition by_grant node s.facts fact g)
 same_fact node s fact g h = record {
   same = ap (λ (test : Bool). if has_state s.facts fact then Ok g else if test then keep_state node fact g else Err (NotInState node)) (state_left_over s.sorts fact h);
@@ -162,7 +162,7 @@ term_of sorted in_range = record { sorted = sorted; in_range = in_range }
 
 -- at each well formed node the two answer the same
 record Agrees (p p' : Answer) : Type 0 where
-  pub step : (node : ℕ) (s : Sequent) (g : Granted) → IsWellFormed s → Same (p node s g) (p' node s g)
+  pub step : (node : ℕ) (s : Sequent) (g : GrantView) → IsWellFormedSequent s → Same (p node s g) (p' node s g)
 
 by_init-agrees : (h : ℕ) → Agrees (by_init by_rule h) (by_init by_grant h)
 by_init-agrees h = record {
@@ -365,7 +365,7 @@ by_at_l-agrees h p = record {
       p.step (1 + node) (learn (holds x.0 x.1 x.2) s) g (IsWellFormed-learn (holds x.0 x.1 x.2) (parts_of_on (as_form is known.0)) w);
 }
 
-answer-agrees : (d : Deduction) → HasTimesInRange d → Agrees (answer by_rule d) (answer by_grant d)
+answer-agrees : (d : ProofView) → HasTimesInRange d → Agrees (answer by_rule d) (answer by_grant d)
 unfolding answer
 answer-agrees (init h) r = by_init-agrees h
 answer-agrees cons_r r = by_cons_r-agrees
@@ -392,10 +392,10 @@ answer-agrees (claim h p) r = by_claim-agrees h (answer-agrees p r)
 answer-agrees (at_l h p) r = by_at_l-agrees h (answer-agrees p r)
 
 -- at each node whose sequent is well formed
-pub answer-same : (d : Deduction) → HasTimesInRange d → (node : ℕ) (s : Sequent) (g : Granted) → IsWellFormed s → answer by_rule d node s g ≡ answer by_grant d node s g
+pub answer-same : (d : ProofView) → HasTimesInRange d → (node : ℕ) (s : Sequent) (g : GrantView) → IsWellFormedSequent s → answer by_rule d node s g ≡ answer by_grant d node s g
 answer-same d in_range node s g w = ((answer-agrees d in_range).step node s g w).same
 
-pub verdict-computed : (statements : List Saying) (goal : Goal) (d : Deduction) → AllByRecursion IsStatement statements → HasTimesInRange d
+pub verdict-computed : (statements : List StatementView) (goal : Goal) (d : ProofView) → AllByRecursion IsStatement statements → HasTimesInRange d
     → verdict statements goal d ≡ computed_verdict statements goal d
 verdict-computed statements goal d are_statements in_range =
     answer-same d in_range 0 (root statements goal) (without_conditions goal) (IsWellFormed-root statements goal are_statements)

@@ -18,7 +18,7 @@ use Rattle.bl_syntax.proofs.EntailmentLemmas.{IsUpTo-itself, IsUpTo-PosInf, IsUp
 use Rattle.bl_syntax.proofs.EqualityLemmas.{Decides-term_eq}
 use Rattle.bl_syntax.specs.ConditionTests.{is_up_to}
 use Rattle.bl_syntax.proofs.ConditionTestLemmas.{Decides-is_up_to, both_true, either_true}
-use Rattle.proof_verifier.specs.Entailed.{are_in_order, are_out_of_order, is_plain_link, leads, is_contradictory, is_entailed}
+use Rattle.proof_verifier.specs.Entailed.{are_in_order, are_out_of_order, is_plain_link, has_chain, is_contradictory, is_entailed}
 
 in_order_told : {u v : TimePoint} → AreInOrder (Time u) (Time v) → IsUpTo u v
 in_order_told (in_order h) = h
@@ -106,7 +106,7 @@ abbrev Leads : List Constraint → Term → Term → Type 0
 Leads [] u v = IsLink [] u v
 Leads (c ∷ others) u v = Leads others u v ⊎ (Leads others u c.low × Leads others c.high v)
 
-Decides-leads : (psi : List Constraint) (u v : Term) → Decides (leads psi u v) (Leads psi u v)
+Decides-leads : (psi : List Constraint) (u v : Term) → Decides (has_chain psi u v) (Leads psi u v)
 Decides-leads [] u v = Decides-is_plain_link u v
 Decides-leads (c ∷ others) u v =
     Decides-or _ _ (Decides-leads others u v) (Decides-and _ _ (Decides-leads others u c.low) (Decides-leads others c.high v))
@@ -170,8 +170,8 @@ chain_leads (c ∷ others) u v (inr p) =
     IsChain-joined (c ∷ others) (chain_more c others u c.low (chain_leads others u c.low p.0))
     (longer c.low c.high v (constrained c (Contains-append_left (c ∷ []) others c (Contains-push [] c))) (chain_more c others c.high v (chain_leads others c.high v p.1)))
 
-Decides-chain : (psi : List Constraint) (u v : Term) → Decides (leads psi u v) (IsChain psi u v)
-Decides-chain psi u v = Decides-like (leads psi u v) (chain_leads psi u v) (leads_chain psi u v) (Decides-leads psi u v)
+Decides-chain : (psi : List Constraint) (u v : Term) → Decides (has_chain psi u v) (IsChain psi u v)
+Decides-chain psi u v = Decides-like (has_chain psi u v) (chain_leads psi u v) (leads_chain psi u v) (Decides-leads psi u v)
 
 -- a chain with constraints in it, from the first of these to the last
 record Through (psi : List Constraint) (u v : Term) : Type 0 where
@@ -299,7 +299,7 @@ contradiction_test psi k = by (parted psi (Time k.greater) (Time k.lesser) k.cha
     ends through (to_constant a ea ha) (at_end e) = absurd (k.out_of_order (subst (IsUpTo k.greater) (sym e) (IsUpTo-PosInf k.greater)))
     ends through (to_constant a ea ha) (of_constant b eb hb) =
         let out : IsUpTo a b → ⊥ = λ h. k.out_of_order (IsUpTo-transitive k.greater a k.lesser ha (IsUpTo-transitive a b k.lesser h hb)) in
-        let led : leads psi through.first.low through.last.high ≡ true = (Decides-chain psi through.first.low through.last.high).1 through.middle in
+        let led : has_chain psi through.first.low through.last.high ≡ true = (Decides-chain psi through.first.low through.last.high).1 through.middle in
         any_test _ psi through.first through.first_among
         (any_test _ psi through.last through.last_among
         (true_and _ _ (out_test through.first.low through.last.high a b ea eb out) led))

@@ -1,13 +1,13 @@
 pub mod AgreementLemmas
 pub mod EntailedLemmas
-pub mod GrantedLemmas
-pub mod KeepLemmas
+pub mod IsGrantedLemmas
+pub mod ConditionLemmas
 pub mod MemoryLemmas
 pub mod RoomLemmas
 pub mod SoundnessRules
 pub mod SoundnessShapes
 pub mod SoundnessSteps
 pub mod SoundnessVerdict
-pub mod StandingLemmas
+pub mod HypothesesLemmas
 pub mod TestLemmas
 pub mod WellFormedLemmas

@@ -1,4 +1,4 @@
--- The verdict is never want of memory: its faults are those that the rules name.
+-- The verdict is never out of memory: its faults are those that the rules name.
 use Rattle.std.proofs.Common.{◌≡◌, ℕ, ◌+◌, zero, suc, Bool, true, false, ◌&&◌, List, [], ◌∷◌, Result, Ok, Err, Option, Some, None, subst}
 use Rattle.std.specs.Prelude.{if◌then◌else◌}
 use Rattle.std.specs.Result.{IfErr}
@@ -9,19 +9,19 @@ use Rattle.bl_syntax.specs.declared.terms.Term.{Term}
 use Rattle.bl_syntax.specs.declared.terms.StatePred.{StatePred}
 use Rattle.bl_syntax.specs.declared.terms.Constraint.{Constraint}
 use Rattle.bl_syntax.specs.declared.grant.Goal.{Goal}
-use Rattle.bl_syntax.specs.Formula.{Form, atom, compare, state, both, either, implies, truth, falsity, forall_, exists_, says, on}
-use Rattle.bl_syntax.specs.Statement.{Saying}
+use Rattle.bl_syntax.specs.Formula.{FormulaView, atom, compare, state, both, either, implies, truth, falsity, forall_, exists_, says, on}
+use Rattle.bl_syntax.specs.Statement.{StatementView}
 use Rattle.bl_syntax.specs.Terms.{sort_of}
-use Rattle.bl_syntax.specs.Grant.{Granted}
+use Rattle.bl_syntax.specs.Grant.{GrantView}
 use Rattle.bl_syntax.specs.Substitution.{instance_at}
 use Rattle.bl_rules.specs.Sequent.{Hypothesis, holds, claims}
 use Rattle.condition_set.specs.Conditions.{without_conditions}
-use Rattle.proof_term.specs.Proof.{Deduction, init, cons_r, inter_r, and_r, or_r1, or_r2, true_r, imp_r, forall_r, exists_r, says_r, at_r, cons_l, inter_l, and_l, or_l, false_l, imp_l, forall_l, exists_l, says_l, claim, at_l}
+use Rattle.proof_term.specs.Proof.{ProofView, init, cons_r, inter_r, and_r, or_r1, or_r2, true_r, imp_r, forall_r, exists_r, says_r, at_r, cons_l, inter_l, and_l, or_l, false_l, imp_l, forall_l, exists_l, says_l, claim, at_l}
 use Rattle.proof_term.specs.Limits.{size}
 use Rattle.proof_verifier.specs.declared.fault.CheckFault.{CheckFault}
 use Rattle.proof_verifier.specs.declared.fault.CheckFault.TheVariants.{NoHypothesis, WrongShape, NotEntailed, NotInState, ViewTooWeak, BadTerm, TooManyConditions, NoMemory}
 use Rattle.proof_verifier.specs.Sequent.{Sequent, aim, aim_at, learn, bound, observe, declare, new_parameter, new_start, new_end, suppose, speak}
-use Rattle.proof_verifier.specs.Shapes.{and_then, cited, as_truth, as_claim, truth_at, claim_at, as_atom, as_same_atom, as_constraint, as_state, as_both, as_either, as_implies, as_true, as_false, as_forall, as_exists, as_says, as_on}
+use Rattle.proof_verifier.specs.Shapes.{and_then, cited_hypothesis, as_truth, as_claim, truth_at, claim_at, as_atom, as_same_atom, as_constraint, as_state, as_both, as_either, as_implies, as_true, as_false, as_forall, as_exists, as_says, as_on}
 use Rattle.proof_verifier.specs.Tests.{are_same, has_constraint, has_state, is_as_strong}
 use Rattle.proof_verifier.specs.Entailed.{is_entailed}
 use Rattle.proof_verifier.specs.Conditions.{is_full, keep_time, keep_state, time_condition, state_condition, of_sort, term_condition, strength_condition}
@@ -39,7 +39,7 @@ IsNamed (BadTerm node) = Unit {0}
 IsNamed (TooManyConditions node) = Unit {0}
 IsNamed NoMemory = ⊥
 
--- the step's fault, if it has one, is not want of memory
+-- the step's fault, if it has one, is not out of memory
 record Told {A : Type 0} (step : Result A CheckFault) : Type 0 where
   pub fault : IfErr step IsNamed
 
@@ -60,7 +60,7 @@ either_way : {A : Type 0} (test : Bool) (step other : Result A CheckFault) → T
 either_way true step other first second = first
 either_way false step other first second = second
 
-told_cited : (node : ℕ) (hypotheses : List (Option Hypothesis)) (h : ℕ) → IfErr (cited node hypotheses h) IsNamed
+told_cited : (node : ℕ) (hypotheses : List (Option Hypothesis)) (h : ℕ) → IfErr (cited_hypothesis node hypotheses h) IsNamed
 told_cited node [] h = tt
 told_cited node (None ∷ rest) zero = tt
 told_cited node (Some x ∷ rest) zero = tt
@@ -75,96 +75,96 @@ told_claim node (holds a u v) = tt
 told_claim node (claims k a u v) = tt
 
 truth_told : (node : ℕ) (s : Sequent) (h : ℕ) → Told (truth_at node s.hypotheses h)
-truth_told node s h = chain (told (cited node s.hypotheses h) (told_cited node s.hypotheses h)) (λ x. told (as_truth node x) (told_truth node x))
+truth_told node s h = chain (told (cited_hypothesis node s.hypotheses h) (told_cited node s.hypotheses h)) (λ x. told (as_truth node x) (told_truth node x))
 
 claim_told : (node : ℕ) (s : Sequent) (h : ℕ) → Told (claim_at node s.hypotheses h)
-claim_told node s h = chain (told (cited node s.hypotheses h) (told_cited node s.hypotheses h)) (λ x. told (as_claim node x) (told_claim node x))
+claim_told node s h = chain (told (cited_hypothesis node s.hypotheses h) (told_cited node s.hypotheses h)) (λ x. told (as_claim node x) (told_claim node x))
 
-is_atom : (node : ℕ) (f : Form) → IfErr (as_atom node f) IsNamed
+is_atom : (node : ℕ) (f : FormulaView) → IfErr (as_atom node f) IsNamed
 is_atom node (atom name terms) = tt
 is_atom node _ = tt
 
-told_atom : (node : ℕ) (f : Form) → Told (as_atom node f)
+told_atom : (node : ℕ) (f : FormulaView) → Told (as_atom node f)
 told_atom node f = told (as_atom node f) (is_atom node f)
 
-is_constraint : (node : ℕ) (f : Form) → IfErr (as_constraint node f) IsNamed
+is_constraint : (node : ℕ) (f : FormulaView) → IfErr (as_constraint node f) IsNamed
 is_constraint node (compare c) = tt
 is_constraint node _ = tt
 
-told_constraint : (node : ℕ) (f : Form) → Told (as_constraint node f)
+told_constraint : (node : ℕ) (f : FormulaView) → Told (as_constraint node f)
 told_constraint node f = told (as_constraint node f) (is_constraint node f)
 
-is_state : (node : ℕ) (f : Form) → IfErr (as_state node f) IsNamed
+is_state : (node : ℕ) (f : FormulaView) → IfErr (as_state node f) IsNamed
 is_state node (state s) = tt
 is_state node _ = tt
 
-told_state : (node : ℕ) (f : Form) → Told (as_state node f)
+told_state : (node : ℕ) (f : FormulaView) → Told (as_state node f)
 told_state node f = told (as_state node f) (is_state node f)
 
-is_both : (node : ℕ) (f : Form) → IfErr (as_both node f) IsNamed
+is_both : (node : ℕ) (f : FormulaView) → IfErr (as_both node f) IsNamed
 is_both node (both a b) = tt
 is_both node _ = tt
 
-told_both : (node : ℕ) (f : Form) → Told (as_both node f)
+told_both : (node : ℕ) (f : FormulaView) → Told (as_both node f)
 told_both node f = told (as_both node f) (is_both node f)
 
-is_either : (node : ℕ) (f : Form) → IfErr (as_either node f) IsNamed
+is_either : (node : ℕ) (f : FormulaView) → IfErr (as_either node f) IsNamed
 is_either node (either a b) = tt
 is_either node _ = tt
 
-told_either : (node : ℕ) (f : Form) → Told (as_either node f)
+told_either : (node : ℕ) (f : FormulaView) → Told (as_either node f)
 told_either node f = told (as_either node f) (is_either node f)
 
-is_implies : (node : ℕ) (f : Form) → IfErr (as_implies node f) IsNamed
+is_implies : (node : ℕ) (f : FormulaView) → IfErr (as_implies node f) IsNamed
 is_implies node (implies a b) = tt
 is_implies node _ = tt
 
-told_implies : (node : ℕ) (f : Form) → Told (as_implies node f)
+told_implies : (node : ℕ) (f : FormulaView) → Told (as_implies node f)
 told_implies node f = told (as_implies node f) (is_implies node f)
 
-is_true : (node : ℕ) (f : Form) → IfErr (as_true node f) IsNamed
+is_true : (node : ℕ) (f : FormulaView) → IfErr (as_true node f) IsNamed
 is_true node truth = tt
 is_true node _ = tt
 
-told_true : (node : ℕ) (f : Form) → Told (as_true node f)
+told_true : (node : ℕ) (f : FormulaView) → Told (as_true node f)
 told_true node f = told (as_true node f) (is_true node f)
 
-is_false : (node : ℕ) (f : Form) → IfErr (as_false node f) IsNamed
+is_false : (node : ℕ) (f : FormulaView) → IfErr (as_false node f) IsNamed
 is_false node falsity = tt
 is_false node _ = tt
 
-told_false : (node : ℕ) (f : Form) → Told (as_false node f)
+told_false : (node : ℕ) (f : FormulaView) → Told (as_false node f)
 told_false node f = told (as_false node f) (is_false node f)
 
-is_forall : (node : ℕ) (f : Form) → IfErr (as_forall node f) IsNamed
+is_forall : (node : ℕ) (f : FormulaView) → IfErr (as_forall node f) IsNamed
 is_forall node (forall_ s a) = tt
 is_forall node _ = tt
 
-told_forall : (node : ℕ) (f : Form) → Told (as_forall node f)
+told_forall : (node : ℕ) (f : FormulaView) → Told (as_forall node f)
 told_forall node f = told (as_forall node f) (is_forall node f)
 
-is_exists : (node : ℕ) (f : Form) → IfErr (as_exists node f) IsNamed
+is_exists : (node : ℕ) (f : FormulaView) → IfErr (as_exists node f) IsNamed
 is_exists node (exists_ s a) = tt
 is_exists node _ = tt
 
-told_exists : (node : ℕ) (f : Form) → Told (as_exists node f)
+told_exists : (node : ℕ) (f : FormulaView) → Told (as_exists node f)
 told_exists node f = told (as_exists node f) (is_exists node f)
 
-is_says : (node : ℕ) (f : Form) → IfErr (as_says node f) IsNamed
+is_says : (node : ℕ) (f : FormulaView) → IfErr (as_says node f) IsNamed
 is_says node (says k a) = tt
 is_says node _ = tt
 
-told_says : (node : ℕ) (f : Form) → Told (as_says node f)
+told_says : (node : ℕ) (f : FormulaView) → Told (as_says node f)
 told_says node f = told (as_says node f) (is_says node f)
 
-is_on : (node : ℕ) (f : Form) → IfErr (as_on node f) IsNamed
+is_on : (node : ℕ) (f : FormulaView) → IfErr (as_on node f) IsNamed
 is_on node (on a u v) = tt
 is_on node _ = tt
 
-told_on : (node : ℕ) (f : Form) → Told (as_on node f)
+told_on : (node : ℕ) (f : FormulaView) → Told (as_on node f)
 told_on node f = told (as_on node f) (is_on node f)
 
-told_same_atom : (node : ℕ) (a b : Form) → Told (as_same_atom node a b)
+told_same_atom : (node : ℕ) (a b : FormulaView) → Told (as_same_atom node a b)
 told_same_atom node a b =
     chain (told_atom node a) λ x.
     chain (told_atom node b) λ y.
@@ -176,27 +176,27 @@ told_term node sorts sort t = either_way (of_sort sort (sort_of sorts [] t)) _ _
 told_strength : (node : ℕ) (k other : Term) → Told (strength_condition node k other)
 told_strength node k other = either_way (is_as_strong k other) _ _ (given tt) (told (Err (ViewTooWeak node)) tt)
 
-told_keep_time : (node : ℕ) (c : Constraint) (g : Granted) → Told (keep_time node c g)
+told_keep_time : (node : ℕ) (c : Constraint) (g : GrantView) → Told (keep_time node c g)
 told_keep_time node c g =
     either_way (has_constraint g.times c) _ _ (given g) (either_way (is_full g) _ _ (told (Err (TooManyConditions node)) tt) (told (Ok _) tt))
 
-told_keep_state : (node : ℕ) (s : StatePred) (g : Granted) → Told (keep_state node s g)
+told_keep_state : (node : ℕ) (s : StatePred) (g : GrantView) → Told (keep_state node s g)
 told_keep_state node s g =
     either_way (has_state g.states s) _ _ (given g) (either_way (is_full g) _ _ (told (Err (TooManyConditions node)) tt) (told (Ok _) tt))
 
-told_time : (left_over : LeftOver) (node : ℕ) (constraints : List Constraint) (u v : Term) (g : Granted) → Told (time_condition left_over node constraints u v g)
+told_time : (left_over : LeftOver) (node : ℕ) (constraints : List Constraint) (u v : Term) (g : GrantView) → Told (time_condition left_over node constraints u v g)
 told_time left_over node constraints u v g =
     either_way (is_entailed constraints u v) _ _ (given g)
     (either_way (left_over.time (record { low = u; high = v })) _ _ (told_keep_time node (record { low = u; high = v }) g) (told (Err (NotEntailed node)) tt))
 
-told_fact : (left_over : LeftOver) (node : ℕ) (facts : List StatePred) (s : StatePred) (g : Granted) → Told (state_condition left_over node facts s g)
+told_fact : (left_over : LeftOver) (node : ℕ) (facts : List StatePred) (s : StatePred) (g : GrantView) → Told (state_condition left_over node facts s g)
 told_fact left_over node facts s g =
     either_way (has_state facts s) _ _ (given g)
     (either_way (left_over.state s) _ _ (told_keep_state node s g) (told (Err (NotInState node)) tt))
 
 -- whatever the proof answers at a node
 record Tells (p : Answer) : Type 0 where
-  pub step : (node : ℕ) (s : Sequent) (g : Granted) → Told (p node s g)
+  pub step : (node : ℕ) (s : Sequent) (g : GrantView) → Told (p node s g)
 
 by_init-told : (left_over : LeftOver) (h : ℕ) → Tells (by_init left_over h)
 by_init-told left_over h = record {
@@ -383,7 +383,7 @@ by_at_l-told h p p_told = record {
       p_told.step (1 + node) (learn (holds x.0 x.1 x.2) s) g;
 }
 
-answer-told : (left_over : LeftOver) (d : Deduction) → Tells (answer left_over d)
+answer-told : (left_over : LeftOver) (d : ProofView) → Tells (answer left_over d)
 unfolding answer
 answer-told left_over (init h) = by_init-told left_over h
 answer-told left_over cons_r = by_cons_r-told left_over
@@ -409,8 +409,8 @@ answer-told left_over (says_l h p) = by_says_l-told h (answer left_over p) (answ
 answer-told left_over (claim h p) = by_claim-told left_over h (answer left_over p) (answer-told left_over p)
 answer-told left_over (at_l h p) = by_at_l-told h (answer left_over p) (answer-told left_over p)
 
-not_of_memory : (step : Result Granted CheckFault) → IfErr step IsNamed → step ≡ Err NoMemory → ⊥
-not_of_memory step named e = subst (λ (r : Result Granted CheckFault). IfErr r IsNamed) e named
+not_of_memory : (step : Result GrantView CheckFault) → IfErr step IsNamed → step ≡ Err NoMemory → ⊥
+not_of_memory step named e = subst (λ (r : Result GrantView CheckFault). IfErr r IsNamed) e named
 
-pub verdict-memoryless : (statements : List Saying) (goal : Goal) (d : Deduction) → verdict statements goal d ≡ Err NoMemory → ⊥
+pub verdict-memoryless : (statements : List StatementView) (goal : Goal) (d : ProofView) → verdict statements goal d ≡ Err NoMemory → ⊥
 verdict-memoryless statements goal d = not_of_memory _ ((answer-told by_rule d).step 0 (root statements goal) (without_conditions goal)).fault

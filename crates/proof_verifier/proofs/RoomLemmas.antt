@@ -5,19 +5,19 @@ use Rattle.std.specs.Prelude.{Option, Some}
 use Rattle.bl_rules.specs.Sequent.{Hypothesis}
 use Rattle.bl_syntax.specs.declared.terms.Sort.{Sort}
 use Rattle.bl_syntax.specs.declared.terms.Constraint.{Constraint}
-use Rattle.proof_verifier.specs.declared.desk.Desk.{Desk}
-use Rattle.proof_verifier.specs.declared.place.Place.{Place}
-use Rattle.proof_verifier.specs.Run.{HasRoom}
-use Rattle.proof_verifier.specs.Standing.{standing}
+use Rattle.proof_verifier.specs.declared.checker.Checker.{Checker}
+use Rattle.proof_verifier.specs.declared.position.Position.{Position}
+use Rattle.proof_verifier.specs.Run.{HasProofRoom}
+use Rattle.proof_verifier.specs.Hypotheses.{hypotheses_by_number}
 
 -- room for the second premise of a rule, on as many hypotheses
-pub room_for_second : (before after : Desk) (place second : Place) (a b d e : ℕ)
-    → HasRoom before place (1 + a + b) (1 + max d e)
+pub room_for_second : (before after : Checker) (place second : Position) (a b d e : ℕ)
+    → HasProofRoom before place (1 + a + b) (1 + max d e)
     → after.sorts ≡ before.sorts → after.constraints ≡ before.constraints
     → second.node ≡ place.node + 1 + a
-    → second.count ≡ length (standing second.hypotheses.now)
+    → second.count ≡ length (hypotheses_by_number second.hypotheses.now)
     → second.count ≤ place.count + 1
-    → HasRoom after second b e
+    → HasProofRoom after second b e
 room_for_second before after place second a b d e room same_sorts same_constraints number counted more =
     let sorts : length after.sorts ≡ length before.sorts = ap (λ (l : List Sort). length l) same_sorts in
     let constraints : length after.constraints ≡ length before.constraints = ap (λ (l : List Constraint). length l) same_constraints in

@@ -5,8 +5,8 @@ use Rattle.bl_syntax.specs.declared.terms.Sort.TheVariants.{Time}
 use Rattle.bl_syntax.specs.declared.terms.Term.{Term}
 use Rattle.bl_syntax.specs.declared.terms.StatePred.{StatePred}
 use Rattle.bl_syntax.specs.declared.terms.Constraint.{Constraint}
-use Rattle.bl_syntax.specs.Formula.{Form}
-use Rattle.bl_syntax.specs.Grant.{Granted}
+use Rattle.bl_syntax.specs.Formula.{FormulaView}
+use Rattle.bl_syntax.specs.Grant.{GrantView}
 use Rattle.bl_syntax.specs.Substitution.{instance_at}
 use Rattle.bl_rules.specs.Sequent.{Hypothesis, holds, claims}
 use Rattle.bl_rules.specs.Derivable.{init, cons_r, inter_r, and_r, or_r1, or_r2, true_r, imp_r, forall_r, exists_r, says_r, at_r, cons_l, inter_l, and_l, or_l, false_l, imp_l, forall_l, exists_l, says_l, claim, at_l}
@@ -18,12 +18,12 @@ use Rattle.proof_verifier.proofs.SoundnessSteps.{Grows-not, Grows-twice, Covers,
 
 -- whatever the proof answers at a node, it grants no more than is derivable there
 pub record IsSound (left_over : LeftOver) (p : Answer) : Type 0 where
-  pub step : (node : ℕ) (s : Sequent) (g : Granted) → Gives (p node s g) (IsStep left_over s g)
+  pub step : (node : ℕ) (s : Sequent) (g : GrantView) → Gives (p node s g) (IsStep left_over s g)
 
 -- what is cited as a truth is known, in the form that the rule asks for
-cited_as : {psi : List Constraint} {facts : List StatePred} {hs : List Hypothesis} {s : Sequent} {g : Granted} {f : Form}
-    → (x : Form × Term × Term) → Covers psi facts hs s g → IsTruth s x → x.0 ≡ f → Contains hs (holds f x.1 x.2)
-cited_as {hs = hs} x c among is = subst (λ (form : Form). Contains hs (holds form x.1 x.2)) is (c.hypotheses (holds x.0 x.1 x.2) among)
+cited_as : {psi : List Constraint} {facts : List StatePred} {hs : List Hypothesis} {s : Sequent} {g : GrantView} {f : FormulaView}
+    → (x : FormulaView × Term × Term) → Covers psi facts hs s g → IsTruth s x → x.0 ≡ f → Contains hs (holds f x.1 x.2)
+cited_as {hs = hs} x c among is = subst (λ (form : FormulaView). Contains hs (holds form x.1 x.2)) is (c.hypotheses (holds x.0 x.1 x.2) among)
 
 pub by_init-sound : (left_over : LeftOver) (h : ℕ) → IsSound left_over (by_init left_over h)
 by_init-sound left_over h = record {

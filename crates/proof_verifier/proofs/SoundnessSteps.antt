@@ -9,9 +9,9 @@ use Rattle.bl_syntax.specs.declared.terms.Sort.{Sort}
 use Rattle.bl_syntax.specs.declared.terms.Term.{Term}
 use Rattle.bl_syntax.specs.declared.terms.Constraint.{Constraint}
 use Rattle.bl_syntax.specs.declared.terms.StatePred.{StatePred}
-use Rattle.bl_syntax.specs.Formula.{Form}
+use Rattle.bl_syntax.specs.Formula.{FormulaView}
 use Rattle.bl_syntax.specs.Entailment.{Entails, EntailsAll}
-use Rattle.bl_syntax.specs.Grant.{Granted, IsGrant, IsTimeCondition, IsStateCondition}
+use Rattle.bl_syntax.specs.Grant.{GrantView, IsGrant, IsTimeCondition, IsStateCondition}
 use Rattle.bl_syntax.proofs.EntailmentLemmas.{Entails-constrained, Entails-entailed, Entails-more}
 use Rattle.bl_syntax.proofs.GrantLemmas.{IsGrant-push_time, IsGrant-push_state}
 use Rattle.bl_rules.specs.Sequent.{Hypothesis, holds, claims, Known, claims_among}
@@ -34,16 +34,16 @@ pub record AreKept (left_over : LeftOver) : Type 0 where
   pub state : (s : StatePred) → left_over.state s ≡ true → IsStateCondition s
 
 -- the grant keeps its goal and its conditions, and may have more of these
-pub record Grows (left_over : LeftOver) (old new : Granted) : Type 0 where
+pub record Grows (left_over : LeftOver) (old new : GrantView) : Type 0 where
   pub same_goal : new.goal ≡ old.goal
   pub times : Includes new.times old.times
   pub states : Includes new.states old.states
   pub keeps : AreKept left_over → IsGrant old → IsGrant new
 
-pub Grows-not : {left_over : LeftOver} → (g : Granted) → Grows left_over g g
+pub Grows-not : {left_over : LeftOver} → (g : GrantView) → Grows left_over g g
 Grows-not g = record { same_goal = refl; times = λ c among. among; states = λ s among. among; keeps = λ are_kept h. h }
 
-pub Grows-twice : {left_over : LeftOver} {old middle new : Granted} → Grows left_over old middle → Grows left_over middle new → Grows left_over old new
+pub Grows-twice : {left_over : LeftOver} {old middle new : GrantView} → Grows left_over old middle → Grows left_over middle new → Grows left_over old new
 Grows-twice first second = record {
   same_goal = second.same_goal ∙ first.same_goal;
   times = λ c among. second.times c (first.times c among);
@@ -51,20 +51,20 @@ Grows-twice first second = record {
   keeps = λ are_kept h. second.keeps are_kept (first.keeps are_kept h);
 }
 
-has_room : (g : Granted) → is_full g ≡ false → length g.times + length g.states ≤ 64 → length g.times + length g.states < 64
+has_room : (g : GrantView) → is_full g ≡ false → length g.times + length g.states ≤ 64 → length g.times + length g.states < 64
 has_room g e h =
     let not_full : length g.times + length g.states ≡ 64 → ⊥ = λ full. false≢true (sym e ∙ (Decides-eqb (length g.times + length g.states) 64).1 full) in
     omega (arith, not_full)
 
 -- one more condition on time
-record KeepsTime (left_over : LeftOver) (c : Constraint) (old new : Granted) : Type 0 where
+record KeepsTime (left_over : LeftOver) (c : Constraint) (old new : GrantView) : Type 0 where
   grows : Grows left_over old new
   kept : Contains new.times c
 
-with_time : Constraint → Granted → Granted
+with_time : Constraint → GrantView → GrantView
 with_time c g = record g { times = g.times ++ c ∷ [] }
 
-gives_with_time : (left_over : LeftOver) (c : Constraint) (g : Granted) → left_over.time c ≡ true → has_constraint g.times c ≡ false → is_full g ≡ false → KeepsTime left_over c g (with_time c g)
+gives_with_time : (left_over : LeftOver) (c : Constraint) (g : GrantView) → left_over.time c ≡ true → has_constraint g.times c ≡ false → is_full g ≡ false → KeepsTime left_over c g (with_time c g)
 unfolding with_time
 gives_with_time left_over c g open_ new room = record {
   grows = record {
@@ -77,7 +77,7 @@ gives_with_time left_over c g open_ new room = record {
   kept = Contains-push g.times c;
 }
 
-gives_keep_time : (left_over : LeftOver) (node : ℕ) (c : Constraint) (g : Granted) → left_over.time c ≡ true → Gives (keep_time node c g) (KeepsTime left_over c g)
+gives_keep_time : (left_over : LeftOver) (node : ℕ) (c : Constraint) (g : GrantView) → left_over.time c ≡ true → Gives (keep_time node c g) (KeepsTime left_over c g)
 unfolding with_time
 gives_keep_time left_over node c g open_ =
     either_way (has_constraint g.times c) _ _ (KeepsTime left_over c g)
@@ -87,14 +87,14 @@ gives_keep_time left_over node c g open_ =
     (λ room. gives_here (with_time c g) (KeepsTime left_over c g) (gives_with_time left_over c g open_ new room)))
 
 -- one more condition on the state
-record KeepsState (left_over : LeftOver) (s : StatePred) (old new : Granted) : Type 0 where
+record KeepsState (left_over : LeftOver) (s : StatePred) (old new : GrantView) : Type 0 where
   grows : Grows left_over old new
   kept : Contains new.states s
 
-with_state : StatePred → Granted → Granted
+with_state : StatePred → GrantView → GrantView
 with_state s g = record g { states = g.states ++ s ∷ [] }
 
-gives_with_state : (left_over : LeftOver) (s : StatePred) (g : Granted) → left_over.state s ≡ true → has_state g.states s ≡ false → is_full g ≡ false → KeepsState left_over s g (with_state s g)
+gives_with_state : (left_over : LeftOver) (s : StatePred) (g : GrantView) → left_over.state s ≡ true → has_state g.states s ≡ false → is_full g ≡ false → KeepsState left_over s g (with_state s g)
 unfolding with_state
 gives_with_state left_over s g open_ new room = record {
   grows = record {
@@ -107,7 +107,7 @@ gives_with_state left_over s g open_ new room = record {
   kept = Contains-push g.states s;
 }
 
-gives_keep_state : (left_over : LeftOver) (node : ℕ) (s : StatePred) (g : Granted) → left_over.state s ≡ true → Gives (keep_state node s g) (KeepsState left_over s g)
+gives_keep_state : (left_over : LeftOver) (node : ℕ) (s : StatePred) (g : GrantView) → left_over.state s ≡ true → Gives (keep_state node s g) (KeepsState left_over s g)
 unfolding with_state
 gives_keep_state left_over node s g open_ =
     either_way (has_state g.states s) _ _ (KeepsState left_over s g)
@@ -121,7 +121,7 @@ abbrev pub known_of : Sequent → List Constraint → List StatePred → List Hy
 known_of s psi facts hs = record { sorts = s.sorts; constraints = psi; facts = facts; hypotheses = hs; view = s.view }
 
 -- the constraints, facts and hypotheses cover a sequent's, and the conditions of a grant
-pub record Covers (psi : List Constraint) (facts : List StatePred) (hs : List Hypothesis) (s : Sequent) (g : Granted) : Type 0 where
+pub record Covers (psi : List Constraint) (facts : List StatePred) (hs : List Hypothesis) (s : Sequent) (g : GrantView) : Type 0 where
   pub constraints : EntailsAll psi s.constraints
   pub times : EntailsAll psi g.times
   pub observed : Includes facts s.facts
@@ -129,17 +129,17 @@ pub record Covers (psi : List Constraint) (facts : List StatePred) (hs : List Hy
   pub hypotheses : (h : Hypothesis) → Contains s.hypotheses (Some h) → Contains hs h
 
 -- from old to new the grant keeps what it has, and whatever covers the sequent and the new grant derives the sequent's goal
-pub record IsStep (left_over : LeftOver) (s : Sequent) (old new : Granted) : Type 0 where
+pub record IsStep (left_over : LeftOver) (s : Sequent) (old new : GrantView) : Type 0 where
   pub grows : Grows left_over old new
   pub derives : (psi : List Constraint) (facts : List StatePred) (hs : List Hypothesis) → Covers psi facts hs s new → Derivable (known_of s psi facts hs) s.goal s.from s.to
 
 -- the condition on time is entailed wherever the constraints and the new grant's conditions are
-pub record MeetsTime (left_over : LeftOver) (constraints : List Constraint) (u v : Term) (old new : Granted) : Type 0 where
+pub record MeetsTime (left_over : LeftOver) (constraints : List Constraint) (u v : Term) (old new : GrantView) : Type 0 where
   pub grows : Grows left_over old new
   pub entailed : (psi : List Constraint) → EntailsAll psi constraints → EntailsAll psi new.times → Entails psi u v
 
 -- the condition on the state is among the facts or the new grant's conditions
-pub record MeetsState (left_over : LeftOver) (facts : List StatePred) (s : StatePred) (old new : Granted) : Type 0 where
+pub record MeetsState (left_over : LeftOver) (facts : List StatePred) (s : StatePred) (old new : GrantView) : Type 0 where
   pub grows : Grows left_over old new
   pub known : (more : List StatePred) → Includes more facts → Includes more new.states → Contains more s
 
@@ -154,7 +154,7 @@ EntailsAll-push psi old c all = record {
 between : Term → Term → Constraint
 between u v = record { low = u; high = v }
 
-pub gives_time : (left_over : LeftOver) (node : ℕ) (constraints : List Constraint) (u v : Term) (g : Granted) → Gives (time_condition left_over node constraints u v g) (MeetsTime left_over constraints u v g)
+pub gives_time : (left_over : LeftOver) (node : ℕ) (constraints : List Constraint) (u v : Term) (g : GrantView) → Gives (time_condition left_over node constraints u v g) (MeetsTime left_over constraints u v g)
 unfolding between
 gives_time left_over node constraints u v g =
     either_way (is_entailed constraints u v) _ _ (MeetsTime left_over constraints u v g)
@@ -165,7 +165,7 @@ gives_time left_over node constraints u v g =
     record { grows = found.grows; entailed = λ psi all times. times.each (between u v) found.kept }))
     (λ _. no_gift (NotEntailed node) (MeetsTime left_over constraints u v g)))
 
-pub gives_state_fact : (left_over : LeftOver) (node : ℕ) (facts : List StatePred) (s : StatePred) (g : Granted) → Gives (state_condition left_over node facts s g) (MeetsState left_over facts s g)
+pub gives_state_fact : (left_over : LeftOver) (node : ℕ) (facts : List StatePred) (s : StatePred) (g : GrantView) → Gives (state_condition left_over node facts s g) (MeetsState left_over facts s g)
 gives_state_fact left_over node facts s g =
     either_way (has_state facts s) _ _ (MeetsState left_over facts s g)
     (λ there. gives_here g (MeetsState left_over facts s g)
@@ -175,9 +175,9 @@ gives_state_fact left_over node facts s g =
     record { grows = found.grows; known = λ more all states. states s found.kept }))
     (λ _. no_gift (NotInState node) (MeetsState left_over facts s g)))
 
-module _ {psi : List Constraint} {facts : List StatePred} {hs : List Hypothesis} {s : Sequent} {g : Granted} where
+module _ {psi : List Constraint} {facts : List StatePred} {hs : List Hypothesis} {s : Sequent} {g : GrantView} where
   -- what covers a grant covers the earlier one
-  pub Covers-before : {left_over : LeftOver} {old : Granted} → Grows left_over old g → Covers psi facts hs s g → Covers psi facts hs s old
+  pub Covers-before : {left_over : LeftOver} {old : GrantView} → Grows left_over old g → Covers psi facts hs s g → Covers psi facts hs s old
   Covers-before grows c = record {
     constraints = c.constraints;
     times = record { each = λ d among. c.times.each d (grows.times d among) };
@@ -187,7 +187,7 @@ module _ {psi : List Constraint} {facts : List StatePred} {hs : List Hypothesis}
   }
 
   -- another goal
-  pub Covers-aim : (goal : Form) (u v : Term) → Covers psi facts hs s g → Covers psi facts hs (aim_at goal u v s) g
+  pub Covers-aim : (goal : FormulaView) (u v : Term) → Covers psi facts hs s g → Covers psi facts hs (aim_at goal u v s) g
   Covers-aim goal u v c = record { constraints = c.constraints; times = c.times; observed = c.observed; states = c.states; hypotheses = c.hypotheses }
 
   pub Covers-declare : (sort : Sort) → Covers psi facts hs s g → Covers psi facts hs (declare sort s) g
@@ -230,7 +230,7 @@ claim_left (Some (holds a u v)) h e = absurd (none-some h e)
 claim_left (Some (claims k a u v)) h e = (e, subst IsClaim (same_Some (claims k a u v) h e) tt)
 
 -- the claims alone
-pub Covers-speak : {psi : List Constraint} {facts : List StatePred} {hs : List Hypothesis} {s : Sequent} {g : Granted}
+pub Covers-speak : {psi : List Constraint} {facts : List StatePred} {hs : List Hypothesis} {s : Sequent} {g : GrantView}
     → (k : Term) → Covers psi facts hs s g → Covers psi facts (claims_among hs) (speak k s) g
 Covers-speak {hs = hs} {s = s} k c = record {
   constraints = c.constraints;

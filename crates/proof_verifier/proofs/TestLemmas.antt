@@ -14,7 +14,7 @@ use Rattle.bl_syntax.specs.declared.terms.StatePred.{StatePred}
 use Rattle.bl_syntax.specs.Terms.{IsAtLeastAsStrong}
 use Rattle.bl_syntax.specs.WellSorted.{terms_of_state}
 use Rattle.bl_syntax.specs.ConditionTests.{is_ctime}
-use Rattle.bl_syntax.specs.Grant.{Granted}
+use Rattle.bl_syntax.specs.Grant.{GrantView}
 use Rattle.bl_syntax.specs.Equality.{term_eq, constraint_eq, state_eq}
 use Rattle.bl_syntax.proofs.ConditionTestLemmas.{both_true}
 use Rattle.bl_syntax.proofs.EqualityLemmas.{Decides-sort_eq, Decides-term_eq, Decides-constraint_eq, Decides-state_eq}
@@ -89,5 +89,5 @@ pub Decides-of_sort : (sort : Sort) (found : Option Sort) → Decides (of_sort s
 Decides-of_sort sort found =
     (of_its_sort sort found, λ e. ap (λ (other : Option Sort). of_sort sort other) e ∙ (Decides-sort_eq sort sort).1 refl)
 
-pub Decides-is_full : (g : Granted) → Decides (is_full g) (length g.times + length g.states ≡ 64)
+pub Decides-is_full : (g : GrantView) → Decides (is_full g) (length g.times + length g.states ≡ 64)
 Decides-is_full g = (λ e. eqb-true _ _ e, λ e. eq-eqb _ _ e)

@@ -13,10 +13,10 @@ use Rattle.bl_syntax.specs.declared.terms.StatePred.{StatePred}
 use Rattle.bl_syntax.specs.declared.terms.StatePred.TheVariants.{Owner, HasXattr, InDir}
 use Rattle.bl_syntax.specs.declared.terms.Constraint.{Constraint}
 use Rattle.bl_syntax.specs.declared.grant.Goal.{Goal}
-use Rattle.bl_syntax.specs.Formula.{Form, atom, compare, state, both, either, implies, truth, falsity, forall_, exists_, says, on}
+use Rattle.bl_syntax.specs.Formula.{FormulaView, atom, compare, state, both, either, implies, truth, falsity, forall_, exists_, says, on}
 use Rattle.bl_syntax.specs.Terms.{sort_of}
 use Rattle.bl_syntax.specs.WellSorted.{HasSort, IsInScope, HaveSorts, IsSortedState, IsWellSorted, sorts_of_may}
-use Rattle.bl_syntax.specs.Statement.{Saying, IsStatement}
+use Rattle.bl_syntax.specs.Statement.{StatementView, IsStatement}
 use Rattle.bl_syntax.specs.Substitution.{instance_at}
 use Rattle.bl_syntax.proofs.InstanceLemmas.{IsWellSorted-put_in, times_in_range-put_in}
 use Rattle.bl_rules.specs.Sequent.{Hypothesis, holds, claims}
@@ -25,7 +25,7 @@ use Rattle.bl_rules.proofs.Membership.{Contains-nothing, Contains-map_cases}
 use Rattle.bl_rules.proofs.SoundGrantLemmas.{All-item}
 use Rattle.proof_verifier.specs.Sequent.{Sequent, aim_at, learn, bound, observe, declare, new_start, new_end, suppose, speak, unless_truth}
 use Rattle.proof_verifier.specs.Verdict.{root}
-use Rattle.proof_verifier.specs.WellFormed.{IsTermOf, IsClosed, IsInterval, IsWellFormedHypothesis, IsWellFormed}
+use Rattle.proof_verifier.specs.WellFormed.{IsTermOf, IsClosed, IsInterval, IsWellFormedHypothesis, IsWellFormedSequent}
 
 -- ---- more parameters
 
@@ -72,7 +72,7 @@ IsSortedState-more parameters more binders (HasXattr file name value) h =
 IsSortedState-more parameters more binders (InDir file directory) h = (HasSort-more parameters more binders sorts.File file h.0, HasSort-more parameters more binders sorts.File directory h.1)
 
 -- what is well sorted stays so where more parameters are declared
-IsWellSorted-more : (parameters more binders : List Sort) (f : Form) → IsWellSorted parameters binders f → IsWellSorted (parameters ++ more) binders f
+IsWellSorted-more : (parameters more binders : List Sort) (f : FormulaView) → IsWellSorted parameters binders f → IsWellSorted (parameters ++ more) binders f
 IsWellSorted-more parameters more binders (atom name terms) h = record {
   in_scope = AreInScope-more parameters more binders terms h.in_scope;
   of_may = λ e. HaveSorts-more parameters more binders sorts_of_may terms (h.of_may e);
@@ -93,7 +93,7 @@ IsWellSorted-more parameters more binders (on a u v) h =
 IsTermOf-more : {parameters : List Sort} {sort : Sort} {t : Term} → (more : List Sort) → IsTermOf parameters sort t → IsTermOf (parameters ++ more) sort t
 IsTermOf-more {parameters} {sort} {t} more h = record { sorted = HasSort-more parameters more [] sort t h.sorted; in_range = h.in_range }
 
-IsClosed-more : {parameters : List Sort} {f : Form} → (more : List Sort) → IsClosed parameters f → IsClosed (parameters ++ more) f
+IsClosed-more : {parameters : List Sort} {f : FormulaView} → (more : List Sort) → IsClosed parameters f → IsClosed (parameters ++ more) f
 IsClosed-more {parameters} {f} more h = record { sorted = IsWellSorted-more parameters more [] f h.sorted; in_range = h.in_range }
 
 IsInterval-more : {parameters : List Sort} {u v : Term} → (more : List Sort) → IsInterval parameters u v → IsInterval (parameters ++ more) u v
@@ -109,22 +109,22 @@ last_sort (r ∷ parameters) s = last_sort parameters s
 
 -- ---- parts of formulas
 
-pub as_form : {parameters : List Sort} {f g : Form} → f ≡ g → IsClosed parameters f → IsClosed parameters g
-as_form {parameters} e h = subst (λ (form : Form). IsClosed parameters form) e h
+pub as_form : {parameters : List Sort} {f g : FormulaView} → f ≡ g → IsClosed parameters f → IsClosed parameters g
+as_form {parameters} e h = subst (λ (form : FormulaView). IsClosed parameters form) e h
 
-pub parts_of_both : {parameters : List Sort} {a b : Form} → IsClosed parameters (both a b) → IsClosed parameters a × IsClosed parameters b
+pub parts_of_both : {parameters : List Sort} {a b : FormulaView} → IsClosed parameters (both a b) → IsClosed parameters a × IsClosed parameters b
 parts_of_both h = (record { sorted = h.sorted.0; in_range = h.in_range.0 }, record { sorted = h.sorted.1; in_range = h.in_range.1 })
 
-pub parts_of_either : {parameters : List Sort} {a b : Form} → IsClosed parameters (either a b) → IsClosed parameters a × IsClosed parameters b
+pub parts_of_either : {parameters : List Sort} {a b : FormulaView} → IsClosed parameters (either a b) → IsClosed parameters a × IsClosed parameters b
 parts_of_either h = (record { sorted = h.sorted.0; in_range = h.in_range.0 }, record { sorted = h.sorted.1; in_range = h.in_range.1 })
 
-pub parts_of_implies : {parameters : List Sort} {a b : Form} → IsClosed parameters (implies a b) → IsClosed parameters a × IsClosed parameters b
+pub parts_of_implies : {parameters : List Sort} {a b : FormulaView} → IsClosed parameters (implies a b) → IsClosed parameters a × IsClosed parameters b
 parts_of_implies h = (record { sorted = h.sorted.0; in_range = h.in_range.0 }, record { sorted = h.sorted.1; in_range = h.in_range.1 })
 
-pub parts_of_says : {parameters : List Sort} {k : Term} {a : Form} → IsClosed parameters (says k a) → IsTermOf parameters sorts.Principal k × IsClosed parameters a
+pub parts_of_says : {parameters : List Sort} {k : Term} {a : FormulaView} → IsClosed parameters (says k a) → IsTermOf parameters sorts.Principal k × IsClosed parameters a
 parts_of_says h = (record { sorted = h.sorted.0; in_range = h.in_range.0 }, record { sorted = h.sorted.1; in_range = h.in_range.1 })
 
-pub parts_of_on : {parameters : List Sort} {a : Form} {u v : Term} → IsClosed parameters (on a u v) → IsClosed parameters a × IsInterval parameters u v
+pub parts_of_on : {parameters : List Sort} {a : FormulaView} {u v : Term} → IsClosed parameters (on a u v) → IsClosed parameters a × IsInterval parameters u v
 parts_of_on h = (
   record { sorted = h.sorted.0; in_range = h.in_range.0 },
   record { from_time = record { sorted = h.sorted.1.0; in_range = h.in_range.1.0 }; to_time = record { sorted = h.sorted.1.1; in_range = h.in_range.1.1 } },
@@ -134,13 +134,13 @@ pub parts_of_compare : {parameters : List Sort} {c : Constraint} → IsClosed pa
 parts_of_compare h = record { from_time = record { sorted = h.sorted.0; in_range = h.in_range.0 }; to_time = record { sorted = h.sorted.1; in_range = h.in_range.1 } }
 
 -- an instance at a term of the sort
-pub instance_of_forall : {parameters : List Sort} {s : Sort} {a : Form} {t : Term} → IsTermOf parameters s t → IsClosed parameters (forall_ s a) → IsClosed parameters (instance_at t a)
+pub instance_of_forall : {parameters : List Sort} {s : Sort} {a : FormulaView} {t : Term} → IsTermOf parameters s t → IsClosed parameters (forall_ s a) → IsClosed parameters (instance_at t a)
 instance_of_forall {parameters} {s} {a} {t} term h = record {
   sorted = IsWellSorted-put_in parameters [] s t term.sorted a h.sorted;
   in_range = times_in_range-put_in 0 t term.in_range a h.in_range;
 }
 
-pub instance_of_exists : {parameters : List Sort} {s : Sort} {a : Form} {t : Term} → IsTermOf parameters s t → IsClosed parameters (exists_ s a) → IsClosed parameters (instance_at t a)
+pub instance_of_exists : {parameters : List Sort} {s : Sort} {a : FormulaView} {t : Term} → IsTermOf parameters s t → IsClosed parameters (exists_ s a) → IsClosed parameters (instance_at t a)
 instance_of_exists {parameters} {s} {a} {t} term h = record {
   sorted = IsWellSorted-put_in parameters [] s t term.sorted a h.sorted;
   in_range = times_in_range-put_in 0 t term.in_range a h.in_range;
@@ -149,10 +149,10 @@ instance_of_exists {parameters} {s} {a} {t} term h = record {
 new_parameter_of : (parameters : List Sort) (s : Sort) → IsTermOf (parameters ++ s ∷ []) s (Param (length parameters))
 new_parameter_of parameters s = record { sorted = last_sort parameters s; in_range = tt }
 
-pub new_instance_of_forall : {parameters : List Sort} {s : Sort} {a : Form} → IsClosed parameters (forall_ s a) → IsClosed (parameters ++ s ∷ []) (instance_at (Param (length parameters)) a)
+pub new_instance_of_forall : {parameters : List Sort} {s : Sort} {a : FormulaView} → IsClosed parameters (forall_ s a) → IsClosed (parameters ++ s ∷ []) (instance_at (Param (length parameters)) a)
 new_instance_of_forall {parameters} {s} h = instance_of_forall (new_parameter_of parameters s) (IsClosed-more (s ∷ []) h)
 
-pub new_instance_of_exists : {parameters : List Sort} {s : Sort} {a : Form} → IsClosed parameters (exists_ s a) → IsClosed (parameters ++ s ∷ []) (instance_at (Param (length parameters)) a)
+pub new_instance_of_exists : {parameters : List Sort} {s : Sort} {a : FormulaView} → IsClosed parameters (exists_ s a) → IsClosed (parameters ++ s ∷ []) (instance_at (Param (length parameters)) a)
 new_instance_of_exists {parameters} {s} h = instance_of_exists (new_parameter_of parameters s) (IsClosed-more (s ∷ []) h)
 
 -- ---- sequents
@@ -163,10 +163,10 @@ claim_left (Some (holds a u v)) h e = absurd (none-some h e)
 claim_left (Some (claims k a u v)) h e = e
 
 module _ {s : Sequent} where
-  pub IsWellFormed-aim : {goal : Form} {u v : Term} → IsClosed s.sorts goal → IsInterval s.sorts u v → IsWellFormed s → IsWellFormed (aim_at goal u v s)
+  pub IsWellFormed-aim : {goal : FormulaView} {u v : Term} → IsClosed s.sorts goal → IsInterval s.sorts u v → IsWellFormedSequent s → IsWellFormedSequent (aim_at goal u v s)
   IsWellFormed-aim goal interval w = record { constraints = w.constraints; facts = w.facts; hypotheses = w.hypotheses; viewer = w.viewer; view = w.view; goal = goal; interval = interval }
 
-  pub IsWellFormed-learn : (h : Hypothesis) → IsWellFormedHypothesis s.sorts h → IsWellFormed s → IsWellFormed (learn h s)
+  pub IsWellFormed-learn : (h : Hypothesis) → IsWellFormedHypothesis s.sorts h → IsWellFormedSequent s → IsWellFormedSequent (learn h s)
   IsWellFormed-learn h new w = record {
     constraints = w.constraints;
     facts = w.facts;
@@ -180,7 +180,7 @@ module _ {s : Sequent} where
     interval = w.interval;
   }
 
-  pub IsWellFormed-bound : (u v : Term) → IsInterval s.sorts u v → IsWellFormed s → IsWellFormed (bound u v s)
+  pub IsWellFormed-bound : (u v : Term) → IsInterval s.sorts u v → IsWellFormedSequent s → IsWellFormedSequent (bound u v s)
   IsWellFormed-bound u v new w = record {
     constraints = λ c among. ⊎_elim
         (λ (old : Contains s.constraints c). w.constraints c old)
@@ -194,7 +194,7 @@ module _ {s : Sequent} where
     interval = w.interval;
   }
 
-  pub IsWellFormed-observe : (fact : StatePred) → IsClosed s.sorts (state fact) → IsWellFormed s → IsWellFormed (observe fact s)
+  pub IsWellFormed-observe : (fact : StatePred) → IsClosed s.sorts (state fact) → IsWellFormedSequent s → IsWellFormedSequent (observe fact s)
   IsWellFormed-observe fact new w = record {
     constraints = w.constraints;
     facts = λ f among. ⊎_elim
@@ -208,7 +208,7 @@ module _ {s : Sequent} where
     interval = w.interval;
   }
 
-  pub IsWellFormed-declare : (sort : Sort) → IsWellFormed s → IsWellFormed (declare sort s)
+  pub IsWellFormed-declare : (sort : Sort) → IsWellFormedSequent s → IsWellFormedSequent (declare sort s)
   IsWellFormed-declare sort w = record {
     constraints = λ c among. IsInterval-more (sort ∷ []) (w.constraints c among);
     facts = λ fact among. IsClosed-more (sort ∷ []) (w.facts fact among);
@@ -219,7 +219,7 @@ module _ {s : Sequent} where
     interval = IsInterval-more (sort ∷ []) w.interval;
   }
 
-  pub IsWellFormed-speak : (k : Term) → IsTermOf s.sorts sorts.Principal k → IsWellFormed s → IsWellFormed (speak k s)
+  pub IsWellFormed-speak : (k : Term) → IsTermOf s.sorts sorts.Principal k → IsWellFormedSequent s → IsWellFormedSequent (speak k s)
   IsWellFormed-speak k who w = record {
     constraints = w.constraints;
     facts = w.facts;
@@ -239,7 +239,7 @@ new_interval s = record {
   to_time = new_parameter_of (s.sorts ++ sorts.Time ∷ []) sorts.Time;
 }
 
-pub IsWellFormed-suppose : {s : Sequent} {a b : Form} → IsClosed s.sorts a → IsClosed s.sorts b → IsWellFormed s → IsWellFormed (aim_at b (new_start s) (new_end s) (suppose a s))
+pub IsWellFormed-suppose : {s : Sequent} {a b : FormulaView} → IsClosed s.sorts a → IsClosed s.sorts b → IsWellFormedSequent s → IsWellFormedSequent (aim_at b (new_start s) (new_end s) (suppose a s))
 IsWellFormed-suppose {s} {a} {b} assumed goal w =
     let declared = IsWellFormed-declare sorts.Time (IsWellFormed-declare sorts.Time w) in
     let within = IsInterval-more (sorts.Time ∷ []) (IsInterval-more (sorts.Time ∷ []) w.interval) in
@@ -251,7 +251,7 @@ IsWellFormed-suppose {s} {a} {b} assumed goal w =
 
 -- ---- the root
 
-claim_well_formed : (s : Saying) → IsStatement s → IsWellFormedHypothesis [] (claim_of s)
+claim_well_formed : (s : StatementView) → IsStatement s → IsWellFormedHypothesis [] (claim_of s)
 claim_well_formed s said = (
   record { sorted = refl; in_range = tt },
   (
@@ -260,12 +260,12 @@ claim_well_formed s said = (
   ),
 )
 
-pub IsWellFormed-root : (statements : List Saying) (goal : Goal) → AllByRecursion IsStatement statements → IsWellFormed (root statements goal)
+pub IsWellFormed-root : (statements : List StatementView) (goal : Goal) → AllByRecursion IsStatement statements → IsWellFormedSequent (root statements goal)
 IsWellFormed-root statements goal are_statements = record {
   constraints = λ c among. absurd (Contains-nothing c among);
   facts = λ fact among. absurd (Contains-nothing fact among);
   hypotheses = λ h among.
-      let was = Contains-map_cases (λ (s : Saying). Some (claim_of s)) statements (Some h) among in
+      let was = Contains-map_cases (λ (s : StatementView). Some (claim_of s)) statements (Some h) among in
       subst (λ (x : Hypothesis). IsWellFormedHypothesis [] x) (same_Some (claim_of was.0) h was.2)
       (claim_well_formed was.0 (All-item IsStatement statements was.0 are_statements was.1));
   viewer = record { sorted = refl; in_range = tt };

@@ -5,7 +5,7 @@ use Rattle.bl_syntax.specs.declared.terms.Term.{Term}
 use Rattle.bl_syntax.specs.declared.terms.StatePred.{StatePred}
 use Rattle.bl_syntax.specs.declared.terms.Constraint.{Constraint}
 use Rattle.bl_syntax.specs.Terms.{sort_of}
-use Rattle.bl_syntax.specs.Grant.{Granted}
+use Rattle.bl_syntax.specs.Grant.{GrantView}
 use Rattle.bl_syntax.specs.Equality.{sort_eq}
 use Rattle.proof_verifier.specs.declared.fault.CheckFault.{CheckFault}
 use Rattle.proof_verifier.specs.declared.fault.CheckFault.TheVariants.{NotEntailed, NotInState, BadTerm, ViewTooWeak, TooManyConditions}
@@ -14,32 +14,32 @@ use Rattle.proof_verifier.specs.LeftOver.{LeftOver}
 use Rattle.proof_verifier.specs.Entailed.{is_entailed}
 
 -- the grant has as many conditions as it may
-abbrev pub is_full : Granted → Bool
+abbrev pub is_full : GrantView → Bool
 is_full g = length g.times + length g.states == 64
 
 -- with one more condition on time, once
-abbrev pub keep_time : ℕ → Constraint → Granted → Result Granted CheckFault
+abbrev pub keep_time : ℕ → Constraint → GrantView → Result GrantView CheckFault
 keep_time node c g =
     if has_constraint g.times c then Ok g else
     if is_full g then Err (TooManyConditions node) else
     Ok (record g { times = g.times ++ c ∷ [] })
 
 -- with one more condition on the state, once
-abbrev pub keep_state : ℕ → StatePred → Granted → Result Granted CheckFault
+abbrev pub keep_state : ℕ → StatePred → GrantView → Result GrantView CheckFault
 keep_state node s g =
     if has_state g.states s then Ok g else
     if is_full g then Err (TooManyConditions node) else
     Ok (record g { states = g.states ++ s ∷ [] })
 
 -- that u is not after v: passed over if the constraints entail it, kept if it is left over, else a fault
-abbrev pub time_condition : LeftOver → ℕ → List Constraint → Term → Term → Granted → Result Granted CheckFault
+abbrev pub time_condition : LeftOver → ℕ → List Constraint → Term → Term → GrantView → Result GrantView CheckFault
 time_condition left_over node constraints u v g =
     if is_entailed constraints u v then Ok g else
     if left_over.time (record { low = u; high = v }) then keep_time node (record { low = u; high = v }) g else
     Err (NotEntailed node)
 
 -- that the predicate is true of the state: passed over if it is a fact, kept if it is left over, else a fault
-abbrev pub state_condition : LeftOver → ℕ → List StatePred → StatePred → Granted → Result Granted CheckFault
+abbrev pub state_condition : LeftOver → ℕ → List StatePred → StatePred → GrantView → Result GrantView CheckFault
 state_condition left_over node facts s g =
     if has_state facts s then Ok g else
     if left_over.state s then keep_state node s g else

@@ -24,15 +24,15 @@ abbrev pub is_plain_link : Term → Term → Bool
 is_plain_link u v = term_eq u v || are_in_order u v || term_eq u (Time NegInf) || term_eq v (Time PosInf)
 
 -- whether links lead from the first term to the second: past the first constraint, or by it
-abbrev pub leads : List Constraint → Term → Term → Bool
-leads [] u v = is_plain_link u v
-leads (c ∷ others) u v = leads others u v || (leads others u c.low && leads others c.high v)
+abbrev pub has_chain : List Constraint → Term → Term → Bool
+has_chain [] u v = is_plain_link u v
+has_chain (c ∷ others) u v = has_chain others u v || (has_chain others u c.low && has_chain others c.high v)
 
 -- whether the constraints lead from a constant to a lesser one
 abbrev pub is_contradictory : List Constraint → Bool
 is_contradictory constraints =
-    list_any (λ (first : Constraint). list_any (λ (last : Constraint). are_out_of_order first.low last.high && leads constraints first.low last.high) constraints) constraints
+    list_any (λ (first : Constraint). list_any (λ (last : Constraint). are_out_of_order first.low last.high && has_chain constraints first.low last.high) constraints) constraints
 
 -- whether the constraints entail that the first term is not after the second
 unfoldable pub is_entailed : List Constraint → Term → Term → Bool
-is_entailed constraints u v = leads constraints u v || is_contradictory constraints
+is_entailed constraints u v = has_chain constraints u v || is_contradictory constraints

@@ -10,11 +10,11 @@ use Rattle.bl_syntax.specs.declared.terms.Term.TheVariants.{Prin, File, Perm, Ti
 use Rattle.bl_syntax.specs.declared.terms.StatePred.{StatePred}
 use Rattle.bl_syntax.specs.declared.terms.StatePred.TheVariants.{Owner, HasXattr, InDir}
 use Rattle.bl_syntax.specs.declared.terms.Constraint.{Constraint}
-use Rattle.bl_syntax.specs.Formula.{Form, atom, compare, state, both, either, implies, truth, falsity, forall_, exists_, says, on}
+use Rattle.bl_syntax.specs.Formula.{FormulaView, atom, compare, state, both, either, implies, truth, falsity, forall_, exists_, says, on}
 use Rattle.bl_syntax.specs.WellSorted.{may}
-use Rattle.bl_syntax.specs.Grant.{Granted}
+use Rattle.bl_syntax.specs.Grant.{GrantView}
 use Rattle.bl_rules.specs.Allowed.{admin}
-use Rattle.proof_term.specs.Proof.{Deduction, init, cons_r, inter_r, and_r, or_r1, or_r2, true_r, imp_r, forall_r, exists_r, says_r, at_r, cons_l, inter_l, and_l, or_l, false_l, imp_l, forall_l, exists_l, says_l, claim, at_l}
+use Rattle.proof_term.specs.Proof.{ProofView, init, cons_r, inter_r, and_r, or_r1, or_r2, true_r, imp_r, forall_r, exists_r, says_r, at_r, cons_l, inter_l, and_l, or_l, false_l, imp_l, forall_l, exists_l, says_l, claim, at_l}
 use Rattle.proof_verifier.specs.declared.fault.CheckFault.{CheckFault}
 use Rattle.proof_verifier.specs.declared.fault.CheckFault.TheVariants.{NoHypothesis, WrongShape, NotEntailed, NotInState, ViewTooWeak, BadTerm}
 use Rattle.proof_verifier.specs.Verdict.{verdict}
@@ -22,11 +22,11 @@ use Rattle.proof_verifier.specs.Examples.{number, second, stated, may_write, wri
 
 -- what `admin` says, a proof, and the verdict
 pub record Example : Type 0 where
-  pub body : Form
-  pub proof : Deduction
-  pub expected : Result Granted CheckFault
+  pub body : FormulaView
+  pub proof : ProofView
+  pub expected : Result GrantView CheckFault
 
-abbrev example : Form → Deduction → Result Granted CheckFault → Example
+abbrev example : FormulaView → ProofView → Result GrantView CheckFault → Example
 example body proof expected = record { body = body; proof = proof; expected = expected }
 
 abbrev pub Computes : Example → Type 0
@@ -38,14 +38,14 @@ alice = Prin (codes "alice")
 abbrev file : NodeId
 file = number 1
 
-abbrev access_to : Term → Form
+abbrev access_to : Term → FormulaView
 access_to f = atom may (alice ∷ f ∷ Perm Write ∷ [])
 
 -- some atom
-abbrev known : Form
+abbrev known : FormulaView
 known = atom (codes "known") []
 
-abbrev owned : Form
+abbrev owned : FormulaView
 owned = state (Owner (File file) alice)
 
 abbrev marked : StatePred
@@ -58,18 +58,18 @@ abbrev order : ℕ → ℕ → Constraint
 order u v = record { low = second u; high = second v }
 
 -- from what `admin` says, which is truth 1
-abbrev granted : Deduction → Deduction
+abbrev granted : ProofView → ProofView
 granted p = says_r (claim 0 p)
 
 -- where it says that something grants the goal: p proves that
-abbrev behind : Deduction → Deduction
+abbrev behind : ProofView → ProofView
 behind p = granted (imp_l 1 Ctime Ctime p (init 2))
 
 -- the grant as long as the predicate on the state is true
-abbrev only_where : StatePred → Result Granted CheckFault
+abbrev only_where : StatePred → Result GrantView CheckFault
 only_where s = Ok (record (between writing 0 200) { states = s ∷ [] })
 
-abbrev plainly : Result Granted CheckFault
+abbrev plainly : Result GrantView CheckFault
 plainly = Ok (between writing 0 200)
 
 -- one for each rule but those of the simplest proof

@@ -1,5 +1,5 @@
-pub mod Checking
-pub mod CheckingCode
+pub mod CheckedView
+pub mod CheckedCode
 pub mod Cited
 pub mod Conditions
 pub mod Entailed
@@ -11,7 +11,7 @@ pub mod Rules
 pub mod Run
 pub mod Sequent
 pub mod Shapes
-pub mod Standing
+pub mod Hypotheses
 pub mod Tests
 pub mod Verdict
 pub mod WellFormed

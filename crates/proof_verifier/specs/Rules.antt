@@ -5,7 +5,7 @@
 use Rattle.std.specs.Prelude.{ℕ, ◌+◌, Result, Ok}
 use Rattle.bl_syntax.specs.declared.terms.Sort.TheVariants.{Time}
 use Rattle.bl_syntax.specs.declared.terms.Term.{Term}
-use Rattle.bl_syntax.specs.Grant.{Granted}
+use Rattle.bl_syntax.specs.Grant.{GrantView}
 use Rattle.bl_syntax.specs.Substitution.{instance_at}
 use Rattle.bl_rules.specs.Sequent.{holds, claims}
 use Rattle.proof_verifier.specs.declared.fault.CheckFault.{CheckFault}
@@ -16,7 +16,7 @@ use Rattle.proof_verifier.specs.Conditions.{time_condition, state_condition, ter
 
 -- what a proof answers at a node of that number, on a sequent, with the grant so far: the grant then, or the first fault
 abbrev pub Answer : Type 0
-Answer = ℕ → Sequent → Granted → Result Granted CheckFault
+Answer = ℕ → Sequent → GrantView → Result GrantView CheckFault
 
 -- the goal is the atom of a truth whose interval holds the goal's
 abbrev pub by_init : LeftOver → ℕ → Answer

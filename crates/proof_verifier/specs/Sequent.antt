@@ -7,7 +7,7 @@ use Rattle.bl_syntax.specs.declared.terms.Term.{Term}
 use Rattle.bl_syntax.specs.declared.terms.Term.TheVariants.{Param}
 use Rattle.bl_syntax.specs.declared.terms.StatePred.{StatePred}
 use Rattle.bl_syntax.specs.declared.terms.Constraint.{Constraint}
-use Rattle.bl_syntax.specs.Formula.{Form}
+use Rattle.bl_syntax.specs.Formula.{FormulaView}
 use Rattle.bl_rules.specs.Sequent.{Hypothesis, holds, claims, View}
 
 -- the sorts of the parameters 0, 1 and so on, the constraints, the facts, the hypotheses by their numbers from 0 (none where one was struck out), the view, and the goal on its
@@ -18,16 +18,16 @@ pub record Sequent : Type 0 where
   pub facts : List StatePred
   pub hypotheses : List (Option Hypothesis)
   pub view : View
-  pub goal : Form
+  pub goal : FormulaView
   pub from : Term
   pub to : Term
 
 -- with another goal on the same interval
-abbrev pub aim : Form → Sequent → Sequent
+abbrev pub aim : FormulaView → Sequent → Sequent
 aim goal s = record s { goal = goal }
 
 -- with another goal, from u to v
-abbrev pub aim_at : Form → Term → Term → Sequent → Sequent
+abbrev pub aim_at : FormulaView → Term → Term → Sequent → Sequent
 aim_at goal u v s = record s { goal = goal; from = u; to = v }
 
 -- with one more hypothesis
@@ -58,7 +58,7 @@ abbrev pub new_end : Sequent → Term
 new_end s = new_parameter (declare Time s)
 
 -- with A on a new interval, of which it is known that it lies within the goal's
-abbrev pub suppose : Form → Sequent → Sequent
+abbrev pub suppose : FormulaView → Sequent → Sequent
 suppose a s = learn (holds a (new_start s) (new_end s)) (bound (new_end s) s.to (bound s.from (new_start s) (declare Time (declare Time s))))
 
 -- what is left of a hypothesis where truths are struck out: a claim

@@ -5,7 +5,7 @@ use Rattle.bl_syntax.specs.declared.terms.Sort.TheVariants.{Principal, Time}
 use Rattle.bl_syntax.specs.declared.terms.Term.{Term}
 use Rattle.bl_syntax.specs.declared.terms.StatePred.{StatePred}
 use Rattle.bl_syntax.specs.declared.terms.Constraint.{Constraint}
-use Rattle.bl_syntax.specs.Formula.{Form, state}
+use Rattle.bl_syntax.specs.Formula.{FormulaView, state}
 use Rattle.bl_syntax.specs.Terms.{HasTimeInRange}
 use Rattle.bl_syntax.specs.WellSorted.{HasSort, IsWellSorted}
 use Rattle.bl_syntax.specs.Statement.{AllTerms}
@@ -18,7 +18,7 @@ pub record IsTermOf (sorts : List Sort) (sort : Sort) (t : Term) : Type 0 where
   pub in_range : HasTimeInRange t
 
 -- the formula is closed and well sorted, and its times lie in the range of moments
-pub record IsClosed (sorts : List Sort) (f : Form) : Type 0 where
+pub record IsClosed (sorts : List Sort) (f : FormulaView) : Type 0 where
   pub sorted : IsWellSorted sorts [] f
   pub in_range : AllTerms HasTimeInRange f
 
@@ -32,7 +32,7 @@ IsWellFormedHypothesis sorts (holds a u v) = IsClosed sorts a × IsInterval sort
 IsWellFormedHypothesis sorts (claims k a u v) = IsTermOf sorts Principal k × (IsClosed sorts a × IsInterval sorts u v)
 
 -- so is each formula and term of the sequent
-pub record IsWellFormed (s : Sequent) : Type 0 where
+pub record IsWellFormedSequent (s : Sequent) : Type 0 where
   pub constraints : (c : Constraint) → Contains s.constraints c → IsInterval s.sorts c.low c.high
   pub facts : (fact : StatePred) → Contains s.facts fact → IsClosed s.sorts (state fact)
   pub hypotheses : (h : Hypothesis) → Contains s.hypotheses (Some h) → IsWellFormedHypothesis s.sorts h

@@ -1,7 +1,7 @@
 //! Proofs that were checked.
 
 ghost use Rattle.std.specs.Prelude.{◌≡◌, IfOk, IfErr};
-ghost use Rattle.proof_verifier.specs.Checking.{checking, IsChecked, IsGranted};
+ghost use Rattle.proof_verifier.specs.CheckedView.{checked_view, IsChecked, IsGranted};
 ghost use Rattle.proof_verifier.specs.Cited.{AreCited, statements_of};
 ghost use Rattle.proof_verifier.specs.Run.{IsFault};
 ghost use Rattle.proof_verifier.specs.Verdict.{verdict};
@@ -25,22 +25,22 @@ pub struct Checked {
 }
 
 impl Model for Checked {
-    ghost use Rattle.proof_verifier.specs.Checking.{Checking, checking, IsChecked};
-    ghost use Rattle.proof_verifier.specs.CheckingCode.{checking_code};
+    ghost use Rattle.proof_verifier.specs.CheckedView.{CheckedView, checked_view, IsChecked};
+    ghost use Rattle.proof_verifier.specs.CheckedCode.{checked_code};
     ghost use Rattle.proof_verifier.specs.Cited.{AreCited};
 
-    ghost Value = { Checking };
+    ghost Value = { CheckedView };
 
-    ghost coded = { checking_code };
+    ghost coded = { checked_code };
 
-    ghost view = { λ c. checking c.cited c.goal c.proof c.grant };
+    ghost view = { λ c. checked_view c.cited c.goal c.proof c.grant };
 
-    ghost invariant = { λ c. IsChecked (checking c.cited c.goal c.proof c.grant) × AreCited c.cited };
+    ghost invariant = { λ c. IsChecked (checked_view c.cited c.goal c.proof c.grant) × AreCited c.cited };
 }
 
 impl Checked {
     ghost use Rattle.std.specs.Prelude.{◌≡◌, IfOk};
-    ghost use Rattle.proof_verifier.specs.Checking.{IsChecked};
+    ghost use Rattle.proof_verifier.specs.CheckedView.{IsChecked};
     ghost use Rattle.proof_verifier.specs.Cited.{AreCited};
 
     /// What the proof grants.
@@ -123,7 +123,7 @@ pub fn check(
     goal: &Goal,
     proof: &ProofTree,
 ) -> Result<Checked, CheckFault>
-    ensures ok { IfOk result (λ checked. checked ≡ checking cited.now goal.now proof.now checked.grant) }
+    ensures ok { IfOk result (λ checked. checked ≡ checked_view cited.now goal.now proof.now checked.grant) }
     ensures granted { IfOk result (λ checked. IsChecked checked) }
     ensures are_cited { IfOk result (λ checked. AreCited checked.cited) }
     ensures fault { IfErr result (λ fault. IsFault fault (verdict (statements_of cited.now) goal.now proof.now)) }
@@ -146,7 +146,7 @@ pub fn verify(
     goal: Goal,
     proof: ProofTree,
 ) -> Result<Checked, CheckFault>
-    ensures ok { IfOk result (λ checked. checked ≡ checking cited goal proof checked.grant) }
+    ensures ok { IfOk result (λ checked. checked ≡ checked_view cited goal proof checked.grant) }
     ensures granted { IfOk result (λ checked. IsChecked checked) }
     ensures are_cited { IfOk result (λ checked. AreCited checked.cited) }
     ensures fault { IfErr result (λ fault. IsFault fault (verdict (statements_of cited) goal proof)) }

@@ -1,7 +1,7 @@
 //! The statements that a proof cites.
 
 ghost use Rattle.std.specs.Prelude.{◌↔◌, IsTrue};
-ghost use Rattle.proof_verifier.specs.Cited.{AreCited, DoRise};
+ghost use Rattle.proof_verifier.specs.Cited.{AreCited, DoCitesRise};
 
 use bl_syntax::{NoMemory, Statement};
 use std::alloc::Global;
@@ -27,7 +27,7 @@ impl Model for Cites {
     ghost use Rattle.std.specs.Prelude.{List};
     ghost use Rattle.proof_verifier.specs.declared.cites.Cite.{Cite};
     ghost use Rattle.proof_verifier.specs.Cited.{AreCited};
-    ghost use Rattle.proof_verifier.specs.CheckingCode.{cites_code};
+    ghost use Rattle.proof_verifier.specs.CheckedCode.{cites_code};
 
     ghost Value = { List Cite };
 
@@ -42,7 +42,7 @@ impl Cites {
     ghost use Rattle.std.specs.Prelude.{◌≡◌, ◌↔◌, IsSome, IfSome, IfOk};
     ghost use Rattle.proof_verifier.specs.Cited.{AreCited};
 
-    /// These statements; none exactly where they are not 1 to 64, by strictly rising numbers. It takes no memory.
+    /// These statements; none exactly if they are not 1 to 64, by strictly rising numbers. It takes no memory.
     pub fn new(cites: Vec<Cite>) -> Option<Cites>
         ensures some { IsSome result ↔ AreCited cites.items }
         ensures same { IfSome result (λ cited. cited ≡ cites.items) }
@@ -85,7 +85,7 @@ fn are_cited(cites: &[Cite]) -> bool
 
 /// Whether each number is below the next.
 fn do_rise(cites: &[Cite]) -> bool
-    ensures { IsTrue result ↔ DoRise cites.now }
+    ensures { IsTrue result ↔ DoCitesRise cites.now }
 {
     match cites {
         [first, second, ..] => first.number < second.number && do_rise(&cites[1..]),

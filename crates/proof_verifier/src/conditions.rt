@@ -4,22 +4,22 @@ ghost use Rattle.std.specs.Prelude.{◌≡◌, ◌≤◌, length};
 ghost use Rattle.bl_syntax.specs.Grant.{IsTimeCondition, IsStateCondition};
 ghost use Rattle.proof_verifier.specs.Conditions.{keep_time, keep_state, time_condition, state_condition};
 ghost use Rattle.proof_verifier.specs.Entailed.{is_entailed};
-ghost use Rattle.proof_verifier.specs.Known.{known};
+ghost use Rattle.proof_verifier.specs.Known.{fact_list};
 ghost use Rattle.proof_verifier.specs.LeftOver.{by_grant};
-ghost use Rattle.proof_verifier.specs.Run.{Meets};
+ghost use Rattle.proof_verifier.specs.Run.{GivesMet};
 
-use crate::desk::Desk;
-use crate::facts::Facts;
+use crate::checker::Checker;
+use crate::facts::FactList;
 use crate::fault::CheckFault;
 use bl_constraints::entails;
 use bl_syntax::{Constraint, StatePred, Term, is_state_condition, is_time_condition};
 use condition_set::{Collect, CollectFault};
 
-impl Desk {
+impl Checker {
     /// That the first time is not after the second: passed over, kept, or a fault of the node.
     pub fn time_condition(&mut self, low: &Term, high: &Term, node: usize) -> Result<(), CheckFault>
         requires { length self.old.constraints ≤ 512 }
-        ensures { Meets self.old self.new result (time_condition by_grant node self.old.constraints low.now high.now self.old.grant) }
+        ensures { GivesMet self.old self.new result (time_condition by_grant node self.old.constraints low.now high.now self.old.grant) }
     {
         if is_entailed(self.constraints.as_slice(), low, high) {
             return Ok(());
@@ -39,10 +39,10 @@ impl Desk {
     pub fn state_condition(
         &mut self,
         s: &StatePred,
-        facts: &Facts<'_>,
+        facts: &FactList<'_>,
         node: usize,
     ) -> Result<(), CheckFault>
-        ensures { Meets self.old self.new result (state_condition by_grant node (known facts.now) s.now self.old.grant) }
+        ensures { GivesMet self.old self.new result (state_condition by_grant node (fact_list facts.now) s.now self.old.grant) }
     {
         if facts.has(s) {
             Ok(())
@@ -55,7 +55,7 @@ impl Desk {
 
     fn keep_time(&mut self, c: Constraint, node: usize) -> Result<(), CheckFault>
         requires { IsTimeCondition c }
-        ensures { Meets self.old self.new result (keep_time node c self.old.grant) }
+        ensures { GivesMet self.old self.new result (keep_time node c self.old.grant) }
     {
         match self.grant.add_time(c) {
             Ok(()) => Ok(()),
@@ -66,7 +66,7 @@ impl Desk {
 
     fn keep_state(&mut self, s: StatePred, node: usize) -> Result<(), CheckFault>
         requires { IsStateCondition s }
-        ensures { Meets self.old self.new result (keep_state node s self.old.grant) }
+        ensures { GivesMet self.old self.new result (keep_state node s self.old.grant) }
     {
         match self.grant.add_state(s) {
             Ok(()) => Ok(()),

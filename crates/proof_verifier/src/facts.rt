@@ -2,26 +2,26 @@
 
 ghost use Rattle.std.specs.Prelude.{◌≡◌};
 ghost use Rattle.proof_verifier.specs.Tests.{has_state};
-ghost use Rattle.proof_verifier.specs.Known.{known};
+ghost use Rattle.proof_verifier.specs.Known.{fact_list};
 
 use bl_syntax::StatePred;
 
 /// The facts at a node, the newest last.
 #[derive(Clone, Copy)]
-pub enum Facts<'a> {
+pub enum FactList<'a> {
     None,
     /// One more.
-    More(&'a Facts<'a>, &'a StatePred),
+    More(&'a FactList<'a>, &'a StatePred),
 }
 
-impl Facts<'_> {
+impl FactList<'_> {
     /// Whether the predicate is among them.
     pub fn has(&self, s: &StatePred) -> bool
-        ensures { result ≡ has_state (known self.now) s.now }
+        ensures { result ≡ has_state (fact_list self.now) s.now }
     {
         match self {
-            Facts::None => false,
-            Facts::More(older, fact) => older.has(s) || **fact == *s,
+            FactList::None => false,
+            FactList::More(older, fact) => older.has(s) || **fact == *s,
         }
     }
 }

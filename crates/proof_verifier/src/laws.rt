@@ -8,21 +8,21 @@ ghost use Rattle.bl_syntax.specs.declared.terms.Term.{Term};
 ghost use Rattle.bl_syntax.specs.declared.terms.Term.TheVariants.{Ctime};
 ghost use Rattle.bl_syntax.specs.declared.terms.Constraint.{Constraint};
 ghost use Rattle.bl_syntax.specs.declared.grant.Goal.{Goal};
-ghost use Rattle.bl_syntax.specs.Statement.{Saying, IsStatement};
+ghost use Rattle.bl_syntax.specs.Statement.{StatementView, IsStatement};
 ghost use Rattle.bl_syntax.specs.Entailment.{Entails};
-ghost use Rattle.bl_syntax.specs.Grant.{Granted, IsGrant, IsTimeCondition, IsStateCondition};
+ghost use Rattle.bl_syntax.specs.Grant.{GrantView, IsGrant, IsTimeCondition, IsStateCondition};
 ghost use Rattle.bl_syntax.specs.Terms.{sort_of, IsAtLeastAsStrong};
 ghost use Rattle.bl_syntax.specs.Formula.{state};
 ghost use Rattle.bl_syntax.specs.WellSorted.{HasSort, terms_of_state};
 ghost use Rattle.bl_rules.specs.Allowed.{SoundGrant};
-ghost use Rattle.proof_term.specs.Proof.{Deduction};
+ghost use Rattle.proof_term.specs.Proof.{ProofView};
 ghost use Rattle.proof_term.specs.Limits.{HasTimesInRange};
 ghost use Rattle.proof_verifier.specs.declared.fault.CheckFault.TheVariants.{WrongShape, NotEntailed, ViewTooWeak, TooManyConditions, NoMemory};
 ghost use Rattle.proof_verifier.specs.Conditions.{of_sort, is_full};
 ghost use Rattle.proof_verifier.specs.Tests.{are_same, has_constraint, has_state, is_as_strong, IsParameter, names_ctime_and_no_parameter, names_no_parameter};
 ghost use Rattle.proof_verifier.specs.LeftOver.{by_rule, by_grant};
 ghost use Rattle.proof_verifier.specs.Sequent.{Sequent};
-ghost use Rattle.proof_verifier.specs.WellFormed.{IsInterval, IsClosed, IsWellFormed};
+ghost use Rattle.proof_verifier.specs.WellFormed.{IsInterval, IsClosed, IsWellFormedSequent};
 ghost use Rattle.proof_verifier.specs.Entailed.{is_entailed};
 ghost use Rattle.proof_verifier.specs.Verdict.{answer, root, verdict, computed_verdict};
 ghost use Rattle.proof_verifier.specs.ExampleTable.{Computes, accepted, refused};
@@ -30,20 +30,20 @@ ghost use Rattle.proof_verifier.specs.Examples.{second, stated, may_write, writi
 
 /// A grant that the verdict gives is sound: wherever its conditions hold, the statements allow what it grants.
 pub fn the_verdict_gives_sound_grants()
-    ensures { (statements : List Saying) (goal : Goal) (proof : Deduction) (granted : Granted)
+    ensures { (statements : List StatementView) (goal : Goal) (proof : ProofView) (granted : GrantView)
         → AllByRecursion IsStatement statements → HasTimesInRange proof
         → verdict statements goal proof ≡ Ok granted → SoundGrant statements granted }
 {}
 
 /// A grant that the verdict gives grants the goal.
 pub fn the_verdict_grants_the_goal()
-    ensures { (statements : List Saying) (goal : Goal) (proof : Deduction) (granted : Granted)
+    ensures { (statements : List StatementView) (goal : Goal) (proof : ProofView) (granted : GrantView)
         → verdict statements goal proof ≡ Ok granted → granted.goal ≡ goal }
 {}
 
 /// A grant that the verdict gives keeps the rules of grants: conditions of the right forms, each once, at most 64.
 pub fn the_verdict_gives_grants_within_their_rules()
-    ensures { (statements : List Saying) (goal : Goal) (proof : Deduction) (granted : Granted)
+    ensures { (statements : List StatementView) (goal : Goal) (proof : ProofView) (granted : GrantView)
         → AllByRecursion IsStatement statements → HasTimesInRange proof
         → verdict statements goal proof ≡ Ok granted → IsGrant granted }
 {}
@@ -53,10 +53,10 @@ pub fn the_verdict_gives_grants_within_their_rules()
 pub fn what_is_left_over_is_what_a_grant_can_keep()
     ensures time { (sorts : List Sort) (c : Constraint) → IsInterval sorts c.low c.high → (names_ctime_and_no_parameter c ≡ true) ↔ IsTimeCondition c }
     ensures state { (sorts : List Sort) (s : StatePred) → IsClosed sorts (state s) → (names_no_parameter s ≡ true) ↔ IsStateCondition s }
-    ensures node { (proof : Deduction) → HasTimesInRange proof → (node : ℕ) (s : Sequent) (so_far : Granted)
-        → IsWellFormed s → answer by_rule proof node s so_far ≡ answer by_grant proof node s so_far }
-    ensures root { (statements : List Saying) (goal : Goal) → AllByRecursion IsStatement statements → IsWellFormed (root statements goal) }
-    ensures verdict { (statements : List Saying) (goal : Goal) (proof : Deduction)
+    ensures node { (proof : ProofView) → HasTimesInRange proof → (node : ℕ) (s : Sequent) (so_far : GrantView)
+        → IsWellFormedSequent s → answer by_rule proof node s so_far ≡ answer by_grant proof node s so_far }
+    ensures root { (statements : List StatementView) (goal : Goal) → AllByRecursion IsStatement statements → IsWellFormedSequent (root statements goal) }
+    ensures verdict { (statements : List StatementView) (goal : Goal) (proof : ProofView)
         → AllByRecursion IsStatement statements → HasTimesInRange proof
         → verdict statements goal proof ≡ computed_verdict statements goal proof }
 {}
@@ -76,12 +76,12 @@ pub fn each_test_decides()
     ensures kept_time { (constraints : List Constraint) (c : Constraint) → (has_constraint constraints c ≡ true) ↔ Contains constraints c }
     ensures kept_state { (predicates : List StatePred) (s : StatePred) → (has_state predicates s ≡ true) ↔ Contains predicates s }
     ensures terms { (terms others : List Term) → (are_same terms others ≡ true) ↔ (terms ≡ others) }
-    ensures full { (g : Granted) → (is_full g ≡ true) ↔ (length g.times + length g.states ≡ 64) }
+    ensures full { (g : GrantView) → (is_full g ≡ true) ↔ (length g.times + length g.states ≡ 64) }
 {}
 
-/// The verdict is never want of memory.
+/// The verdict is never out of memory.
 pub fn the_verdict_is_not_want_of_memory()
-    ensures { (statements : List Saying) (goal : Goal) (proof : Deduction) → verdict statements goal proof ≡ Err NoMemory → ⊥ }
+    ensures { (statements : List StatementView) (goal : Goal) (proof : ProofView) → verdict statements goal proof ≡ Err NoMemory → ⊥ }
 {}
 
 /// A statement of `admin` grants what it says, on its interval.

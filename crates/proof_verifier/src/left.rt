@@ -1,18 +1,18 @@
 //! The initial rule, and left rules: they use a hypothesis, by its number.
 
 ghost use Rattle.std.specs.Prelude.{◌≡◌, ◌+◌};
-ghost use Rattle.proof_term.specs.Proof.{deduction, init, cons_l, inter_l, and_l, or_l, false_l, imp_l, forall_l, exists_l, says_l, claim, at_l};
+ghost use Rattle.proof_term.specs.Proof.{proof_view, init, cons_l, inter_l, and_l, or_l, false_l, imp_l, forall_l, exists_l, says_l, claim, at_l};
 ghost use Rattle.proof_term.specs.Limits.{size, depth};
 ghost use Rattle.proof_verifier.specs.Rules.{by_init, by_cons_l, by_inter_l, by_and_l, by_or_l, by_false_l, by_imp_l, by_forall_l, by_exists_l, by_says_l, by_claim, by_at_l};
 ghost use Rattle.proof_verifier.specs.LeftOver.{by_grant};
 ghost use Rattle.proof_verifier.specs.Verdict.{answer};
-ghost use Rattle.proof_verifier.specs.Run.{sequent, HasRoom, Follows};
+ghost use Rattle.proof_verifier.specs.Run.{sequent, HasProofRoom, GivesFollowed};
 
-use crate::desk::Desk;
-use crate::facts::Facts;
+use crate::checker::Checker;
+use crate::facts::FactList;
 use crate::fault::CheckFault;
-use crate::hypotheses::{Held, Hypotheses};
-use crate::place::Place;
+use crate::hypotheses::{Hypotheses, HypothesisRef};
+use crate::position::Position;
 use crate::shapes::{
     as_both, as_constraint, as_either, as_exists, as_false, as_forall, as_implies, as_on, as_says,
     as_state, test_same,
@@ -22,12 +22,12 @@ use bl_syntax::{Sort, Term, instantiate};
 use proof_term::Proof;
 use std::alloc::Global;
 
-impl Desk {
+impl Checker {
     /// The goal is the atom of a truth whose interval holds the goal's.
     #[inline(never)]
-    pub fn init(&mut self, place: &Place<'_>, h: u16) -> Result<usize, CheckFault>
-        requires { HasRoom self.old place.now (size (init h)) (depth (init h)) }
-        ensures { Follows self.old self.new (place.now.node + size (init h)) result
+    pub fn init(&mut self, place: &Position<'_>, h: u16) -> Result<usize, CheckFault>
+        requires { HasProofRoom self.old place.now (size (init h)) (depth (init h)) }
+        ensures { GivesFollowed self.old self.new (place.now.node + size (init h)) result
             (by_init by_grant h place.now.node (sequent self.old place.now) self.old.grant) }
     {
         let (a, from, to) = place.truth_at(h)?;
@@ -43,19 +43,19 @@ impl Desk {
     pub fn cons_l(
         &mut self,
         alloc: Global,
-        place: &Place<'_>,
+        place: &Position<'_>,
         h: u16,
         p: &Proof,
     ) -> Result<usize, CheckFault>
-        requires { HasRoom self.old place.now (size (cons_l h (deduction p.now))) (depth (cons_l h (deduction p.now))) }
-        ensures { Follows self.old self.new (place.now.node + size (cons_l h (deduction p.now))) result
-            (by_cons_l h (answer by_grant (deduction p.now)) place.now.node (sequent self.old place.now) self.old.grant) }
+        requires { HasProofRoom self.old place.now (size (cons_l h (proof_view p.now))) (depth (cons_l h (proof_view p.now))) }
+        ensures { GivesFollowed self.old self.new (place.now.node + size (cons_l h (proof_view p.now))) result
+            (by_cons_l h (answer by_grant (proof_view p.now)) place.now.node (sequent self.old place.now) self.old.grant) }
     {
         let (a, _, _) = place.truth_at(h)?;
         let c = as_constraint(a, place.node)?;
         let constraints = self.constraints.len();
         self.bound(&c.low, &c.high)?;
-        let premise = Place {
+        let premise = Position {
             node: place.node + 1,
             ..*place
         };
@@ -70,18 +70,18 @@ impl Desk {
     pub fn inter_l(
         &mut self,
         alloc: Global,
-        place: &Place<'_>,
+        place: &Position<'_>,
         h: u16,
         p: &Proof,
     ) -> Result<usize, CheckFault>
-        requires { HasRoom self.old place.now (size (inter_l h (deduction p.now))) (depth (inter_l h (deduction p.now))) }
-        ensures { Follows self.old self.new (place.now.node + size (inter_l h (deduction p.now))) result
-            (by_inter_l h (answer by_grant (deduction p.now)) place.now.node (sequent self.old place.now) self.old.grant) }
+        requires { HasProofRoom self.old place.now (size (inter_l h (proof_view p.now))) (depth (inter_l h (proof_view p.now))) }
+        ensures { GivesFollowed self.old self.new (place.now.node + size (inter_l h (proof_view p.now))) result
+            (by_inter_l h (answer by_grant (proof_view p.now)) place.now.node (sequent self.old place.now) self.old.grant) }
     {
         let (a, _, _) = place.truth_at(h)?;
         let fact = as_state(a, place.node)?;
-        let facts = Facts::More(place.facts, fact);
-        let premise = Place {
+        let facts = FactList::More(place.facts, fact);
+        let premise = Position {
             node: place.node + 1,
             facts: &facts,
             ..*place
@@ -95,19 +95,19 @@ impl Desk {
     pub fn and_l(
         &mut self,
         alloc: Global,
-        place: &Place<'_>,
+        place: &Position<'_>,
         h: u16,
         p: &Proof,
     ) -> Result<usize, CheckFault>
-        requires { HasRoom self.old place.now (size (and_l h (deduction p.now))) (depth (and_l h (deduction p.now))) }
-        ensures { Follows self.old self.new (place.now.node + size (and_l h (deduction p.now))) result
-            (by_and_l h (answer by_grant (deduction p.now)) place.now.node (sequent self.old place.now) self.old.grant) }
+        requires { HasProofRoom self.old place.now (size (and_l h (proof_view p.now))) (depth (and_l h (proof_view p.now))) }
+        ensures { GivesFollowed self.old self.new (place.now.node + size (and_l h (proof_view p.now))) result
+            (by_and_l h (answer by_grant (proof_view p.now)) place.now.node (sequent self.old place.now) self.old.grant) }
     {
         let (ab, from, to) = place.truth_at(h)?;
         let (a, b) = as_both(ab, place.node)?;
-        let first = Hypotheses::More(place.hypotheses, Held::Truth(a, from, to));
-        let hypotheses = Hypotheses::More(&first, Held::Truth(b, from, to));
-        let premise = Place {
+        let first = Hypotheses::More(place.hypotheses, HypothesisRef::Truth(a, from, to));
+        let hypotheses = Hypotheses::More(&first, HypothesisRef::Truth(b, from, to));
+        let premise = Position {
             node: place.node + 1,
             hypotheses: &hypotheses,
             count: place.count + 2,
@@ -122,27 +122,27 @@ impl Desk {
     pub fn or_l(
         &mut self,
         alloc: Global,
-        place: &Place<'_>,
+        place: &Position<'_>,
         h: u16,
         p: &Proof,
         q: &Proof,
     ) -> Result<usize, CheckFault>
-        requires { HasRoom self.old place.now (size (or_l h (deduction p.now) (deduction q.now))) (depth (or_l h (deduction p.now) (deduction q.now))) }
-        ensures { Follows self.old self.new (place.now.node + size (or_l h (deduction p.now) (deduction q.now))) result
-            (by_or_l h (answer by_grant (deduction p.now)) (size (deduction p.now)) (answer by_grant (deduction q.now)) place.now.node (sequent self.old place.now) self.old.grant) }
+        requires { HasProofRoom self.old place.now (size (or_l h (proof_view p.now) (proof_view q.now))) (depth (or_l h (proof_view p.now) (proof_view q.now))) }
+        ensures { GivesFollowed self.old self.new (place.now.node + size (or_l h (proof_view p.now) (proof_view q.now))) result
+            (by_or_l h (answer by_grant (proof_view p.now)) (size (proof_view p.now)) (answer by_grant (proof_view q.now)) place.now.node (sequent self.old place.now) self.old.grant) }
     {
         let (ab, from, to) = place.truth_at(h)?;
         let (a, b) = as_either(ab, place.node)?;
-        let with_first = Hypotheses::More(place.hypotheses, Held::Truth(a, from, to));
-        let first = Place {
+        let with_first = Hypotheses::More(place.hypotheses, HypothesisRef::Truth(a, from, to));
+        let first = Position {
             node: place.node + 1,
             hypotheses: &with_first,
             count: place.count + 1,
             ..*place
         };
         let node = self.follow(alloc, &first, p)?;
-        let with_second = Hypotheses::More(place.hypotheses, Held::Truth(b, from, to));
-        let second = Place {
+        let with_second = Hypotheses::More(place.hypotheses, HypothesisRef::Truth(b, from, to));
+        let second = Position {
             node,
             hypotheses: &with_second,
             count: place.count + 1,
@@ -153,9 +153,9 @@ impl Desk {
 
     /// A truth is false.
     #[inline(never)]
-    pub fn false_l(&mut self, place: &Place<'_>, h: u16) -> Result<usize, CheckFault>
-        requires { HasRoom self.old place.now (size (false_l h)) (depth (false_l h)) }
-        ensures { Follows self.old self.new (place.now.node + size (false_l h)) result
+    pub fn false_l(&mut self, place: &Position<'_>, h: u16) -> Result<usize, CheckFault>
+        requires { HasProofRoom self.old place.now (size (false_l h)) (depth (false_l h)) }
+        ensures { GivesFollowed self.old self.new (place.now.node + size (false_l h)) result
             (by_false_l h place.now.node (sequent self.old place.now) self.old.grant) }
     {
         let (a, _, _) = place.truth_at(h)?;
@@ -169,16 +169,16 @@ impl Desk {
     pub fn imp_l(
         &mut self,
         alloc: Global,
-        place: &Place<'_>,
+        place: &Position<'_>,
         h: u16,
         t1: &Term,
         t2: &Term,
         p: &Proof,
         q: &Proof,
     ) -> Result<usize, CheckFault>
-        requires { HasRoom self.old place.now (size (imp_l h t1.now t2.now (deduction p.now) (deduction q.now))) (depth (imp_l h t1.now t2.now (deduction p.now) (deduction q.now))) }
-        ensures { Follows self.old self.new (place.now.node + size (imp_l h t1.now t2.now (deduction p.now) (deduction q.now))) result
-            (by_imp_l by_grant h t1.now t2.now (answer by_grant (deduction p.now)) (size (deduction p.now)) (answer by_grant (deduction q.now)) place.now.node (sequent self.old place.now) self.old.grant) }
+        requires { HasProofRoom self.old place.now (size (imp_l h t1.now t2.now (proof_view p.now) (proof_view q.now))) (depth (imp_l h t1.now t2.now (proof_view p.now) (proof_view q.now))) }
+        ensures { GivesFollowed self.old self.new (place.now.node + size (imp_l h t1.now t2.now (proof_view p.now) (proof_view q.now))) result
+            (by_imp_l by_grant h t1.now t2.now (answer by_grant (proof_view p.now)) (size (proof_view p.now)) (answer by_grant (proof_view q.now)) place.now.node (sequent self.old place.now) self.old.grant) }
     {
         let (ab, from, to) = place.truth_at(h)?;
         let (a, b) = as_implies(ab, place.node)?;
@@ -186,7 +186,7 @@ impl Desk {
         test_term(t2, Sort::Time, self.sorts.as_slice(), place.node)?;
         self.time_condition(from, t1, place.node)?;
         self.time_condition(t2, to, place.node)?;
-        let assumed = Place {
+        let assumed = Position {
             node: place.node + 1,
             goal: a,
             from: t1,
@@ -194,8 +194,8 @@ impl Desk {
             ..*place
         };
         let node = self.follow(alloc, &assumed, p)?;
-        let hypotheses = Hypotheses::More(place.hypotheses, Held::Truth(b, t1, t2));
-        let followed = Place {
+        let hypotheses = Hypotheses::More(place.hypotheses, HypothesisRef::Truth(b, t1, t2));
+        let followed = Position {
             node,
             hypotheses: &hypotheses,
             count: place.count + 1,
@@ -210,21 +210,24 @@ impl Desk {
     pub fn forall_l(
         &mut self,
         alloc: Global,
-        place: &Place<'_>,
+        place: &Position<'_>,
         h: u16,
         t: &Term,
         p: &Proof,
     ) -> Result<usize, CheckFault>
-        requires { HasRoom self.old place.now (size (forall_l h t.now (deduction p.now))) (depth (forall_l h t.now (deduction p.now))) }
-        ensures { Follows self.old self.new (place.now.node + size (forall_l h t.now (deduction p.now))) result
-            (by_forall_l h t.now (answer by_grant (deduction p.now)) place.now.node (sequent self.old place.now) self.old.grant) }
+        requires { HasProofRoom self.old place.now (size (forall_l h t.now (proof_view p.now))) (depth (forall_l h t.now (proof_view p.now))) }
+        ensures { GivesFollowed self.old self.new (place.now.node + size (forall_l h t.now (proof_view p.now))) result
+            (by_forall_l h t.now (answer by_grant (proof_view p.now)) place.now.node (sequent self.old place.now) self.old.grant) }
     {
         let (every, from, to) = place.truth_at(h)?;
         let (sort, a) = as_forall(every, place.node)?;
         test_term(t, sort, self.sorts.as_slice(), place.node)?;
         let instance = instantiate(alloc, a, t)?;
-        let hypotheses = Hypotheses::More(place.hypotheses, Held::Truth(&*instance, from, to));
-        let premise = Place {
+        let hypotheses = Hypotheses::More(
+            place.hypotheses,
+            HypothesisRef::Truth(&*instance, from, to),
+        );
+        let premise = Position {
             node: place.node + 1,
             hypotheses: &hypotheses,
             count: place.count + 1,
@@ -239,21 +242,24 @@ impl Desk {
     pub fn exists_l(
         &mut self,
         alloc: Global,
-        place: &Place<'_>,
+        place: &Position<'_>,
         h: u16,
         p: &Proof,
     ) -> Result<usize, CheckFault>
-        requires { HasRoom self.old place.now (size (exists_l h (deduction p.now))) (depth (exists_l h (deduction p.now))) }
-        ensures { Follows self.old self.new (place.now.node + size (exists_l h (deduction p.now))) result
-            (by_exists_l h (answer by_grant (deduction p.now)) place.now.node (sequent self.old place.now) self.old.grant) }
+        requires { HasProofRoom self.old place.now (size (exists_l h (proof_view p.now))) (depth (exists_l h (proof_view p.now))) }
+        ensures { GivesFollowed self.old self.new (place.now.node + size (exists_l h (proof_view p.now))) result
+            (by_exists_l h (answer by_grant (proof_view p.now)) place.now.node (sequent self.old place.now) self.old.grant) }
     {
         let (some, from, to) = place.truth_at(h)?;
         let (sort, a) = as_exists(some, place.node)?;
         let sorts = self.sorts.len();
         let parameter = self.declare(sort)?;
         let instance = instantiate(alloc, a, &parameter)?;
-        let hypotheses = Hypotheses::More(place.hypotheses, Held::Truth(&*instance, from, to));
-        let premise = Place {
+        let hypotheses = Hypotheses::More(
+            place.hypotheses,
+            HypothesisRef::Truth(&*instance, from, to),
+        );
+        let premise = Position {
             node: place.node + 1,
             hypotheses: &hypotheses,
             count: place.count + 1,
@@ -270,18 +276,18 @@ impl Desk {
     pub fn says_l(
         &mut self,
         alloc: Global,
-        place: &Place<'_>,
+        place: &Position<'_>,
         h: u16,
         p: &Proof,
     ) -> Result<usize, CheckFault>
-        requires { HasRoom self.old place.now (size (says_l h (deduction p.now))) (depth (says_l h (deduction p.now))) }
-        ensures { Follows self.old self.new (place.now.node + size (says_l h (deduction p.now))) result
-            (by_says_l h (answer by_grant (deduction p.now)) place.now.node (sequent self.old place.now) self.old.grant) }
+        requires { HasProofRoom self.old place.now (size (says_l h (proof_view p.now))) (depth (says_l h (proof_view p.now))) }
+        ensures { GivesFollowed self.old self.new (place.now.node + size (says_l h (proof_view p.now))) result
+            (by_says_l h (answer by_grant (proof_view p.now)) place.now.node (sequent self.old place.now) self.old.grant) }
     {
         let (said, from, to) = place.truth_at(h)?;
         let (who, a) = as_says(said, place.node)?;
-        let hypotheses = Hypotheses::More(place.hypotheses, Held::Claim(who, a, from, to));
-        let premise = Place {
+        let hypotheses = Hypotheses::More(place.hypotheses, HypothesisRef::Claim(who, a, from, to));
+        let premise = Position {
             node: place.node + 1,
             hypotheses: &hypotheses,
             count: place.count + 1,
@@ -296,20 +302,20 @@ impl Desk {
     pub fn claim(
         &mut self,
         alloc: Global,
-        place: &Place<'_>,
+        place: &Position<'_>,
         h: u16,
         p: &Proof,
     ) -> Result<usize, CheckFault>
-        requires { HasRoom self.old place.now (size (claim h (deduction p.now))) (depth (claim h (deduction p.now))) }
-        ensures { Follows self.old self.new (place.now.node + size (claim h (deduction p.now))) result
-            (by_claim by_grant h (answer by_grant (deduction p.now)) place.now.node (sequent self.old place.now) self.old.grant) }
+        requires { HasProofRoom self.old place.now (size (claim h (proof_view p.now))) (depth (claim h (proof_view p.now))) }
+        ensures { GivesFollowed self.old self.new (place.now.node + size (claim h (proof_view p.now))) result
+            (by_claim by_grant h (answer by_grant (proof_view p.now)) place.now.node (sequent self.old place.now) self.old.grant) }
     {
         let (who, a, from, to) = place.claim_at(h)?;
         test_strength(who, place.who, place.node)?;
         self.time_condition(from, place.begins, place.node)?;
         self.time_condition(place.ends, to, place.node)?;
-        let hypotheses = Hypotheses::More(place.hypotheses, Held::Truth(a, from, to));
-        let premise = Place {
+        let hypotheses = Hypotheses::More(place.hypotheses, HypothesisRef::Truth(a, from, to));
+        let premise = Position {
             node: place.node + 1,
             hypotheses: &hypotheses,
             count: place.count + 1,
@@ -324,18 +330,18 @@ impl Desk {
     pub fn at_l(
         &mut self,
         alloc: Global,
-        place: &Place<'_>,
+        place: &Position<'_>,
         h: u16,
         p: &Proof,
     ) -> Result<usize, CheckFault>
-        requires { HasRoom self.old place.now (size (at_l h (deduction p.now))) (depth (at_l h (deduction p.now))) }
-        ensures { Follows self.old self.new (place.now.node + size (at_l h (deduction p.now))) result
-            (by_at_l h (answer by_grant (deduction p.now)) place.now.node (sequent self.old place.now) self.old.grant) }
+        requires { HasProofRoom self.old place.now (size (at_l h (proof_view p.now))) (depth (at_l h (proof_view p.now))) }
+        ensures { GivesFollowed self.old self.new (place.now.node + size (at_l h (proof_view p.now))) result
+            (by_at_l h (answer by_grant (proof_view p.now)) place.now.node (sequent self.old place.now) self.old.grant) }
     {
         let (placed, _, _) = place.truth_at(h)?;
         let (a, from, to) = as_on(placed, place.node)?;
-        let hypotheses = Hypotheses::More(place.hypotheses, Held::Truth(a, from, to));
-        let premise = Place {
+        let hypotheses = Hypotheses::More(place.hypotheses, HypothesisRef::Truth(a, from, to));
+        let premise = Position {
             node: place.node + 1,
             hypotheses: &hypotheses,
             count: place.count + 1,

@@ -4,15 +4,15 @@
 #![tactic(auto)]
 
 mod checked;
+mod checker;
 mod cites;
 mod conditions;
-mod desk;
 mod facts;
 mod fault;
 mod hypotheses;
 pub mod laws;
 mod left;
-mod place;
+mod position;
 mod right;
 mod root;
 mod shapes;

@@ -1,17 +1,17 @@
 //! Right rules: they prove the goal from its form.
 
 ghost use Rattle.std.specs.Prelude.{◌≡◌, ◌+◌};
-ghost use Rattle.proof_term.specs.Proof.{deduction, cons_r, inter_r, and_r, or_r1, or_r2, true_r, imp_r, forall_r, exists_r, says_r, at_r};
+ghost use Rattle.proof_term.specs.Proof.{proof_view, cons_r, inter_r, and_r, or_r1, or_r2, true_r, imp_r, forall_r, exists_r, says_r, at_r};
 ghost use Rattle.proof_term.specs.Limits.{size, depth};
 ghost use Rattle.proof_verifier.specs.Rules.{by_cons_r, by_inter_r, by_and_r, by_or_r1, by_or_r2, by_true_r, by_imp_r, by_forall_r, by_exists_r, by_says_r, by_at_r};
 ghost use Rattle.proof_verifier.specs.LeftOver.{by_grant};
 ghost use Rattle.proof_verifier.specs.Verdict.{answer};
-ghost use Rattle.proof_verifier.specs.Run.{sequent, HasRoom, Follows};
+ghost use Rattle.proof_verifier.specs.Run.{sequent, HasProofRoom, GivesFollowed};
 
-use crate::desk::Desk;
+use crate::checker::Checker;
 use crate::fault::CheckFault;
-use crate::hypotheses::{Held, Hypotheses};
-use crate::place::Place;
+use crate::hypotheses::{Hypotheses, HypothesisRef};
+use crate::position::Position;
 use crate::shapes::{
     as_both, as_constraint, as_either, as_exists, as_forall, as_implies, as_on, as_says, as_state,
     as_true,
@@ -21,12 +21,12 @@ use bl_syntax::{Sort, Term, instantiate};
 use proof_term::Proof;
 use std::alloc::Global;
 
-impl Desk {
+impl Checker {
     /// The goal is a constraint.
     #[inline(never)]
-    pub fn cons_r(&mut self, place: &Place<'_>) -> Result<usize, CheckFault>
-        requires { HasRoom self.old place.now (size (cons_r)) (depth (cons_r)) }
-        ensures { Follows self.old self.new (place.now.node + size (cons_r)) result
+    pub fn cons_r(&mut self, place: &Position<'_>) -> Result<usize, CheckFault>
+        requires { HasProofRoom self.old place.now (size (cons_r)) (depth (cons_r)) }
+        ensures { GivesFollowed self.old self.new (place.now.node + size (cons_r)) result
             (by_cons_r by_grant place.now.node (sequent self.old place.now) self.old.grant) }
     {
         let c = as_constraint(place.goal, place.node)?;
@@ -36,9 +36,9 @@ impl Desk {
 
     /// The goal is a predicate on the server's state.
     #[inline(never)]
-    pub fn inter_r(&mut self, place: &Place<'_>) -> Result<usize, CheckFault>
-        requires { HasRoom self.old place.now (size (inter_r)) (depth (inter_r)) }
-        ensures { Follows self.old self.new (place.now.node + size (inter_r)) result
+    pub fn inter_r(&mut self, place: &Position<'_>) -> Result<usize, CheckFault>
+        requires { HasProofRoom self.old place.now (size (inter_r)) (depth (inter_r)) }
+        ensures { GivesFollowed self.old self.new (place.now.node + size (inter_r)) result
             (by_inter_r by_grant place.now.node (sequent self.old place.now) self.old.grant) }
     {
         let fact = as_state(place.goal, place.node)?;
@@ -52,22 +52,22 @@ impl Desk {
     pub fn and_r(
         &mut self,
         alloc: Global,
-        place: &Place<'_>,
+        place: &Position<'_>,
         p: &Proof,
         q: &Proof,
     ) -> Result<usize, CheckFault>
-        requires { HasRoom self.old place.now (size (and_r (deduction p.now) (deduction q.now))) (depth (and_r (deduction p.now) (deduction q.now))) }
-        ensures { Follows self.old self.new (place.now.node + size (and_r (deduction p.now) (deduction q.now))) result
-            (by_and_r (answer by_grant (deduction p.now)) (size (deduction p.now)) (answer by_grant (deduction q.now)) place.now.node (sequent self.old place.now) self.old.grant) }
+        requires { HasProofRoom self.old place.now (size (and_r (proof_view p.now) (proof_view q.now))) (depth (and_r (proof_view p.now) (proof_view q.now))) }
+        ensures { GivesFollowed self.old self.new (place.now.node + size (and_r (proof_view p.now) (proof_view q.now))) result
+            (by_and_r (answer by_grant (proof_view p.now)) (size (proof_view p.now)) (answer by_grant (proof_view q.now)) place.now.node (sequent self.old place.now) self.old.grant) }
     {
         let (a, b) = as_both(place.goal, place.node)?;
-        let first = Place {
+        let first = Position {
             node: place.node + 1,
             goal: a,
             ..*place
         };
         let node = self.follow(alloc, &first, p)?;
-        let second = Place {
+        let second = Position {
             node,
             goal: b,
             ..*place
@@ -81,15 +81,15 @@ impl Desk {
     pub fn or_r1(
         &mut self,
         alloc: Global,
-        place: &Place<'_>,
+        place: &Position<'_>,
         p: &Proof,
     ) -> Result<usize, CheckFault>
-        requires { HasRoom self.old place.now (size (or_r1 (deduction p.now))) (depth (or_r1 (deduction p.now))) }
-        ensures { Follows self.old self.new (place.now.node + size (or_r1 (deduction p.now))) result
-            (by_or_r1 (answer by_grant (deduction p.now)) place.now.node (sequent self.old place.now) self.old.grant) }
+        requires { HasProofRoom self.old place.now (size (or_r1 (proof_view p.now))) (depth (or_r1 (proof_view p.now))) }
+        ensures { GivesFollowed self.old self.new (place.now.node + size (or_r1 (proof_view p.now))) result
+            (by_or_r1 (answer by_grant (proof_view p.now)) place.now.node (sequent self.old place.now) self.old.grant) }
     {
         let (a, _) = as_either(place.goal, place.node)?;
-        let premise = Place {
+        let premise = Position {
             node: place.node + 1,
             goal: a,
             ..*place
@@ -103,15 +103,15 @@ impl Desk {
     pub fn or_r2(
         &mut self,
         alloc: Global,
-        place: &Place<'_>,
+        place: &Position<'_>,
         p: &Proof,
     ) -> Result<usize, CheckFault>
-        requires { HasRoom self.old place.now (size (or_r2 (deduction p.now))) (depth (or_r2 (deduction p.now))) }
-        ensures { Follows self.old self.new (place.now.node + size (or_r2 (deduction p.now))) result
-            (by_or_r2 (answer by_grant (deduction p.now)) place.now.node (sequent self.old place.now) self.old.grant) }
+        requires { HasProofRoom self.old place.now (size (or_r2 (proof_view p.now))) (depth (or_r2 (proof_view p.now))) }
+        ensures { GivesFollowed self.old self.new (place.now.node + size (or_r2 (proof_view p.now))) result
+            (by_or_r2 (answer by_grant (proof_view p.now)) place.now.node (sequent self.old place.now) self.old.grant) }
     {
         let (_, b) = as_either(place.goal, place.node)?;
-        let premise = Place {
+        let premise = Position {
             node: place.node + 1,
             goal: b,
             ..*place
@@ -121,9 +121,9 @@ impl Desk {
 
     /// The goal is true.
     #[inline(never)]
-    pub fn true_r(&mut self, place: &Place<'_>) -> Result<usize, CheckFault>
-        requires { HasRoom self.old place.now (size (true_r)) (depth (true_r)) }
-        ensures { Follows self.old self.new (place.now.node + size (true_r)) result
+    pub fn true_r(&mut self, place: &Position<'_>) -> Result<usize, CheckFault>
+        requires { HasProofRoom self.old place.now (size (true_r)) (depth (true_r)) }
+        ensures { GivesFollowed self.old self.new (place.now.node + size (true_r)) result
             (by_true_r place.now.node (sequent self.old place.now) self.old.grant) }
     {
         as_true(place.goal, place.node)?;
@@ -136,12 +136,12 @@ impl Desk {
     pub fn imp_r(
         &mut self,
         alloc: Global,
-        place: &Place<'_>,
+        place: &Position<'_>,
         p: &Proof,
     ) -> Result<usize, CheckFault>
-        requires { HasRoom self.old place.now (size (imp_r (deduction p.now))) (depth (imp_r (deduction p.now))) }
-        ensures { Follows self.old self.new (place.now.node + size (imp_r (deduction p.now))) result
-            (by_imp_r (answer by_grant (deduction p.now)) place.now.node (sequent self.old place.now) self.old.grant) }
+        requires { HasProofRoom self.old place.now (size (imp_r (proof_view p.now))) (depth (imp_r (proof_view p.now))) }
+        ensures { GivesFollowed self.old self.new (place.now.node + size (imp_r (proof_view p.now))) result
+            (by_imp_r (answer by_grant (proof_view p.now)) place.now.node (sequent self.old place.now) self.old.grant) }
     {
         let (a, b) = as_implies(place.goal, place.node)?;
         let sorts = self.sorts.len();
@@ -150,8 +150,8 @@ impl Desk {
         let end = self.declare(Sort::Time)?;
         self.bound(place.from, &start)?;
         self.bound(&end, place.to)?;
-        let hypotheses = Hypotheses::More(place.hypotheses, Held::Truth(a, &start, &end));
-        let premise = Place {
+        let hypotheses = Hypotheses::More(place.hypotheses, HypothesisRef::Truth(a, &start, &end));
+        let premise = Position {
             node: place.node + 1,
             hypotheses: &hypotheses,
             count: place.count + 1,
@@ -172,18 +172,18 @@ impl Desk {
     pub fn forall_r(
         &mut self,
         alloc: Global,
-        place: &Place<'_>,
+        place: &Position<'_>,
         p: &Proof,
     ) -> Result<usize, CheckFault>
-        requires { HasRoom self.old place.now (size (forall_r (deduction p.now))) (depth (forall_r (deduction p.now))) }
-        ensures { Follows self.old self.new (place.now.node + size (forall_r (deduction p.now))) result
-            (by_forall_r (answer by_grant (deduction p.now)) place.now.node (sequent self.old place.now) self.old.grant) }
+        requires { HasProofRoom self.old place.now (size (forall_r (proof_view p.now))) (depth (forall_r (proof_view p.now))) }
+        ensures { GivesFollowed self.old self.new (place.now.node + size (forall_r (proof_view p.now))) result
+            (by_forall_r (answer by_grant (proof_view p.now)) place.now.node (sequent self.old place.now) self.old.grant) }
     {
         let (sort, a) = as_forall(place.goal, place.node)?;
         let sorts = self.sorts.len();
         let parameter = self.declare(sort)?;
         let instance = instantiate(alloc, a, &parameter)?;
-        let premise = Place {
+        let premise = Position {
             node: place.node + 1,
             goal: &*instance,
             ..*place
@@ -199,18 +199,18 @@ impl Desk {
     pub fn exists_r(
         &mut self,
         alloc: Global,
-        place: &Place<'_>,
+        place: &Position<'_>,
         t: &Term,
         p: &Proof,
     ) -> Result<usize, CheckFault>
-        requires { HasRoom self.old place.now (size (exists_r t.now (deduction p.now))) (depth (exists_r t.now (deduction p.now))) }
-        ensures { Follows self.old self.new (place.now.node + size (exists_r t.now (deduction p.now))) result
-            (by_exists_r t.now (answer by_grant (deduction p.now)) place.now.node (sequent self.old place.now) self.old.grant) }
+        requires { HasProofRoom self.old place.now (size (exists_r t.now (proof_view p.now))) (depth (exists_r t.now (proof_view p.now))) }
+        ensures { GivesFollowed self.old self.new (place.now.node + size (exists_r t.now (proof_view p.now))) result
+            (by_exists_r t.now (answer by_grant (proof_view p.now)) place.now.node (sequent self.old place.now) self.old.grant) }
     {
         let (sort, a) = as_exists(place.goal, place.node)?;
         test_term(t, sort, self.sorts.as_slice(), place.node)?;
         let instance = instantiate(alloc, a, t)?;
-        let premise = Place {
+        let premise = Position {
             node: place.node + 1,
             goal: &*instance,
             ..*place
@@ -224,16 +224,16 @@ impl Desk {
     pub fn says_r(
         &mut self,
         alloc: Global,
-        place: &Place<'_>,
+        place: &Position<'_>,
         p: &Proof,
     ) -> Result<usize, CheckFault>
-        requires { HasRoom self.old place.now (size (says_r (deduction p.now))) (depth (says_r (deduction p.now))) }
-        ensures { Follows self.old self.new (place.now.node + size (says_r (deduction p.now))) result
-            (by_says_r (answer by_grant (deduction p.now)) place.now.node (sequent self.old place.now) self.old.grant) }
+        requires { HasProofRoom self.old place.now (size (says_r (proof_view p.now))) (depth (says_r (proof_view p.now))) }
+        ensures { GivesFollowed self.old self.new (place.now.node + size (says_r (proof_view p.now))) result
+            (by_says_r (answer by_grant (proof_view p.now)) place.now.node (sequent self.old place.now) self.old.grant) }
     {
         let (who, a) = as_says(place.goal, place.node)?;
         let hypotheses = Hypotheses::Struck(place.hypotheses);
-        let premise = Place {
+        let premise = Position {
             node: place.node + 1,
             hypotheses: &hypotheses,
             who,
@@ -248,13 +248,18 @@ impl Desk {
     /// The goal is a formula on its own interval: p proves it there.
     #[cycle(follow)]
     #[inline(never)]
-    pub fn at_r(&mut self, alloc: Global, place: &Place<'_>, p: &Proof) -> Result<usize, CheckFault>
-        requires { HasRoom self.old place.now (size (at_r (deduction p.now))) (depth (at_r (deduction p.now))) }
-        ensures { Follows self.old self.new (place.now.node + size (at_r (deduction p.now))) result
-            (by_at_r (answer by_grant (deduction p.now)) place.now.node (sequent self.old place.now) self.old.grant) }
+    pub fn at_r(
+        &mut self,
+        alloc: Global,
+        place: &Position<'_>,
+        p: &Proof,
+    ) -> Result<usize, CheckFault>
+        requires { HasProofRoom self.old place.now (size (at_r (proof_view p.now))) (depth (at_r (proof_view p.now))) }
+        ensures { GivesFollowed self.old self.new (place.now.node + size (at_r (proof_view p.now))) result
+            (by_at_r (answer by_grant (proof_view p.now)) place.now.node (sequent self.old place.now) self.old.grant) }
     {
         let (a, from, to) = as_on(place.goal, place.node)?;
-        let premise = Place {
+        let premise = Position {
             node: place.node + 1,
             goal: a,
             from,

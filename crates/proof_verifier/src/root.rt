@@ -2,41 +2,41 @@
 
 ghost use Rattle.std.specs.Prelude.{◌≡◌, ◌≤◌, ◌+◌, length, Ok, IfOk, IsTrue, MatchResult};
 ghost use Rattle.std.specs.List.{AllByRecursion};
-ghost use Rattle.bl_syntax.specs.Formula.{formula, says};
+ghost use Rattle.bl_syntax.specs.Formula.{formula_view, says};
 ghost use Rattle.bl_syntax.specs.Names.{is_principal_name};
 ghost use Rattle.bl_syntax.specs.Statement.{IsStatement};
 ghost use Rattle.bl_syntax.specs.WellSorted.{may};
 ghost use Rattle.bl_rules.specs.Allowed.{admin, access};
-ghost use Rattle.proof_term.specs.Proof.{deduction};
-ghost use Rattle.proof_term.specs.Limits.{size, IsKept};
+ghost use Rattle.proof_term.specs.Proof.{proof_view};
+ghost use Rattle.proof_term.specs.Limits.{size, IsKeptProof};
 ghost use Rattle.proof_verifier.specs.Cited.{statements_of};
 ghost use Rattle.proof_verifier.specs.LeftOver.{by_grant};
-ghost use Rattle.proof_verifier.specs.Run.{sequent, with_claims, Follows, HasRoomForClaims, IsFault};
+ghost use Rattle.proof_verifier.specs.Run.{sequent, with_claims, GivesFollowed, HasRoomForClaims, IsFault};
 ghost use Rattle.proof_verifier.specs.Verdict.{answer, verdict, computed_verdict};
 
+use crate::checker::Checker;
 use crate::cites::Cite;
-use crate::desk::Desk;
-use crate::facts::Facts;
+use crate::facts::FactList;
 use crate::fault::CheckFault;
-use crate::hypotheses::{Held, Hypotheses};
-use crate::place::Place;
+use crate::hypotheses::{Hypotheses, HypothesisRef};
+use crate::position::Position;
 use bl_syntax::{Formula, Goal, Grant, NoMemory, Principal, Sequence, Term, Word};
 use condition_set::Collect;
 use proof_term::{Proof, ProofTree};
 use std::alloc::Global;
 
-impl Desk {
+impl Checker {
     /// Follows the proof with the statements as further claims.
     fn follow_with(
         &mut self,
         alloc: Global,
         cites: &[Cite],
-        place: &Place<'_>,
+        place: &Position<'_>,
         proof: &Proof,
     ) -> Result<usize, CheckFault>
-        requires { HasRoomForClaims self.old place.now (length cites.now) (deduction proof.now) }
-        ensures followed { Follows self.old self.new (place.now.node + size (deduction proof.now)) result
-            (answer by_grant (deduction proof.now) place.now.node (with_claims (statements_of cites.now) (sequent self.old place.now)) self.old.grant) }
+        requires { HasRoomForClaims self.old place.now (length cites.now) (proof_view proof.now) }
+        ensures followed { GivesFollowed self.old self.new (place.now.node + size (proof_view proof.now)) result
+            (answer by_grant (proof_view proof.now) place.now.node (with_claims (statements_of cites.now) (sequent self.old place.now)) self.old.grant) }
         ensures statements { AllByRecursion IsStatement (statements_of cites.now) }
     {
         match cites {
@@ -45,9 +45,9 @@ impl Desk {
                 let who = Term::Prin(*cite.statement.who());
                 let from = Term::Time(cite.statement.from());
                 let to = Term::Time(cite.statement.to());
-                let claim = Held::Claim(&who, cite.statement.body(), &from, &to);
+                let claim = HypothesisRef::Claim(&who, cite.statement.body(), &from, &to);
                 let hypotheses = Hypotheses::More(place.hypotheses, claim);
-                let further = Place {
+                let further = Position {
                     hypotheses: &hypotheses,
                     count: place.count + 1,
                     ..*place
@@ -69,9 +69,9 @@ pub fn grant_of(
     ensures verdict { MatchResult result (λ grant. verdict (statements_of cites.now) goal.now proof.now ≡ Ok grant)
         (λ fault. IsFault fault (verdict (statements_of cites.now) goal.now proof.now)) }
     ensures statements { IfOk result (λ _. AllByRecursion IsStatement (statements_of cites.now)) }
-    ensures kept { IfOk result (λ _. IsKept proof.now) }
+    ensures kept { IfOk result (λ _. IsKeptProof proof.now) }
 {
-    let wanted = wanted(alloc, goal)?;
+    let wanted = goal_formula(alloc, goal)?;
     follow_from_root(alloc, cites, goal, &wanted, proof)
 }
 
@@ -84,19 +84,19 @@ fn follow_from_root(
     proof: &ProofTree,
 ) -> Result<Grant, CheckFault>
     requires few { length cites.now ≤ 64 }
-    requires wanted { formula wanted.now ≡ says admin (access goal.now.who goal.now.file goal.now.perm) }
+    requires wanted { formula_view wanted.now ≡ says admin (access goal.now.who goal.now.file goal.now.perm) }
     ensures verdict { MatchResult result (λ grant. computed_verdict (statements_of cites.now) goal.now proof.now ≡ Ok grant)
         (λ fault. IsFault fault (computed_verdict (statements_of cites.now) goal.now proof.now)) }
     ensures statements { AllByRecursion IsStatement (statements_of cites.now) }
-    ensures kept { IsKept proof.now }
+    ensures kept { IsKeptProof proof.now }
 {
     let loc = Term::Prin(principal(b"loc"));
     let now = Term::Ctime;
-    let place = Place {
+    let place = Position {
         node: 0,
         hypotheses: &Hypotheses::None,
         count: 0,
-        facts: &Facts::None,
+        facts: &FactList::None,
         who: &loc,
         begins: &now,
         ends: &now,
@@ -104,19 +104,19 @@ fn follow_from_root(
         from: &now,
         to: &now,
     };
-    let mut desk = Desk {
+    let mut checker = Checker {
         sorts: Sequence::new(alloc),
         constraints: Sequence::new(alloc),
         grant: Grant::collect(alloc, *goal),
     };
-    desk.follow_with(alloc, cites, &place, proof.root())?;
-    let Desk { grant, .. } = desk;
+    checker.follow_with(alloc, cites, &place, proof.root())?;
+    let Checker { grant, .. } = checker;
     Ok(grant)
 }
 
 /// That `admin` says that the goal's principal may have the permission on the file.
-fn wanted(alloc: Global, goal: &Goal) -> Result<Formula, NoMemory>
-    ensures { IfOk result (λ wanted. formula wanted ≡ says admin (access goal.now.who goal.now.file goal.now.perm)) }
+fn goal_formula(alloc: Global, goal: &Goal) -> Result<Formula, NoMemory>
+    ensures { IfOk result (λ wanted. formula_view wanted ≡ says admin (access goal.now.who goal.now.file goal.now.perm)) }
 {
     let mut terms = Vec::new(alloc);
     terms.push(Term::Prin(goal.who))?;

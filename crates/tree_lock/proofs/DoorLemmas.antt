@@ -8,14 +8,14 @@ use mathlib.Core.List.{IsPrefix}
 use lib.ListN.{get_elem?}
 use Rattle.atomic_table.specs.Table.{State, Me, step, keeps, opening, Allows, Splits, Joins, Final, Seen}
 use Rattle.atomic_table.proofs.Lists.{at_longer, set_here, set_else, set_again}
-use Rattle.tree_lock.specs.declared.view.View.{View}
+use Rattle.tree_lock.specs.declared.view.Knowledge.{Knowledge}
 use Rattle.tree_lock.specs.declared.view.Stage.TheVariants.{Idle}
 use Rattle.tree_lock.specs.Entries.{of_number, AllOfNumber}
 use Rattle.tree_lock.specs.Seen.{Retired, AreNumbers, AreOwn, PassView}
-use Rattle.tree_lock.specs.Seats.{door_view}
+use Rattle.tree_lock.specs.Seats.{doorman_view}
 use Rattle.tree_lock.specs.Knowledge.{tickets_at, is_holding, tickets_out, opening_view, spent_view, after_making, made_by, after_retiring, after_look}
 use Rattle.tree_lock.specs.Rule.{IsAtStage, IsKnown, Fits, IsSpent, IsDoorman, IsHome, IsAway, Kept}
-use Rattle.tree_lock.specs.Steps.{looks, Looks}
+use Rattle.tree_lock.specs.Steps.{look_step, Looks}
 use Rattle.tree_lock.specs.Closing.{TakesIn, IsClosed}
 use Rattle.atomic_table.specs.Seated.{TableId}
 use Rattle.tree_lock.proofs.EntryLemmas.{of_number-all, of_number-none, prefix_refl, prefix_nil, prefix_trans}
@@ -24,23 +24,23 @@ use Rattle.tree_lock.proofs.SeatLemmas.{at_default, each_set, each_snoc, at_with
 use Rattle.tree_lock.proofs.StepLemmas.{each_weaker, known_out, is_known, true_is_not_false, spent_set}
 
 module _ {E : Type 0} where
-  idle_of : (history : List (ℕ × E)) (i : ℕ) (v : View E) (b : Bool) → b ≡ false → IsKnown history i v b → v.stage ≡ Idle
+  idle_of : (history : List (ℕ × E)) (i : ℕ) (v : Knowledge E) (b : Bool) → b ≡ false → IsKnown history i v b → v.stage ≡ Idle
   idle_of history i v true e known = absurd (true_is_not_false e)
   idle_of history i v false e known = known
 
 module _ {V E : Type 0} (entries : V → List (ℕ × E)) where
   abbrev Table : Type 0
-  Table = State (std.Option V) (View E)
+  Table = State (std.Option V) (Knowledge E)
 
   -- a new lock
   pub opens : (words : List ℕ) (value : V) → 32 < length words → get_or words 0 0 ≡ 0 → get_or words 16 0 ≡ 0 → AllOfNumber 0 (entries value) → Kept entries (opening words (Some value ∷ []) (opening_view (entries value)))
   unfolding IsDistinct
   opens words value wide drawn served all =
       let history : List (ℕ × E) = entries value in
-      let door : View E = opening_view history in
+      let door : Knowledge E = opening_view history in
       let own : of_number 0 history ≡ history = of_number-all 0 history all in
-      let F : ℕ → View E → Type 0 = Fits history 0 0 (λ t. 0) in
-      let free : ℕ → View E → Type 0 = λ j u. is_holding u.stage ≡ false in record {
+      let F : ℕ → Knowledge E → Type 0 = Fits history 0 0 (λ t. 0) in
+      let free : ℕ → Knowledge E → Type 0 = λ j u. is_holding u.stage ≡ false in record {
         history = history;
         served = 0;
         drawn = 0;
@@ -58,38 +58,38 @@ module _ {V E : Type 0} (entries : V → List (ℕ × E)) where
       }
 
   -- the doorman's seat has the doorman's view
-  door_is : (s : Table) (r : Kept entries s) (v : View E) → get_elem? s.views 0 ≡ some v → r.door ≡ v
+  door_is : (s : Table) (r : Kept entries s) (v : Knowledge E) → get_elem? s.views 0 ≡ some v → r.door ≡ v
   door_is s r v at = some-injective r.door v (sym r.doorman.here ∙ at)
 
-  doorman_at : (s : Table) (r : Kept entries s) (v : View E) → get_elem? s.views 0 ≡ some v → IsDoorman r.history s.views v
+  doorman_at : (s : Table) (r : Kept entries s) (v : Knowledge E) → get_elem? s.views 0 ≡ some v → IsDoorman r.history s.views v
   doorman_at s r v at = subst (IsDoorman r.history s.views) (door_is s r v at) r.doorman
 
   -- where an idle seat changes its view, and is idle after, the slot is as it was
-  slot_stays : (s : Table) (r : Kept entries s) (id : ℕ) (v w : View E) → get_elem? s.views id ≡ some v → is_holding v.stage ≡ false → is_holding w.stage ≡ false
-      → (views : List (View E)) (homes : List (Option (std.Option V))) → IsHome entries r.history views homes ⊎ IsAway views → get_elem? views id ≡ some v → IsHome entries r.history (set views id w) homes ⊎ IsAway (set views id w)
+  slot_stays : (s : Table) (r : Kept entries s) (id : ℕ) (v w : Knowledge E) → get_elem? s.views id ≡ some v → is_holding v.stage ≡ false → is_holding w.stage ≡ false
+      → (views : List (Knowledge E)) (homes : List (Option (std.Option V))) → IsHome entries r.history views homes ⊎ IsAway views → get_elem? views id ≡ some v → IsHome entries r.history (set views id w) homes ⊎ IsAway (set views id w)
   slot_stays s r id v w _ free still views homes slot at = ⊎_elim
       (λ (home : IsHome entries r.history views homes). inl record {
         value = home.value;
         here = home.here;
         is = home.is;
-        free = each_set (λ j (u : View E). is_holding u.stage ≡ false) views id w (λ j u _ e. home.free j u e) still;
+        free = each_set (λ j (u : Knowledge E). is_holding u.stage ≡ false) views id w (λ j u _ e. home.free j u e) still;
       })
       (λ (away : IsAway views). inr record {
         holder = away.holder;
         view = away.view;
         here = set_else views id away.holder w
-            (λ e. true_is_not_false (sym away.holding ∙ ap (λ (u : View E). is_holding u.stage) (some-injective away.view v (sym away.here ∙ ap (λ j. get_elem? views j) e ∙ at)) ∙ free)) ∙ away.here;
+            (λ e. true_is_not_false (sym away.holding ∙ ap (λ (u : Knowledge E). is_holding u.stage) (some-injective away.view v (sym away.here ∙ ap (λ j. get_elem? views j) e ∙ at)) ∙ free)) ∙ away.here;
         holding = away.holding;
       })
       slot
 
   -- a pass is made
-  pub makes_keeps : (v : View E) → v.made + 1 < 2 ^ 64 → Splits (Kept entries) 0 v (after_making v) (made_by v)
+  pub makes_keeps : (v : Knowledge E) → v.made + 1 < 2 ^ 64 → Splits (Kept entries) 0 v (after_making v) (made_by v)
   makes_keeps v room s r at =
       let d = doorman_at s r v at in
-      let left : View E = after_making v in
-      let right : View E = made_by v in
-      let views : List (View E) = set s.views 0 left in
+      let left : Knowledge E = after_making v in
+      let right : Knowledge E = made_by v in
+      let views : List (Knowledge E) = set s.views 0 left in
       let fits = r.each 0 v at in
       let known = known_out r.history 0 v v.out d.out fits.known in
       let made : v.made + 1 ≡ length s.views = d.made in
@@ -98,10 +98,10 @@ module _ {V E : Type 0} (entries : V → List (ℕ × E)) where
       let count : tickets_out views + tickets_at v.stage ≡ tickets_out s.views + tickets_at v.stage = tickets_out-set s.views 0 v left at in
       let counts : tickets_out (views ++ right ∷ []) ≡ tickets_out views + 0 = tickets_out-snoc views right in
       let before : r.served + tickets_out s.views ≡ r.drawn = r.counted in
-      let F : ℕ → View E → Type 0 = Fits r.history r.served r.drawn r.seat_of in
+      let F : ℕ → Knowledge E → Type 0 = Fits r.history r.served r.drawn r.seat_of in
       let here : v.made + 1 ≡ length views = made ∙ sym long in
       let none : of_number (length views) r.history ≡ [] = r.none_above (length views) (omega arith) in
-      let free : ℕ → View E → Type 0 = λ j u. is_holding u.stage ≡ false in
+      let free : ℕ → Knowledge E → Type 0 = λ j u. is_holding u.stage ≡ false in
       let slot : IsHome entries r.history views s.homes ⊎ IsAway views = slot_stays s r 0 v left at (ap is_holding d.idle) (ap is_holding d.idle) s.views s.homes r.slot at in record {
         history = r.history;
         served = r.served;
@@ -134,24 +134,24 @@ module _ {V E : Type 0} (entries : V → List (ℕ × E)) where
       }
 
   -- the numbers of spent passes differ from that of one that is out
-  apart_from_spent : (views : List (View E)) (i : ℕ) (w : View E) (retired : List (Retired E)) → get_elem? views i ≡ some w → w.out ≡ true → AllByRecursion (λ (x : Retired E). IsSpent views x.0) retired
+  apart_from_spent : (views : List (Knowledge E)) (i : ℕ) (w : Knowledge E) (retired : List (Retired E)) → get_elem? views i ≡ some w → w.out ≡ true → AllByRecursion (λ (x : Retired E). IsSpent views x.0) retired
       → AllByRecursion (λ y. eqb i y ≡ false) (map (λ (x : Retired E). x.0) retired)
   apart_from_spent views i w [] at out spent = tt
   apart_from_spent views i w (x ∷ xs) at out spent =
       let gone = spent.0 in (
-        ne_eqb i x.0 (λ e. true_is_not_false (sym out ∙ ap (λ (u : View E). u.out) (some-injective w gone.view (sym at ∙ ap (λ j. get_elem? views j) e ∙ gone.here)) ∙ gone.spent)),
+        ne_eqb i x.0 (λ e. true_is_not_false (sym out ∙ ap (λ (u : Knowledge E). u.out) (some-injective w gone.view (sym at ∙ ap (λ j. get_elem? views j) e ∙ gone.here)) ∙ gone.spent)),
         apart_from_spent views i w xs at out spent.1,
       )
 
   -- a pass is taken in
-  pub retires_keeps : (v : View E) (other : ℕ) (w : View E) → w.out ≡ true → 1 ≤ w.number → w.stage ≡ Idle → Joins (Kept entries) 0 v other w (after_retiring v w) spent_view
+  pub retires_keeps : (v : Knowledge E) (other : ℕ) (w : Knowledge E) → w.out ≡ true → 1 ≤ w.number → w.stage ≡ Idle → Joins (Kept entries) 0 v other w (after_retiring v w) spent_view
   unfolding IsDistinct
   retires_keeps v other w out number idle s r at ne at_other =
-      let both : View E = after_retiring v w in
-      let gone : View E = spent_view in
+      let both : Knowledge E = after_retiring v w in
+      let gone : Knowledge E = spent_view in
       let d = doorman_at s r v at in
-      let mid : List (View E) = set s.views 0 both in
-      let views : List (View E) = set mid other gone in
+      let mid : List (Knowledge E) = set s.views 0 both in
+      let views : List (Knowledge E) = set mid other gone in
       let at_w : get_elem? s.views other ≡ some w = sym (set_else s.views 0 other both ne) ∙ at_other in
       let fits = r.each 0 v at in
       let fits_w = r.each other w at_w in
@@ -166,7 +166,7 @@ module _ {V E : Type 0} (entries : V → List (ℕ × E)) where
       let count : tickets_out views + tickets_at w.stage ≡ tickets_out mid + 0 = tickets_out-set mid other w gone at_other in
       let no_ticket : tickets_at w.stage ≡ 0 = ap tickets_at idle in
       let before : r.served + tickets_out s.views ≡ r.drawn = r.counted in
-      let F : ℕ → View E → Type 0 = Fits r.history r.served r.drawn r.seat_of in
+      let F : ℕ → Knowledge E → Type 0 = Fits r.history r.served r.drawn r.seat_of in
       let slot_mid = slot_stays s r 0 v both at (ap is_holding d.idle) (ap is_holding d.idle) s.views s.homes r.slot at in
       let apart : AllByRecursion (λ y. eqb w.number y ≡ false) (map (λ (x : Retired E). x.0) v.retired) =
       subst (λ n. AllByRecursion (λ y. eqb n y ≡ false) (map (λ (x : Retired E). x.0) v.retired)) (sym is) (apart_from_spent s.views other w v.retired at_w out d.spent) in record {
@@ -202,16 +202,16 @@ module _ {V E : Type 0} (entries : V → List (ℕ × E)) where
       }
 
   -- the doorman looks at the history
-  pub looks_keeps : (slots : ℕ) (me : Me (std.Option V) (View E)) → Allows (Kept entries) slots 0 me 0 (λ n. n) (looks (step slots 0 0 0 none) me)
+  pub looks_keeps : (slots : ℕ) (me : Me (std.Option V) (Knowledge E)) → Allows (Kept entries) slots 0 me 0 (λ n. n) (look_step (step slots 0 0 0 none) me)
   looks_keeps slots me s r _ at _ =
-      let v : View E = me.0 in
-      let w : View E = after_look v r.history in
+      let v : Knowledge E = me.0 in
+      let w : Knowledge E = after_look v r.history in
       let found : ℕ = get_or s.words 0 0 in
       let wide : 32 < length s.words = r.wide in
       let words : set s.words 0 found ≡ s.words = set_again s.words 0 found (at_default s.words 0 0 (omega arith)) in
       let d = doorman_at s r v at in
       let fits = r.each 0 v at in
-      let views : List (View E) = set s.views 0 w in
+      let views : List (Knowledge E) = set s.views 0 w in
       let long : length views ≡ length s.views = length-set s.views 0 w in
       let made : v.made + 1 ≡ length s.views = d.made in
       let count : tickets_out views + tickets_at v.stage ≡ tickets_out s.views + tickets_at v.stage = tickets_out-set s.views 0 v w at in
@@ -262,20 +262,20 @@ module _ {V E : Type 0} (entries : V → List (ℕ × E)) where
       )
 
   -- no pass holds the value where all were retired
-  none_holds : (s : Table) (r : Kept entries s) (v : View E) → get_elem? s.views 0 ≡ some v → length v.retired ≡ v.made → IsAway s.views → ⊥
+  none_holds : (s : Table) (r : Kept entries s) (v : Knowledge E) → get_elem? s.views 0 ≡ some v → length v.retired ≡ v.made → IsAway s.views → ⊥
   none_holds s r v at all away =
       let d = doorman_at s r v at in
-      let u : View E = away.view in
+      let u : Knowledge E = away.view in
       let made : v.made + 1 ≡ length s.views = d.made in
       let within : away.holder < length s.views = at_within s.views away.holder u away.here in
-      let not_door : away.holder ≢ 0 = λ e. true_is_not_false (sym away.holding ∙ ap (λ (x : View E). is_holding x.stage) (some-injective u v (sym away.here ∙ ap (λ j. get_elem? s.views j) e ∙ at)) ∙ ap is_holding d.idle) in
+      let not_door : away.holder ≢ 0 = λ e. true_is_not_false (sym away.holding ∙ ap (λ (x : Knowledge E). is_holding x.stage) (some-injective u v (sym away.here ∙ ap (λ j. get_elem? s.views j) e ∙ at)) ∙ ap is_holding d.idle) in
       let spent : IsSpent s.views away.holder = each_made (IsSpent s.views) v.made v.retired away.holder d.numbers all d.spent (omega arith) (omega arith) in
       let same : spent.view ≡ u = some-injective spent.view u (sym spent.here ∙ away.here) in
-      let idle : u.stage ≡ Idle = idle_of r.history away.holder u u.out (sym (ap (λ (x : View E). x.out) same) ∙ spent.spent) (r.each away.holder u away.here).known in
+      let idle : u.stage ≡ Idle = idle_of r.history away.holder u u.out (sym (ap (λ (x : Knowledge E). x.out) same) ∙ spent.spent) (r.each away.holder u away.here).known in
       true_is_not_false (sym away.holding ∙ ap is_holding idle)
 
   -- a table whose passes were all retired has the value, with the history for its entries
-  pub closes : (v : View E) (words : List ℕ) (slots : List (std.Option V)) → length v.retired ≡ v.made → Final (Seen (Kept entries) 0 v) words slots
+  pub closes : (v : Knowledge E) (words : List ℕ) (slots : List (std.Option V)) → length v.retired ≡ v.made → Final (Seen (Kept entries) 0 v) words slots
       → (value : V) × (get_elem? slots 0 ≡ some (Some value)) × IsPrefix v.seen (entries value) × AreNumbers v.made v.retired × AreOwn (entries value) v.retired × (of_number 0 (entries value) ≡ v.own)
       × ((n : ℕ) → v.made + 1 ≤ n → of_number n (entries value) ≡ [])
   closes v words slots all final =
@@ -297,23 +297,23 @@ module _ {V E : Type 0} (entries : V → List (ℕ × E)) where
       )
 
   -- what a closed lock gives
-  pub closed_is : (v : View E) (lock : TableId) (out : ℕ) (words : List ℕ) (slots : List (std.Option V)) (value : V) → length v.retired ≡ v.made → IsPrefix v.own v.seen → Final (Seen (Kept entries) 0 v) words slots
-      → get_elem? slots 0 ≡ some (Some value) → IsClosed (door_view v lock out) (entries value)
+  pub closed_is : (v : Knowledge E) (lock : TableId) (out : ℕ) (words : List ℕ) (slots : List (std.Option V)) (value : V) → length v.retired ≡ v.made → IsPrefix v.own v.seen → Final (Seen (Kept entries) 0 v) words slots
+      → get_elem? slots 0 ≡ some (Some value) → IsClosed (doorman_view v lock out) (entries value)
   closed_is v lock out words slots value all opened final at =
       let told = closes v words slots all final in
       let options : ◌≡◌ {A = std.Option V} (Some told.0) (Some value) = some-injective (Some told.0) (Some value) (sym told.1 ∙ at) in
       let same : told.0 ≡ value = cc in
-      let P : V → Type 0 = λ x. IsClosed (door_view v lock out) (entries x) in
+      let P : V → Type 0 = λ x. IsClosed (doorman_view v lock out) (entries x) in
       subst P same record { all = all; knows = record { opened = prefix_trans v.own v.seen (entries told.0) opened told.2; seen = told.2; numbers = told.3; own = told.4; opening = told.5; none_above = told.6 } }
 
 module _ {E : Type 0} where
   -- what the doorman's look comes to, after a pass was taken in
-  pub takes_in : (v w : View E) (lock : TableId) (out : ℕ) (pass : PassView E) (new : View E) → IsPrefix v.own v.seen → out + length v.retired ≡ v.made → pass.number ≡ w.number → pass.own ≡ w.own → pass.seen ≡ w.seen
-      → Looks (after_retiring v w) new → TakesIn pass (door_view v lock out) (door_view new lock (out - 1))
+  pub takes_in : (v w : Knowledge E) (lock : TableId) (out : ℕ) (pass : PassView E) (new : Knowledge E) → IsPrefix v.own v.seen → out + length v.retired ≡ v.made → pass.number ≡ w.number → pass.own ≡ w.own → pass.seen ≡ w.seen
+      → Looks (after_retiring v w) new → TakesIn pass (doorman_view v lock out) (doorman_view new lock (out - 1))
   takes_in v w lock out pass new opened counted number own seen look =
       let within : suc (length v.retired) ≤ v.made = look.within in
       let opened_new : IsPrefix v.own look.history = prefix_trans v.own v.seen look.history opened look.seen in
-      let P : View E → Type 0 = λ x. TakesIn pass (door_view v lock out) (door_view x lock (out - 1)) in
+      let P : Knowledge E → Type 0 = λ x. TakesIn pass (doorman_view v lock out) (doorman_view x lock (out - 1)) in
       subst P (sym look.is) record {
         lock = refl;
         opening = refl;

@@ -5,7 +5,7 @@ use Rattle.std.specs.List.{AllByRecursion, IsDistinct}
 use mathlib.Core.Logic.{dite}
 use native.Mathlib.Decide.{ℕ_discrete, dec_le}
 use Rattle.tree_lock.specs.Entries.{of_number, AllOfNumber}
-use Rattle.tree_lock.specs.Seen.{Retired, AreOwn, DoorView}
+use Rattle.tree_lock.specs.Seen.{Retired, AreOwn, DoormanView}
 use Rattle.tree_lock.specs.Closing.{IsClosed}
 use Rattle.tree_lock.specs.Merge.{Merges, ends, takes, IsMerge}
 use Rattle.tree_lock.proofs.EntryLemmas.{of_number-here, of_number-else, of_number-append, of_number-all, of_number-none}
@@ -86,7 +86,7 @@ module _ {E : Type 0} where
       let none : of_number r.0 opening ≡ [] = of_number-none r.0 0 opening (λ e. omega arith) all in
       (sym (of_number-append r.0 opening rest ∙ ap (λ l. l ++ of_number r.0 rest) none) ∙ own.0, own_after opening rest made rs all within.1 own.1)
 
-  pub closed_merges : (door : DoorView E) (history : List (ℕ × E)) → IsClosed door history → IsMerge door.opening door.retired history
+  pub closed_merges : (door : DoormanView E) (history : List (ℕ × E)) → IsClosed door history → IsMerge door.opening door.retired history
   closed_merges door history closed =
       let knows = closed.knows in
       let rest : List (ℕ × E) = knows.opened.0 in

@@ -3,7 +3,7 @@ use Rattle.std.proofs.Common.{◌≡◌, ◌≢◌, ◌⊎◌, ℕ, zero, suc, �
 use mathlib.Core.Option.{some, some-injective, some-ne-none}
 use lib.ListN.{get_elem?}
 use Rattle.atomic_table.proofs.Lists.{at_set}
-use Rattle.tree_lock.specs.declared.view.View.{View}
+use Rattle.tree_lock.specs.declared.view.Knowledge.{Knowledge}
 use Rattle.tree_lock.specs.declared.view.Stage.{Stage}
 use Rattle.tree_lock.specs.declared.view.Stage.TheVariants.{Idle, Waiting, Holding}
 use Rattle.tree_lock.specs.Knowledge.{tickets_at, tickets_out}
@@ -55,15 +55,15 @@ tickets_at-le (Waiting t) = omega arith
 tickets_at-le (Holding t) = omega arith
 
 module _ {E : Type 0} where
-  pub tickets_out-set : (views : List (View E)) (id : ℕ) (v w : View E) → get_elem? views id ≡ some v → tickets_out (set views id w) + tickets_at v.stage ≡ tickets_out views + tickets_at w.stage
+  pub tickets_out-set : (views : List (Knowledge E)) (id : ℕ) (v w : Knowledge E) → get_elem? views id ≡ some v → tickets_out (set views id w) + tickets_at v.stage ≡ tickets_out views + tickets_at w.stage
   tickets_out-set [] id v w e = absurd (some-ne-none v (sym e))
-  tickets_out-set (x ∷ xs) zero v w e = let is : tickets_at x.stage ≡ tickets_at v.stage = ap (λ (y : View E). tickets_at y.stage) (some-injective x v e) in omega arith
+  tickets_out-set (x ∷ xs) zero v w e = let is : tickets_at x.stage ≡ tickets_at v.stage = ap (λ (y : Knowledge E). tickets_at y.stage) (some-injective x v e) in omega arith
   tickets_out-set (x ∷ xs) (suc id) v w e = let r = tickets_out-set xs id v w e in omega arith
 
-  pub tickets_out-snoc : (views : List (View E)) (w : View E) → tickets_out (views ++ w ∷ []) ≡ tickets_out views + tickets_at w.stage
+  pub tickets_out-snoc : (views : List (Knowledge E)) (w : Knowledge E) → tickets_out (views ++ w ∷ []) ≡ tickets_out views + tickets_at w.stage
   tickets_out-snoc [] w = omega arith
   tickets_out-snoc (x ∷ xs) w = let r = tickets_out-snoc xs w in omega arith
 
-  pub tickets_out-le : (views : List (View E)) → tickets_out views ≤ length views
+  pub tickets_out-le : (views : List (Knowledge E)) → tickets_out views ≤ length views
   tickets_out-le [] = omega arith
   tickets_out-le (x ∷ xs) = let r = tickets_out-le xs in let one = tickets_at-le x.stage in omega arith

@@ -11,14 +11,14 @@ use native.Mathlib.Decide.{ℕ_discrete}
 use lib.ListN.{get_elem?}
 use Rattle.atomic_table.specs.Table.{State, Me, step, keeps, takes, gives, Allows}
 use Rattle.atomic_table.proofs.Lists.{set_here, set_else, set_again, one_turn}
-use Rattle.tree_lock.specs.declared.view.View.{View}
+use Rattle.tree_lock.specs.declared.view.Knowledge.{Knowledge}
 use Rattle.tree_lock.specs.declared.view.Stage.{Stage}
 use Rattle.tree_lock.specs.declared.view.Stage.TheVariants.{Idle, Waiting, Holding}
 use Rattle.tree_lock.specs.Entries.{of_number, AllOfNumber, Appends}
 use Rattle.tree_lock.specs.Seen.{Retired, AreOwn}
 use Rattle.tree_lock.specs.Knowledge.{tickets_at, is_holding, tickets_out, at_stage, holding, after_turn}
 use Rattle.tree_lock.specs.Rule.{IsOut, IsAtStage, IsKnown, Fits, IsSpent, IsDoorman, IsHome, IsAway, Kept}
-use Rattle.tree_lock.specs.Steps.{draws, waits, serves, Takes}
+use Rattle.tree_lock.specs.Steps.{draw_step, wait_step, serve_step, Takes}
 use Rattle.tree_lock.proofs.EntryLemmas.{of_number-others, prefix_refl, prefix_more}
 use Rattle.tree_lock.proofs.SeatLemmas.{at_default, each_set, at_within, length-set, tickets_out-set, tickets_out-le}
 
@@ -31,25 +31,25 @@ true_is_not_false e = true≢false e
 
 module _ {E : Type 0} where
   -- what is known of a seat that has not been retired
-  pub known_out : (history : List (ℕ × E)) (i : ℕ) (v : View E) (b : Bool) → b ≡ true → IsKnown history i v b → (v.number ≡ i) × (of_number i history ≡ v.own)
+  pub known_out : (history : List (ℕ × E)) (i : ℕ) (v : Knowledge E) (b : Bool) → b ≡ true → IsKnown history i v b → (v.number ≡ i) × (of_number i history ≡ v.own)
   known_out history i v true e known = known
   known_out history i v false e known = absurd (true_is_not_false (sym e))
 
-  pub is_known : (history : List (ℕ × E)) (i : ℕ) (v : View E) (b : Bool) → b ≡ true → v.number ≡ i → of_number i history ≡ v.own → IsKnown history i v b
+  pub is_known : (history : List (ℕ × E)) (i : ℕ) (v : Knowledge E) (b : Bool) → b ≡ true → v.number ≡ i → of_number i history ≡ v.own → IsKnown history i v b
   is_known history i v true e number own = (number, own)
   is_known history i v false e number own = absurd (true_is_not_false (sym e))
 
   -- what is known of a seat stays as it is where the history goes on with the entries of another
-  pub known_more : (history added : List (ℕ × E)) (m i : ℕ) (v : View E) (b : Bool) → m ≢ i → AllOfNumber m added → IsKnown history i v b → IsKnown (history ++ added) i v b
+  pub known_more : (history added : List (ℕ × E)) (m i : ℕ) (v : Knowledge E) (b : Bool) → m ≢ i → AllOfNumber m added → IsKnown history i v b → IsKnown (history ++ added) i v b
   known_more history added m i v true ne all known = (known.0, of_number-others i m history added ne all ∙ known.1)
   known_more history added m i v false ne all known = known
 
-  pub spent_set : (views : List (View E)) (id : ℕ) (v w : View E) (i : ℕ) → get_elem? views id ≡ some v → v.out ≡ true → IsSpent views i → IsSpent (set views id w) i
+  pub spent_set : (views : List (Knowledge E)) (id : ℕ) (v w : Knowledge E) (i : ℕ) → get_elem? views id ≡ some v → v.out ≡ true → IsSpent views i → IsSpent (set views id w) i
   spent_set views id v w i at out spent =
-      let ne : i ≢ id = λ e. true_is_not_false (sym out ∙ ap (λ (u : View E). u.out) (some-injective v spent.view (sym at ∙ ap (λ j. get_elem? views j) (sym e) ∙ spent.here)) ∙ spent.spent) in
+      let ne : i ≢ id = λ e. true_is_not_false (sym out ∙ ap (λ (u : Knowledge E). u.out) (some-injective v spent.view (sym at ∙ ap (λ j. get_elem? views j) (sym e) ∙ spent.here)) ∙ spent.spent) in
       record { view = spent.view; here = set_else views id i w ne ∙ spent.here; spent = spent.spent }
 
-  pub own_at_home : (history : List (ℕ × E)) (served drawn : ℕ) (seat_of : ℕ → ℕ) (i : ℕ) (v : View E) → Fits history served drawn seat_of i v → v.out ≡ true → (v.number ≡ i) × (of_number i history ≡ v.own)
+  pub own_at_home : (history : List (ℕ × E)) (served drawn : ℕ) (seat_of : ℕ → ℕ) (i : ℕ) (v : Knowledge E) → Fits history served drawn seat_of i v → v.out ≡ true → (v.number ≡ i) × (of_number i history ≡ v.own)
   own_at_home history served drawn seat_of i v fits out = known_out history i v v.out out fits.known
 
   pub waits_of : (history : List (ℕ × E)) (served drawn : ℕ) (seat_of : ℕ → ℕ) (i : ℕ) (seen : List (ℕ × E)) (stage : Stage) (t : ℕ) → stage ≡ Waiting t → IsAtStage history served drawn seat_of i seen stage → IsOut served drawn seat_of i t
@@ -62,10 +62,10 @@ module _ {E : Type 0} where
 
 module _ {V E : Type 0} (entries : V → List (ℕ × E)) where
   abbrev Table : Type 0
-  Table = State (std.Option V) (View E)
+  Table = State (std.Option V) (Knowledge E)
 
   -- the doorman, where another seat changed
-  pub doorman_stays : (history next : List (ℕ × E)) (views : List (View E)) (door : View E) (id : ℕ) (v w : View E) → IsDoorman history views door → id ≢ 0 → get_elem? views id ≡ some v → v.out ≡ true
+  pub doorman_stays : (history next : List (ℕ × E)) (views : List (Knowledge E)) (door : Knowledge E) (id : ℕ) (v w : Knowledge E) → IsDoorman history views door → id ≢ 0 → get_elem? views id ≡ some v → v.out ≡ true
       → AreOwn next door.retired → IsDoorman next (set views id w) door
   doorman_stays history next views door id v w d apart at out own = record {
     here = set_else views id 0 w (λ e. apart (sym e)) ∙ d.here;
@@ -79,44 +79,44 @@ module _ {V E : Type 0} (entries : V → List (ℕ × E)) where
   }
 
   -- the seat of a pass is not the doorman's
-  pub apart_from_door : (s : Table) (r : Kept entries s) (id : ℕ) (v : View E) → get_elem? s.views id ≡ some v → v.out ≡ true → 1 ≤ v.number → id ≢ 0
+  pub apart_from_door : (s : Table) (r : Kept entries s) (id : ℕ) (v : Knowledge E) → get_elem? s.views id ≡ some v → v.out ≡ true → 1 ≤ v.number → id ≢ 0
   apart_from_door s r id v at out number e = let here = (own_at_home r.history r.served r.drawn r.seat_of id v (r.each id v at) out).0 in omega arith
 
   -- nobody else holds the value where a seat holds none and has the ticket that is served
-  pub is_home : (s : Table) (r : Kept entries s) (id : ℕ) (v : View E) → get_elem? s.views id ≡ some v → is_holding v.stage ≡ false → r.seat_of r.served ≡ id → IsHome entries r.history s.views s.homes
+  pub is_home : (s : Table) (r : Kept entries s) (id : ℕ) (v : Knowledge E) → get_elem? s.views id ≡ some v → is_holding v.stage ≡ false → r.seat_of r.served ≡ id → IsHome entries r.history s.views s.homes
   is_home s r id v at free here = ⊎_elim
       (λ home. home)
       (λ (away : IsAway s.views).
       let fits = r.each away.holder away.view away.here in
       let same : id ≡ away.holder = sym here ∙ (holds_of r.history r.served r.drawn r.seat_of away.holder away.view.seen away.view.stage away.holding fits.stage).0 in
-      absurd (true_is_not_false (sym away.holding ∙ ap (λ (u : View E). is_holding u.stage) (some-injective away.view v (sym away.here ∙ ap (λ j. get_elem? s.views j) (sym same) ∙ at)) ∙ free)))
+      absurd (true_is_not_false (sym away.holding ∙ ap (λ (u : Knowledge E). is_holding u.stage) (some-injective away.view v (sym away.here ∙ ap (λ j. get_elem? s.views j) (sym same) ∙ at)) ∙ free)))
       r.slot
 
   -- where a seat changes that did not hold the value, and does not after, the slot is as it was
-  pub slot_stays : (s : Table) (r : Kept entries s) (id : ℕ) (v w : View E) → get_elem? s.views id ≡ some v → is_holding v.stage ≡ false → is_holding w.stage ≡ false
+  pub slot_stays : (s : Table) (r : Kept entries s) (id : ℕ) (v w : Knowledge E) → get_elem? s.views id ≡ some v → is_holding v.stage ≡ false → is_holding w.stage ≡ false
       → IsHome entries r.history (set s.views id w) s.homes ⊎ IsAway (set s.views id w)
   slot_stays s r id v w at free still = ⊎_elim
       (λ (home : IsHome entries r.history s.views s.homes). inl record {
         value = home.value;
         here = home.here;
         is = home.is;
-        free = each_set (λ j (u : View E). is_holding u.stage ≡ false) s.views id w (λ j u _ e. home.free j u e) still;
+        free = each_set (λ j (u : Knowledge E). is_holding u.stage ≡ false) s.views id w (λ j u _ e. home.free j u e) still;
       })
       (λ (away : IsAway s.views). inr record {
         holder = away.holder;
         view = away.view;
         here = set_else s.views id away.holder w
-            (λ e. true_is_not_false (sym away.holding ∙ ap (λ (u : View E). is_holding u.stage) (some-injective away.view v (sym away.here ∙ ap (λ j. get_elem? s.views j) e ∙ at)) ∙ free)) ∙ away.here;
+            (λ e. true_is_not_false (sym away.holding ∙ ap (λ (u : Knowledge E). is_holding u.stage) (some-injective away.view v (sym away.here ∙ ap (λ j. get_elem? s.views j) e ∙ at)) ∙ free)) ∙ away.here;
         holding = away.holding;
       })
       r.slot
 
   -- a ticket is drawn
-  pub draws_keeps : (slots id : ℕ) (me : Me (std.Option V) (View E)) → me.0.out ≡ true → 1 ≤ me.0.number → me.0.stage ≡ Idle
-      → Allows (Kept entries) slots id me 0 (λ n. (n + 1) % 2 ^ 64) (draws (step slots 0 1 0 none) me)
+  pub draws_keeps : (slots id : ℕ) (me : Me (std.Option V) (Knowledge E)) → me.0.out ≡ true → 1 ≤ me.0.number → me.0.stage ≡ Idle
+      → Allows (Kept entries) slots id me 0 (λ n. (n + 1) % 2 ^ 64) (draw_step (step slots 0 1 0 none) me)
   draws_keeps slots id me out number idle s r _ at _ =
-      let v : View E = me.0 in
-      let w : View E = at_stage v (Waiting r.drawn) in
+      let v : Knowledge E = me.0 in
+      let w : Knowledge E = at_stage v (Waiting r.drawn) in
       let found : ℕ = get_or s.words 0 0 in
       let next : ℕ = (found + 1) % 2 ^ 64 in
       let apart = apart_from_door s r id v at out number in
@@ -127,7 +127,7 @@ module _ {V E : Type 0} (entries : V → List (ℕ × E)) where
       let count : tickets_out (set s.views id w) + tickets_at v.stage ≡ tickets_out s.views + 1 = tickets_out-set s.views id v w at in
       let none_out : tickets_at v.stage ≡ 0 = ap tickets_at idle in
       let stays : (j t : ℕ) → IsOut r.served r.drawn r.seat_of j t → IsOut r.served (r.drawn + 1) seat_of j t = λ j t o. let below : t < r.drawn = o.exists in record {
-        waits = o.waits;
+        wait_step = o.wait_step;
         exists = omega arith;
         here = ap (λ b. cond b id (r.seat_of t)) (ne_eqb t r.drawn (λ e. omega arith)) ∙ o.here;
       } in
@@ -155,7 +155,7 @@ module _ {V E : Type 0} (entries : V → List (ℕ × E)) where
                 seen = fits.seen;
                 told = fits.told;
                 known = let k = known_out r.history id v v.out out fits.known in is_known r.history id w w.out out k.0 k.1;
-                stage = record { waits = omega arith; exists = omega arith; here = ap (λ b. cond b id (r.seat_of r.drawn)) (eq-eqb r.drawn r.drawn refl) };
+                stage = record { wait_step = omega arith; exists = omega arith; here = ap (λ b. cond b id (r.seat_of r.drawn)) (eq-eqb r.drawn r.drawn refl) };
               };
           slot = slot_stays s r id v w at (ap is_holding idle) refl;
         },
@@ -163,7 +163,7 @@ module _ {V E : Type 0} (entries : V → List (ℕ × E)) where
       )
 
   -- a step that changes neither its word nor its view
-  pub nothing_changes : (s : Table) (i id : ℕ) (v : View E) → Kept entries s → get_elem? s.views id ≡ some v → i < length s.words
+  pub nothing_changes : (s : Table) (i id : ℕ) (v : Knowledge E) → Kept entries s → get_elem? s.views id ≡ some v → i < length s.words
       → Kept entries record { words = set s.words i (get_or s.words i 0); homes = s.homes; views = set s.views id v }
   nothing_changes s i id v r at within =
       let words : s.words ≡ set s.words i (get_or s.words i 0) = sym (set_again s.words i (get_or s.words i 0) (at_default s.words i 0 within)) in
@@ -171,7 +171,7 @@ module _ {V E : Type 0} (entries : V → List (ℕ × E)) where
       subst (Kept entries) (λ k. record { words = words k; homes = s.homes; views = views k }) r
 
   -- a word changes of which the rule says nothing
-  pub signals_keeps : (slots id word : ℕ) (me : Me (std.Option V) (View E)) (f : ℕ → ℕ) → 32 ≤ word → Allows (Kept entries) slots id me word f (λ found after. after ≡ me)
+  pub signals_keeps : (slots id word : ℕ) (me : Me (std.Option V) (Knowledge E)) (f : ℕ → ℕ) → 32 ≤ word → Allows (Kept entries) slots id me word f (λ found after. after ≡ me)
   signals_keeps slots id word me f far s r _ at _ =
       let next : ℕ = f (get_or s.words word 0) in
       let wide : 32 < length s.words = r.wide in
@@ -179,7 +179,7 @@ module _ {V E : Type 0} (entries : V → List (ℕ × E)) where
         me.0,
         keeps,
         tt,
-        subst (λ (views : List (View E)). Kept entries record { words = set s.words word next; homes = s.homes; views = views }) (sym views) record {
+        subst (λ (views : List (Knowledge E)). Kept entries record { words = set s.words word next; homes = s.homes; views = views }) (sym views) record {
           history = r.history;
           served = r.served;
           drawn = r.drawn;
@@ -199,8 +199,8 @@ module _ {V E : Type 0} (entries : V → List (ℕ × E)) where
       )
 
   -- what a waiting pass is told, by its ticket
-  told_at : (me : Me (std.Option V) (View E)) (t found : ℕ) (after : Me (std.Option V) (View E)) → me.0.stage ≡ Waiting t
-      → (found ≡ t % 2 ^ 64 → Takes entries t me after) × (found ≢ t % 2 ^ 64 → after ≡ me) → waits entries (step 1 16 0 0 none) me found after
+  told_at : (me : Me (std.Option V) (Knowledge E)) (t found : ℕ) (after : Me (std.Option V) (Knowledge E)) → me.0.stage ≡ Waiting t
+      → (found ≡ t % 2 ^ 64 → Takes entries t me after) × (found ≢ t % 2 ^ 64 → after ≡ me) → wait_step entries (step 1 16 0 0 none) me found after
   told_at me t found after is told u also =
       let same : t ≡ u = cc in subst (λ n. (found ≡ n % 2 ^ 64 → Takes entries n me after) × (found ≢ n % 2 ^ 64 → after ≡ me)) same told
 
@@ -211,15 +211,15 @@ module _ {V E : Type 0} (entries : V → List (ℕ × E)) where
       let made : r.door.made + 1 ≡ length s.views = r.doorman.made in
       let bound : r.door.made < 2 ^ 64 = r.doorman.bound in
       let counted : r.served + tickets_out s.views ≡ r.drawn = r.counted in
-      let waits : r.served ≤ t = o.waits in
+      let wait_step : r.served ≤ t = o.wait_step in
       let exists : t < r.drawn = o.exists in
-      one_turn r.served t (2 ^ 64) waits (omega arith) (sym r.served_is ∙ found)
+      one_turn r.served t (2 ^ 64) wait_step (omega arith) (sym r.served_is ∙ found)
 
   -- a ticket is waited for: the value is taken if it is served
-  pub waits_keeps : (slots id : ℕ) (me : Me (std.Option V) (View E)) (t : ℕ) → me.0.out ≡ true → 1 ≤ me.0.number → me.0.stage ≡ Waiting t
-      → Allows (Kept entries) slots id me 16 (λ n. n) (waits entries (step slots 16 0 0 none) me)
+  pub waits_keeps : (slots id : ℕ) (me : Me (std.Option V) (Knowledge E)) (t : ℕ) → me.0.out ≡ true → 1 ≤ me.0.number → me.0.stage ≡ Waiting t
+      → Allows (Kept entries) slots id me 16 (λ n. n) (wait_step entries (step slots 16 0 0 none) me)
   waits_keeps slots id me t out number waiting s r _ at _ =
-      let v : View E = me.0 in
+      let v : Knowledge E = me.0 in
       let found : ℕ = get_or s.words 16 0 in
       let wide : 32 < length s.words = r.wide in
       let fits = r.each id v at in
@@ -228,7 +228,7 @@ module _ {V E : Type 0} (entries : V → List (ℕ × E)) where
       (λ hit.
       let now : r.served ≡ t = served_is s r id t o hit in
       let home = is_home s r id v at (ap is_holding waiting) (ap r.seat_of now ∙ o.here) in
-      let w : View E = holding v t (entries home.value) in
+      let w : Knowledge E = holding v t (entries home.value) in
       let known = known_out r.history id v v.out out fits.known in
       let own : of_number v.number (entries home.value) ≡ v.own = ap (of_number v.number) home.is ∙ ap (λ n. of_number n r.history) known.0 ∙ known.1 in
       let words : set s.words 16 found ≡ s.words = set_again s.words 16 found (at_default s.words 16 0 (omega arith)) in
@@ -267,17 +267,17 @@ module _ {V E : Type 0} (entries : V → List (ℕ × E)) where
       (λ miss. (v, keeps, tt, nothing_changes s 16 id v r at (omega arith), told_at me t found me waiting ((λ hit. absurd (miss hit)), (λ _. refl))))
 
   -- the lists of retired passes stay their own where the history goes on with the entries of a pass that is out
-  own_more : (history added : List (ℕ × E)) (views : List (View E)) (id : ℕ) (v : View E) (retired : List (Retired E)) → get_elem? views id ≡ some v → v.out ≡ true → AllOfNumber id added
+  own_more : (history added : List (ℕ × E)) (views : List (Knowledge E)) (id : ℕ) (v : Knowledge E) (retired : List (Retired E)) → get_elem? views id ≡ some v → v.out ≡ true → AllOfNumber id added
       → AllByRecursion (λ (r : Retired E). IsSpent views r.0) retired → AreOwn history retired → AreOwn (history ++ added) retired
   own_more history added views id v [] at out all spent own = tt
   own_more history added views id v (x ∷ xs) at out all spent own =
       let gone = spent.0 in
-      let ne : id ≢ x.0 = λ e. true_is_not_false (sym out ∙ ap (λ (u : View E). u.out) (some-injective v gone.view (sym at ∙ ap (λ j. get_elem? views j) e ∙ gone.here)) ∙ gone.spent) in
+      let ne : id ≢ x.0 = λ e. true_is_not_false (sym out ∙ ap (λ (u : Knowledge E). u.out) (some-injective v gone.view (sym at ∙ ap (λ j. get_elem? views j) e ∙ gone.here)) ∙ gone.spent) in
       (of_number-others x.0 id history added ne all ∙ own.0, own_more history added views id v xs at out all spent.1 own.1)
 
   -- the value is given back, and the next ticket served
-  gives_keeps : (slots id : ℕ) (v : View E) (t : ℕ) (value : V) (held : List (ℕ × std.Option V)) → held ≡ (0, Some value) ∷ [] → v.out ≡ true → 1 ≤ v.number → v.stage ≡ Holding t
-      → Appends v.number v.seen (entries value) → Allows (Kept entries) slots id (v, (0, Some value) ∷ []) 16 (λ n. (n + 1) % 2 ^ 64) (serves entries (step slots 16 1 0 none) (v, (0, Some value) ∷ []))
+  gives_keeps : (slots id : ℕ) (v : Knowledge E) (t : ℕ) (value : V) (held : List (ℕ × std.Option V)) → held ≡ (0, Some value) ∷ [] → v.out ≡ true → 1 ≤ v.number → v.stage ≡ Holding t
+      → Appends v.number v.seen (entries value) → Allows (Kept entries) slots id (v, (0, Some value) ∷ []) 16 (λ n. (n + 1) % 2 ^ 64) (serve_step entries (step slots 16 1 0 none) (v, (0, Some value) ∷ []))
   gives_keeps slots id v t value held held_is out number holding_is appends s r _ at _ =
       let found : ℕ = get_or s.words 16 0 in
       let next : ℕ = (found + 1) % 2 ^ 64 in
@@ -289,7 +289,7 @@ module _ {V E : Type 0} (entries : V → List (ℕ × E)) where
       let history : List (ℕ × E) = r.history ++ added in
       let is : entries value ≡ history = appends.is ∙ ap (λ l. l ++ added) holds.1 in
       let all : AllOfNumber id added = subst (λ n. AllOfNumber n added) known.0 appends.of_number in
-      let w : View E = after_turn v (entries value) (of_number v.number (entries value)) in
+      let w : Knowledge E = after_turn v (entries value) (of_number v.number (entries value)) in
       let wide : 32 < length s.words = r.wide in
       let apart = apart_from_door s r id v at out number in
       let within : id < length s.views = at_within s.views id v at in
@@ -298,12 +298,12 @@ module _ {V E : Type 0} (entries : V → List (ℕ × E)) where
       let before : r.served + tickets_out s.views ≡ r.drawn = r.counted in
       let slots_is : length s.homes ≡ 1 = r.slots in
       let not_mine : (j t : ℕ) → j ≢ id → IsOut r.served r.drawn r.seat_of j t → IsOut (r.served + 1) r.drawn r.seat_of j t = λ j t ne o.
-      let waits : r.served ≤ t = o.waits in
+      let wait_step : r.served ≤ t = o.wait_step in
       let other : r.served ≢ t = λ e. ne (sym o.here ∙ ap r.seat_of (sym e) ∙ here) in
-      record { waits = omega arith; exists = o.exists; here = o.here } in
+      record { wait_step = omega arith; exists = o.exists; here = o.here } in
       let stage_stays : (j : ℕ) (seen : List (ℕ × E)) → j ≢ id → (stage : Stage) → IsAtStage r.history r.served r.drawn r.seat_of j seen stage → IsAtStage history (r.served + 1) r.drawn r.seat_of j seen stage = λ j seen ne.
       elim [ Idle ↦ λ _. tt | Waiting t ↦ λ o. not_mine j t ne o | Holding t ↦ λ h. absurd (ne (sym h.1.here ∙ ap r.seat_of h.0 ∙ here)) ] in
-      let free : (j : ℕ) (u : View E) → j ≢ id → get_elem? s.views j ≡ some u → (b : Bool) → is_holding u.stage ≡ b → b ≡ false = λ j u ne e.
+      let free : (j : ℕ) (u : Knowledge E) → j ≢ id → get_elem? s.views j ≡ some u → (b : Bool) → is_holding u.stage ≡ b → b ≡ false = λ j u ne e.
       elim [ true ↦ λ h. absurd (ne (sym (holds_of r.history r.served r.drawn r.seat_of j u.seen u.stage h (r.each j u e).stage).0 ∙ here)) | false ↦ λ h. refl ] in (
         w,
         gives,
@@ -339,15 +339,15 @@ module _ {V E : Type 0} (entries : V → List (ℕ × E)) where
             value = value;
             here = set_here s.homes 0 (some (Some value)) (omega arith);
             is = is;
-            free = each_set (λ j (u : View E). is_holding u.stage ≡ false) s.views id w (λ j u ne e. free j u ne e (is_holding u.stage) refl) refl;
+            free = each_set (λ j (u : Knowledge E). is_holding u.stage ≡ false) s.views id w (λ j u ne e. free j u ne e (is_holding u.stage) refl) refl;
           };
         },
         refl,
       )
 
-  pub serves_keeps : (slots id : ℕ) (me : Me (std.Option V) (View E)) (t : ℕ) (value : V) → me.1 ≡ (0, Some value) ∷ [] → me.0.out ≡ true → 1 ≤ me.0.number → me.0.stage ≡ Holding t
-      → Appends me.0.number me.0.seen (entries value) → Allows (Kept entries) slots id me 16 (λ n. (n + 1) % 2 ^ 64) (serves entries (step slots 16 1 0 none) me)
+  pub serves_keeps : (slots id : ℕ) (me : Me (std.Option V) (Knowledge E)) (t : ℕ) (value : V) → me.1 ≡ (0, Some value) ∷ [] → me.0.out ≡ true → 1 ≤ me.0.number → me.0.stage ≡ Holding t
+      → Appends me.0.number me.0.seen (entries value) → Allows (Kept entries) slots id me 16 (λ n. (n + 1) % 2 ^ 64) (serve_step entries (step slots 16 1 0 none) me)
   serves_keeps slots id me t value is out number holding_is appends =
-      let P : Me (std.Option V) (View E) → Type 0 = λ m. Allows (Kept entries) slots id m 16 (λ n. (n + 1) % 2 ^ 64) (serves entries (step slots 16 1 0 none) m) in
-      let same : ◌≡◌ {A = Me (std.Option V) (View E)} (me.0, (0, Some value) ∷ []) me = λ k. (me.0, sym is k) in
+      let P : Me (std.Option V) (Knowledge E) → Type 0 = λ m. Allows (Kept entries) slots id m 16 (λ n. (n + 1) % 2 ^ 64) (serve_step entries (step slots 16 1 0 none) m) in
+      let same : ◌≡◌ {A = Me (std.Option V) (Knowledge E)} (me.0, (0, Some value) ∷ []) me = λ k. (me.0, sym is k) in
       subst P same (gives_keeps slots id me.0 t value me.1 is out number holding_is appends)

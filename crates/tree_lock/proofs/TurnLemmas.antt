@@ -4,7 +4,7 @@ use Rattle.std.specs.Prelude.{Option, Some, None}
 use mathlib.Core.List.{IsPrefix}
 use Rattle.atomic_table.specs.Table.{Me}
 use Rattle.atomic_table.specs.declared.shared.Seat.{Seat}
-use Rattle.tree_lock.specs.declared.view.View.{View}
+use Rattle.tree_lock.specs.declared.view.Knowledge.{Knowledge}
 use Rattle.tree_lock.specs.Entries.{of_number, AllOfNumber, Appends}
 use Rattle.tree_lock.specs.Seen.{PassView}
 use Rattle.tree_lock.specs.Knowledge.{after_turn, holding}
@@ -23,12 +23,12 @@ module _ {V : Type 0} where
   same_value k x y xs ys e = ap (first_of x) e
 
 module _ {V E : Type 0} where
-  pub same_view : (s t : Seat (Option V) (View E)) → t.table_id ≡ s.table_id → t.me ≡ s.me → seat_view t ≡ seat_view s
+  pub same_view : (s t : Seat (Option V) (Knowledge E)) → t.table_id ≡ s.table_id → t.me ≡ s.me → seat_view t ≡ seat_view s
   same_view s t table me = λ i. record { lock = table i; number = (me i).0.number; seen = (me i).0.seen; own = (me i).0.own }
 
 module _ {V E Out : Type 0} (entries : V → List (ℕ × E)) (done : V → ℕ → V → Out → Type 0) where
   abbrev S : Type 0
-  S = Seat (Option V) (View E)
+  S = Seat (Option V) (Knowledge E)
 
   -- what the job's work says
   abbrev pub Worked : S → ℕ → Out → S → Type 0
@@ -43,17 +43,17 @@ module _ {V E Out : Type 0} (entries : V → List (ℕ × E)) (done : V → ℕ 
       let after : V = work.1 in
       let appends = work.4 in
       let added : List (ℕ × E) = appends.added in
-      let value_is : takes.value ≡ before = same_value 0 takes.value before s1.me.1 [] (sym (ap (λ (m : Me (Option V) (View E)). m.1) takes.is) ∙ work.2) in
+      let value_is : takes.value ≡ before = same_value 0 takes.value before s1.me.1 [] (sym (ap (λ (m : Me (Option V) (Knowledge E)). m.1) takes.is) ∙ work.2) in
       let number1 : s1.me.0.number ≡ s0.me.0.number = ap (λ (p : PassView E). p.number) drawn in
       let own1 : s1.me.0.own ≡ s0.me.0.own = ap (λ (p : PassView E). p.own) drawn in
       let seen1 : s1.me.0.seen ≡ s0.me.0.seen = ap (λ (p : PassView E). p.seen) drawn in
-      let view3 : s3.me.0 ≡ holding s1.me.0 t (entries takes.value) = ap (λ (m : Me (Option V) (View E)). m.0) work.6 ∙ ap (λ (m : Me (Option V) (View E)). m.0) takes.is in
-      let number3 : s3.me.0.number ≡ s0.me.0.number = ap (λ (v : View E). v.number) view3 ∙ number1 in
-      let view5 : s5.me.0 ≡ after_turn s3.me.0 (entries after) (of_number s3.me.0.number (entries after)) = ap (λ (m : Me (Option V) (View E)). m.0) same ∙ gave after (ap (λ (m : Me (Option V) (View E)). m.1) work.6) in
+      let view3 : s3.me.0 ≡ holding s1.me.0 t (entries takes.value) = ap (λ (m : Me (Option V) (Knowledge E)). m.0) work.6 ∙ ap (λ (m : Me (Option V) (Knowledge E)). m.0) takes.is in
+      let number3 : s3.me.0.number ≡ s0.me.0.number = ap (λ (v : Knowledge E). v.number) view3 ∙ number1 in
+      let view5 : s5.me.0 ≡ after_turn s3.me.0 (entries after) (of_number s3.me.0.number (entries after)) = ap (λ (m : Me (Option V) (Knowledge E)). m.0) same ∙ gave after (ap (λ (m : Me (Option V) (Knowledge E)). m.1) work.6) in
       let all : AllOfNumber s0.me.0.number added = subst (λ (n : ℕ). AllOfNumber n added) is appends.of_number in
       let own_before : of_number s0.me.0.number (entries before) ≡ s0.me.0.own = ap (λ (n : ℕ). of_number n (entries before)) (sym number1) ∙ ap (λ (v : V). of_number s1.me.0.number (entries v)) (sym value_is) ∙ takes.own ∙ own1 in
-      let number5 : s5.me.0.number ≡ s0.me.0.number = ap (λ (v : View E). v.number) view5 ∙ number3 in
-      let own5 : s5.me.0.own ≡ of_number s0.me.0.number (entries after) = ap (λ (v : View E). v.own) view5 ∙ ap (λ (n : ℕ). of_number n (entries after)) number3 in
+      let number5 : s5.me.0.number ≡ s0.me.0.number = ap (λ (v : Knowledge E). v.number) view5 ∙ number3 in
+      let own5 : s5.me.0.own ≡ of_number s0.me.0.number (entries after) = ap (λ (v : Knowledge E). v.own) view5 ∙ ap (λ (n : ℕ). of_number n (entries after)) number3 in
       record {
         before = before;
         after = after;
@@ -62,7 +62,7 @@ module _ {V E Out : Type 0} (entries : V → List (ℕ × E)) (done : V → ℕ 
         found = subst (λ (l : List (ℕ × E)). IsPrefix l (entries before)) seen1 (subst (λ (v : V). IsPrefix s1.me.0.seen (entries v)) value_is takes.seen);
         left = appends.is;
         of_pass = all;
-        seen = ap (λ (v : View E). v.seen) view5;
+        seen = ap (λ (v : Knowledge E). v.seen) view5;
         own = own5 ∙ ap (of_number s0.me.0.number) appends.is ∙ of_number-added s0.me.0.number (entries before) added all ∙ ap (λ (l : List (ℕ × E)). l ++ added) own_before;
         lock = rung ∙ served ∙ work.5 ∙ waited ∙ ap (λ (p : PassView E). p.lock) drawn;
         number = number5;

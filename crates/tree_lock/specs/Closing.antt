@@ -2,11 +2,11 @@
 use Rattle.std.specs.Prelude.{◌≡◌, ℕ, ◌+◌, ◌≤◌, List, [], ◌∷◌, length}
 use mathlib.Core.List.{IsPrefix}
 use Rattle.tree_lock.specs.Entries.{of_number}
-use Rattle.tree_lock.specs.Seen.{PassView, DoorView, AreNumbers, AreOwn}
+use Rattle.tree_lock.specs.Seen.{PassView, DoormanView, AreNumbers, AreOwn}
 
 module _ {E : Type 0} where
   -- The doorman knows this history: the entries under each number that was retired are that pass's own, those under the number 0 are the opening ones, and there are none under a number that was not made.
-  pub record Knows (door : DoorView E) (history : List (ℕ × E)) : Type 0 where
+  pub record Knows (door : DoormanView E) (history : List (ℕ × E)) : Type 0 where
     pub opened : IsPrefix door.opening history
     pub seen : IsPrefix door.seen history
     pub numbers : AreNumbers door.made door.retired
@@ -15,7 +15,7 @@ module _ {E : Type 0} where
     pub none_above : (n : ℕ) → door.made + 1 ≤ n → of_number n history ≡ []
 
   -- The doorman took a pass in: it has seen all that the pass has seen, and knows the pass's own entries.
-  pub record TakesIn (pass : PassView E) (old new : DoorView E) : Type 0 where
+  pub record TakesIn (pass : PassView E) (old new : DoormanView E) : Type 0 where
     pub lock : new.lock ≡ old.lock
     pub opening : new.opening ≡ old.opening
     pub made : new.made ≡ old.made
@@ -26,6 +26,6 @@ module _ {E : Type 0} where
     pub knows : Knows new new.seen
 
   -- The history of a lock whose passes were all taken in
-  pub record IsClosed (door : DoorView E) (history : List (ℕ × E)) : Type 0 where
+  pub record IsClosed (door : DoormanView E) (history : List (ℕ × E)) : Type 0 where
     pub all : length door.retired ≡ door.made
     pub knows : Knows door history

@@ -8,7 +8,7 @@ use mathlib.Core.Option.{Option, some}
 use mathlib.Core.List.{IsPrefix}
 use lib.ListN.{get_elem?}
 use Rattle.atomic_table.specs.Table.{State}
-use Rattle.tree_lock.specs.declared.view.View.{View}
+use Rattle.tree_lock.specs.declared.view.Knowledge.{Knowledge}
 use Rattle.tree_lock.specs.declared.view.Stage.{Stage}
 use Rattle.tree_lock.specs.declared.view.Stage.TheVariants.{Idle, Waiting, Holding}
 use Rattle.tree_lock.specs.Entries.{of_number}
@@ -17,7 +17,7 @@ use Rattle.tree_lock.specs.Knowledge.{is_holding, tickets_out}
 
 -- the ticket was drawn and not served, and is at this seat
 pub record IsOut (served drawn : ℕ) (seat_of : ℕ → ℕ) (i t : ℕ) : Type 0 where
-  pub waits : served ≤ t
+  pub wait_step : served ≤ t
   pub exists : t < drawn
   pub here : seat_of t ≡ i
 
@@ -29,23 +29,23 @@ module _ {E : Type 0} where
   IsAtStage history served drawn seat_of i seen (Holding t) = (t ≡ served) × IsOut served drawn seat_of i t × (seen ≡ history)
 
   -- a seat that has not been retired is at its number, and knows its own entries
-  abbrev pub IsKnown : List (ℕ × E) → ℕ → View E → Bool → Type 0
+  abbrev pub IsKnown : List (ℕ × E) → ℕ → Knowledge E → Bool → Type 0
   IsKnown history i v true = (v.number ≡ i) × (of_number i history ≡ v.own)
   IsKnown history i v false = v.stage ≡ Idle
 
-  pub record Fits (history : List (ℕ × E)) (served drawn : ℕ) (seat_of : ℕ → ℕ) (i : ℕ) (v : View E) : Type 0 where
+  pub record Fits (history : List (ℕ × E)) (served drawn : ℕ) (seat_of : ℕ → ℕ) (i : ℕ) (v : Knowledge E) : Type 0 where
     pub seen : IsPrefix v.seen history
     pub told : IsPrefix v.told history
     pub known : IsKnown history i v v.out
     pub stage : IsAtStage history served drawn seat_of i v.seen v.stage
 
   -- the seat's pass was retired
-  pub record IsSpent (views : List (View E)) (i : ℕ) : Type 0 where
-    pub view : View E
+  pub record IsSpent (views : List (Knowledge E)) (i : ℕ) : Type 0 where
+    pub view : Knowledge E
     pub here : get_elem? views i ≡ some view
     pub spent : view.out ≡ false
 
-  pub record IsDoorman (history : List (ℕ × E)) (views : List (View E)) (door : View E) : Type 0 where
+  pub record IsDoorman (history : List (ℕ × E)) (views : List (Knowledge E)) (door : Knowledge E) : Type 0 where
     pub here : get_elem? views 0 ≡ some door
     pub out : door.out ≡ true
     pub idle : door.stage ≡ Idle
@@ -56,26 +56,26 @@ module _ {E : Type 0} where
     pub spent : AllByRecursion (λ (r : Retired E). IsSpent views r.0) door.retired
 
   -- a pass holds the value
-  pub record IsAway (views : List (View E)) : Type 0 where
+  pub record IsAway (views : List (Knowledge E)) : Type 0 where
     pub holder : ℕ
-    pub view : View E
+    pub view : Knowledge E
     pub here : get_elem? views holder ≡ some view
     pub holding : is_holding view.stage ≡ true
 
 module _ {V E : Type 0} (entries : V → List (ℕ × E)) where
   -- the value is at home, its entries are the history, and no pass holds it
-  pub record IsHome (history : List (ℕ × E)) (views : List (View E)) (homes : List (Option (std.Option V))) : Type 0 where
+  pub record IsHome (history : List (ℕ × E)) (views : List (Knowledge E)) (homes : List (Option (std.Option V))) : Type 0 where
     pub value : V
     pub here : get_elem? homes 0 ≡ some (some (Some value))
     pub is : entries value ≡ history
-    pub free : (i : ℕ) (v : View E) → get_elem? views i ≡ some v → is_holding v.stage ≡ false
+    pub free : (i : ℕ) (v : Knowledge E) → get_elem? views i ≡ some v → is_holding v.stage ≡ false
 
-  pub record Kept (s : State (std.Option V) (View E)) : Type 0 where
+  pub record Kept (s : State (std.Option V) (Knowledge E)) : Type 0 where
     pub history : List (ℕ × E)
     pub served : ℕ
     pub drawn : ℕ
     pub seat_of : ℕ → ℕ
-    pub door : View E
+    pub door : Knowledge E
     pub wide : 32 < length s.words
     pub slots : length s.homes ≡ 1
     pub drawn_is : slice_index s.words 0 ≡ drawn % 2 ^ 64
@@ -83,5 +83,5 @@ module _ {V E : Type 0} (entries : V → List (ℕ × E)) where
     pub counted : served + tickets_out s.views ≡ drawn
     pub doorman : IsDoorman history s.views door
     pub none_above : (n : ℕ) → length s.views ≤ n → of_number n history ≡ []
-    pub each : (i : ℕ) (v : View E) → get_elem? s.views i ≡ some v → Fits history served drawn seat_of i v
+    pub each : (i : ℕ) (v : Knowledge E) → get_elem? s.views i ≡ some v → Fits history served drawn seat_of i v
     pub slot : IsHome history s.views s.homes ⊎ IsAway s.views

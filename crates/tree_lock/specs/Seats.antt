@@ -2,10 +2,10 @@
 use Rattle.std.specs.Prelude.{◌≡◌, ℕ, ◌≤◌, ◌%◌, ◌^◌, List, [], ◌∷◌, Option, Some, true}
 use Rattle.atomic_table.specs.Seated.{TableId}
 use Rattle.atomic_table.specs.declared.shared.Seat.{Seat}
-use Rattle.tree_lock.specs.declared.view.View.{View}
+use Rattle.tree_lock.specs.declared.view.Knowledge.{Knowledge}
 use Rattle.tree_lock.specs.declared.view.Stage.TheVariants.{Idle, Waiting, Holding}
 use Rattle.tree_lock.specs.Entries.{Appends}
-use Rattle.tree_lock.specs.Seen.{PassView, DoorView}
+use Rattle.tree_lock.specs.Seen.{PassView, DoormanView}
 
 -- the table has the lock's words, and its slot
 pub record IsLockTable (table : TableId) : Type 0 where
@@ -13,28 +13,28 @@ pub record IsLockTable (table : TableId) : Type 0 where
   pub slots : table.slots ≡ 1
 
 -- what contracts see of a doorman whose seat has this view
-abbrev pub door_view : {E : Type 0} → View E → TableId → ℕ → DoorView E
-door_view v lock out = record { lock = lock; seen = v.seen; opening = v.own; made = v.made; out = out; retired = v.retired }
+abbrev pub doorman_view : {E : Type 0} → Knowledge E → TableId → ℕ → DoormanView E
+doorman_view v lock out = record { lock = lock; seen = v.seen; opening = v.own; made = v.made; out = out; retired = v.retired }
 
 module _ {V E : Type 0} where
-  abbrev pub seat_view : Seat (Option V) (View E) → PassView E
+  abbrev pub seat_view : Seat (Option V) (Knowledge E) → PassView E
   seat_view seat = record { lock = seat.table_id; number = seat.me.0.number; seen = seat.me.0.seen; own = seat.me.0.own }
 
   -- the seat of a pass at this table
-  pub record IsPassAt (table : TableId) (seat : Seat (Option V) (View E)) : Type 0 where
+  pub record IsPassAt (table : TableId) (seat : Seat (Option V) (Knowledge E)) : Type 0 where
     pub lock : IsLockTable table
     pub here : seat.table_id ≡ table
     pub out : seat.me.0.out ≡ true
     pub number : 1 ≤ seat.me.0.number
 
   -- it has no ticket, and not the value
-  pub record IsIdle (table : TableId) (seat : Seat (Option V) (View E)) : Type 0 where
+  pub record IsIdle (table : TableId) (seat : Seat (Option V) (Knowledge E)) : Type 0 where
     pub at : IsPassAt table seat
     pub free : seat.me.1 ≡ []
     pub stage : seat.me.0.stage ≡ Idle
 
   -- it waits for a ticket, of which this is the remainder
-  pub record IsWaiting (table : TableId) (seat : Seat (Option V) (View E)) (ticket : ℕ) : Type 0 where
+  pub record IsWaiting (table : TableId) (seat : Seat (Option V) (Knowledge E)) (ticket : ℕ) : Type 0 where
     pub at : IsPassAt table seat
     pub free : seat.me.1 ≡ []
     pub full : ℕ
@@ -42,7 +42,7 @@ module _ {V E : Type 0} where
     pub is : ticket ≡ full % 2 ^ 64
 
   -- it holds this value
-  pub record IsHolding (entries : V → List (ℕ × E)) (table : TableId) (seat : Seat (Option V) (View E)) (value : V) : Type 0 where
+  pub record IsHolding (entries : V → List (ℕ × E)) (table : TableId) (seat : Seat (Option V) (Knowledge E)) (value : V) : Type 0 where
     pub at : IsPassAt table seat
     pub held : seat.me.1 ≡ (0, Some value) ∷ []
     pub full : ℕ

@@ -17,7 +17,7 @@ pub record PassView (E : Type 0) : Type 0 where
 abbrev pub Retired : Type 0 → Type 0
 Retired E = ℕ × List (ℕ × E)
 
-pub record DoorView (E : Type 0) : Type 0 where
+pub record DoormanView (E : Type 0) : Type 0 where
   -- the lock whose doorman it is
   pub lock : TableId
   -- a beginning of the history

@@ -2,7 +2,7 @@
 ghost use Rattle.std.specs.Prelude.{◌≡◌, ◌+◌, ◌<◌, ◌^◌, ◌-◌, [], ◌∷◌, length, slice_index, Some, IfOk, IfErr};
 ghost use mathlib.Core.List.{IsPrefix};
 ghost use Rattle.tree_lock.specs.Entries.{AllOfNumber};
-ghost use Rattle.tree_lock.specs.Seen.{DoorView, PassView};
+ghost use Rattle.tree_lock.specs.Seen.{DoormanView, PassView};
 ghost use Rattle.tree_lock.specs.Closing.{TakesIn, IsClosed};
 
 use crate::parts::{Doorman, Pass, TreeLock};

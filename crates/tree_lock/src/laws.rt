@@ -2,9 +2,9 @@
 ghost use Rattle.std.specs.Prelude.{ℕ, List};
 ghost use Rattle.tree_lock.specs.Closing.{IsClosed};
 ghost use Rattle.tree_lock.specs.Merge.{IsMerge};
-ghost use Rattle.tree_lock.specs.Seen.{DoorView};
+ghost use Rattle.tree_lock.specs.Seen.{DoormanView};
 
 /// The history of a closed lock is its opening entries, and then a merge of its passes' own entries.
 pub fn closed_histories_are_merges<E>()
-    ensures { (door : DoorView E) (history : List (ℕ × E)) → IsClosed door history → IsMerge door.opening door.retired history }
+    ensures { (door : DoormanView E) (history : List (ℕ × E)) → IsClosed door history → IsMerge door.opening door.retired history }
 {}

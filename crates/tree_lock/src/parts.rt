@@ -32,13 +32,13 @@ pub struct Doorman<V: Recorded> {
 impl<V: Recorded> Model for Doorman<V> {
     ghost use Rattle.std.specs.Prelude.{◌≡◌, [], ◌+◌, length};
     ghost use mathlib.Core.List.{IsPrefix};
-    ghost use Rattle.tree_lock.specs.Seen.{DoorView, AreNumbers};
+    ghost use Rattle.tree_lock.specs.Seen.{DoormanView, AreNumbers};
 
-    ghost Value = { DoorView V.Entry };
+    ghost Value = { DoormanView V.Entry };
 
-    ghost use Rattle.tree_lock.specs.Seats.{door_view};
+    ghost use Rattle.tree_lock.specs.Seats.{doorman_view};
 
-    ghost view = { λ d. door_view d.seat.me.0 d.seat.table_id d.out };
+    ghost view = { λ d. doorman_view d.seat.me.0 d.seat.table_id d.out };
 
     ghost invariant = { λ d. (d.seat.id ≡ 0) × (d.seat.me.1 ≡ []) × (d.made ≡ d.seat.me.0.made) × (d.out + length d.seat.me.0.retired ≡ d.made) × IsPrefix d.seat.me.0.own d.seat.me.0.seen };
 }
@@ -46,11 +46,11 @@ impl<V: Recorded> Model for Doorman<V> {
 impl<V: Recorded> Doorman<V> {
     ghost use Rattle.std.specs.Prelude.{◌≡◌, [], ◌+◌, length};
     ghost use mathlib.Core.List.{IsPrefix};
-    ghost use Rattle.tree_lock.specs.Seats.{door_view};
+    ghost use Rattle.tree_lock.specs.Seats.{doorman_view};
 
     pub(crate) fn into_seat(self) -> LockSeat<V>
         ensures seat { (result.id ≡ 0) × (result.me.1 ≡ []) }
-        ensures view { door_view result.me.0 result.table_id self.out ≡ self }
+        ensures view { doorman_view result.me.0 result.table_id self.out ≡ self }
         ensures counted { self.out + length self.retired ≡ self.made }
         ensures opened { IsPrefix self.opening self.seen }
     {

@@ -1,6 +1,6 @@
 //! The rule of the lock's table, and what each step at it tells.
 use crate::recorded::Recorded;
-use crate::view::View;
+use crate::view::Knowledge;
 use atomic_table::{Join, Play, Seat, Shared, Split, Table, TableRule};
 use std::alloc::Global;
 use std::marker::PhantomData;
@@ -20,7 +20,7 @@ pub struct Turns<V> {
     value: PhantomData<V>,
 }
 
-impl<V: Recorded> TableRule<Option<V>, View<V::Entry>, Snapshot<V>> for Turns<V> {
+impl<V: Recorded> TableRule<Option<V>, Knowledge<V::Entry>, Snapshot<V>> for Turns<V> {
     ghost use Rattle.tree_lock.specs.Knowledge.{opening_view};
     ghost use Rattle.tree_lock.specs.Rule.{Kept};
 
@@ -31,20 +31,25 @@ impl<V: Recorded> TableRule<Option<V>, View<V::Entry>, Snapshot<V>> for Turns<V>
 
 pub type LockTable<V> = Table<
     Option<V>,
-    View<<V as Recorded>::Entry>,
+    Knowledge<<V as Recorded>::Entry>,
     Snapshot<V>,
     Turns<V>,
     Global,
 >;
 
-pub type LockShared<V> = Shared<Option<V>, View<<V as Recorded>::Entry>, Snapshot<V>, Turns<V>>;
+pub type LockShared<V> = Shared<
+    Option<V>,
+    Knowledge<<V as Recorded>::Entry>,
+    Snapshot<V>,
+    Turns<V>,
+>;
 
-pub type LockSeat<V> = Seat<Option<V>, View<<V as Recorded>::Entry>>;
+pub type LockSeat<V> = Seat<Option<V>, Knowledge<<V as Recorded>::Entry>>;
 
 /// The doorman makes a pass.
 pub struct Makes;
 
-impl<E> Split<View<E>> for Makes {
+impl<E> Split<Knowledge<E>> for Makes {
     ghost use Rattle.tree_lock.specs.Knowledge.{after_making, made_by};
 
     ghost left = { after_making };
@@ -55,7 +60,7 @@ impl<E> Split<View<E>> for Makes {
 /// The doorman takes in a pass.
 pub struct Retires;
 
-impl<E> Join<View<E>> for Retires {
+impl<E> Join<Knowledge<E>> for Retires {
     ghost use Rattle.tree_lock.specs.Knowledge.{after_retiring, spent_view};
 
     ghost both = { after_retiring };
@@ -66,44 +71,44 @@ impl<E> Join<View<E>> for Retires {
 /// The doorman sees the history.
 pub struct Looks;
 
-impl<V, E> Play<Option<V>, View<E>> for Looks {
-    ghost use Rattle.tree_lock.specs.Steps.{looks};
+impl<V, E> Play<Option<V>, Knowledge<E>> for Looks {
+    ghost use Rattle.tree_lock.specs.Steps.{look_step};
 
-    ghost then = { looks };
+    ghost then = { look_step };
 }
 
 /// A pass draws a ticket.
 pub struct Draws;
 
-impl<V, E> Play<Option<V>, View<E>> for Draws {
-    ghost use Rattle.tree_lock.specs.Steps.{draws};
+impl<V, E> Play<Option<V>, Knowledge<E>> for Draws {
+    ghost use Rattle.tree_lock.specs.Steps.{draw_step};
 
-    ghost then = { draws };
+    ghost then = { draw_step };
 }
 
 /// A pass waits for its turn, or takes the value.
 pub struct Waits;
 
-impl<V: Recorded> Play<Option<V>, View<V::Entry>> for Waits {
-    ghost use Rattle.tree_lock.specs.Steps.{waits};
+impl<V: Recorded> Play<Option<V>, Knowledge<V::Entry>> for Waits {
+    ghost use Rattle.tree_lock.specs.Steps.{wait_step};
 
-    ghost then = { waits V.entries };
+    ghost then = { wait_step V.entries };
 }
 
 /// A pass ends its turn.
 pub struct Serves;
 
-impl<V: Recorded> Play<Option<V>, View<V::Entry>> for Serves {
-    ghost use Rattle.tree_lock.specs.Steps.{serves};
+impl<V: Recorded> Play<Option<V>, Knowledge<V::Entry>> for Serves {
+    ghost use Rattle.tree_lock.specs.Steps.{serve_step};
 
-    ghost then = { serves V.entries };
+    ghost then = { serve_step V.entries };
 }
 
 /// A pass says that it sleeps, or calls one that does.
 pub struct Signals;
 
-impl<V, E> Play<Option<V>, View<E>> for Signals {
-    ghost use Rattle.tree_lock.specs.Steps.{signals};
+impl<V, E> Play<Option<V>, Knowledge<E>> for Signals {
+    ghost use Rattle.tree_lock.specs.Steps.{signal_step};
 
-    ghost then = { signals };
+    ghost then = { signal_step };
 }

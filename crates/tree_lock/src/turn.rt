@@ -63,14 +63,14 @@ fn wait_turn<V: Recorded, R: Wait>(
     requires { IsWaiting shared.now.table_id seat.old ticket }
     ensures { (seat.new.table_id ≡ seat.old.table_id) × ((t : ℕ) × Takes V.entries t seat.old.me seat.new.me) }
 {
-    let mut looks: u32 = 0;
+    let mut look_step: u32 = 0;
     for _ in rt.forever() {
         let served = shared.load::<Waits>(seat, SERVED);
         if served == ticket {
             return;
         }
-        rest(rt, shared, served, looks);
-        looks = looks.saturating_add(1);
+        rest(rt, shared, served, look_step);
+        look_step = look_step.saturating_add(1);
     }
     unreachable!()
 }

@@ -11,7 +11,7 @@ pub enum Stage {
 }
 
 /// What a pass or the doorman knows. The doorman has the number 0.
-pub struct View<E> {
+pub struct Knowledge<E> {
     /// It has not been retired.
     pub out: bool,
     pub number: u64,

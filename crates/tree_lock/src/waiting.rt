@@ -1,4 +1,4 @@
-//! How a pass waits. It draws a ticket only where nobody has one, and else sleeps until it is called; after a few calls it
+//! How a pass waits. It draws a ticket only if nobody has one, and else sleeps until it is called; after a few calls it
 //! draws one all the same, so that those who come again and again do not keep it out.
 //!
 //! Who ends a turn calls one that sleeps, unless a call is under way. No clause says that a call comes: what is proved
@@ -75,12 +75,12 @@ pub fn call_next<V: Recorded>(shared: &LockShared<V>, seat: &mut LockSeat<V>)
 }
 
 /// Waits for a moment with a ticket in hand, after so many looks. So many tickets were served at the last one.
-pub fn rest<V: Recorded, R: Wait>(rt: &R, shared: &LockShared<V>, served: u64, looks: u32)
+pub fn rest<V: Recorded, R: Wait>(rt: &R, shared: &LockShared<V>, served: u64, look_step: u32)
     requires { IsLockTable shared.now.table_id }
 {
-    if looks < SPINS {
+    if look_step < SPINS {
         spin_loop();
-    } else if looks < YIELDS {
+    } else if look_step < YIELDS {
         thread::yield_now();
     } else {
         shared.park_timeout(

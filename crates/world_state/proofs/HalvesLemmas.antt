@@ -14,10 +14,10 @@ use Rattle.file_world.specs.Laws.{HalvesKeepStep}
 use Rattle.file_world.specs.Tree.{FileTree}
 use Rattle.file_world.specs.World.{Item, World, IsWorld, node_of, mark_of, tree_of, marks_of}
 use Rattle.file_world.proofs.HalvesLemmas.{halves_after, IsWorld-after}
-use Rattle.file_tree.specs.State.{TreeState}
-use Rattle.attr_state.specs.State.{MetaState}
+use Rattle.file_tree.specs.State.{TreeView}
+use Rattle.attr_state.specs.State.{MetaView}
 use Rattle.world_state.specs.Halves.{joined_rows, joined, AreHalves, halves_refusal, halves_reply, IsAskedOf, HalvesReserve, op_in}
-use Rattle.world_state.specs.State.{WorldState, tree_state, meta_state, AreReady, IsReady, Reserves}
+use Rattle.world_state.specs.State.{WorldState, tree_state, meta_state, AreReady, IsWorldReady, ReservesWorld}
 
 joined_rows-halves : (rows : List (ℕ × Item)) → joined_rows (map (λ row. (row.0, node_of row.1)) rows) (map (λ row. (row.0, mark_of row.1)) rows) ≡ rows
 joined_rows-halves [] = refl
@@ -85,39 +85,39 @@ reply-halves world (tree_part op) = refl
 reply-halves world (meta_part op) = refl
 
 -- what the two halves of a world answer is the answer of the world
-pub reserved : (caller : List ℕ) (world : World) (op : Op) (result : Result OpReply OpFault) (tree : TreeState) (meta : MetaState) (state : WorldState)
+pub reserved : (caller : List ℕ) (world : World) (op : Op) (result : Result OpReply OpFault) (tree : TreeView) (meta : MetaView) (state : WorldState)
     → tree ≡ tree_state state → meta ≡ meta_state state
-    → HalvesReserve caller (tree_of world) (marks_of world) (part_of op) result tree meta → Reserves caller world op result state
+    → HalvesReserve caller (tree_of world) (marks_of world) (part_of op) result tree meta → ReservesWorld caller world op result state
 reserved caller world op (Ok told) tree meta state tree_is meta_is answer = (
   sym (refusal-halves world (part_of op)) ∙ answer.0,
   answer.1 ∙ reply-halves world (part_of op),
-  subst (λ (t : TreeState). AreReady caller t (meta_state state) (part_of op)) tree_is (subst (λ (m : MetaState). AreReady caller tree m (part_of op)) meta_is answer.2),
+  subst (λ (t : TreeView). AreReady caller t (meta_state state) (part_of op)) tree_is (subst (λ (m : MetaView). AreReady caller tree m (part_of op)) meta_is answer.2),
 )
 reserved caller world op (Err (Refused refused)) tree meta state tree_is meta_is answer = sym (refusal-halves world (part_of op)) ∙ answer
 reserved caller world op (Err NoMemory) tree meta state tree_is meta_is answer = sym (refusal-halves world (part_of op)) ∙ answer
 
 -- what is ready is not refused
-free_of_part : (caller : List ℕ) (tree : TreeState) (meta : MetaState) (part : Part) → AreReady caller tree meta part → halves_refusal tree.tree meta.marks part ≡ None
+free_of_part : (caller : List ℕ) (tree : TreeView) (meta : MetaView) (part : Part) → AreReady caller tree meta part → halves_refusal tree.tree meta.marks part ≡ None
 free_of_part caller tree meta (tree_part op) ready = ready.tree_ready.free
 free_of_part caller tree meta (meta_part op) ready = ready.meta_ready.free
 
-pub IsReady-free : (caller : List ℕ) (state : WorldState) (op : Op) → IsReady caller state op → refusal state.world op ≡ None
+pub IsReady-free : (caller : List ℕ) (state : WorldState) (op : Op) → IsWorldReady caller state op → refusal state.world op ≡ None
 IsReady-free caller state op ready = sym (refusal-halves state.world (part_of op)) ∙ free_of_part caller (tree_state state) (meta_state state) (part_of op) ready
 
 -- ---- a world by its two halves
 
-abbrev pub shown : TreeState → MetaState → WorldState
+abbrev pub shown : TreeView → MetaView → WorldState
 shown tree meta = record { world = joined tree.tree meta.marks; ready = record { tree = tree.ready; meta = meta.ready } }
 
-pub tree_shown : (tree : TreeState) (meta : MetaState) (state : WorldState) → AreHalves tree.tree meta.marks → shown tree meta ≡ state → tree ≡ tree_state state
+pub tree_shown : (tree : TreeView) (meta : MetaView) (state : WorldState) → AreHalves tree.tree meta.marks → shown tree meta ≡ state → tree ≡ tree_state state
 tree_shown tree meta state halves is =
-    ap (λ (t : FileTree). let tree_with : TreeState = record { tree = t; ready = tree.ready } in tree_with) (sym halves.tree_is) ∙ ap tree_state is
+    ap (λ (t : FileTree). let tree_with : TreeView = record { tree = t; ready = tree.ready } in tree_with) (sym halves.tree_is) ∙ ap tree_state is
 
-pub meta_shown : (tree : TreeState) (meta : MetaState) (state : WorldState) → AreHalves tree.tree meta.marks → shown tree meta ≡ state → meta ≡ meta_state state
+pub meta_shown : (tree : TreeView) (meta : MetaView) (state : WorldState) → AreHalves tree.tree meta.marks → shown tree meta ≡ state → meta ≡ meta_state state
 meta_shown tree meta state halves is =
-    ap (λ (m : Marks). let meta_with : MetaState = record { marks = m; ready = meta.ready } in meta_with) (sym halves.marks_are) ∙ ap meta_state is
+    ap (λ (m : Marks). let meta_with : MetaView = record { marks = m; ready = meta.ready } in meta_with) (sym halves.marks_are) ∙ ap meta_state is
 
-pub whole_shown : (tree : TreeState) (meta : MetaState) (state : WorldState) → AreHalves tree.tree meta.marks → shown tree meta ≡ state → IsWorld state.world
+pub whole_shown : (tree : TreeView) (meta : MetaView) (state : WorldState) → AreHalves tree.tree meta.marks → shown tree meta ≡ state → IsWorld state.world
 whole_shown tree meta state halves is = subst (λ (s : WorldState). IsWorld s.world) is halves.whole
 
 -- the halves may be asked for what an operation does
@@ -135,9 +135,9 @@ halves_same tree tree_after marks marks_after tree_is marks_are halves =
 pub joined_same : (tree tree_after : FileTree) (marks marks_after : Marks) → tree_after ≡ tree → marks_after ≡ marks → joined tree_after marks_after ≡ joined tree marks
 joined_same tree tree_after marks marks_after tree_is marks_are = ap (λ (t : FileTree). joined t marks_after) tree_is ∙ ap (λ (m : Marks). joined tree m) marks_are
 
-reserved_joined : (caller : List ℕ) (tree : FileTree) (marks : Marks) (op : Op) (part : Part) (result : Result OpReply OpFault) (tree_after : TreeState) (meta_after : MetaState)
+reserved_joined : (caller : List ℕ) (tree : FileTree) (marks : Marks) (op : Op) (part : Part) (result : Result OpReply OpFault) (tree_after : TreeView) (meta_after : MetaView)
     → AreHalves tree marks → part ≡ part_of op → tree_after.tree ≡ tree → meta_after.marks ≡ marks
-    → HalvesReserve caller tree marks part result tree_after meta_after → Reserves caller (joined tree marks) op result (shown tree_after meta_after)
+    → HalvesReserve caller tree marks part result tree_after meta_after → ReservesWorld caller (joined tree marks) op result (shown tree_after meta_after)
 reserved_joined caller tree marks op part result tree_after meta_after halves is tree_same marks_same answer =
     let still : AreHalves tree_after.tree meta_after.marks = halves_same tree tree_after.tree marks meta_after.marks tree_same marks_same halves in
     reserved caller (joined tree marks) op result tree_after meta_after (shown tree_after meta_after)
@@ -146,31 +146,31 @@ reserved_joined caller tree marks op part result tree_after meta_after halves is
     (subst (λ (t : FileTree). HalvesReserve caller t (marks_of (joined tree marks)) part result tree_after meta_after) (sym halves.tree_is)
     (subst (λ (m : Marks). HalvesReserve caller tree m part result tree_after meta_after) (sym halves.marks_are) answer)))
 
-pub reserved_shown : (caller : List ℕ) (tree tree_after : TreeState) (meta meta_after : MetaState) (state : WorldState) (op : Op) (part : Part) (result : Result OpReply OpFault)
+pub reserved_shown : (caller : List ℕ) (tree tree_after : TreeView) (meta meta_after : MetaView) (state : WorldState) (op : Op) (part : Part) (result : Result OpReply OpFault)
     → AreHalves tree.tree meta.marks → shown tree meta ≡ state → part ≡ part_of op → tree_after.tree ≡ tree.tree → meta_after.marks ≡ meta.marks
-    → HalvesReserve caller tree.tree meta.marks part result tree_after meta_after → Reserves caller state.world op result (shown tree_after meta_after)
+    → HalvesReserve caller tree.tree meta.marks part result tree_after meta_after → ReservesWorld caller state.world op result (shown tree_after meta_after)
 reserved_shown caller tree tree_after meta meta_after state op part result halves shows is tree_same marks_same answer =
-    subst (λ (s : WorldState). Reserves caller s.world op result (shown tree_after meta_after)) shows
+    subst (λ (s : WorldState). ReservesWorld caller s.world op result (shown tree_after meta_after)) shows
     (reserved_joined caller tree.tree meta.marks op part result tree_after meta_after halves is tree_same marks_same answer)
 
-pub ready_shown : (caller : List ℕ) (tree : TreeState) (meta : MetaState) (state : WorldState) (op : Op) (part : Part) → AreHalves tree.tree meta.marks → shown tree meta ≡ state → part ≡ part_of op
-    → IsReady caller state op → AreReady caller tree meta part
+pub ready_shown : (caller : List ℕ) (tree : TreeView) (meta : MetaView) (state : WorldState) (op : Op) (part : Part) → AreHalves tree.tree meta.marks → shown tree meta ≡ state → part ≡ part_of op
+    → IsWorldReady caller state op → AreReady caller tree meta part
 ready_shown caller tree meta state op part halves shows is ready =
     subst (λ (p : Part). AreReady caller tree meta p) (sym is)
-    (subst (λ (t : TreeState). AreReady caller t meta (part_of op)) (sym (tree_shown tree meta state halves shows))
-    (subst (λ (m : MetaState). AreReady caller (tree_state state) m (part_of op)) (sym (meta_shown tree meta state halves shows)) ready))
+    (subst (λ (t : TreeView). AreReady caller t meta (part_of op)) (sym (tree_shown tree meta state halves shows))
+    (subst (λ (m : MetaView). AreReady caller (tree_state state) m (part_of op)) (sym (meta_shown tree meta state halves shows)) ready))
 
 -- both halves after an operation are those of the world after it
-pub applied : (caller : List ℕ) (tree : TreeState) (meta : MetaState) (state : WorldState) (op : Op) (part : Part) (tree_after : FileTree) (marks_after : Marks)
-    → AreHalves tree.tree meta.marks → shown tree meta ≡ state → part ≡ part_of op → IsTrue (is_principal_name caller) → IsOperation op → IsReady caller state op
+pub applied : (caller : List ℕ) (tree : TreeView) (meta : MetaView) (state : WorldState) (op : Op) (part : Part) (tree_after : FileTree) (marks_after : Marks)
+    → AreHalves tree.tree meta.marks → shown tree meta ≡ state → part ≡ part_of op → IsTrue (is_principal_name caller) → IsOperation op → IsWorldReady caller state op
     → tree_after ≡ tree_half_after tree.tree part → marks_after ≡ marks_followed meta.marks (meta_op_of caller tree.tree part)
     → Halve (world_after caller state.world op) tree_after marks_after
 applied caller tree meta state op part tree_after marks_after halves shows is named grammar ready tree_is marks_are =
     let whole : IsWorld state.world = whole_shown tree meta state halves shows in
     let free : refusal state.world op ≡ None = IsReady-free caller state op ready in
     let after = halves_after caller op state.world whole free in
-    let tree_same : tree.tree ≡ tree_of state.world = ap (λ (t : TreeState). t.tree) (tree_shown tree meta state halves shows) in
-    let marks_same : meta.marks ≡ marks_of state.world = ap (λ (m : MetaState). m.marks) (meta_shown tree meta state halves shows) in
+    let tree_same : tree.tree ≡ tree_of state.world = ap (λ (t : TreeView). t.tree) (tree_shown tree meta state halves shows) in
+    let marks_same : meta.marks ≡ marks_of state.world = ap (λ (m : MetaView). m.marks) (meta_shown tree meta state halves shows) in
     Halve-from (world_after caller state.world op) tree_after marks_after (IsWorld-after caller op state.world whole named grammar free)
     (tree_is ∙ ap (λ (t : FileTree). tree_half_after t part) tree_same ∙ ap (tree_half_after (tree_of state.world)) is ∙ sym after.tree)
     (marks_are ∙ ap (λ (m : Marks). marks_followed m (meta_op_of caller tree.tree part)) marks_same

@@ -12,12 +12,12 @@ use Rattle.file_world.specs.declared.reply.OpReply.TheVariants.{Tree as TreeOf, 
 use Rattle.file_world.specs.Attributes.{Mark, Marks}
 use Rattle.file_world.specs.AttributeEffect.{IsAskable, meta_refusal, meta_reply}
 use Rattle.file_world.specs.Effect.{Part, tree_part, meta_part}
-use Rattle.file_world.specs.Halves.{MayFollow, meta_op_of}
+use Rattle.file_world.specs.Halves.{MetaMayFollow, meta_op_of}
 use Rattle.file_world.specs.Tree.{Node, Nodes, FileTree}
 use Rattle.file_world.specs.TreeEffect.{tree_refusal, tree_reply}
 use Rattle.file_world.specs.World.{Item, World, IsWorld, tree_of, marks_of}
-use Rattle.file_tree.specs.State.{TreeState}
-use Rattle.attr_state.specs.State.{MetaState}
+use Rattle.file_tree.specs.State.{TreeView}
+use Rattle.attr_state.specs.State.{MetaView}
 use Rattle.world_state.specs.declared.half.Half.{Half}
 use Rattle.world_state.specs.declared.half.Half.TheVariants.{Tree, Meta}
 use Rattle.world_state.specs.State.{AreReady}
@@ -76,11 +76,11 @@ halves_reply tree marks (meta_part op) = MetaOf (meta_reply marks op)
 
 -- the marks may be asked for what the caller's operation does to them
 abbrev pub IsAskedOf : List ℕ → FileTree → Marks → Part → Type 0
-IsAskedOf caller tree marks (tree_part op) = tree_refusal tree op ≡ None → MayFollow marks (meta_op_of caller tree (tree_part op))
+IsAskedOf caller tree marks (tree_part op) = tree_refusal tree op ≡ None → MetaMayFollow marks (meta_op_of caller tree (tree_part op))
 IsAskedOf caller tree marks (meta_part op) = IsAskable marks op
 
 -- the operation got its reply and both halves are ready; or it is refused, and its first refusal is told; or out of memory
-abbrev pub HalvesReserve : List ℕ → FileTree → Marks → Part → Result OpReply OpFault → TreeState → MetaState → Type 0
+abbrev pub HalvesReserve : List ℕ → FileTree → Marks → Part → Result OpReply OpFault → TreeView → MetaView → Type 0
 HalvesReserve caller tree marks part (Ok told) tree_after meta_after =
     (halves_refusal tree marks part ≡ None) × (told ≡ halves_reply tree marks part) × AreReady caller tree_after meta_after part
 HalvesReserve caller tree marks part (Err (Refused refused)) tree_after meta_after = halves_refusal tree marks part ≡ Some refused

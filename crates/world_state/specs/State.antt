@@ -9,9 +9,9 @@ use Rattle.file_world.specs.Effect.{Part, tree_part, meta_part, part_of, refusal
 use Rattle.file_world.specs.Halves.{meta_op_of}
 use Rattle.file_world.specs.World.{World, tree_of, marks_of}
 use Rattle.file_tree.specs.declared.ready.Ready.{Ready as TreeReady}
-use Rattle.file_tree.specs.State.{TreeState, IsReady as IsTreeReadyFor}
-use Rattle.attr_state.specs.declared.ready.Ready.{Ready as MetaReady}
-use Rattle.attr_state.specs.State.{MetaState, IsReady as IsMetaReadyFor}
+use Rattle.file_tree.specs.State.{TreeView, IsReady as IsTreeReadyFor}
+use Rattle.attr_state.specs.declared.ready.MetaReady.{MetaReady}
+use Rattle.attr_state.specs.State.{MetaView, IsMetaReady as IsMetaReadyFor}
 
 -- the changes for which memory was taken, in the tree and in owners and attributes
 pub record Readiness : Type 0 where
@@ -23,32 +23,32 @@ pub record WorldState : Type 0 where
   pub ready : Readiness
 
 -- the tree, and what it is ready to change
-abbrev pub tree_state : WorldState → TreeState
+abbrev pub tree_state : WorldState → TreeView
 tree_state state = record { tree = tree_of state.world; ready = state.ready.tree }
 
 -- the marks, and what they are ready to change
-abbrev pub meta_state : WorldState → MetaState
+abbrev pub meta_state : WorldState → MetaView
 meta_state state = record { marks = marks_of state.world; ready = state.ready.meta }
 
-abbrev pub IsTreeReady : TreeState → Part → Type 0
+abbrev pub IsTreeReady : TreeView → Part → Type 0
 IsTreeReady tree (tree_part op) = IsTreeReadyFor tree op
 IsTreeReady tree (meta_part op) = Unit {0}
 
-abbrev pub IsMetaReady : MetaState → Option MetaOp → Type 0
+abbrev pub IsMetaReady : MetaView → Option MetaOp → Type 0
 IsMetaReady meta None = Unit {0}
 IsMetaReady meta (Some op) = IsMetaReadyFor meta op
 
 -- each half is ready for what the caller's operation does to it
-pub record AreReady (caller : List ℕ) (tree : TreeState) (meta : MetaState) (part : Part) : Type 0 where
+pub record AreReady (caller : List ℕ) (tree : TreeView) (meta : MetaView) (part : Part) : Type 0 where
   pub tree_ready : IsTreeReady tree part
   pub meta_ready : IsMetaReady meta (meta_op_of caller tree.tree part)
 
 -- the world is ready for the caller's operation
-abbrev pub IsReady : List ℕ → WorldState → Op → Type 0
-IsReady caller state op = AreReady caller (tree_state state) (meta_state state) (part_of op)
+abbrev pub IsWorldReady : List ℕ → WorldState → Op → Type 0
+IsWorldReady caller state op = AreReady caller (tree_state state) (meta_state state) (part_of op)
 
 -- the operation got its reply and the world is ready for it; or it is refused, and its first refusal is told; or out of memory
-abbrev pub Reserves : List ℕ → World → Op → Result OpReply OpFault → WorldState → Type 0
-Reserves caller world op (Ok told) after = (refusal world op ≡ None) × (told ≡ reply world op) × IsReady caller after op
-Reserves caller world op (Err (Refused refused)) after = refusal world op ≡ Some refused
-Reserves caller world op (Err NoMemory) after = refusal world op ≡ None
+abbrev pub ReservesWorld : List ℕ → World → Op → Result OpReply OpFault → WorldState → Type 0
+ReservesWorld caller world op (Ok told) after = (refusal world op ≡ None) × (told ≡ reply world op) × IsWorldReady caller after op
+ReservesWorld caller world op (Err (Refused refused)) after = refusal world op ≡ Some refused
+ReservesWorld caller world op (Err NoMemory) after = refusal world op ≡ None

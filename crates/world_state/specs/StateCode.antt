@@ -8,8 +8,8 @@ use Rattle.file_world.specs.Tree.{Place}
 use Rattle.file_world.specs.World.{Item, World}
 use Rattle.file_tree.specs.declared.ready.Ready.{Ready as TreeReady}
 use Rattle.file_tree.specs.contracts.ready.Ready as tree_ready
-use Rattle.attr_state.specs.declared.ready.Ready.{Ready as MetaReady}
-use Rattle.attr_state.specs.contracts.ready.Ready as meta_ready
+use Rattle.attr_state.specs.declared.ready.MetaReady.{MetaReady}
+use Rattle.attr_state.specs.contracts.ready.MetaReady as meta_ready
 use Rattle.world_state.specs.State.{Readiness, WorldState}
 
 abbrev bytes_code : Coded (List ℕ)

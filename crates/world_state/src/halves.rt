@@ -1,7 +1,7 @@
 //! What an operation does to both halves of the world.
 
 ghost use Rattle.std.specs.Prelude.{◌≡◌, List, ℕ};
-ghost use Rattle.file_tree.specs.State.{TreeState, child_or_none};
+ghost use Rattle.file_tree.specs.State.{TreeView, child_or_none};
 ghost use Rattle.file_world.specs.AttributeEffect.{IsAskable};
 ghost use Rattle.file_world.specs.Effect.{tree_part, meta_part};
 ghost use Rattle.file_world.specs.Halves.{following, marks_followed, meta_op_of, tree_half_after};
@@ -70,7 +70,7 @@ fn reserve_tree(
 fn reserve_meta(meta: &mut Meta, alloc: Global, op: &MetaOp) -> Result<OpReply, OpFault>
     requires { IsAskable meta.old.marks op.now }
     ensures meta { meta.new.marks ≡ meta.old.marks }
-    ensures answer { (caller : List ℕ) (tree : TreeState) → HalvesReserve caller tree.tree meta.old.marks (meta_part op.now) result tree meta.new }
+    ensures answer { (caller : List ℕ) (tree : TreeView) → HalvesReserve caller tree.tree meta.old.marks (meta_part op.now) result tree meta.new }
 {
     let reply = meta.reserve(alloc, op)?;
     Ok(OpReply::Meta(reply))

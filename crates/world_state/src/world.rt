@@ -4,7 +4,7 @@ ghost use Rattle.std.specs.Prelude.{◌≡◌, IfOk};
 ghost use Rattle.file_world.specs.Effect.{world_after};
 ghost use Rattle.file_world.specs.Facts.{facts};
 ghost use Rattle.file_world.specs.World.{IsWorld, fresh_world};
-ghost use Rattle.world_state.specs.State.{IsReady, Reserves, meta_state, tree_state};
+ghost use Rattle.world_state.specs.State.{IsWorldReady, ReservesWorld, meta_state, tree_state};
 
 use crate::half::{half_of, is_operation, op_of};
 use crate::halves::{apply, reserve};
@@ -73,7 +73,7 @@ impl World {
     ) -> (Op, Result<OpReply, OpFault>)
         ensures same { self.new.world ≡ self.old.world }
         ensures op { result.0 ≡ op }
-        ensures answer { Reserves caller.now self.old.world op result.1 self.new }
+        ensures answer { ReservesWorld caller.now self.old.world op result.1 self.new }
     {
         let half = half_of(op);
         let answer = reserve(&mut self.tree, &mut self.meta, alloc, caller, &half);
@@ -83,7 +83,7 @@ impl World {
     /// Makes the change of the caller's operation, for which the world is ready, and gives the operation back. It takes
     /// no memory.
     pub fn apply(&mut self, caller: &Principal, op: Op) -> Op
-        requires { IsReady caller.now self.old op }
+        requires { IsWorldReady caller.now self.old op }
         ensures world { self.new.world ≡ world_after caller.now self.old.world op }
         ensures op { result ≡ op }
     {

@@ -130,9 +130,15 @@ fn both_halves_follow(rt: HostRuntime) -> Result<(), Fail> {
     assert!(rt; !world.holds(&StatePred::InDir(file(3), file(1))));
     let gone = [
         (Call::Unlink(2, b"kept"), Wanted::Done),
-        (Call::Getattr(3, b"pcfs.class"), Wanted::Refused(Refusal::NoNode)),
+        (
+            Call::Getattr(3, b"pcfs.class"),
+            Wanted::Refused(Refusal::NoNode),
+        ),
         (Call::Create(2, b"kept"), Wanted::Node(4)),
-        (Call::Getattr(4, b"pcfs.class"), Wanted::Refused(Refusal::NoAttribute)),
+        (
+            Call::Getattr(4, b"pcfs.class"),
+            Wanted::Refused(Refusal::NoAttribute),
+        ),
     ];
     assert!(rt; all_answer(&mut world, rt.alloc(), gone.as_slice())?);
     Ok(())

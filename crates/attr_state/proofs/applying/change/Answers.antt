@@ -2,7 +2,7 @@
 use Rattle.std.proofs.Common.{◌≡◌, ◌≤◌, ℕ, List, None, length, sym, ap, ◌∙◌, subst}
 use Rattle.file_world.specs.declared.operation.MetaOp.{MetaOp}
 use Rattle.file_world.specs.AttributeEffect.{meta_refusal, new_mark, marks_after}
-use Rattle.attr_state.specs.Index.{marks_of, IsChangeable}
+use Rattle.attr_state.specs.Index.{marks_of, IsMetaChangeable}
 use Rattle.attr_state.proofs.MarkLemmas.{made_again}
 use Rattle.attr_state.proofs.ChangeLemmas.{settable, removable, ownable}
 use Rattle.attr_state.proofs.applying.change.Goals as goal
@@ -26,6 +26,6 @@ set_owner-requires-clause-there c =
 pub returns-in-Add-clause-marks : goal.returns-in-Add-clause-marks
 returns-in-Add-clause-marks c =
     let entries = c.args.marks.now.entries in
-    let at = subst (λ (op : MetaOp). IsChangeable entries op) c.in-Add.is c.requires in
+    let at = subst (λ (op : MetaOp). IsMetaChangeable entries op) c.in-Add.is c.requires in
     sym (made_again entries c.in-Add.field-0.0 (new_mark c.in-Add.field-1 c.in-Add.field-2.0) c.requires.ordered at.prepared)
     ∙ ap (λ (op : MetaOp). marks_after (marks_of entries) op) (sym c.in-Add.is)

@@ -1,8 +1,8 @@
--- The mark behind the reference has the value under the name.
+-- The mark after the reference has the value under the name.
 use Rattle.std.proofs.Common.{◌≡◌, ◌≤◌, Option, Some, sym, ap, ◌∙◌, subst, length, vec_capacity}
 use Rattle.file_world.specs.Attributes.{Attributes, Mark, mark_at}
 use Rattle.file_world.specs.AttributeEffect.{attributes_of, with_value, with_attributes}
-use Rattle.attr_state.specs.declared.mark.Mark.{Mark as Kept}
+use Rattle.attr_state.specs.declared.mark.KeptMark.{KeptMark as Kept}
 use Rattle.attr_state.specs.Index.{marks_of, kept_at, shown}
 use Rattle.attr_state.proofs.MarkLemmas.{SetsMark-from_map, found_behind, mark_at-kept, Revises-from_set, room_at}
 use Rattle.attr_state.proofs.applying.set.Goals as goal

@@ -1,6 +1,6 @@
--- The mark behind the reference has another owner.
+-- The mark after the reference has another owner.
 use Rattle.std.proofs.Common.{◌≡◌, Some, refl}
-use Rattle.attr_state.specs.declared.mark.Mark.{Mark as Kept}
+use Rattle.attr_state.specs.declared.mark.KeptMark.{KeptMark as Kept}
 use Rattle.attr_state.specs.Index.{kept_at}
 use Rattle.attr_state.proofs.MarkLemmas.{SetsMark-from_map, found_behind, Revises-from_set}
 use Rattle.attr_state.proofs.applying.set_owner.Goals as goal

@@ -1,8 +1,8 @@
--- The mark behind the reference has another directory; where there is no mark, nothing changes.
+-- The mark after the reference has another directory; where there is no mark, nothing changes.
 use Rattle.std.proofs.Common.{◌≡◌, Some, refl, sym, ap, subst}
 use Rattle.file_world.specs.AttributeEffect.{with_parent}
-use Rattle.attr_state.specs.declared.mark.Mark.{Mark as Kept}
-use Rattle.attr_state.specs.Index.{Entries, kept_at, Revises}
+use Rattle.attr_state.specs.declared.mark.KeptMark.{KeptMark as Kept}
+use Rattle.attr_state.specs.Index.{MarkEntries, kept_at, Revises}
 use Rattle.attr_state.proofs.MarkLemmas.{SetsMark-from_map, Revises-from_set, Revises-missing}
 use Rattle.attr_state.proofs.applying.set_parent.Goals as goal
 
@@ -17,5 +17,5 @@ returns-in-Some c =
 pub returns-in_default : goal.returns-in_default
 returns-in_default c =
     let entries = c.args.marks.now.entries in
-    subst (λ (new : Entries). Revises entries new c.args.number (with_parent c.args.parent)) (ap (λ m. m.entries) (sym c.get_mut.follows.holds-at-none))
+    subst (λ (new : MarkEntries). Revises entries new c.args.number (with_parent c.args.parent)) (ap (λ m. m.entries) (sym c.get_mut.follows.holds-at-none))
     (Revises-missing entries c.args.number (with_parent c.args.parent) c.requires (sym c.in_default.ensures.value))

@@ -4,7 +4,7 @@ use Rattle.std.proofs.lemmas.Bool.{cond-true}
 use Rattle.std.specs.List.{insert}
 use Rattle.file_world.specs.Attributes.{Attributes}
 use Rattle.file_world.specs.AttributeEffect.{with_value}
-use Rattle.attr_state.specs.Index.{AreSorted, IsAt, IsGap}
+use Rattle.attr_state.specs.Index.{AreSorted, IsMarkAt, IsGap}
 use Rattle.attr_state.proofs.NameLemmas.{value_at-missing, with_value-found, with_value-missing, AreSorted-with, length-with_missing}
 use Rattle.attr_state.proofs.attributes.put.Goals as goal
 
@@ -16,13 +16,13 @@ unwrap-requires c =
 
 pub returns-in-Ok-clause-put : goal.returns-in-Ok-clause-put
 returns-in-Ok-clause-put c =
-    let at = subst (λ (items : Attributes). IsAt items c.args.name.now c.in-Ok.place) c.as_slice.ensures.value c.in-Ok.ensures.found in
+    let at = subst (λ (items : Attributes). IsMarkAt items c.args.name.now c.in-Ok.place) c.as_slice.ensures.value c.in-Ok.ensures.found in
     ap (λ (name : List ℕ). set c.args.attributes.now.items c.in-Ok.place (name, c.args.value)) c.new.ensures
     ∙ sym (with_value-found c.args.attributes.now.items c.args.name.now c.args.value c.in-Ok.place at)
 
 pub returns-in-Ok-clause-sorted : goal.returns-in-Ok-clause-sorted
 returns-in-Ok-clause-sorted c =
-    let at = subst (λ (items : Attributes). IsAt items c.args.name.now c.in-Ok.place) c.as_slice.ensures.value c.in-Ok.ensures.found in
+    let at = subst (λ (items : Attributes). IsMarkAt items c.args.name.now c.in-Ok.place) c.as_slice.ensures.value c.in-Ok.ensures.found in
     let is : set c.args.attributes.now.items c.in-Ok.place (c.new.result, c.args.value) ≡ with_value c.args.attributes.now.items c.args.name.now c.args.value =
     ap (λ (name : List ℕ). set c.args.attributes.now.items c.in-Ok.place (name, c.args.value)) c.new.ensures
     ∙ sym (with_value-found c.args.attributes.now.items c.args.name.now c.args.value c.in-Ok.place at) in

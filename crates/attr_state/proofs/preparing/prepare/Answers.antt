@@ -4,10 +4,10 @@ use Rattle.std.proofs.lemmas.Bool.{cond-true, cond-false}
 use Rattle.file_world.specs.declared.operation.MetaOp.{MetaOp}
 use Rattle.file_world.specs.Attributes.{Attributes, mark_at, value_at}
 use Rattle.file_world.specs.AttributeEffect.{attributes_of, meta_refusal, IsAskable}
-use Rattle.attr_state.specs.declared.ready.Ready.{Ready}
-use Rattle.attr_state.specs.declared.ready.Ready.TheVariants.{Attributes as Room}
+use Rattle.attr_state.specs.declared.ready.MetaReady.{MetaReady}
+use Rattle.attr_state.specs.declared.ready.MetaReady.TheVariants.{Attributes as Room}
 use Rattle.attr_state.specs.State.{ready_for}
-use Rattle.attr_state.specs.Index.{marks_of, Prepares}
+use Rattle.attr_state.specs.Index.{marks_of, PreparesMeta}
 use Rattle.attr_state.proofs.ChangeLemmas.{settable, not_kept, sorted_attributes, none_tested, length_set}
 use Rattle.attr_state.proofs.preparing.prepare.Goals as goal
 use Rattle.attr_state.proofs.preparing.prepare.Goals.{then-is_none, else-is_none}
@@ -38,4 +38,4 @@ returns-after-is_none-clause-ok c =
     ap (λ (n : ℕ). Room node (length attributes + n)) more
     ∙ (ap (Room node) (length_set attributes c.in-Set.name c.in-Set.field-2 known (sorted_attributes entries node c.requires.ordered) found)
     ∙ ap (ready_for (marks_of entries)) (sym c.in-Set.is)) in
-    subst (λ (r : Ready). IfOk c.prepare_attributes.result (λ ready. (ready ≡ r) × Prepares entries c.prepare_attributes.new.marks.entries ready)) is c.prepare_attributes.ensures.ok
+    subst (λ (r : MetaReady). IfOk c.prepare_attributes.result (λ ready. (ready ≡ r) × PreparesMeta entries c.prepare_attributes.new.marks.entries ready)) is c.prepare_attributes.ensures.ok

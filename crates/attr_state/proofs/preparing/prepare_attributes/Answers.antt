@@ -1,9 +1,9 @@
--- The mark behind the reference has room for more attributes, and shows the same.
+-- The mark after the reference has room for more attributes, and shows the same.
 use Rattle.std.proofs.Common.{◌≡◌, ◌+◌, Option, Some, length, sym, ap, arith}
 use Rattle.file_world.specs.Attributes.{Attributes, Mark, mark_at}
 use Rattle.file_world.specs.AttributeEffect.{attributes_of}
-use Rattle.attr_state.specs.declared.ready.Ready.TheVariants.{Attributes as Room}
-use Rattle.attr_state.specs.declared.mark.Mark.{Mark as Kept}
+use Rattle.attr_state.specs.declared.ready.MetaReady.TheVariants.{Attributes as Room}
+use Rattle.attr_state.specs.declared.mark.KeptMark.{KeptMark as Kept}
 use Rattle.attr_state.specs.Index.{marks_of, kept_at, shown}
 use Rattle.attr_state.proofs.MarkLemmas.{SetsMark-from_map, found_behind, mark_at-kept, kept_set, Stays-from_set}
 use Rattle.attr_state.proofs.preparing.prepare_attributes.Goals as goal

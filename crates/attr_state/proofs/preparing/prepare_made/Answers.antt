@@ -1,7 +1,7 @@
 -- The new mark is kept, and the marks without it are as before.
 use Rattle.std.proofs.Common.{ℕ, List, refl, ap}
 use Rattle.file_world.specs.Attributes.{Mark}
-use Rattle.attr_state.specs.declared.mark.Mark.{Mark as Kept}
+use Rattle.attr_state.specs.declared.mark.KeptMark.{KeptMark as Kept}
 use Rattle.attr_state.proofs.MarkLemmas.{Prepares-made}
 use Rattle.attr_state.proofs.preparing.prepare_made.Goals as goal
 

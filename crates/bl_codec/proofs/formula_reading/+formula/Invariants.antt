@@ -11,8 +11,8 @@ decreases-fields_at l = 4 * l.depth + 2
 abbrev pub decreases-pair_at : goal.decreases-pair_at
 decreases-pair_at l = 4 * l.depth + 1
 
-abbrev pub decreases-bound_at : goal.decreases-bound_at
-decreases-bound_at l = 4 * l.depth + 1
+abbrev pub decreases-binder_at : goal.decreases-binder_at
+decreases-binder_at l = 4 * l.depth + 1
 
 abbrev pub decreases-says_at : goal.decreases-says_at
 decreases-says_at l = 4 * l.depth + 1

@@ -1,6 +1,6 @@
 use Rattle.bl_syntax.specs.FormulaReading.{terms_at}
-use Rattle.bl_codec.proofs.StopLemmas.{stops}
-use Rattle.bl_codec.proofs.TermLoop.{goes_on, ends, is_done}
+use Rattle.bl_codec.proofs.ReportsFaultLemmas.{stops}
+use Rattle.bl_codec.proofs.TermsLemmas.{goes_on, ends, is_done}
 use Rattle.bl_codec.proofs.formula_reading.terms_at.Goals as goal
 
 pub returns-in-Err : goal.returns-in-Err

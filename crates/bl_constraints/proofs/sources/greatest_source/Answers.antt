@@ -1,6 +1,6 @@
 -- A constraint that begins with a constant counts.
 use Rattle.std.proofs.Common.{◌+◌, Option, refl, sym, subst}
-use Rattle.bl_constraints.specs.declared.sources.Source.{Source}
+use Rattle.bl_constraints.specs.declared.sources.ConstantSource.{ConstantSource}
 use Rattle.bl_constraints.proofs.OrderLemmas.{stands_read}
 use Rattle.bl_constraints.proofs.SourceLemmas.{IsGreatestSoFar, source_none, source_skip, source_more, source_all}
 use Rattle.bl_constraints.proofs.sources.greatest_source.Goals.{in-Time, in_default}
@@ -17,12 +17,12 @@ loop-place-preserved c =
     let here = c.index-psi-order.result in
     let lt = c.loop-place-test.true in
     let at = stands_read psi order place here (c.requires.order.within place lt) c.index-psi-order.is in
-    let so_far : Option Source → Type 0 = IsGreatestSoFar psi order c.args.reached (place + 1) in
+    let so_far : Option ConstantSource → Type 0 = IsGreatestSoFar psi order c.args.reached (place + 1) in
     elim c.match-c.branch [
       | in-Time w ↦
-          let mine : Source = record { place = place; point = w.in-Time.point } in
+          let mine : ConstantSource = record { place = place; point = w.in-Time.point } in
           subst so_far (sym w.greatest-is)
-          (source_more psi order c.args.reached place here lt at c.loop-place.greatest mine w.later.result refl c.loop-place.auto.place w.in-Time.is w.later.ensures c.loop-place.invariant)
+          (source_more psi order c.args.reached place here lt at c.loop-place.greatest mine w.later_source.result refl c.loop-place.auto.place w.in-Time.is w.later_source.ensures c.loop-place.invariant)
       | in_default w ↦
           subst so_far (sym w.greatest-is)
           (source_skip psi order c.args.reached place here lt at c.loop-place.greatest w.in_default.not-Time c.loop-place.invariant)

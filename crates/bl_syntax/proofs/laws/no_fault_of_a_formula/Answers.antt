@@ -1,4 +1,4 @@
-use Rattle.bl_syntax.proofs.FaultLemmas.{Tells-formula_fault}
+use Rattle.bl_syntax.proofs.FirstFaultLemmas.{Tells-formula_fault}
 use Rattle.bl_syntax.proofs.laws.no_fault_of_a_formula.Goals as goal
 
 pub returns : goal.returns

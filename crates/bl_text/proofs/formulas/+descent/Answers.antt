@@ -1,13 +1,13 @@
 -- Each level of the grammar reads its parts, and stops where the next of them stops.
 use Rattle.std.proofs.Common.{◌≡◌, true, false, sym, refl, arith, rules}
 use Rattle.std.proofs.lemmas.Result.{IfOk-weaker, IfErr-weaker}
-use Rattle.bl_syntax.specs.Formula.{formula}
+use Rattle.bl_syntax.specs.Formula.{formula_view}
 use Rattle.bl_tokens.specs.declared.faults.TextFault.TheVariants.{NoMemory}
 use Rattle.bl_tokens.specs.declared.tokens.Sign.TheVariants as signs
 use Rattle.bl_tokens.specs.Tokens.{is_sign}
 use Rattle.bl_text.specs.Grammar.{is_saying, is_call}
 use Rattle.bl_text.specs.Grammar as g
-use Rattle.bl_text.specs.Stops as s
+use Rattle.bl_text.specs.FirstFaults as s
 use Rattle.bl_text.proofs.ReadLemmas.{passed, stops_at, is_at, is_form, every_quantifies, some_quantifies, formula_ended, lt_true, lt_false, stops_at_interval}
 use Rattle.bl_text.proofs.formulas.+descent.Goals as goal
 
@@ -24,7 +24,7 @@ pub for_every-returns-clause-read : goal.for_every-returns-clause-read
 for_every-returns-clause-read t c =
     let read = c.in_ok-a.ensures.read in
     record {
-      is_text = is_form c.in_ok-every_of.ensures (g.for_every _ _ _ _ _ c.in_ok-name.name c.in_ok-name.sort (formula c.in_ok-a.a.value) c.requires.word c.in_ok-name.ensures.value read.is_text);
+      is_text = is_form c.in_ok-every_of.ensures (g.for_every _ _ _ _ _ c.in_ok-name.name c.in_ok-name.sort (formula_view c.in_ok-a.a.value) c.requires.word c.in_ok-name.ensures.value read.is_text);
       ended = read.ended;
       left = omega (arith, read.left, c.in_ok-name.ensures.left);
       within = read.within;
@@ -43,7 +43,7 @@ pub for_some-returns-clause-read : goal.for_some-returns-clause-read
 for_some-returns-clause-read t c =
     let read = c.in_ok-a.ensures.read in
     record {
-      is_text = is_form c.in_ok-some_of.ensures (g.for_some _ _ _ _ _ c.in_ok-name.name c.in_ok-name.sort (formula c.in_ok-a.a.value) c.requires.word c.in_ok-name.ensures.value read.is_text);
+      is_text = is_form c.in_ok-some_of.ensures (g.for_some _ _ _ _ _ c.in_ok-name.name c.in_ok-name.sort (formula_view c.in_ok-a.a.value) c.requires.word c.in_ok-name.ensures.value read.is_text);
       ended = read.ended;
       left = omega (arith, read.left, c.in_ok-name.ensures.left);
       within = read.within;
@@ -59,10 +59,10 @@ implication-returns-then-not-is_sign-clause-read t c =
     record { is_text = g.one_disjunction _ _ _ _ _ c.requires.no_quantifier read.is_text; ended = formula_ended c.disjunction.new.here.token none read.ended; left = read.left; within = read.within }
 
 pub implication-returns-in-Err-clause-fault : goal.implication-returns-in-Err-clause-fault
-implication-returns-in-Err-clause-fault t c = passed c.refuse-in-Err.result c.in-Err.fault _ c.refuse-in-Err.ensures (s.at_implies _ _ _ c.disjunction.new.here (formula c.in_ok-a.a.value) _ c.requires.no_quantifier c.in_ok-a.ensures.read.is_text (let sign : is_sign signs.Implies c.disjunction.new.here.token ≡ true = search rules in sign) (sym c.in-Err.ensures.value))
+implication-returns-in-Err-clause-fault t c = passed c.refuse-in-Err.result c.in-Err.fault _ c.refuse-in-Err.ensures (s.at_implies _ _ _ c.disjunction.new.here (formula_view c.in_ok-a.a.value) _ c.requires.no_quantifier c.in_ok-a.ensures.read.is_text (let sign : is_sign signs.Implies c.disjunction.new.here.token ≡ true = search rules in sign) (sym c.in-Err.ensures.value))
 
 pub implication-returns-in-Err-formula_at-clause-fault : goal.implication-returns-in-Err-formula_at-clause-fault
-implication-returns-in-Err-formula_at-clause-fault t c = passed c.refuse.result c.in-Err-formula_at.fault _ c.refuse.ensures (s.in_conclusion _ _ _ c.disjunction.new.here (formula c.in_ok-a.a.value) _ c.requires.no_quantifier c.in_ok-a.ensures.read.is_text (let sign : is_sign signs.Implies c.disjunction.new.here.token ≡ true = search rules in sign) (sym c.in-Ok.ensures.value) (stops_at c.step_node.ensures.same c.in-Err-formula_at.ensures.fault))
+implication-returns-in-Err-formula_at-clause-fault t c = passed c.refuse.result c.in-Err-formula_at.fault _ c.refuse.ensures (s.in_conclusion _ _ _ c.disjunction.new.here (formula_view c.in_ok-a.a.value) _ c.requires.no_quantifier c.in_ok-a.ensures.read.is_text (let sign : is_sign signs.Implies c.disjunction.new.here.token ≡ true = search rules in sign) (sym c.in-Ok.ensures.value) (stops_at c.step_node.ensures.same c.in-Err-formula_at.ensures.fault))
 
 pub implication-returns-in_err-implies_of-in-Ok-formula_at-clause-fault : goal.implication-returns-in_err-implies_of-in-Ok-formula_at-clause-fault
 implication-returns-in_err-implies_of-in-Ok-formula_at-clause-fault t c = passed c.from_residual-in_err-implies_of-in-Ok-formula_at.result NoMemory _ (search rules) (s.no_memory _ _ _ _)
@@ -73,7 +73,7 @@ implication-returns-in_ok-implies_of-in-Ok-formula_at-clause-read t c =
     let read = c.in-Ok-formula_at.ensures.read in
     let sign : is_sign signs.Implies c.disjunction.new.here.token ≡ true = search rules in
     record {
-      is_text = is_form c.in_ok-implies_of-in-Ok-formula_at.ensures (g.implication _ _ _ c.disjunction.new.here _ (formula c.in_ok-a.a.value) (formula c.in-Ok-formula_at.b.value) c.requires.no_quantifier first.is_text sign (sym c.in-Ok.ensures.value) (is_at c.step_node.ensures.same read.is_text));
+      is_text = is_form c.in_ok-implies_of-in-Ok-formula_at.ensures (g.implication _ _ _ c.disjunction.new.here _ (formula_view c.in_ok-a.a.value) (formula_view c.in-Ok-formula_at.b.value) c.requires.no_quantifier first.is_text sign (sym c.in-Ok.ensures.value) (is_at c.step_node.ensures.same read.is_text));
       ended = read.ended;
       left = omega (arith, first.left, read.left, c.step_node.ensures.left);
       within = read.within;
@@ -88,10 +88,10 @@ disjunction-or-init t c =
     record { is_text = g.one_conjunction _ _ _ _ _ read.is_text; ended = read.ended; left = read.left; within = read.within }
 
 pub disjunction-returns-in-Err-clause-fault : goal.disjunction-returns-in-Err-clause-fault
-disjunction-returns-in-Err-clause-fault t c = passed c.refuse-in-Err.result c.in-Err.fault _ c.refuse-in-Err.ensures (s.at_or _ _ _ c.or.here (formula c.or.a.value) _ c.or.invariant.is_text (let sign : is_sign signs.Or c.or.here.token ≡ true = search rules in sign) (sym c.in-Err.ensures.value))
+disjunction-returns-in-Err-clause-fault t c = passed c.refuse-in-Err.result c.in-Err.fault _ c.refuse-in-Err.ensures (s.at_or _ _ _ c.or.here (formula_view c.or.a.value) _ c.or.invariant.is_text (let sign : is_sign signs.Or c.or.here.token ≡ true = search rules in sign) (sym c.in-Err.ensures.value))
 
 pub disjunction-returns-in-Err-conjunction-clause-fault : goal.disjunction-returns-in-Err-conjunction-clause-fault
-disjunction-returns-in-Err-conjunction-clause-fault t c = passed c.refuse.result c.in-Err-conjunction.fault _ c.refuse.ensures (s.in_disjunct _ _ _ c.or.here (formula c.or.a.value) _ c.or.invariant.is_text (let sign : is_sign signs.Or c.or.here.token ≡ true = search rules in sign) (sym c.in-Ok.ensures.value) (stops_at c.step_node.ensures.same c.in-Err-conjunction.ensures.fault))
+disjunction-returns-in-Err-conjunction-clause-fault t c = passed c.refuse.result c.in-Err-conjunction.fault _ c.refuse.ensures (s.in_disjunct _ _ _ c.or.here (formula_view c.or.a.value) _ c.or.invariant.is_text (let sign : is_sign signs.Or c.or.here.token ≡ true = search rules in sign) (sym c.in-Ok.ensures.value) (stops_at c.step_node.ensures.same c.in-Err-conjunction.ensures.fault))
 
 pub disjunction-returns-in_err-a-in-Ok-conjunction-clause-fault : goal.disjunction-returns-in_err-a-in-Ok-conjunction-clause-fault
 disjunction-returns-in_err-a-in-Ok-conjunction-clause-fault t c = passed c.from_residual-in_err-a-in-Ok-conjunction.result NoMemory _ (search rules) (s.no_memory _ _ _ _)
@@ -102,7 +102,7 @@ disjunction-or-preserved t c =
     let read = c.in-Ok-conjunction.ensures.read in
     let sign : is_sign signs.Or l.here.token ≡ true = search rules in
     record {
-      is_text = is_form c.in_ok-a-in-Ok-conjunction.ensures (g.or_further _ _ _ l.here _ (formula l.a.value) (formula c.in-Ok-conjunction.b.value) l.invariant.is_text sign (sym c.in-Ok.ensures.value) (is_at c.step_node.ensures.same read.is_text));
+      is_text = is_form c.in_ok-a-in-Ok-conjunction.ensures (g.or_further _ _ _ l.here _ (formula_view l.a.value) (formula_view c.in-Ok-conjunction.b.value) l.invariant.is_text sign (sym c.in-Ok.ensures.value) (is_at c.step_node.ensures.same read.is_text));
       ended = read.ended;
       left = omega (arith, l.invariant.left, read.left, c.step_node.ensures.left);
       within = read.within;
@@ -117,10 +117,10 @@ conjunction-and-init t c =
     record { is_text = g.one_unary _ _ _ _ _ read.is_text; ended = read.ended; left = read.left; within = read.within }
 
 pub conjunction-returns-in-Err-clause-fault : goal.conjunction-returns-in-Err-clause-fault
-conjunction-returns-in-Err-clause-fault t c = passed c.refuse-in-Err.result c.in-Err.fault _ c.refuse-in-Err.ensures (s.at_and _ _ _ c.and.here (formula c.and.a.value) _ c.and.invariant.is_text (let sign : is_sign signs.And c.and.here.token ≡ true = search rules in sign) (sym c.in-Err.ensures.value))
+conjunction-returns-in-Err-clause-fault t c = passed c.refuse-in-Err.result c.in-Err.fault _ c.refuse-in-Err.ensures (s.at_and _ _ _ c.and.here (formula_view c.and.a.value) _ c.and.invariant.is_text (let sign : is_sign signs.And c.and.here.token ≡ true = search rules in sign) (sym c.in-Err.ensures.value))
 
 pub conjunction-returns-in-Err-unary-clause-fault : goal.conjunction-returns-in-Err-unary-clause-fault
-conjunction-returns-in-Err-unary-clause-fault t c = passed c.refuse.result c.in-Err-unary.fault _ c.refuse.ensures (s.in_conjunct _ _ _ c.and.here (formula c.and.a.value) _ c.and.invariant.is_text (let sign : is_sign signs.And c.and.here.token ≡ true = search rules in sign) (sym c.in-Ok.ensures.value) (stops_at c.step_node.ensures.same c.in-Err-unary.ensures.fault))
+conjunction-returns-in-Err-unary-clause-fault t c = passed c.refuse.result c.in-Err-unary.fault _ c.refuse.ensures (s.in_conjunct _ _ _ c.and.here (formula_view c.and.a.value) _ c.and.invariant.is_text (let sign : is_sign signs.And c.and.here.token ≡ true = search rules in sign) (sym c.in-Ok.ensures.value) (stops_at c.step_node.ensures.same c.in-Err-unary.ensures.fault))
 
 pub conjunction-returns-in_err-a-in-Ok-unary-clause-fault : goal.conjunction-returns-in_err-a-in-Ok-unary-clause-fault
 conjunction-returns-in_err-a-in-Ok-unary-clause-fault t c = passed c.from_residual-in_err-a-in-Ok-unary.result NoMemory _ (search rules) (s.no_memory _ _ _ _)
@@ -131,7 +131,7 @@ conjunction-and-preserved t c =
     let read = c.in-Ok-unary.ensures.read in
     let sign : is_sign signs.And l.here.token ≡ true = search rules in
     record {
-      is_text = is_form c.in_ok-a-in-Ok-unary.ensures (g.and_further _ _ _ l.here _ (formula l.a.value) (formula c.in-Ok-unary.b.value) l.invariant.is_text sign (sym c.in-Ok.ensures.value) (is_at c.step_node.ensures.same read.is_text));
+      is_text = is_form c.in_ok-a-in-Ok-unary.ensures (g.and_further _ _ _ l.here _ (formula_view l.a.value) (formula_view c.in-Ok-unary.b.value) l.invariant.is_text sign (sym c.in-Ok.ensures.value) (is_at c.step_node.ensures.same read.is_text));
       ended = read.ended;
       left = omega (arith, l.invariant.left, read.left, c.step_node.ensures.left);
       within = read.within;
@@ -147,20 +147,20 @@ unary-returns-else-is_saying-clause-fault t c =
     let none : is_saying c.args.text.now c.args.here.now ≡ false = search rules in
     IfErr-weaker c.postfix.result _ _ (λ e h. s.in_postfix _ _ _ _ none h) c.postfix.ensures.fault
 
-pub said-returns-in_err-who-clause-fault : goal.said-returns-in_err-who-clause-fault
-said-returns-in_err-who-clause-fault t c = passed c.from_residual.result c.in_err-who.field-0.0 _ (search rules) (s.in_speaker _ _ _ _ c.requires.saying c.in_err-who.ensures.value)
+pub says_formula-returns-in_err-who-clause-fault : goal.says_formula-returns-in_err-who-clause-fault
+says_formula-returns-in_err-who-clause-fault t c = passed c.from_residual.result c.in_err-who.field-0.0 _ (search rules) (s.in_speaker _ _ _ _ c.requires.saying c.in_err-who.ensures.value)
 
-pub said-returns-in_err-a-clause-fault : goal.said-returns-in_err-a-clause-fault
-said-returns-in_err-a-clause-fault t c = passed c.from_residual-in_err-a.result c.in_err-a.field-0.0 _ (search rules) (s.in_said _ _ _ _ c.in_ok-who.who _ c.requires.saying c.in_ok-who.ensures.value c.in_err-a.ensures.fault)
+pub says_formula-returns-in_err-a-clause-fault : goal.says_formula-returns-in_err-a-clause-fault
+says_formula-returns-in_err-a-clause-fault t c = passed c.from_residual-in_err-a.result c.in_err-a.field-0.0 _ (search rules) (s.in_said _ _ _ _ c.in_ok-who.who _ c.requires.saying c.in_ok-who.ensures.value c.in_err-a.ensures.fault)
 
-pub said-returns-in_err-says_of-clause-fault : goal.said-returns-in_err-says_of-clause-fault
-said-returns-in_err-says_of-clause-fault t c = passed c.from_residual-in_err-says_of.result NoMemory _ (search rules) (s.no_memory _ _ _ _)
+pub says_formula-returns-in_err-says_of-clause-fault : goal.says_formula-returns-in_err-says_of-clause-fault
+says_formula-returns-in_err-says_of-clause-fault t c = passed c.from_residual-in_err-says_of.result NoMemory _ (search rules) (s.no_memory _ _ _ _)
 
-pub said-returns-clause-read : goal.said-returns-clause-read
-said-returns-clause-read t c =
+pub says_formula-returns-clause-read : goal.says_formula-returns-clause-read
+says_formula-returns-clause-read t c =
     let read = c.in_ok-a.ensures.read in
     record {
-      is_text = is_form c.in_ok-says_of.ensures (g.saying _ _ _ _ _ c.in_ok-who.who (formula c.in_ok-a.a.value) c.requires.saying c.in_ok-who.ensures.value read.is_text);
+      is_text = is_form c.in_ok-says_of.ensures (g.saying _ _ _ _ _ c.in_ok-who.who (formula_view c.in_ok-a.a.value) c.requires.saying c.in_ok-who.ensures.value read.is_text);
       ended = read.ended;
       left = omega (arith, read.left, c.in_ok-who.ensures.left);
       within = read.within;
@@ -183,7 +183,7 @@ postfix-at-preserved t c =
     let read = c.in_ok-a.ensures.read in
     let sign : is_sign signs.At l.here.token ≡ true = search rules in
     record {
-      is_text = is_form read.value (g.on_interval _ _ _ l.here c.on_interval.new.here (formula l.a.value) read.from read.to l.invariant.is_text sign read.interval_is);
+      is_text = is_form read.value (g.on_interval _ _ _ l.here c.on_interval.new.here (formula_view l.a.value) read.from read.to l.invariant.is_text sign read.interval_is);
       ended = refl;
       left = omega (arith, l.invariant.left, read.left);
       within = read.within;
@@ -208,13 +208,13 @@ pub group-returns-in_err-a-clause-fault : goal.group-returns-in_err-a-clause-fau
 group-returns-in_err-a-clause-fault t c = passed c.from_residual.result c.in_err-a.field-0.0 _ (search rules) (s.in_group _ _ _ _ c.requires.open (lt_true c.args.depth 512 (omega arith)) (stops_at c.step_into.ensures.same c.in_err-a.ensures.fault))
 
 pub group-returns-in-Err-clause-fault : goal.group-returns-in-Err-clause-fault
-group-returns-in-Err-clause-fault t c = passed c.refuse.result c.in-Err.fault _ c.refuse.ensures (s.not_closed _ _ _ _ (formula c.in_ok-a.a.value) _ c.requires.open (lt_true c.args.depth 512 (omega arith)) (is_at c.step_into.ensures.same c.in_ok-a.ensures.read.is_text) c.in_ok-a.ensures.read.ended c.in-Err.ensures.value)
+group-returns-in-Err-clause-fault t c = passed c.refuse.result c.in-Err.fault _ c.refuse.ensures (s.not_closed _ _ _ _ (formula_view c.in_ok-a.a.value) _ c.requires.open (lt_true c.args.depth 512 (omega arith)) (is_at c.step_into.ensures.same c.in_ok-a.ensures.read.is_text) c.in_ok-a.ensures.read.ended c.in-Err.ensures.value)
 
 pub group-returns-in-Ok-clause-read : goal.group-returns-in-Ok-clause-read
 group-returns-in-Ok-clause-read t c =
     let read = c.in_ok-a.ensures.read in
     record {
-      is_text = g.group _ _ _ _ _ (formula c.in_ok-a.a.value) c.requires.open (lt_true c.args.depth 512 (omega arith)) (is_at c.step_into.ensures.same read.is_text) c.in-Ok.ensures.value;
+      is_text = g.group _ _ _ _ _ (formula_view c.in_ok-a.a.value) c.requires.open (lt_true c.args.depth 512 (omega arith)) (is_at c.step_into.ensures.same read.is_text) c.in-Ok.ensures.value;
       ended = refl;
       left = omega (arith, read.left, c.step_into.ensures.left, c.in-Ok.ensures.left);
       within = c.in-Ok.ensures.within;

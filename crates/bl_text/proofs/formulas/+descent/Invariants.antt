@@ -1,7 +1,7 @@
 use Rattle.std.proofs.Common.{◌≡◌, ◌+◌, ◌-◌, ◌*◌, ◌≤◌, length, false}
-use Rattle.bl_syntax.specs.Formula.{formula}
+use Rattle.bl_syntax.specs.Formula.{formula_view}
 use Rattle.bl_text.specs.Scope.{variables}
-use Rattle.bl_text.specs.Grammar.{disjunction, conjunction, postfix, Is, goes_on}
+use Rattle.bl_text.specs.Grammar.{disjunction, conjunction, postfix, Is, is_continued_by}
 use Rattle.bl_text.specs.Grammar as grammar
 use Rattle.bl_text.proofs.formulas.+descent.Given as goal
 
@@ -28,8 +28,8 @@ decreases-conjunction l = l.here.now.left * 4104 + (512 - l.depth) * 8 + 4
 abbrev pub decreases-unary : goal.decreases-unary
 decreases-unary l = l.here.now.left * 4104 + (512 - l.depth) * 8 + 3
 
-abbrev pub decreases-said : goal.decreases-said
-decreases-said l = l.here.now.left * 4104 + (512 - l.depth) * 8 + 2
+abbrev pub decreases-says_formula : goal.decreases-says_formula
+decreases-says_formula l = l.here.now.left * 4104 + (512 - l.depth) * 8 + 2
 
 abbrev pub decreases-postfix : goal.decreases-postfix
 decreases-postfix l = l.here.now.left * 4104 + (512 - l.depth) * 8 + 2
@@ -43,8 +43,8 @@ decreases-group l = l.here.now.left * 4104 + (512 - l.depth) * 8 + 0
 -- what was read so far is a text of the formula
 abbrev pub invariant-disjunction-or : goal.invariant-disjunction-or
 invariant-disjunction-or l = record {
-  is_text : Is l.text l.in_statement disjunction (variables l.scope) l.depth l.fn.here l.here (formula l.a.value);
-  ended : goes_on grammar.conjunction l.here.token ≡ false;
+  is_text : Is l.text l.in_statement disjunction (variables l.scope) l.depth l.fn.here l.here (formula_view l.a.value);
+  ended : is_continued_by grammar.conjunction l.here.token ≡ false;
   left : l.here.left + 1 ≤ l.fn.here.left;
   within : l.here.end ≤ length l.text;
 }
@@ -55,8 +55,8 @@ decreases-disjunction-or l = l.here.left
 -- what was read so far is a text of the formula
 abbrev pub invariant-conjunction-and : goal.invariant-conjunction-and
 invariant-conjunction-and l = record {
-  is_text : Is l.text l.in_statement conjunction (variables l.scope) l.depth l.fn.here l.here (formula l.a.value);
-  ended : goes_on grammar.unary l.here.token ≡ false;
+  is_text : Is l.text l.in_statement conjunction (variables l.scope) l.depth l.fn.here l.here (formula_view l.a.value);
+  ended : is_continued_by grammar.unary l.here.token ≡ false;
   left : l.here.left + 1 ≤ l.fn.here.left;
   within : l.here.end ≤ length l.text;
 }
@@ -67,8 +67,8 @@ decreases-conjunction-and l = l.here.left
 -- what was read so far is a text of the formula
 abbrev pub invariant-postfix-at : goal.invariant-postfix-at
 invariant-postfix-at l = record {
-  is_text : Is l.text l.in_statement postfix (variables l.scope) l.depth l.fn.here l.here (formula l.a.value);
-  ended : goes_on grammar.primary l.here.token ≡ false;
+  is_text : Is l.text l.in_statement postfix (variables l.scope) l.depth l.fn.here l.here (formula_view l.a.value);
+  ended : is_continued_by grammar.primary l.here.token ≡ false;
   left : l.here.left + 1 ≤ l.fn.here.left;
   within : l.here.end ≤ length l.text;
 }

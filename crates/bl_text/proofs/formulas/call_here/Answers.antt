@@ -1,9 +1,9 @@
 -- What `call` reads, boxed.
 use Rattle.std.proofs.Common.{◌≡◌, refl, ap, rules}
-use Rattle.bl_syntax.specs.Formula.{formula}
+use Rattle.bl_syntax.specs.Formula.{formula_view}
 use Rattle.bl_tokens.specs.declared.faults.TextFault.TheVariants.{NoMemory}
 use Rattle.bl_text.specs.Grammar.{called}
-use Rattle.bl_text.specs.Stops.{in_call, no_memory}
+use Rattle.bl_text.specs.FirstFaults.{in_call, no_memory}
 use Rattle.bl_text.proofs.ReadLemmas.{passed, is_form}
 use Rattle.bl_text.proofs.formulas.call_here.Goals as goal
 
@@ -18,7 +18,7 @@ returns-clause-read c = λ depth.
     let boxed : c.in_ok-new.field-0.value ≡ c.in_ok-f.f = search rules in
     let read = c.in_ok-f.ensures.read in
     record {
-      is_text = is_form (ap formula boxed) (called _ depth _ c.in_ok-f.there (formula c.in_ok-f.f) c.requires.not_open c.requires.call read.is_call);
+      is_text = is_form (ap formula_view boxed) (called _ depth _ c.in_ok-f.there (formula_view c.in_ok-f.f) c.requires.not_open c.requires.call read.is_call);
       ended = refl;
       left = read.left;
       within = read.within;

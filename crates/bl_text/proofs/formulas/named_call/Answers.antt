@@ -1,11 +1,11 @@
--- The name, its arguments and the parenthesis behind them, as far as they are there.
+-- The name, its arguments and the parenthesis after them, as far as they are there.
 use Rattle.std.proofs.Common.{◌≡◌, Bool, sym, subst, arith, rules}
-use Rattle.bl_syntax.specs.Formula.{formula}
-use Rattle.bl_tokens.specs.declared.tokens.Here.{Here}
-use Rattle.bl_tokens.specs.Tokens.{behind, behind_node}
+use Rattle.bl_syntax.specs.Formula.{formula_view}
+use Rattle.bl_tokens.specs.declared.tokens.Cursor.{Cursor}
+use Rattle.bl_tokens.specs.Tokens.{cursor_after, cursor_after_node}
 use Rattle.bl_text.specs.Scope.{variables}
 use Rattle.bl_text.specs.Grammar.{AreArguments, call}
-use Rattle.bl_text.specs.Stops.{ArgumentsStop, at_name, in_arguments, before_close, by_sorts}
+use Rattle.bl_text.specs.FirstFaults.{ArgumentsHaveFirstFault, at_name, in_arguments, before_close, by_sorts}
 use Rattle.bl_text.proofs.ReadLemmas.{passed}
 use Rattle.bl_text.proofs.formulas.named_call.Goals as goal
 
@@ -14,18 +14,18 @@ returns-in_err-count-clause-fault c = passed c.from_residual.result c.in_err-cou
 
 pub returns-in_err-terms-clause-fault : goal.returns-in_err-terms-clause-fault
 returns-in_err-terms-clause-fault c =
-    let place : c.behind.result ≡ behind c.args.text.now (behind_node c.args.text.now c.args.here.now) = search rules in
-    let stop = subst (λ (p : Here). ArgumentsStop c.args.text.now c.args.in_statement (variables c.args.scope.now) c.is_atom.result p c.in_err-terms.field-0.0) place c.in_err-terms.ensures.fault in
-    let stop' = subst (λ (b : Bool). ArgumentsStop c.args.text.now c.args.in_statement (variables c.args.scope.now) b (behind c.args.text.now (behind_node c.args.text.now c.args.here.now)) c.in_err-terms.field-0.0) c.is_atom.ensures stop in
+    let place : c.cursor_after.result ≡ cursor_after c.args.text.now (cursor_after_node c.args.text.now c.args.here.now) = search rules in
+    let stop = subst (λ (p : Cursor). ArgumentsHaveFirstFault c.args.text.now c.args.in_statement (variables c.args.scope.now) c.is_atom.result p c.in_err-terms.field-0.0) place c.in_err-terms.ensures.fault in
+    let stop' = subst (λ (b : Bool). ArgumentsHaveFirstFault c.args.text.now c.args.in_statement (variables c.args.scope.now) b (cursor_after c.args.text.now (cursor_after_node c.args.text.now c.args.here.now)) c.in_err-terms.field-0.0) c.is_atom.ensures stop in
     passed c.from_residual-in_err-terms.result c.in_err-terms.field-0.0 _ (search rules) (in_arguments c.args.name.now _ c.requires.name (sym c.in_ok-count.ensures.value) stop')
 
 pub returns-in_err-there-clause-fault : goal.returns-in_err-there-clause-fault
 returns-in_err-there-clause-fault c =
     let terms = c.in_ok-terms.terms in
     let mid = c.in_ok-terms.mid in
-    let place : c.behind.result ≡ behind c.args.text.now (behind_node c.args.text.now c.args.here.now) = search rules in
-    let read = subst (λ (p : Here). AreArguments c.args.text.now c.args.in_statement (variables c.args.scope.now) c.is_atom.result p mid terms) place c.in_ok-terms.ensures.read.are_arguments in
-    let read' = subst (λ (b : Bool). AreArguments c.args.text.now c.args.in_statement (variables c.args.scope.now) b (behind c.args.text.now (behind_node c.args.text.now c.args.here.now)) mid terms) c.is_atom.ensures read in
+    let place : c.cursor_after.result ≡ cursor_after c.args.text.now (cursor_after_node c.args.text.now c.args.here.now) = search rules in
+    let read = subst (λ (p : Cursor). AreArguments c.args.text.now c.args.in_statement (variables c.args.scope.now) c.is_atom.result p mid terms) place c.in_ok-terms.ensures.read.are_arguments in
+    let read' = subst (λ (b : Bool). AreArguments c.args.text.now c.args.in_statement (variables c.args.scope.now) b (cursor_after c.args.text.now (cursor_after_node c.args.text.now c.args.here.now)) mid terms) c.is_atom.ensures read in
     passed c.from_residual-in_err-there.result c.in_err-there.field-0.0 _ (search rules)
     (before_close c.args.name.now mid terms _ c.requires.name (sym c.in_ok-count.ensures.value) read' c.in_ok-terms.ensures.read.ended (sym c.in_err-there.ensures.value))
 
@@ -33,9 +33,9 @@ pub returns-in_err-f-clause-fault : goal.returns-in_err-f-clause-fault
 returns-in_err-f-clause-fault c =
     let terms = c.in_ok-terms.terms in
     let mid = c.in_ok-terms.mid in
-    let place : c.behind.result ≡ behind c.args.text.now (behind_node c.args.text.now c.args.here.now) = search rules in
-    let read = subst (λ (p : Here). AreArguments c.args.text.now c.args.in_statement (variables c.args.scope.now) c.is_atom.result p mid terms) place c.in_ok-terms.ensures.read.are_arguments in
-    let read' = subst (λ (b : Bool). AreArguments c.args.text.now c.args.in_statement (variables c.args.scope.now) b (behind c.args.text.now (behind_node c.args.text.now c.args.here.now)) mid terms) c.is_atom.ensures read in
+    let place : c.cursor_after.result ≡ cursor_after c.args.text.now (cursor_after_node c.args.text.now c.args.here.now) = search rules in
+    let read = subst (λ (p : Cursor). AreArguments c.args.text.now c.args.in_statement (variables c.args.scope.now) c.is_atom.result p mid terms) place c.in_ok-terms.ensures.read.are_arguments in
+    let read' = subst (λ (b : Bool). AreArguments c.args.text.now c.args.in_statement (variables c.args.scope.now) b (cursor_after c.args.text.now (cursor_after_node c.args.text.now c.args.here.now)) mid terms) c.is_atom.ensures read in
     passed c.from_residual-in_err-f.result c.in_err-f.field-0.0 _ (search rules)
     (by_sorts c.args.name.now mid c.in_ok-there.there terms _ c.requires.name (sym c.in_ok-count.ensures.value) read' (sym c.in_ok-there.ensures.value) c.in_err-f.ensures)
 
@@ -43,11 +43,11 @@ pub returns-clause-read : goal.returns-clause-read
 returns-clause-read c =
     let terms = c.in_ok-terms.terms in
     let mid = c.in_ok-terms.mid in
-    let place : c.behind.result ≡ behind c.args.text.now (behind_node c.args.text.now c.args.here.now) = search rules in
-    let read = subst (λ (p : Here). AreArguments c.args.text.now c.args.in_statement (variables c.args.scope.now) c.is_atom.result p mid terms) place c.in_ok-terms.ensures.read.are_arguments in
-    let read' = subst (λ (b : Bool). AreArguments c.args.text.now c.args.in_statement (variables c.args.scope.now) b (behind c.args.text.now (behind_node c.args.text.now c.args.here.now)) mid terms) c.is_atom.ensures read in
+    let place : c.cursor_after.result ≡ cursor_after c.args.text.now (cursor_after_node c.args.text.now c.args.here.now) = search rules in
+    let read = subst (λ (p : Cursor). AreArguments c.args.text.now c.args.in_statement (variables c.args.scope.now) c.is_atom.result p mid terms) place c.in_ok-terms.ensures.read.are_arguments in
+    let read' = subst (λ (b : Bool). AreArguments c.args.text.now c.args.in_statement (variables c.args.scope.now) b (cursor_after c.args.text.now (cursor_after_node c.args.text.now c.args.here.now)) mid terms) c.is_atom.ensures read in
     record {
-      is_call = call c.args.name.now mid c.in_ok-there.there terms (formula c.in_ok-f.f) c.requires.name (sym c.in_ok-count.ensures.value) read' (sym c.in_ok-there.ensures.value) c.in_ok-f.ensures;
+      is_call = call c.args.name.now mid c.in_ok-there.there terms (formula_view c.in_ok-f.f) c.requires.name (sym c.in_ok-count.ensures.value) read' (sym c.in_ok-there.ensures.value) c.in_ok-f.ensures;
       left = omega (arith, c.in_ok-terms.ensures.read.left, c.in_ok-there.ensures.left);
       within = c.in_ok-there.ensures.within;
     }

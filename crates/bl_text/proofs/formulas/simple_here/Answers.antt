@@ -1,9 +1,9 @@
--- What `simple` reads, boxed.
+-- What `simple_formula` reads, boxed.
 use Rattle.std.proofs.Common.{◌≡◌, refl, ap, rules}
-use Rattle.bl_syntax.specs.Formula.{formula}
+use Rattle.bl_syntax.specs.Formula.{formula_view}
 use Rattle.bl_tokens.specs.declared.faults.TextFault.TheVariants.{NoMemory}
 use Rattle.bl_text.specs.Grammar.{one_simple}
-use Rattle.bl_text.specs.Stops.{in_simple, no_memory}
+use Rattle.bl_text.specs.FirstFaults.{in_simple, no_memory}
 use Rattle.bl_text.proofs.ReadLemmas.{passed, is_form}
 use Rattle.bl_text.proofs.formulas.simple_here.Goals as goal
 
@@ -17,7 +17,7 @@ pub returns-clause-read : goal.returns-clause-read
 returns-clause-read c = λ depth.
     let boxed : c.in_ok-new.field-0.value ≡ c.in_ok-f.f = search rules in
     record {
-      is_text = is_form (ap formula boxed) (one_simple _ depth _ c.in_ok-f.there (formula c.in_ok-f.f) c.requires.not_open c.requires.no_call c.in_ok-f.ensures.value);
+      is_text = is_form (ap formula_view boxed) (one_simple _ depth _ c.in_ok-f.there (formula_view c.in_ok-f.f) c.requires.not_open c.requires.no_call c.in_ok-f.ensures.value);
       ended = refl;
       left = c.in_ok-f.ensures.left;
       within = c.in_ok-f.ensures.within;

@@ -1,5 +1,5 @@
 -- A sentence is read, or stops in another way.
-use Rattle.bl_text.proofs.EarlyTexts.{misread_formula}
+use Rattle.bl_text.proofs.ViablePrefixTexts.{misread_formula}
 use Rattle.bl_text.proofs.laws.no_sentence_behind_a_fault.Goals as goal
 
 pub returns : goal.returns

@@ -1,5 +1,5 @@
 -- A sentence is read, or stops in another way.
-use Rattle.bl_text.proofs.EarlyTexts.{misread_statement}
+use Rattle.bl_text.proofs.ViablePrefixTexts.{misread_statement}
 use Rattle.bl_text.proofs.laws.no_statement_behind_a_fault.Goals as goal
 
 pub returns : goal.returns

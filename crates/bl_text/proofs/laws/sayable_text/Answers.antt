@@ -1,5 +1,5 @@
 -- Each piece of a statement's text gives what may be said.
-use Rattle.bl_text.proofs.SaidLemmas.{statement_said}
+use Rattle.bl_text.proofs.IsStatementLemmas.{statement_said}
 use Rattle.bl_text.proofs.laws.sayable_text.Goals as goal
 
 pub returns : goal.returns

@@ -1,5 +1,5 @@
 -- The descent comes out at each place.
-use Rattle.bl_text.proofs.Outcomes.{statement_or_its_fault}
+use Rattle.bl_text.proofs.TotalLemmas.{statement_or_its_fault}
 use Rattle.bl_text.proofs.laws.statement_or_fault.Goals as goal
 
 pub returns : goal.returns

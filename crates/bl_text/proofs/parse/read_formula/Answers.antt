@@ -1,7 +1,7 @@
--- The descent reads the formula, and nothing may stand behind it.
+-- The descent reads the formula, and nothing may stand after it.
 use Rattle.std.proofs.Common.{◌≡◌, true, false, sym, subst, rules}
 use Rattle.bl_syntax.specs.declared.formula.Formula.{Formula}
-use Rattle.bl_syntax.specs.Formula.{formula}
+use Rattle.bl_syntax.specs.Formula.{formula_view}
 use Rattle.bl_text.specs.Texts.{IsFormulaText, whole, in_formula, behind_formula, is_end}
 use Rattle.bl_text.proofs.ReadLemmas.{passed, stops_at, is_at}
 use Rattle.bl_text.proofs.parse.read_formula.Goals as goal
@@ -13,7 +13,7 @@ pub returns-then-is_end-clause-read : goal.returns-then-is_end-clause-read
 returns-then-is_end-clause-read c =
     let end : is_end c.formula_at.new.here.token ≡ true = search rules in
     let unboxed : c.into_inner.result ≡ c.in_ok-f.f.value = search rules in
-    subst (λ (f : Formula). IsFormulaText c.args.text.now (formula f)) (sym unboxed) (whole _ (is_at c.beginning-here.ensures.same c.in_ok-f.ensures.read.is_text) end)
+    subst (λ (f : Formula). IsFormulaText c.args.text.now (formula_view f)) (sym unboxed) (whole _ (is_at c.beginning-here.ensures.same c.in_ok-f.ensures.read.is_text) end)
 
 pub returns-else-is_end-clause-fault : goal.returns-else-is_end-clause-fault
 returns-else-is_end-clause-fault c =

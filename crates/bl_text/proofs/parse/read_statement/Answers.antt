@@ -1,11 +1,11 @@
--- The parts of a statement are read one behind the other.
+-- The parts of a statement are read one after the other.
 use Rattle.std.proofs.Common.{sym, ap, ◌∙◌, subst, refl, rules}
-use Rattle.bl_syntax.specs.Formula.{formula}
-use Rattle.bl_syntax.specs.Statement.{Saying}
+use Rattle.bl_syntax.specs.Formula.{formula_view}
+use Rattle.bl_syntax.specs.Statement.{StatementView}
 use Rattle.bl_text.specs.Texts.{opening, whole_saying, IsStatementText, in_opening, in_body, in_span}
 use Rattle.std.proofs.lemmas.Bool.{false≢true}
 use Rattle.bl_text.proofs.ReadLemmas.{passed, is_form}
-use Rattle.bl_text.proofs.SaidLemmas.{statement_said}
+use Rattle.bl_text.proofs.IsStatementLemmas.{statement_said}
 use Rattle.bl_text.proofs.parse.read_statement.Goals as goal
 
 pub returns-in_err-who-clause-fault : goal.returns-in_err-who-clause-fault
@@ -26,13 +26,13 @@ returns-in_err-from-clause-fault c =
 pub returns-in-Some-clause-read : goal.returns-in-Some-clause-read
 returns-in-Some-clause-read c =
     let h = c.in-Some.ensures in
-    let said = whole_saying c.in_ok-who.who _ _ (formula c.into_inner.result) c.in_ok-from.from c.in_ok-from.to (sym (ap (opening c.args.text.now) c.beginning-here.ensures.same) ∙ c.in_ok-who.ensures.value)
-    (is_form (ap formula c.into_inner.ensures) c.in_ok-body.ensures.read.is_text) (sym c.in_ok-from.ensures) in
-    subst (λ (s : Saying). IsStatementText c.args.text.now s) (sym h.same) (record { is_text = said; is_statement = h.some.0 refl })
+    let said = whole_saying c.in_ok-who.who _ _ (formula_view c.into_inner.result) c.in_ok-from.from c.in_ok-from.to (sym (ap (opening c.args.text.now) c.beginning-here.ensures.same) ∙ c.in_ok-who.ensures.value)
+    (is_form (ap formula_view c.into_inner.ensures) c.in_ok-body.ensures.read.is_text) (sym c.in_ok-from.ensures) in
+    subst (λ (s : StatementView). IsStatementText c.args.text.now s) (sym h.same) (record { is_text = said; is_statement = h.some.0 refl })
 
 pub returns-in-None-clause-fault : goal.returns-in-None-clause-fault
 returns-in-None-clause-fault c =
     let h = c.in-None.ensures in
-    let said = whole_saying c.in_ok-who.who _ _ (formula c.into_inner.result) c.in_ok-from.from c.in_ok-from.to (sym (ap (opening c.args.text.now) c.beginning-here.ensures.same) ∙ c.in_ok-who.ensures.value)
-    (is_form (ap formula c.into_inner.ensures) c.in_ok-body.ensures.read.is_text) (sym c.in_ok-from.ensures) in
+    let said = whole_saying c.in_ok-who.who _ _ (formula_view c.into_inner.result) c.in_ok-from.from c.in_ok-from.to (sym (ap (opening c.args.text.now) c.beginning-here.ensures.same) ∙ c.in_ok-who.ensures.value)
+    (is_form (ap formula_view c.into_inner.ensures) c.in_ok-body.ensures.read.is_text) (sym c.in_ok-from.ensures) in
     absurd (false≢true (h.some.1 (statement_said said)))

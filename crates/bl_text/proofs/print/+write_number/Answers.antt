@@ -1,4 +1,4 @@
--- The last digit stands behind those of the number without it.
+-- The last digit stands after those of the number without it.
 use Rattle.std.proofs.Common.{arith, append_assoc}
 use Rattle.std.proofs.lemmas.Grind.{common_steps}
 use Rattle.std.proofs.lemmas.Fmt.{decimal_step, decimal_digit}

@@ -9,9 +9,9 @@ loop-c-preserved c =
     let so_far = c.loop-c.invariant in
     let span = c.span_of-from.ensures in
     record {
-      between = shared_span c.times-c-items.result.now c.loop-c.c-index c.c-item.result c.loop-c-test.true c.c-item.is _ _ _ _ _ _ so_far.between span.between c.later-first.ensures.bound c.earlier-last.ensures.bound;
-      first_in_range = either_in_range _ _ _ so_far.first_in_range span.first_in_range c.later-first.ensures.either;
-      last_in_range = either_in_range _ _ _ so_far.last_in_range span.last_in_range c.earlier-last.ensures.either;
+      between = shared_span c.times-c-items.result.now c.loop-c.c-index c.c-item.result c.loop-c-test.true c.c-item.is _ _ _ _ _ _ so_far.between span.between c.later_time-first.ensures.bound c.earlier_time-last.ensures.bound;
+      first_in_range = either_in_range _ _ _ so_far.first_in_range span.first_in_range c.later_time-first.ensures.either;
+      last_in_range = either_in_range _ _ _ so_far.last_in_range span.last_in_range c.earlier_time-last.ensures.either;
     }
 
 pub returns-then-has_second : goal.returns-then-has_second

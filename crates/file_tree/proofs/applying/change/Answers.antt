@@ -1,8 +1,8 @@
 -- Each operation's change is what was made ready for it.
 use Rattle.std.proofs.Common.{◌≤◌, ℕ, List, IsSome, length, sym, ap, ◌∙◌, subst, arith}
 use Rattle.file_world.specs.Tree.{node_at, contents_sum}
-use Rattle.file_world.specs.TreeEffect.{contents_of, written, at}
-use Rattle.file_tree.specs.Index.{rows_of, kept_at, held_at, HasRoom, Removes, Relocates}
+use Rattle.file_world.specs.TreeEffect.{contents_of, write_at, at}
+use Rattle.file_tree.specs.Index.{rows_of, kept_at, reserved_at, HasContentsRoom, Removes, Relocates}
 use Rattle.file_tree.proofs.ChangeLemmas.{at_create, changes_create, at_mkdir, changes_mkdir, at_write, changes_write, at_truncate, changes_truncate, little_sum, at_unlink, changes_unlink, at_rename, changes_rename}
 use Rattle.file_tree.proofs.applying.change.Goals as goal
 
@@ -17,7 +17,7 @@ make-requires-clause-holds c = (at_create c.args.nodes.now.entries c.args.next.n
 pub make-requires-clause-held : goal.make-requires-clause-held
 make-requires-clause-held c =
     let is = at_create c.args.nodes.now.entries c.args.next.now c.args.ready.now c.args.op.now c.in-Create.directory c.in-Create.name c.in-Create.is c.requires.ready in
-    subst (λ (n : List ℕ). IsSome (held_at c.args.nodes.now.entries c.in-Create.directory.0 n)) (sym c.as_slice-in-Create.ensures) is.held
+    subst (λ (n : List ℕ). IsSome (reserved_at c.args.nodes.now.entries c.in-Create.directory.0 n)) (sym c.as_slice-in-Create.ensures) is.held
 
 pub make-requires-in-Mkdir-clause-short : goal.make-requires-in-Mkdir-clause-short
 make-requires-in-Mkdir-clause-short c =
@@ -30,7 +30,7 @@ make-requires-in-Mkdir-clause-holds c = (at_mkdir c.args.nodes.now.entries c.arg
 pub make-requires-in-Mkdir-clause-held : goal.make-requires-in-Mkdir-clause-held
 make-requires-in-Mkdir-clause-held c =
     let is = at_mkdir c.args.nodes.now.entries c.args.next.now c.args.ready.now c.args.op.now c.in-Mkdir.directory c.in-Mkdir.name c.in-Mkdir.is c.requires.ready in
-    subst (λ (n : List ℕ). IsSome (held_at c.args.nodes.now.entries c.in-Mkdir.directory.0 n)) (sym c.as_slice-in-Mkdir.ensures) is.held
+    subst (λ (n : List ℕ). IsSome (reserved_at c.args.nodes.now.entries c.in-Mkdir.directory.0 n)) (sym c.as_slice-in-Mkdir.ensures) is.held
 
 pub returns-in-Create : goal.returns-in-Create
 returns-in-Create c =
@@ -44,7 +44,7 @@ pub write-requires-clause-there : goal.write-requires-clause-there
 write-requires-clause-there c =
     let old = c.args.nodes.now.entries in
     let is = at_write old c.args.next.now c.args.ready.now c.args.op.now c.in-Write.file c.in-Write.offset c.in-Write.bytes c.in-Write.is c.requires.ready in
-    subst (λ (b : List ℕ). HasRoom old c.in-Write.file.0 (length (written (contents_of (node_at (rows_of old) c.in-Write.file.0)) c.in-Write.offset b))) (sym c.as_slice.ensures) is.0.room
+    subst (λ (b : List ℕ). HasContentsRoom old c.in-Write.file.0 (length (write_at (contents_of (node_at (rows_of old) c.in-Write.file.0)) c.in-Write.offset b))) (sym c.as_slice.ensures) is.0.room
 
 pub write-requires-clause-fits : goal.write-requires-clause-fits
 write-requires-clause-fits c =
@@ -128,7 +128,7 @@ rename-requires-clause-holds c =
 pub rename-requires-clause-held : goal.rename-requires-clause-held
 rename-requires-clause-held c =
     let is = at_rename c.args.nodes.now.entries c.args.next.now c.args.ready.now c.args.op.now c.in-Rename.directory c.in-Rename.name c.in-Rename.target c.in-Rename.renamed c.in-Rename.is c.requires.ready in
-    subst (λ (n : List ℕ). IsSome (held_at c.args.nodes.now.entries c.in-Rename.target.0 n)) (sym c.as_slice-in-Rename-2.ensures) is.0.held
+    subst (λ (n : List ℕ). IsSome (reserved_at c.args.nodes.now.entries c.in-Rename.target.0 n)) (sym c.as_slice-in-Rename-2.ensures) is.0.held
 
 pub returns-in-Rename : goal.returns-in-Rename
 returns-in-Rename c =

@@ -1,6 +1,6 @@
--- The node behind the reference stands at another place.
+-- The node after the reference stands at another place.
 use Rattle.std.proofs.Common.{◌≡◌, Some, refl}
-use Rattle.file_tree.specs.declared.node.Node.{Node as Kept}
+use Rattle.file_tree.specs.declared.node.KeptNode.{KeptNode as Kept}
 use Rattle.file_tree.specs.Index.{kept_at, place_of}
 use Rattle.file_tree.proofs.IndexLemmas.{SetsValue-from_map, found_behind, same_names}
 use Rattle.file_tree.proofs.ApplyLemmas.{Replaces-from_set}

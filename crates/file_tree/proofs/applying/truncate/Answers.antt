@@ -1,10 +1,10 @@
--- The file is the node behind the reference, with its contents cut or filled up.
+-- The file is the node after the reference, with its contents cut or filled up.
 use Rattle.std.proofs.Common.{◌≡◌, ℕ, List, Option, Some, refl, sym, ap, ◌∙◌, arith}
 use Rattle.file_world.specs.Tree.{Node, node_at}
-use Rattle.file_world.specs.TreeEffect.{contents_of, resized, with_contents}
+use Rattle.file_world.specs.TreeEffect.{contents_of, resize_to, with_contents}
 use Rattle.file_world.proofs.EffectLemmas.{length-resized}
-use Rattle.file_tree.specs.declared.node.Node.{Node as Kept}
-use Rattle.file_tree.specs.Index.{rows_of, kept_at, shown}
+use Rattle.file_tree.specs.declared.node.KeptNode.{KeptNode as Kept}
+use Rattle.file_tree.specs.Index.{rows_of, kept_at, node_shown}
 use Rattle.file_tree.proofs.IndexLemmas.{SetsValue-from_map, found_behind, same_names, node_at-kept}
 use Rattle.file_tree.proofs.ApplyLemmas.{Fills-from_set, part_le_sum}
 use Rattle.file_tree.proofs.applying.truncate.Goals as goal
@@ -22,9 +22,9 @@ returns c =
     let now : Kept = record node { contents = c.cut.new.contents } in
     let there : kept_at old c.args.number ≡ Some node = found_behind c.get_mut.result _ c.unwrap-node.result c.get_mut.ensures.value c.unwrap-node.ensures in
     let sets = SetsValue-from_map c.args.nodes.now (c.get_mut.follows.lender now) c.args.number node now there (c.get_mut.follows.holds now) in
-    let items : c.cut.new.contents.items ≡ resized (contents_of (node_at (rows_of old) c.args.number)) c.args.len =
-    c.cut.ensures ∙ ap (λ (n : Option Node). resized (contents_of n) c.args.len) (sym (node_at-kept old c.args.number node there)) in
+    let items : c.cut.new.contents.items ≡ resize_to (contents_of (node_at (rows_of old) c.args.number)) c.args.len =
+    c.cut.ensures ∙ ap (λ (n : Option Node). resize_to (contents_of n) c.args.len) (sym (node_at-kept old c.args.number node there)) in
     let part = part_le_sum old c.args.number node there in
-    Fills-from_set old _ c.args.number node now (resized (contents_of (node_at (rows_of old) c.args.number)) c.args.len) _ there sets (same_names node now refl)
-    (ap (λ (contents : List ℕ). with_contents contents (shown node)) items)
+    Fills-from_set old _ c.args.number node now (resize_to (contents_of (node_at (rows_of old) c.args.number)) c.args.len) _ there sets (same_names node now refl)
+    (ap (λ (contents : List ℕ). with_contents contents (node_shown node)) items)
     (let len = length-resized (contents_of (node_at (rows_of old) c.args.number)) c.args.len in omega (arith, part, len, c.len-before.ensures, node.contents.ok.0, c.requires.summed))

@@ -1,9 +1,9 @@
--- The file is the node behind the reference, with its contents written.
+-- The file is the node after the reference, with its contents written.
 use Rattle.std.proofs.Common.{◌≡◌, ℕ, List, Option, Some, refl, sym, ap, ◌∙◌, length, arith}
 use Rattle.file_world.specs.Tree.{Node, node_at}
-use Rattle.file_world.specs.TreeEffect.{contents_of, written, with_contents}
-use Rattle.file_tree.specs.declared.node.Node.{Node as Kept}
-use Rattle.file_tree.specs.Index.{rows_of, kept_at, shown}
+use Rattle.file_world.specs.TreeEffect.{contents_of, write_at, with_contents}
+use Rattle.file_tree.specs.declared.node.KeptNode.{KeptNode as Kept}
+use Rattle.file_tree.specs.Index.{rows_of, kept_at, node_shown}
 use Rattle.file_tree.proofs.IndexLemmas.{SetsValue-from_map, found_behind, same_names, node_at-kept}
 use Rattle.file_tree.proofs.ApplyLemmas.{Fills-from_set, part_le_sum}
 use Rattle.file_tree.proofs.applying.write.Goals as goal
@@ -21,9 +21,9 @@ returns c =
     let now : Kept = record node { contents = c.put.new.contents } in
     let there : kept_at old c.args.number ≡ Some node = found_behind c.get_mut.result _ c.unwrap-node.result c.get_mut.ensures.value c.unwrap-node.ensures in
     let sets = SetsValue-from_map c.args.nodes.now (c.get_mut.follows.lender now) c.args.number node now there (c.get_mut.follows.holds now) in
-    let items : c.put.new.contents.items ≡ written (contents_of (node_at (rows_of old) c.args.number)) c.args.offset c.args.bytes.now =
-    c.put.ensures ∙ ap (λ (n : Option Node). written (contents_of n) c.args.offset c.args.bytes.now) (sym (node_at-kept old c.args.number node there)) in
+    let items : c.put.new.contents.items ≡ write_at (contents_of (node_at (rows_of old) c.args.number)) c.args.offset c.args.bytes.now =
+    c.put.ensures ∙ ap (λ (n : Option Node). write_at (contents_of n) c.args.offset c.args.bytes.now) (sym (node_at-kept old c.args.number node there)) in
     let part = part_le_sum old c.args.number node there in
-    Fills-from_set old _ c.args.number node now (written (contents_of (node_at (rows_of old) c.args.number)) c.args.offset c.args.bytes.now) _ there sets (same_names node now refl)
-    (ap (λ (contents : List ℕ). with_contents contents (shown node)) items)
+    Fills-from_set old _ c.args.number node now (write_at (contents_of (node_at (rows_of old) c.args.number)) c.args.offset c.args.bytes.now) _ there sets (same_names node now refl)
+    (ap (λ (contents : List ℕ). with_contents contents (node_shown node)) items)
     (let len = ap length items in omega (arith, part, len, c.len-before.ensures, c.len-after.ensures, node.contents.ok.0, c.put.new.contents.ok.0, c.requires.summed))

@@ -9,6 +9,6 @@ returns-in-None c = no_listed_names c.args.nodes.now.entries c.args.directory c.
 
 pub returns-in-Some : goal.returns-in-Some
 returns-in-Some c =
-    subst (λ (names : List NamedNode). IfOk c.listed.result (λ result. result ≡ names))
-    (listed_names c.args.nodes.now.entries c.args.next c.args.directory c.in-Some.node.now c.requires.kept c.requires.holds (sym c.in-Some.ensures.value) c.listed.ensures.sorted)
-    c.listed.ensures.listed
+    subst (λ (names : List NamedNode). IfOk c.list_entry.result (λ result. result ≡ names))
+    (listed_names c.args.nodes.now.entries c.args.next c.args.directory c.in-Some.node.now c.requires.kept c.requires.holds (sym c.in-Some.ensures.value) c.list_entry.ensures.sorted)
+    c.list_entry.ensures.listed

@@ -1,7 +1,7 @@
 -- The new number is above all others, so its node goes to the end.
 use Rattle.std.proofs.Common.{ℕ, List, ◌∙◌, ap}
 use Rattle.file_world.specs.Tree.{Node}
-use Rattle.file_tree.specs.declared.node.Node.{Node as Kept}
+use Rattle.file_tree.specs.declared.node.KeptNode.{KeptNode as Kept}
 use Rattle.file_tree.specs.Index.{place_of}
 use Rattle.file_tree.proofs.IndexLemmas.{insert-last}
 use Rattle.file_tree.proofs.preparing.add.Goals as goal

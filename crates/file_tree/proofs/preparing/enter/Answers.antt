@@ -1,6 +1,6 @@
--- The directory is the node behind the reference, with one name more or as before.
+-- The directory is the node after the reference, with one name more or as before.
 use Rattle.std.proofs.Common.{◌≡◌, Some, refl}
-use Rattle.file_tree.specs.declared.node.Node.{Node as Kept}
+use Rattle.file_tree.specs.declared.node.KeptNode.{KeptNode as Kept}
 use Rattle.file_tree.specs.Index.{kept_at, place_of}
 use Rattle.file_tree.proofs.IndexLemmas.{SetsValue-from_map, found_behind, ChangesName-entered, Puts-from_set, Keeps-from_set, same_names}
 use Rattle.file_tree.proofs.preparing.enter.Goals as goal

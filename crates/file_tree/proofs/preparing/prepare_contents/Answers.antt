@@ -1,5 +1,5 @@
 use Rattle.std.proofs.Common.{◌≡◌, ℕ, List, Some, refl, ap, arith}
-use Rattle.file_tree.specs.declared.node.Node.{Node as Kept}
+use Rattle.file_tree.specs.declared.node.KeptNode.{KeptNode as Kept}
 use Rattle.file_tree.specs.Index.{kept_at}
 use Rattle.file_tree.proofs.IndexLemmas.{SetsValue-from_map, found_behind, kept-set, Keeps-from_set, same_names}
 use Rattle.file_tree.proofs.KeptLemmas.{Prepares-contents, Stays-from_Keeps}

@@ -1,6 +1,6 @@
--- The directory is the node behind the reference without the name; where there is no node, nothing is kept.
+-- The directory is the node after the reference without the name; where there is no node, nothing is kept.
 use Rattle.std.proofs.Common.{◌≡◌, Some, None, refl, sym}
-use Rattle.file_tree.specs.declared.node.Node.{Node as Kept}
+use Rattle.file_tree.specs.declared.node.KeptNode.{KeptNode as Kept}
 use Rattle.file_tree.specs.Index.{kept_at, place_of}
 use Rattle.file_tree.proofs.IndexLemmas.{SetsValue-from_map, ChangesName-removed, Puts-from_set}
 use Rattle.file_tree.proofs.preparing.release.Goals as goal

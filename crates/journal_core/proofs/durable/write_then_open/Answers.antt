@@ -1,7 +1,7 @@
 use Rattle.std.proofs.Common.{◌≡◌, ◌⊎◌, ℕ, ◌+◌, List, [], ◌∷◌, Some, ap, ◌∙◌, inl}
 use Rattle.std.specs.Option.{option_map}
 use Rattle.pcfs_ports.specs.Disk.{written, Torn}
-use Rattle.journal_core.proofs.Moments.{then_leaves, weaker_leaves}
+use Rattle.journal_core.proofs.RestsLemmas.{then_leaves, weaker_leaves}
 use Rattle.journal_core.proofs.durable.write_then_open.Goals as goal
 
 pub returns-in_err-write_through-clause-any_moment : goal.returns-in_err-write_through-clause-any_moment

@@ -1,5 +1,5 @@
 use Rattle.pcfs_ports.specs.Disk.{Torn}
-use Rattle.journal_core.proofs.Moments.{written_leaves, idle_leaves}
+use Rattle.journal_core.proofs.RestsLemmas.{written_leaves, idle_leaves}
 use Rattle.journal_core.proofs.durable.write_through.Goals as goal
 
 pub returns-in_err-write_at-clause-any_moment : goal.returns-in_err-write_at-clause-any_moment

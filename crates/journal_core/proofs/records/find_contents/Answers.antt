@@ -1,5 +1,5 @@
 use Rattle.std.proofs.Common.{◌≡◌, ℕ, List, get_or, ap, sym, subst, ◌∙◌}
-use Rattle.journal_core.specs.Contents.{all_placed}
+use Rattle.journal_core.specs.ScanView.{all_bytes_at}
 use Rattle.journal_core.specs.Reports.{BaseEndsAt, RecordsEndAt}
 use Rattle.journal_core.specs.Faults.{BrokeAt}
 use Rattle.journal_core.proofs.RecordLemmas.{area_found, area_long, reported}
@@ -14,8 +14,8 @@ returns-in-Ok-clause-ok c =
     let payloads = c.in-Ok.payloads in
     area_found bytes c.in-Some.generation from end
     (subst (λ (b : List ℕ). BaseEndsAt b c.in-Some.generation from) same c.in-Some.ensures)
-    (all_placed bytes payloads)
-    (subst (λ (b : List ℕ). RecordsEndAt b from (all_placed b payloads) end) same c.in-Ok.ensures.ok)
+    (all_bytes_at bytes payloads)
+    (subst (λ (b : List ℕ). RecordsEndAt b from (all_bytes_at b payloads) end) same c.in-Ok.ensures.ok)
     (λ is_open. c.in-Ok.ensures.shut (ap (λ (b : List ℕ). get_or b end 0) same ∙ is_open))
 
 pub returns-in-Ok-clause-end : goal.returns-in-Ok-clause-end
@@ -27,8 +27,8 @@ returns-in-Ok-clause-end c =
     let payloads = c.in-Ok.payloads in
     sym (area_long bytes c.in-Some.generation from end
     (subst (λ (b : List ℕ). BaseEndsAt b c.in-Some.generation from) same c.in-Some.ensures)
-    (all_placed bytes payloads)
-    (subst (λ (b : List ℕ). RecordsEndAt b from (all_placed b payloads) end) same c.in-Ok.ensures.ok))
+    (all_bytes_at bytes payloads)
+    (subst (λ (b : List ℕ). RecordsEndAt b from (all_bytes_at b payloads) end) same c.in-Ok.ensures.ok))
 
 pub returns-in-Err-clause-err : goal.returns-in-Err-clause-err
 returns-in-Err-clause-err c =

@@ -2,7 +2,7 @@ use Rattle.std.proofs.Common.{◌≡◌, ℕ, ◌-◌, min, List, ◌++◌, leng
 use Rattle.std.proofs.lemmas.List.{take_at, take_min}
 use Rattle.pcfs_ports.specs.Disk.{ReadsAt}
 use Rattle.journal_core.specs.Area.{area_limit}
-use Rattle.journal_core.proofs.Moments.{if_told, at_told}
+use Rattle.journal_core.proofs.RestsLemmas.{if_told, at_told}
 use Rattle.journal_core.proofs.scan.read_area.Goals as goal
 
 pub returns-clause-ok : goal.returns-clause-ok

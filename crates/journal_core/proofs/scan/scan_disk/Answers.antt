@@ -4,7 +4,7 @@ use Rattle.journal_core.specs.Area.{area_limit, area_bytes, IsGeneration, IsArea
 use Rattle.journal_core.specs.Faults.{IsReported}
 use Rattle.journal_core.specs.declared.scan.ScanFault.{ScanFault}
 use Rattle.journal_core.specs.declared.scan.ScanFault.TheVariants.{Disk}
-use Rattle.journal_core.proofs.Moments.{if_told, at_told, idle_pinned}
+use Rattle.journal_core.proofs.RestsLemmas.{if_told, at_told, idle_pinned}
 use Rattle.journal_core.proofs.RecordLemmas.{area_past, reported_past}
 use Rattle.journal_core.proofs.scan.scan_disk.Goals as goal
 

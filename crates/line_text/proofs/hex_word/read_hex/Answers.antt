@@ -22,9 +22,9 @@ returns-then-not-may_be_digits-clause-only c bytes is =
 pub returns-clause-found : goal.returns-clause-found
 returns-clause-found c =
     let form = c.may_be_digits.ensures.0 c.if-not-may_be_digits.false in
-    IfOk-weaker c.decoded.result _ _ (λ read h. (reads_word c.args.word.now read (λ same. false≢true (sym c.if-is_no_bytes.false ∙ c.is_no_bytes.ensures.1 same)) form.0 form.1 h).0) c.decoded.ensures
+    IfOk-weaker c.decode_hex.result _ _ (λ read h. (reads_word c.args.word.now read (λ same. false≢true (sym c.if-is_no_bytes.false ∙ c.is_no_bytes.ensures.1 same)) form.0 form.1 h).0) c.decode_hex.ensures
 
 pub returns-clause-only : goal.returns-clause-only
 returns-clause-only c =
     let form = c.may_be_digits.ensures.0 c.if-not-may_be_digits.false in
-    IfOk-weaker c.decoded.result _ _ (λ read h. (reads_word c.args.word.now read (λ same. false≢true (sym c.if-is_no_bytes.false ∙ c.is_no_bytes.ensures.1 same)) form.0 form.1 h).1) c.decoded.ensures
+    IfOk-weaker c.decode_hex.result _ _ (λ read h. (reads_word c.args.word.now read (λ same. false≢true (sym c.if-is_no_bytes.false ∙ c.is_no_bytes.ensures.1 same)) form.0 form.1 h).1) c.decode_hex.ensures

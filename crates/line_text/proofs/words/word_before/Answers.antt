@@ -1,4 +1,4 @@
--- The literal stands behind the first word.
+-- The literal stands after the first word.
 use Rattle.std.proofs.Common.{◌++◌, sym, ◌∙◌}
 use Rattle.std.proofs.lemmas.List.{append_cancel_left}
 use Rattle.line_text.proofs.WordLemmas.{ends_word-append}

@@ -2,7 +2,7 @@
 use Rattle.std.proofs.Common.{◌≡◌, ◌++◌, true, refl, sym, ap, subst, ◌∙◌, rules}
 use Rattle.std.proofs.lemmas.Bool.{false≢true}
 use Rattle.access_history.specs.Citing.{AreCitable}
-use Rattle.line_wire.proofs.OneCommand.{AreJoined-same}
+use Rattle.line_wire.proofs.IsLineLemmas.{AreJoined-same}
 use Rattle.line_wire.proofs.cited.cited_numbers.Goals as goal
 
 pub returns-then-not-are_citable : goal.returns-then-not-are_citable

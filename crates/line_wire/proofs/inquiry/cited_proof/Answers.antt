@@ -1,4 +1,4 @@
--- The numbers stand before the first space, and the text behind it.
+-- The numbers stand before the first space, and the text after it.
 use Rattle.std.proofs.Common.{ℕ, List, sym, subst, MatchOption}
 use Rattle.line_wire.specs.Lines.{IsCited}
 use Rattle.line_wire.proofs.FormLemmas.{HasNo-joined}

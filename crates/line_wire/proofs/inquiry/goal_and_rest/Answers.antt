@@ -7,7 +7,7 @@ use Rattle.bl_text.specs.Printed.{permission_text}
 use Rattle.line_wire.specs.Lines.{IsFile}
 use Rattle.line_text.proofs.WordLemmas.{HasNo-principal}
 use Rattle.line_wire.proofs.FormLemmas.{HasNo-file, HasNo-permission}
-use Rattle.line_wire.proofs.OneCommand.{goal-same}
+use Rattle.line_wire.proofs.IsLineLemmas.{goal-same}
 use Rattle.line_wire.proofs.inquiry.goal_and_rest.Goals as goal
 
 pub returns-in_err-name-clause-only : goal.returns-in_err-name-clause-only

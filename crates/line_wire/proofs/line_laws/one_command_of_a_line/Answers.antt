@@ -1,5 +1,5 @@
 -- Each part of a line is read in one way.
-use Rattle.line_wire.proofs.OneCommand.{IsLine-unique}
+use Rattle.line_wire.proofs.IsLineLemmas.{IsLine-unique}
 use Rattle.line_wire.proofs.line_laws.one_command_of_a_line.Goals as goal
 
 pub returns : goal.returns

@@ -1,4 +1,4 @@
--- The signature stands before the first space, and the text behind it.
+-- The signature stands before the first space, and the text after it.
 use Rattle.std.proofs.Common.{ℕ, List, refl, sym, subst, MatchOption}
 use Rattle.line_wire.specs.Lines.{IsSignature, by_bytes}
 use Rattle.line_wire.proofs.ProcapLemmas.{HasNo-signed, signature_of}

@@ -1,4 +1,4 @@
--- A text has no quote, so the first quote behind it closes it.
+-- A text has no quote, so the first quote after it closes it.
 use Rattle.std.proofs.Common.{◌++◌, [], ◌∷◌, refl}
 use Rattle.std.proofs.lemmas.Bool.{false≢true}
 use Rattle.line_words.proofs.GrammarLemmas.{only_text, reads_text}

@@ -5,7 +5,7 @@ use Rattle.std.proofs.lemmas.Int.{to_z-of_z}
 use Rattle.std.proofs.Common.{ℕ, List, rules, ◌≡◌, ◌∷◌, [], ap, subst, sym, ◌∙◌}
 use Rattle.op_gate.specs.declared.decide.Decided.{Decided}
 use Rattle.bl_syntax.specs.declared.terms.Perm.TheVariants.{Write}
-use Rattle.access_history.specs.declared.event.Op.TheVariants.{Create}
+use Rattle.access_history.specs.declared.event.FileOp.TheVariants.{Create}
 use Rattle.access_history.specs.declared.request.StepRequest.TheVariants.{Act}
 use Rattle.access_history.specs.Answer.{Denies}
 use Rattle.access_history.specs.Facts.{facts_of}
@@ -13,8 +13,8 @@ use Rattle.access_history.specs.Needs.{need_of}
 use Rattle.access_history.specs.History.{authority_of, state_of}
 use Rattle.procap.specs.Genuine.{IsGenuine}
 use Rattle.op_gate.specs.Decision.{IsDecided}
-use Rattle.op_gate.proofs.Deciding.{ok_so}
-use Rattle.op_gate.proofs.Making.{create_denied, create_admitted}
+use Rattle.op_gate.proofs.DecisionLemmas.{ok_so}
+use Rattle.op_gate.proofs.CreateLemmas.{create_denied, create_admitted}
 use Rattle.op_gate.proofs.act.decide_create.Goals as goal
 
 -- what holds of a key holds of the same key
@@ -30,7 +30,7 @@ pub returns-in-Some : goal.returns-in-Some
 returns-in-Some c =
     let last_fits : SFits w64 c.moment.result = search rules in
     let max_fits : SFits w64 c.max-moment.result = search rules in
-    subst (λ (d : Decided). IsDecided (authority_of c.args.history.now) (state_of c.args.history.now) c.args.pass c.args.clock (Act c.args.caller.now (Create c.args.directory c.args.name.now) (c.args.procap.now ∷ [])) d.reply d.step) (sym c.told.ensures)
+    subst (λ (d : Decided). IsDecided (authority_of c.args.history.now) (state_of c.args.history.now) c.args.pass c.args.clock (Act c.args.caller.now (Create c.args.directory c.args.name.now) (c.args.procap.now ∷ [])) d.reply d.step) (sym c.answer_alone.ensures)
     (create_denied (authority_of c.args.history.now) (state_of c.args.history.now) c.args.pass c.args.clock c.args.caller.now c.args.directory c.args.name.now c.args.procap.now
     (to_z w64 (of_z w64 c.max-moment.result)) c.in-Some.cause c.count.result c.rows.result.now
     (step_moment c.args.clock (state_of c.args.history.now).moment c.moment.result c.max-moment.result c.ranges.clock last_fits max_fits c.moment.ensures c.max-moment.ensures.value)

@@ -2,7 +2,7 @@
 use Rattle.std.proofs.Common.{refl, ◌∙◌, arith}
 use Rattle.access_history.specs.Authority.{sayings}
 use Rattle.op_gate.proofs.CitingLemmas.{IsAbsent-at, AreFound-more, AreCited-found}
-use Rattle.op_gate.proofs.Deciding.{no_zero, none_beyond, numbered_in}
+use Rattle.op_gate.proofs.DecisionLemmas.{no_zero, none_beyond, numbered_in}
 use Rattle.op_gate.proofs.RegistryLemmas.{said_numbered, said_has}
 use Rattle.op_gate.proofs.cite.cite.Goals as goal
 use Rattle.op_gate.proofs.cite.cite.Goals.{then-number-eq0-via-then-number-eq0, then-number-eq0-via-else-number-eq0+then-statements-number}

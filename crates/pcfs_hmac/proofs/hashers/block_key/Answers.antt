@@ -1,7 +1,7 @@
 use Rattle.std.proofs.Common.{◌++◌, ℕ, List, ap₂, sym, ◌∙◌}
 use Rattle.std.proofs.lemmas.List.{drop-replicate}
 use Rattle.pcfs_hmac.proofs.hashers.block_key.Goals as goal
-use Rattle.pcfs_hmac.proofs.Blocks.{block_key-long, block_key-short}
+use Rattle.pcfs_hmac.proofs.BlockKeyLemmas.{block_key-long, block_key-short}
 
 pub returns-then-key-gt-BLOCK_LENGTH : goal.returns-then-key-gt-BLOCK_LENGTH
 returns-then-key-gt-BLOCK_LENGTH c =

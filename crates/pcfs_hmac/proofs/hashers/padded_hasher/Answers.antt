@@ -1,6 +1,6 @@
 use Rattle.std.proofs.Common.{◌≡◌, arith}
 use Rattle.pcfs_hmac.proofs.hashers.padded_hasher.Goals as goal
-use Rattle.pcfs_hmac.proofs.Blocks.{IsPaddedTo-set, IsPaddedTo_all}
+use Rattle.pcfs_hmac.proofs.BlockKeyLemmas.{IsPaddedTo-set, IsPaddedTo_all}
 
 pub loop-byte-preserved : goal.loop-byte-preserved
 loop-byte-preserved c =

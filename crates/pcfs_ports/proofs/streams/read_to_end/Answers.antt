@@ -1,5 +1,5 @@
 use Rattle.std.proofs.Common.{arith}
-use Rattle.pcfs_ports.proofs.ToldLemmas.{first_of_taken, some_of_taken, on_err}
+use Rattle.pcfs_ports.proofs.TakesLemmas.{first_of_taken, some_of_taken, on_err}
 use Rattle.pcfs_ports.proofs.streams.read_to_end.Goals as goal
 
 pub returns-in_err-take_piece-clause-err : goal.returns-in_err-take_piece-clause-err

@@ -1,6 +1,6 @@
 use Rattle.std.proofs.Common.{arith}
 use Rattle.std.proofs.lemmas.List.{take_rest}
-use Rattle.pcfs_ports.proofs.ToldLemmas.{with_back-take}
+use Rattle.pcfs_ports.proofs.TakesLemmas.{with_back-take}
 use Rattle.pcfs_ports.proofs.streams.write_all.Goals as goal
 
 pub loop-at-preserved : goal.loop-at-preserved

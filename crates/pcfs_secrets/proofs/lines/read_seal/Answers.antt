@@ -1,4 +1,4 @@
--- The word behind the literal writes the key.
+-- The word after the literal writes the key.
 use Rattle.std.proofs.lemmas.Result.{IfOk-weaker}
 use Rattle.pcfs_secrets.proofs.LineLemmas.{reads_seal}
 use Rattle.pcfs_secrets.proofs.lines.read_seal.Goals as goal

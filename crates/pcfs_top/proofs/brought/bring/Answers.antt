@@ -1,5 +1,5 @@
 -- The word's own procap, or that of the issue that it names.
-use Rattle.op_gate.proofs.Showing.{found_some}
+use Rattle.op_gate.proofs.IssuedLemmas.{found_some}
 use Rattle.pcfs_top.proofs.BroughtLemmas.{brings_own, brings_issued}
 use Rattle.pcfs_top.proofs.brought.bring.Goals as goal
 

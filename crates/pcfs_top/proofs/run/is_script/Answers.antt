@@ -1,4 +1,4 @@
-use Rattle.pcfs_top.proofs.Ending.{IsScript-word}
+use Rattle.pcfs_top.proofs.EndsWithLemmas.{IsScript-word}
 use Rattle.pcfs_top.proofs.run.is_script.Goals as goal
 
 pub returns-in-len1 : goal.returns-in-len1

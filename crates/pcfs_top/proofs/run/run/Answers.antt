@@ -2,7 +2,7 @@
 use Rattle.std.proofs.Common.{◌≡◌, true, false, refl, ap, Err}
 use Rattle.pcfs_top.specs.Run.{IsScript}
 use Rattle.pcfs_top.specs.Run as run
-use Rattle.pcfs_top.proofs.Ending.{ReadsWhole-shown, EndsWith-told, EndsWith-done, EndsWith-cut_short, EndsWith-no_memory}
+use Rattle.pcfs_top.proofs.EndsWithLemmas.{ReadsWhole-shown, EndsWith-told, EndsWith-done, EndsWith-cut_short, EndsWith-no_memory}
 use Rattle.pcfs_top.proofs.run.run.Goals as goal
 
 false_true : false ≡ true → ⊥

@@ -1,15 +1,15 @@
 -- Each line that was answered, with its reply written, is one more of the run.
 use Rattle.std.proofs.Common.{ap, ◌∙◌, arith}
-use Rattle.pcfs_ports.proofs.ToldLemmas.{on_err}
-use Rattle.pcfs_top.specs.Desk.{Seated}
-use Rattle.pcfs_top.proofs.Running.{HasRun-start, HasRun-counted, HasRun-more, HasRun-part, HasRun-whole}
+use Rattle.pcfs_ports.proofs.TakesLemmas.{on_err}
+use Rattle.pcfs_top.specs.Interpreter.{InterpreterView}
+use Rattle.pcfs_top.proofs.ScriptLemmas.{HasRun-start, HasRun-counted, HasRun-more, HasRun-part, HasRun-whole}
 use Rattle.pcfs_top.proofs.script.answer_lines.Goals as goal
 
 pub loop-line-init : goal.loop-line-init
 loop-line-init g c = record {
-  secrets = ap (λ (s : Seated). s.secrets) c.requires.fresh;
-  base = ap (λ (s : Seated). s.base) c.requires.fresh;
-  run = HasRun-start _ _ _ _ (ap (λ (s : Seated). s.standing) c.requires.fresh);
+  secrets = ap (λ (s : InterpreterView). s.secrets) c.requires.fresh;
+  base = ap (λ (s : InterpreterView). s.base) c.requires.fresh;
+  run = HasRun-start _ _ _ _ (ap (λ (s : InterpreterView). s.standing) c.requires.fresh);
   never_falls = omega arith;
 }
 

@@ -1,5 +1,5 @@
 use Rattle.std.proofs.Common.{◌≡◌, [], ◌∷◌, ◌++◌, true, false, ap, arith}
-use Rattle.bl_syntax.specs.Grant.{Granted}
+use Rattle.bl_syntax.specs.Grant.{GrantView}
 use Rattle.procap.specs.GrantReading.{state_condition_at, may_follow_states}
 use Rattle.procap.proofs.ReadingLemmas.{stops, items_none, items_fault, items_refused, items_more, state_is_kept}
 use Rattle.procap.proofs.reading.+add_states_at.Goals as goal
@@ -28,5 +28,5 @@ push_state-requires-clause-new t c =
 pub returns-in_ok-push_state-in-Ok-clause-read : goal.returns-in_ok-push_state-in-Ok-clause-read
 returns-in_ok-push_state-in-Ok-clause-read t c =
     let follows : may_follow_states c.args.grant.now.states c.in-Ok.s ≡ true = rw (← c.states.ensures.same, ← c.may_follow_states.ensures) c.if-not-may_follow_states.false in
-    let grown : c.push_state.new.self.states ≡ c.args.grant.now.states ++ c.in-Ok.s ∷ [] = ap (λ (g : Granted). g.states) c.in_ok-push_state-in-Ok.ensures.ok in
+    let grown : c.push_state.new.self.states ≡ c.args.grant.now.states ++ c.in-Ok.s ∷ [] = ap (λ (g : GrantView). g.states) c.in_ok-push_state-in-Ok.ensures.ok in
     rw (items_more state_condition_at may_follow_states c.args.count c.args.input c.args.grant.now.states c.args.bytes.now c.in-Ok.s c.in-Ok.rest.now (omega (arith, c.if-count-eq0.false)) c.in-Ok.ensures follows, ← grown) c.add_states_at.ensures.read

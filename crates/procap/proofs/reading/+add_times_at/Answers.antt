@@ -1,5 +1,5 @@
 use Rattle.std.proofs.Common.{◌≡◌, [], ◌∷◌, ◌++◌, true, false, ap, arith}
-use Rattle.bl_syntax.specs.Grant.{Granted}
+use Rattle.bl_syntax.specs.Grant.{GrantView}
 use Rattle.procap.specs.GrantReading.{time_condition_at, may_follow_times}
 use Rattle.procap.proofs.ReadingLemmas.{stops, items_none, items_fault, items_refused, items_more, time_is_kept}
 use Rattle.procap.proofs.reading.+add_times_at.Goals as goal
@@ -28,5 +28,5 @@ push_time-requires-clause-new t c =
 pub returns-in_ok-push_time-in-Ok-clause-read : goal.returns-in_ok-push_time-in-Ok-clause-read
 returns-in_ok-push_time-in-Ok-clause-read t c =
     let follows : may_follow_times c.args.grant.now.times c.in-Ok.c ≡ true = rw (← c.times.ensures.same, ← c.may_follow_times.ensures) c.if-not-may_follow_times.false in
-    let grown : c.push_time.new.self.times ≡ c.args.grant.now.times ++ c.in-Ok.c ∷ [] = ap (λ (g : Granted). g.times) c.in_ok-push_time-in-Ok.ensures.ok in
+    let grown : c.push_time.new.self.times ≡ c.args.grant.now.times ++ c.in-Ok.c ∷ [] = ap (λ (g : GrantView). g.times) c.in_ok-push_time-in-Ok.ensures.ok in
     rw (items_more time_condition_at may_follow_times c.args.count c.args.input c.args.grant.now.times c.args.bytes.now c.in-Ok.c c.in-Ok.rest.now (omega (arith, c.if-count-eq0.false)) c.in-Ok.ensures follows, ← grown) c.add_times_at.ensures.read

@@ -1,5 +1,5 @@
 use Rattle.std.proofs.Common.{◌≡◌, ap, ◌∙◌, refl}
-use Rattle.bl_syntax.specs.Grant.{Granted}
+use Rattle.bl_syntax.specs.Grant.{GrantView}
 use Rattle.procap.proofs.ReadingLemmas.{head_stops, times_stop, states_stop, grant_is_read}
 use Rattle.procap.proofs.reading.grant_at.Goals as goal
 
@@ -16,6 +16,6 @@ returns-in-Err-states_at c =
 pub returns : goal.returns
 returns c =
     let goal_is : c.states_at.new.grant.goal ≡ c.in-Ok.goal =
-    ap (λ (g : Granted). g.goal) c.in-Ok-states_at.ensures.others ∙ ap (λ (g : Granted). g.goal) c.in-Ok-times_at.ensures.others ∙ ap (λ (g : Granted). g.goal) c.new-grant.ensures in
-    let times_are : c.states_at.new.grant.times ≡ c.times_at.new.grant.times = ap (λ (g : Granted). g.times) c.in-Ok-states_at.ensures.others in
+    ap (λ (g : GrantView). g.goal) c.in-Ok-states_at.ensures.others ∙ ap (λ (g : GrantView). g.goal) c.in-Ok-times_at.ensures.others ∙ ap (λ (g : GrantView). g.goal) c.new-grant.ensures in
+    let times_are : c.states_at.new.grant.times ≡ c.times_at.new.grant.times = ap (λ (g : GrantView). g.times) c.in-Ok-states_at.ensures.others in
     rw (grant_is_read c.args.input c.args.bytes.now c.in-Ok.rest.now c.in-Ok-times_at.rest.now c.in-Ok-states_at.rest.now c.in-Ok.goal c.times_at.new.grant.times c.states_at.new.grant.states c.in-Ok.ensures c.in-Ok-times_at.ensures.read c.in-Ok-states_at.ensures.read, ← goal_is, ← times_are) refl

@@ -1,11 +1,11 @@
--- The rule is read, and then its premises with the signs behind them.
+-- The rule is read, and then its premises with the signs after them.
 use Rattle.std.proofs.Common.{◌≡◌, Ok, sym, ap, ◌∙◌, subst, rules}
 use Rattle.bl_tokens.specs.declared.faults.TextFault.TheVariants.{NoMemory}
 use Rattle.bl_text.proofs.ReadLemmas.{passed}
 use Rattle.proof_term.specs.declared.rule.Rule.TheVariants as rule
 use Rattle.proof_text.specs.Heads.{head}
 use Rattle.proof_text.specs.Read.{IsRuleInRange}
-use Rattle.proof_text.specs.Stops.{no_memory, in_head, in_premise, behind_premise, in_first, behind_first, in_second, behind_second}
+use Rattle.proof_text.specs.FirstFaults.{no_memory, in_head, in_premise, behind_premise, in_first, behind_first, in_second, behind_second}
 use Rattle.proof_text.proofs.ReadLemmas.{Enters, read_axiom, read_one, read_two}
 use Rattle.proof_text.proofs.parse.+proof_at.Goals as goal
 

@@ -1,4 +1,4 @@
-use Rattle.proof_verifier.proofs.GrantedLemmas.{granted_if}
+use Rattle.proof_verifier.proofs.IsGrantedLemmas.{granted_if}
 use Rattle.proof_verifier.proofs.checked.verdict.Goals as goal
 
 pub returns-clause-granted : goal.returns-clause-granted

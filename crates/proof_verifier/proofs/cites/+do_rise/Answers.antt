@@ -1,9 +1,9 @@
 use Rattle.std.proofs.Common.{List, [], ◌∷◌, length, ◌<◌, refl, arith}
 use Rattle.proof_verifier.specs.declared.cites.Cite.{Cite}
-use Rattle.proof_verifier.specs.Cited.{DoRise}
+use Rattle.proof_verifier.specs.Cited.{DoCitesRise}
 use Rattle.proof_verifier.proofs.cites.+do_rise.Goals as goal
 
-short_rises : (cites : List Cite) → length cites < 2 → DoRise cites
+short_rises : (cites : List Cite) → length cites < 2 → DoCitesRise cites
 short_rises [] h = tt
 short_rises (first ∷ []) h = tt
 short_rises (first ∷ second ∷ others) h = absurd (omega (arith, h))

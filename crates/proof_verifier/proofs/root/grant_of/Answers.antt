@@ -1,5 +1,5 @@
 use Rattle.proof_verifier.specs.Cited.{statements_of}
-use Rattle.proof_verifier.proofs.GrantedLemmas.{as_verdict}
+use Rattle.proof_verifier.proofs.IsGrantedLemmas.{as_verdict}
 use Rattle.proof_verifier.proofs.root.grant_of.Goals as goal
 
 pub returns-clause-verdict : goal.returns-clause-verdict

@@ -1,5 +1,5 @@
 use Rattle.std.proofs.Common.{◌∙◌}
-use Rattle.access_history.proofs.Beginning.{IsKeeping-fresh, shown_fresh, first_moment_kept}
+use Rattle.access_history.proofs.FreshLemmas.{IsKeeping-fresh, shown_fresh, first_moment_kept}
 use Rattle.access_history.proofs.history.History.fresh.Goals as goal
 
 pub invariant_of-result : goal.invariant_of-result

@@ -3,7 +3,7 @@ use Rattle.std.proofs.Common.{length, ap, arith}
 use Rattle.access_history.specs.declared.event.Base.{Base}
 use Rattle.access_history.specs.History.{authority_of}
 use Rattle.access_history.specs.HistoryParts.{kept_by}
-use Rattle.access_history.proofs.Replays.{few_statements}
+use Rattle.access_history.proofs.ReplayLemmas.{few_statements}
 use Rattle.access_history.proofs.history.History.statements.Goals as goal
 
 pub returns-clause-few : goal.returns-clause-few

@@ -1,5 +1,5 @@
 -- One mark is kept, the root's.
-use Rattle.attr_state.specs.declared.mark.Mark.{Mark as Kept}
+use Rattle.attr_state.specs.declared.mark.KeptMark.{KeptMark as Kept}
 use Rattle.attr_state.proofs.MarkLemmas.{fresh_kept}
 use Rattle.attr_state.proofs.meta.Meta.new.Goals as goal
 

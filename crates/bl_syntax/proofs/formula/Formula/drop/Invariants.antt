@@ -1,4 +1,4 @@
-use Rattle.bl_syntax.proofs.Undoing.{steps_left}
+use Rattle.bl_syntax.proofs.DropLemmas.{steps_left}
 use Rattle.bl_syntax.proofs.formula.Formula.drop.Given as goal
 
 -- how many steps are left

@@ -1,4 +1,4 @@
--- The new condition stands behind the others, or they are as before.
+-- The new condition stands after the others, or they are as before.
 use Rattle.bl_syntax.specs.Grant.{IsGrant}
 use Rattle.bl_syntax.proofs.GrantLemmas.{IsGrant-push_time, after_growth, granted}
 use Rattle.bl_syntax.proofs.grant.Grant.push_time.Goals as goal

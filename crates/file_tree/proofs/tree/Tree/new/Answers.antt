@@ -2,7 +2,7 @@
 use Rattle.std.proofs.Common.{◌≡◌, ℕ, List, [], ◌∷◌, ap, ◌∙◌, nat_cmp}
 use Rattle.std.specs.BTreeMap.{insert_entry}
 use Rattle.file_world.specs.declared.operation.Kind.TheVariants.{Directory}
-use Rattle.file_tree.specs.declared.node.Node.{Node as Kept}
+use Rattle.file_tree.specs.declared.node.KeptNode.{KeptNode as Kept}
 use Rattle.file_tree.specs.Index.{Entries}
 use Rattle.file_tree.proofs.FreshLemmas.{fresh_kept}
 use Rattle.file_tree.proofs.tree.Tree.new.Goals as goal

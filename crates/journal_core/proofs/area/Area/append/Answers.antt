@@ -3,7 +3,7 @@ use Rattle.std.specs.Option.{option_map}
 use Rattle.pcfs_ports.specs.Disk.{written, Torn, LeavesOnly}
 use Rattle.journal_core.specs.Area.{Closed, record_bytes}
 use Rattle.journal_core.specs.Rest.{IsWithOrWithout}
-use Rattle.journal_core.proofs.Moments.{weaker_leaves}
+use Rattle.journal_core.proofs.RestsLemmas.{weaker_leaves}
 use Rattle.journal_core.proofs.AreaLemmas.{append_says, append_writes, told_same, closed_written}
 use Rattle.journal_core.proofs.area.Area.append.Goals as goal
 

@@ -16,8 +16,8 @@ returns-in-HasXattr c = (λ no. absurd cc, λ has. absurd (none_has_xattr c.args
 
 pub returns-in-InDir : goal.returns-in-InDir
 returns-in-InDir c = subst (λ (s : StatePred). IsTrue c.is_contained.result ↔ Contains (facts_of c.args.self.now.rows.now) s) (sym c.in-InDir.is)
-    (subst (λ (rows : List Row). IsTrue c.is_contained.result ↔ Contains (map ownership c.args.self.now.rows.now ++ map containment rows) (InDir c.in-InDir.file c.in-InDir.directory)) c.others.ensures (
-      λ yes. Contains-second (map ownership c.args.self.now.rows.now) (map containment c.others.result.now) _ (c.is_contained.ensures.0 yes),
-      λ has. c.is_contained.ensures.1 (subst (λ (rows : List Row). Contains (map containment rows) (InDir c.in-InDir.file c.in-InDir.directory)) (sym c.others.ensures)
-          (directory_among c.args.self.now.rows.now c.in-InDir.file c.in-InDir.directory (subst (λ (rows : List Row). Contains (map ownership c.args.self.now.rows.now ++ map containment rows) (InDir c.in-InDir.file c.in-InDir.directory)) c.others.ensures has))),
+    (subst (λ (rows : List Row). IsTrue c.is_contained.result ↔ Contains (map ownership c.args.self.now.rows.now ++ map containment rows) (InDir c.in-InDir.file c.in-InDir.directory)) c.nodes_but_root.ensures (
+      λ yes. Contains-second (map ownership c.args.self.now.rows.now) (map containment c.nodes_but_root.result.now) _ (c.is_contained.ensures.0 yes),
+      λ has. c.is_contained.ensures.1 (subst (λ (rows : List Row). Contains (map containment rows) (InDir c.in-InDir.file c.in-InDir.directory)) (sym c.nodes_but_root.ensures)
+          (directory_among c.args.self.now.rows.now c.in-InDir.file c.in-InDir.directory (subst (λ (rows : List Row). Contains (map ownership c.args.self.now.rows.now ++ map containment rows) (InDir c.in-InDir.file c.in-InDir.directory)) c.nodes_but_root.ensures has))),
     ))

@@ -6,7 +6,7 @@ use Rattle.std.proofs.lemmas.Int.{to_z-of_z}
 use Rattle.access_history.specs.declared.step.Step.{Step}
 use Rattle.access_history.specs.History.{authority_of, state_of}
 use Rattle.op_gate.specs.Decision.{IsDecided, CanKeep}
-use Rattle.op_gate.proofs.Following.{CanKeep-decided, on_no_err}
+use Rattle.op_gate.proofs.MayFollowLemmas.{CanKeep-decided, on_no_err}
 use Rattle.op_gate.proofs.gate.Gate.decide.Goals as goal
 
 pub invariant_of-self-in-Some : goal.invariant_of-self-in-Some

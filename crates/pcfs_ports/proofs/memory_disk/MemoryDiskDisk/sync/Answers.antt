@@ -1,5 +1,5 @@
 use Rattle.std.proofs.Common.{◌≡◌, ℕ, List, [], ◌∷◌, ◌++◌, sym, ap, ◌∙◌}
-use Rattle.pcfs_ports.specs.MemoryDisk.{DiskState, image_after}
+use Rattle.pcfs_ports.specs.MemoryDisk.{MemoryDiskView, image_after}
 use Rattle.pcfs_ports.specs.declared.disk_call.DiskCall.{DiskCall}
 use Rattle.pcfs_ports.specs.declared.disk_call.DiskCall.TheVariants.{Synced}
 use Rattle.pcfs_ports.proofs.DiskLemmas.{image_push, synced_image, synced_pinned, synced_idles}
@@ -11,17 +11,17 @@ invariant_of-self-in-Ok c =
 
 pub returns-in-Ok-clause-ok : goal.returns-in-Ok-clause-ok
 returns-in-Ok-clause-ok c =
-    let next : DiskState = record c.args.self.now { start = c.self.inside.start; made = c.push.new.self } in
-    synced_pinned c.args.self.now next (ap (λ (s : DiskState). s.start) c.self.view_is)
-    (c.in-Ok.ensures.ok ∙ ap (λ (s : DiskState). s.made ++ Synced ∷ []) c.self.view_is)
+    let next : MemoryDiskView = record c.args.self.now { start = c.self.inside.start; made = c.push.new.self } in
+    synced_pinned c.args.self.now next (ap (λ (s : MemoryDiskView). s.start) c.self.view_is)
+    (c.in-Ok.ensures.ok ∙ ap (λ (s : MemoryDiskView). s.made ++ Synced ∷ []) c.self.view_is)
 
 pub returns-in-Ok-clause-same : goal.returns-in-Ok-clause-same
 returns-in-Ok-clause-same c =
-    let next : DiskState = record c.args.self.now { start = c.self.inside.start; made = c.push.new.self } in
-    synced_image c.args.self.now next (ap (λ (s : DiskState). s.start) c.self.view_is)
-    (c.in-Ok.ensures.ok ∙ ap (λ (s : DiskState). s.made ++ Synced ∷ []) c.self.view_is)
+    let next : MemoryDiskView = record c.args.self.now { start = c.self.inside.start; made = c.push.new.self } in
+    synced_image c.args.self.now next (ap (λ (s : MemoryDiskView). s.start) c.self.view_is)
+    (c.in-Ok.ensures.ok ∙ ap (λ (s : MemoryDiskView). s.made ++ Synced ∷ []) c.self.view_is)
 
 pub returns-in-Ok-clause-time : goal.returns-in-Ok-clause-time
 returns-in-Ok-clause-time c =
-    synced_idles c.args.self.now _ (ap (λ (s : DiskState). s.start) c.self.view_is)
-    (c.in-Ok.ensures.ok ∙ ap (λ (s : DiskState). s.made ++ Synced ∷ []) c.self.view_is)
+    synced_idles c.args.self.now _ (ap (λ (s : MemoryDiskView). s.start) c.self.view_is)
+    (c.in-Ok.ensures.ok ∙ ap (λ (s : MemoryDiskView). s.made ++ Synced ∷ []) c.self.view_is)

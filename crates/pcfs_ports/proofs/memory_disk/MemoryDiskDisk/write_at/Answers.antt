@@ -1,15 +1,15 @@
 use Rattle.std.proofs.Common.{◌≡◌, ℕ, List, [], ◌∷◌, ◌++◌, Some, sym, ap, ◌∙◌}
-use Rattle.pcfs_ports.specs.MemoryDisk.{DiskState, image_after}
+use Rattle.pcfs_ports.specs.MemoryDisk.{MemoryDiskView, image_after}
 use Rattle.pcfs_ports.specs.declared.disk_call.DiskCall.{DiskCall}
 use Rattle.pcfs_ports.specs.declared.disk_call.DiskCall.TheVariants.{Wrote}
 use Rattle.pcfs_ports.specs.Disk.{written}
 use Rattle.pcfs_ports.proofs.DiskLemmas.{image_push, image_more, more_elapses, wrote_torn, same_elapses, same_torn}
 use Rattle.pcfs_ports.proofs.memory_disk.MemoryDiskDisk.write_at.Goals as goal
 
-pub returns-then-fails_next-clause-torn : goal.returns-then-fails_next-clause-torn
-returns-then-fails_next-clause-torn c =
-    let next : DiskState = record c.args.self.now { start = c.self.inside.start; made = c.self.inside.made } in
-    same_torn c.args.self.now next (ap (λ (s : DiskState). s.start) c.self.view_is) (ap (λ (s : DiskState). s.made) c.self.view_is) c.args.at c.args.piece.now
+pub returns-then-is_next_to_fail-clause-torn : goal.returns-then-is_next_to_fail-clause-torn
+returns-then-is_next_to_fail-clause-torn c =
+    let next : MemoryDiskView = record c.args.self.now { start = c.self.inside.start; made = c.self.inside.made } in
+    same_torn c.args.self.now next (ap (λ (s : MemoryDiskView). s.start) c.self.view_is) (ap (λ (s : MemoryDiskView). s.made) c.self.view_is) c.args.at c.args.piece.now
 
 pub invariant_of-self-in-Ok : goal.invariant_of-self-in-Ok
 invariant_of-self-in-Ok c =
@@ -20,28 +20,28 @@ invariant_of-self-in-Ok c =
 pub returns-in-Ok-clause-ok : goal.returns-in-Ok-clause-ok
 returns-in-Ok-clause-ok c =
     let call = Wrote c.args.at c.args.piece.now in
-    let next : DiskState = record c.args.self.now { start = c.self.inside.start; made = c.write_and_remember.new.made } in
-    ap Some (image_more c.args.self.now next call (ap (λ (s : DiskState). s.start) c.self.view_is)
-    (c.in-Ok.ensures.made ∙ ap (λ (s : DiskState). s.made ++ call ∷ []) c.self.view_is))
+    let next : MemoryDiskView = record c.args.self.now { start = c.self.inside.start; made = c.write_and_remember.new.made } in
+    ap Some (image_more c.args.self.now next call (ap (λ (s : MemoryDiskView). s.start) c.self.view_is)
+    (c.in-Ok.ensures.made ∙ ap (λ (s : MemoryDiskView). s.made ++ call ∷ []) c.self.view_is))
 
 pub returns-in-Ok-clause-time : goal.returns-in-Ok-clause-time
 returns-in-Ok-clause-time c =
     let call = Wrote c.args.at c.args.piece.now in
-    more_elapses c.args.self.now _ call (ap (λ (s : DiskState). s.start) c.self.view_is)
-    (c.in-Ok.ensures.made ∙ ap (λ (s : DiskState). s.made ++ call ∷ []) c.self.view_is)
+    more_elapses c.args.self.now _ call (ap (λ (s : MemoryDiskView). s.start) c.self.view_is)
+    (c.in-Ok.ensures.made ∙ ap (λ (s : MemoryDiskView). s.made ++ call ∷ []) c.self.view_is)
 
 pub returns-in-Ok-clause-torn : goal.returns-in-Ok-clause-torn
 returns-in-Ok-clause-torn c =
     let call = Wrote c.args.at c.args.piece.now in
-    let next : DiskState = record c.args.self.now { start = c.self.inside.start; made = c.write_and_remember.new.made } in
-    wrote_torn c.args.self.now next c.args.at c.args.piece.now (ap (λ (s : DiskState). s.start) c.self.view_is)
-    (c.in-Ok.ensures.made ∙ ap (λ (s : DiskState). s.made ++ call ∷ []) c.self.view_is)
+    let next : MemoryDiskView = record c.args.self.now { start = c.self.inside.start; made = c.write_and_remember.new.made } in
+    wrote_torn c.args.self.now next c.args.at c.args.piece.now (ap (λ (s : MemoryDiskView). s.start) c.self.view_is)
+    (c.in-Ok.ensures.made ∙ ap (λ (s : MemoryDiskView). s.made ++ call ∷ []) c.self.view_is)
 
 pub returns-in-Err-clause-time : goal.returns-in-Err-clause-time
 returns-in-Err-clause-time c =
-    same_elapses c.args.self.now _ (ap (λ (s : DiskState). s.start) c.self.view_is) (c.in-Err.ensures.made_err ∙ ap (λ (s : DiskState). s.made) c.self.view_is)
+    same_elapses c.args.self.now _ (ap (λ (s : MemoryDiskView). s.start) c.self.view_is) (c.in-Err.ensures.made_err ∙ ap (λ (s : MemoryDiskView). s.made) c.self.view_is)
 
 pub returns-in-Err-clause-torn : goal.returns-in-Err-clause-torn
 returns-in-Err-clause-torn c =
-    let next : DiskState = record c.args.self.now { start = c.self.inside.start; made = c.write_and_remember.new.made } in
-    same_torn c.args.self.now next (ap (λ (s : DiskState). s.start) c.self.view_is) (c.in-Err.ensures.made_err ∙ ap (λ (s : DiskState). s.made) c.self.view_is) c.args.at c.args.piece.now
+    let next : MemoryDiskView = record c.args.self.now { start = c.self.inside.start; made = c.write_and_remember.new.made } in
+    same_torn c.args.self.now next (ap (λ (s : MemoryDiskView). s.start) c.self.view_is) (c.in-Err.ensures.made_err ∙ ap (λ (s : MemoryDiskView). s.made) c.self.view_is) c.args.at c.args.piece.now

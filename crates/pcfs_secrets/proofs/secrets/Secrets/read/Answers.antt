@@ -9,7 +9,7 @@ use Rattle.pcfs_secrets.proofs.secrets.Secrets.read.Goals as goal
 pub returns-in-Some : goal.returns-in-Some
 returns-in-Some c =
     let seal : IsSealLine c.args.line.now c.in-Some.seal_key = search rules in
-    reads_lines c.args.line.now c.in-Some.seal_key (lines_of c.args.others.now) c.sealed.result seal c.sealed.ensures.ok c.sealed.ensures.err
+    reads_lines c.args.line.now c.in-Some.seal_key (lines_of c.args.others.now) c.secrets_with_seal.result seal c.secrets_with_seal.ensures.ok c.secrets_with_seal.ensures.err
 
 pub returns-in-None : goal.returns-in-None
 returns-in-None c =

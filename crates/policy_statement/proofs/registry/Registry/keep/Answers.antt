@@ -1,7 +1,7 @@
 -- The statement's digest is kept with it.
 use Rattle.std.proofs.Common.{◌≡◌, ◌+◌, ◌∷◌, [], length, sym, ap, ◌∙◌, subst, arith, length-append}
 use Rattle.policy_statement.specs.Digest.{digest_of}
-use Rattle.policy_statement.specs.Registered.{Registered}
+use Rattle.policy_statement.specs.Registered.{RegisteredView}
 use Rattle.policy_statement.specs.Digests.{HasDigests}
 use Rattle.policy_statement.proofs.DigestLemmas.{HasDigests-push}
 use Rattle.policy_statement.proofs.registry.Registry.keep.Goals as goal
@@ -9,8 +9,8 @@ use Rattle.policy_statement.proofs.registry.Registry.keep.Goals as goal
 pub invariant_of-self : goal.invariant_of-self
 invariant_of-self c =
     let entries = c.self.inside.entries.items in
-    let e : Registered = c.new-entry.result in
-    let digest_is : c.entry.inside.digest ≡ digest_of e.statement = c.entry.invariant ∙ ap (λ (r : Registered). digest_of r.statement) c.entry.view_is in
+    let e : RegisteredView = c.new-entry.result in
+    let digest_is : c.entry.inside.digest ≡ digest_of e.statement = c.entry.invariant ∙ ap (λ (r : RegisteredView). digest_of r.statement) c.entry.view_is in
     let same : length entries ≡ length c.args.self.now.entries = ap (λ r. length r.entries) c.self.view_is in
     let one_more : length c.push_reserved.new.self.items ≡ length entries + 1 = ap length c.push_reserved.ensures.items ∙ length-append entries (e ∷ []) in
     let few = c.requires.few in

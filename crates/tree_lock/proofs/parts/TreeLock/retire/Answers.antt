@@ -2,8 +2,8 @@ use Rattle.std.proofs.Common.{◌≡◌, ℕ, ◌+◌, ◌-◌, ◌≤◌, ◌�
 use Rattle.atomic_table.specs.Table.{Joins, Allows, step}
 use Rattle.tree_lock.specs.Knowledge.{after_retiring, spent_view}
 use Rattle.tree_lock.specs.Rule.{Kept}
-use Rattle.tree_lock.specs.Steps.{Looks, looks}
-use Rattle.tree_lock.specs.Seats.{door_view}
+use Rattle.tree_lock.specs.Steps.{Looks, look_step}
+use Rattle.tree_lock.specs.Seats.{doorman_view}
 use Rattle.tree_lock.specs.Closing.{TakesIn}
 use mathlib.Core.List.{IsPrefix}
 use Rattle.tree_lock.proofs.EntryLemmas.{prefix_trans}
@@ -29,7 +29,7 @@ load-requires g c =
     let me = c.join_seat.new.seat.me in
     let same : c.join_seat.new.seat.id ≡ 0 = c.join_seat.ensures.1 ∙ c.door.invariant.0 in
     let table : c.join_seat.new.seat.table_id ≡ c.self.inside.table.shared.table_id = c.join_seat.ensures.0 ∙ ap (λ d. d.lock) c.door.view_is ∙ c.requires.door ∙ sym c.self.view_is in
-    (table, search rules, subst (λ (id : ℕ). Allows (Kept g.V.Recorded.entries) slots id me 0 (λ n. n) (looks (step slots 0 0 0 none) me)) (sym same) (looks_keeps _ slots me))
+    (table, search rules, subst (λ (id : ℕ). Allows (Kept g.V.Recorded.entries) slots id me 0 (λ n. n) (look_step (step slots 0 0 0 none) me)) (sym same) (looks_keeps _ slots me))
 
 pub returns : goal.returns
 returns g c =
@@ -43,7 +43,7 @@ returns g c =
     let counted : out + length v.retired ≡ v.made = c.door.invariant.3 ∙ c.door.invariant.2 in
     let pass = sym c.into_seat.ensures.view in
     let told = takes_in v w lock out c.args.pass new.me.0 c.door.invariant.4 counted (ap (λ p. p.number) pass) (ap (λ p. p.own) pass) (ap (λ p. p.seen) pass) look in
-    subst (λ d. TakesIn c.args.pass d (door_view new.me.0 new.table_id (out - 1))) c.door.view_is (subst (λ z. TakesIn c.args.pass (door_view v lock out) (door_view new.me.0 z (out - 1))) (sym table) told)
+    subst (λ d. TakesIn c.args.pass d (doorman_view new.me.0 new.table_id (out - 1))) c.door.view_is (subst (λ z. TakesIn c.args.pass (doorman_view v lock out) (doorman_view new.me.0 z (out - 1))) (sym table) told)
 
 pub invariant_of-door : goal.invariant_of-door
 invariant_of-door g c =

@@ -2,15 +2,15 @@
 use Rattle.std.proofs.Common.{ap}
 use Rattle.file_world.specs.World.{fresh_world}
 use Rattle.file_world.proofs.HalvesLemmas.{IsWorld-fresh}
-use Rattle.file_tree.specs.State.{TreeState}
-use Rattle.attr_state.specs.State.{MetaState}
+use Rattle.file_tree.specs.State.{TreeView}
+use Rattle.attr_state.specs.State.{MetaView}
 use Rattle.world_state.proofs.HalvesLemmas.{Halve-from}
 use Rattle.world_state.proofs.world.World.new.Goals as goal
 
 pub invariant_of-result : goal.invariant_of-result
 invariant_of-result c =
-    (Halve-from fresh_world c.in_ok-tree.tree.tree c.in_ok-meta.meta.marks IsWorld-fresh (ap (λ (t : TreeState). t.tree) c.in_ok-tree.ensures) (ap (λ (m : MetaState). m.marks) c.in_ok-meta.ensures)).kept
+    (Halve-from fresh_world c.in_ok-tree.tree.tree c.in_ok-meta.meta.marks IsWorld-fresh (ap (λ (t : TreeView). t.tree) c.in_ok-tree.ensures) (ap (λ (m : MetaView). m.marks) c.in_ok-meta.ensures)).kept
 
 pub returns : goal.returns
 returns c =
-    (Halve-from fresh_world c.in_ok-tree.tree.tree c.in_ok-meta.meta.marks IsWorld-fresh (ap (λ (t : TreeState). t.tree) c.in_ok-tree.ensures) (ap (λ (m : MetaState). m.marks) c.in_ok-meta.ensures)).world_is
+    (Halve-from fresh_world c.in_ok-tree.tree.tree c.in_ok-meta.meta.marks IsWorld-fresh (ap (λ (t : TreeView). t.tree) c.in_ok-tree.ensures) (ap (λ (m : MetaView). m.marks) c.in_ok-meta.ensures)).world_is

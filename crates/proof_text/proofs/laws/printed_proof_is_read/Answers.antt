@@ -1,6 +1,0 @@
--- Each rule is read where it was written, and then its premises.
-use Rattle.proof_text.proofs.PrintedTexts.{text_is_read}
-use Rattle.proof_text.proofs.laws.printed_proof_is_read.Goals as goal
-
-pub returns : goal.returns
-returns c = λ d says. text_is_read d says
