@@ -60,7 +60,7 @@ NumbersAreUsedOnce = (caller : List ℕ) (op : Op) (world after : World) (reply 
     × ((number : ℕ) → IsSome (item_at after number) → IsSome (item_at world number) ⊎ ((number ≡ world.next) × (after.next ≡ world.next + 1)))
     × ((number : ℕ) → number < world.next → item_at world number ≡ None → (number < after.next) × (item_at after number ≡ None))
 
--- marks stay within the limits after each operation that is not refused
+-- marks stay within the limits after each operation that may be asked for and is not refused, if its owner is a principal's name and its value a text
 abbrev pub MarksStayMarks : Type 0
 MarksStayMarks = (marks after : Marks) (op : MetaOp) (reply : MetaReply) → AreMarks marks → IsMetaOperation op → IsAskable marks op → meta_effect marks op ≡ replied reply after → AreMarks after
 
@@ -70,7 +70,7 @@ HalvesFollow = (caller : List ℕ) (change : TreeChange) (world : World) → IsW
     → (tree_of (changed_world caller change world) ≡ changed_tree change (tree_of world))
     × (marks_of (changed_world caller change world) ≡ marks_followed (marks_of world) (following caller world.next change))
 
--- an operation on owners and attributes changes that half of the world alone
+-- reading, setting and removing an attribute, and changing an owner, change that half of the world alone
 abbrev pub MarksChangeAlone : Type 0
 MarksChangeAlone = (op : MetaOp) (world : World) → IsDirect op
     → (tree_of (marked_world op world) ≡ tree_of world) × (marks_of (marked_world op world) ≡ marks_after (marks_of world) op)
@@ -85,7 +85,7 @@ pub record HalvesAfter (caller : List ℕ) (op : Op) (world after : World) : Typ
 abbrev pub HalvesKeepStep : Type 0
 HalvesKeepStep = (caller : List ℕ) (op : Op) (world : World) → IsWorld world → refusal world op ≡ None → HalvesAfter caller op world (world_after caller world op)
 
--- an operation of a principal that is not refused leaves a world within its limits
+-- an operation of a principal that is not refused leaves a world within its limits, if its owner is a principal's name and its value a text
 abbrev pub WorldsStayWorlds : Type 0
 WorldsStayWorlds = (caller : List ℕ) (op : Op) (world : World) → IsWorld world → IsTrue (is_principal_name caller) → IsOperation op → refusal world op ≡ None → IsWorld (world_after caller world op)
 

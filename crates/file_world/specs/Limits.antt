@@ -25,6 +25,6 @@ most_attributes = 32
 abbrev pub longest_name : ℕ
 longest_name = 64
 
--- the number that is never given to a node
+-- the next number at which no node is made any more
 abbrev pub last_number : ℕ
 last_number = 2 ^ 64 - 1

@@ -29,7 +29,8 @@ pub fn numbers_are_used_once()
     ensures { NumbersAreUsedOnce }
 {}
 
-/// An operation on owners and attributes that is not refused leaves them within their limits.
+/// An operation on owners and attributes that may be asked for and is not refused leaves them within their limits, if
+/// its owner is a principal's name and its value a text.
 pub fn marks_stay_marks()
     ensures { MarksStayMarks }
 {}
@@ -40,7 +41,8 @@ pub fn halves_follow()
     ensures { HalvesFollow }
 {}
 
-/// An operation on owners and attributes changes that half of a world as it changes them alone, and leaves the tree.
+/// Reading, setting and removing an attribute, and changing an owner, change that half of a world as they change it
+/// alone, and leave the tree.
 pub fn marks_change_alone()
     ensures { MarksChangeAlone }
 {}
@@ -50,7 +52,8 @@ pub fn halves_keep_step()
     ensures { HalvesKeepStep }
 {}
 
-/// An operation of a principal that is not refused leaves a world within its limits.
+/// An operation of a principal that is not refused leaves a world within its limits, if its owner is a principal's name
+/// and its value a text.
 pub fn worlds_stay_worlds()
     ensures { WorldsStayWorlds }
 {}

@@ -18,5 +18,5 @@ pub const MOST_ATTRIBUTES: usize = 32;
 /// How many bytes the name of a node or of an attribute may have.
 pub const LONGEST_NAME: usize = 64;
 
-/// The number that is never given to a node.
+/// The next number at which no node is made any more.
 pub const LAST_NUMBER: u64 = u64::MAX;

@@ -64,7 +64,8 @@ impl World {
     }
 
     /// The reply of the caller's operation, with all memory taken for its change, or its first refusal; and the
-    /// operation, which is given back. The world stays. What was ready before is given up.
+    /// operation, which is given back. The world stays. A half that has no part in the
+    /// operation stays ready for what it was.
     pub fn reserve(
         &mut self,
         alloc: Global,
