@@ -4,10 +4,10 @@
 //! token that the service admitted was attended at most once and has left.
 #![tactic(auto)]
 
-mod both;
 mod end;
 mod ended;
 pub mod laws;
+mod listener_and_door;
 mod service;
 mod serving;
 #[cfg(test)]
