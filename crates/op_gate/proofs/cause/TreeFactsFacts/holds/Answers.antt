@@ -5,7 +5,7 @@ use Rattle.access_history.specs.declared.world.Row.{Row}
 use Rattle.bl_syntax.specs.declared.terms.StatePred.{StatePred}
 use Rattle.access_history.specs.Facts.{facts_of, ownership, containment}
 use Rattle.op_gate.proofs.CauseLemmas.{Contains-first, Contains-second, owner_among, none_has_xattr, directory_among}
-use Rattle.op_gate.proofs.cause.NodesFacts.holds.Goals as goal
+use Rattle.op_gate.proofs.cause.TreeFactsFacts.holds.Goals as goal
 
 pub returns-in-Owner : goal.returns-in-Owner
 returns-in-Owner c = subst (λ (s : StatePred). IsTrue c.is_owned.result ↔ Contains (facts_of c.args.self.now.rows.now) s) (sym c.in-Owner.is)
