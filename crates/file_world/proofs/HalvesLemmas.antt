@@ -78,7 +78,7 @@ item_from_node world number node e = by (item_at world number) refl
     by None h = absurd (none-some _ (sym (lookup-part node_of world.rows number ∙ ap (option_map node_of) h) ∙ e))
     by (Some item) h = (item, h)
 
-item_from_mark : (world : World) (number : ℕ) (mark : Mark) → mark_at (marks_of world) number ≡ Some mark → (item : Item) × (item_at world number ≡ Some item)
+pub item_from_mark : (world : World) (number : ℕ) (mark : Mark) → mark_at (marks_of world) number ≡ Some mark → (item : Item) × (item_at world number ≡ Some item)
 item_from_mark world number mark e = by (item_at world number) refl
   where
     by : (found : Option Item) → item_at world number ≡ found → (item : Item) × (item_at world number ≡ Some item)

@@ -33,7 +33,7 @@ use Rattle.file_world.proofs.ListingLemmas.{pairs_of, names_found, names_sorted,
 
 -- ---- outcomes
 
-replied_parts : {A S : Type 0} (refusal : Option Refusal) (reply found : A) (state after : S) → outcome refusal reply state ≡ replied found after → (refusal ≡ None) × (state ≡ after)
+pub replied_parts : {A S : Type 0} (refusal : Option Refusal) (reply found : A) (state after : S) → outcome refusal reply state ≡ replied found after → (refusal ≡ None) × (state ≡ after)
 replied_parts None reply found state after e = (refl, cc)
 replied_parts (Some r) reply found state after e = absurd (no (r) e)
   where

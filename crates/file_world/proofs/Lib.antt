@@ -1,10 +1,13 @@
 pub mod EffectLemmas
 pub mod HalvesLemmas
+pub mod KeepLemmas
 pub mod LawLemmas
 pub mod ListingLemmas
 pub mod MarkLemmas
+pub mod NeedLemmas
 pub mod NumberLemmas
 pub mod OrderLemmas
 pub mod PlaceLemmas
 pub mod RowLemmas
 pub mod TreeLemmas
+pub mod ValueLemmas

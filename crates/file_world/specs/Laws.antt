@@ -1,5 +1,6 @@
 -- Laws of the definitions: what a tree stays, what a walk and a list tell, and what an operation leaves alone.
 use Rattle.std.specs.Prelude.{◌≡◌, ◌≢◌, ◌<◌, ◌≤◌, ◌+◌, ◌-◌, ◌++◌, ◌⊎◌, ◌↔◌, ℕ, List, length, map, take, drop, replicate, IsTrue, IsSome, Option, Some, None, nat_eq, true}
+use Rattle.std.specs.List.{AllByRecursion}
 use Rattle.std.specs.List.Sorted.{IsStrictlySortedBy}
 use Rattle.std.specs.Map.{lookup}
 use Rattle.std.specs.Ordering.{nat_cmp}
@@ -10,18 +11,19 @@ use Rattle.bl_syntax.specs.declared.terms.NodeId.{NodeId}
 use Rattle.file_world.specs.declared.operation.TreeOp.{TreeOp}
 use Rattle.file_world.specs.declared.operation.MetaOp.{MetaOp}
 use Rattle.file_world.specs.declared.operation.Op.{Op}
-use Rattle.file_world.specs.declared.operation.Op.TheVariants.{Rename}
+use Rattle.file_world.specs.declared.operation.Op.TheVariants.{Write, Truncate, Rename, Setattr, Delattr, Chown}
 use Rattle.file_world.specs.declared.refusal.Refusal.{Refusal}
 use Rattle.file_world.specs.declared.reply.OpReply.{OpReply}
 use Rattle.file_world.specs.declared.reply.MetaReply.{MetaReply}
 use Rattle.file_world.specs.declared.reply.TreeReply.{TreeReply}
 use Rattle.file_world.specs.Outcome.{NoneHolds, IsFirst, refused, replied}
 use Rattle.file_world.specs.Tree.{Node, Nodes, FileTree, node_at, IsTree}
-use Rattle.file_world.specs.TreeEffect.{at, child_of, names_in, is_directory, is_into_itself, write_at, part_of as bytes_part, tree_effect, TreeChange, changed_tree, fresh_tree}
-use Rattle.file_world.specs.Attributes.{Marks, AreMarks}
+use Rattle.file_world.specs.TreeEffect.{at, child_of, names_in, is_directory, is_into_itself, write_at, resize_to, part_of as bytes_part, tree_effect, TreeChange, changed_tree, fresh_tree}
+use Rattle.file_world.specs.Attributes.{Marks, value_at, AreMarks}
 use Rattle.file_world.specs.AttributeEffect.{IsMetaOperation, IsAskable, marks_after, meta_effect, fresh_marks}
 use Rattle.file_world.specs.World.{Item, World, tree_of, marks_of, IsWorld, fresh_world}
-use Rattle.file_world.specs.Effect.{part_of, tests_in, IsOperation, refusal, reply, world_after, changed_world, marked_world, effect, item_with_place}
+use Rattle.file_world.specs.Effect.{part_of, tests_in, IsOperation, refusal, reply, world_after, changed_world, marked_world, effect, item_with_contents, item_with_place, item_with_owner, item_with_attributes}
+use Rattle.file_world.specs.Needs.{needs, slots}
 use Rattle.file_world.specs.Halves.{following, marks_followed, IsDirect, meta_op_of, tree_half_after, MetaMayFollow}
 
 -- an operation that is not refused leaves a tree a tree
@@ -107,3 +109,54 @@ WritesAreReadBack = (old bytes : List ℕ) (offset : ℕ) → 0 < length bytes
     → (bytes_part (write_at old offset bytes) offset (length bytes) ≡ bytes)
     × (take offset (write_at old offset bytes) ≡ take offset old ++ replicate (offset - length old) 0)
     × (drop (offset + length bytes) (write_at old offset bytes) ≡ drop (offset + length bytes) old)
+
+-- a file that is cut keeps its first bytes, and one that is filled up keeps all and has zero bytes after them
+abbrev pub TruncatesKeepTheFirst : Type 0
+TruncatesKeepTheFirst = (old : List ℕ) (len : ℕ)
+    → (length (resize_to old len) ≡ len)
+    × (take (length old) (resize_to old len) ≡ take len old)
+    × (drop (length old) (resize_to old len) ≡ replicate (len - length old) 0)
+
+-- the node of the number becomes another as told; every other node and the next number stay
+pub record ChangesOneNode (number : ℕ) (Becomes : Item → Item → Type 0) (world after : World) : Type 0 where
+  pub before : Item
+  pub later : Item
+  pub there : item_at world number ≡ Some before
+  pub changed : item_at after number ≡ Some later
+  pub becomes : Becomes before later
+  pub others : (other : ℕ) → other ≢ number → item_at after other ≡ item_at world other
+  pub next : after.next ≡ world.next
+
+-- a file that is written or cut keeps all but its contents, and all other nodes stay
+abbrev pub ContentsChangeAlone : Type 0
+ContentsChangeAlone = (caller : List ℕ) (file : NodeId) (world after : World) (reply : OpReply)
+    → ((offset : ℕ) (bytes : List ℕ) → effect caller (Write file offset bytes) world ≡ replied reply after
+    → ChangesOneNode file.0 (λ before later. later ≡ item_with_contents (write_at before.contents offset bytes) before) world after)
+    × ((len : ℕ) → effect caller (Truncate file len) world ≡ replied reply after
+    → ChangesOneNode file.0 (λ before later. later ≡ item_with_contents (resize_to before.contents len) before) world after)
+
+-- the attribute of the name has the value, or is not there; the other attributes and all else that is kept of the node stay
+abbrev pub HasValueAfter : List ℕ → Option (List ℕ) → Item → Item → Type 0
+HasValueAfter name value before later = (later ≡ item_with_attributes later.attributes before)
+    × (value_at later.attributes name ≡ value)
+    × ((other : List ℕ) → other ≢ name → value_at later.attributes other ≡ value_at before.attributes other)
+
+-- an attribute that is set has its value, one that is removed is gone, and all else stays
+abbrev pub AttributesChangeAlone : Type 0
+AttributesChangeAlone = (caller : List ℕ) (node : NodeId) (name : List ℕ) (world after : World) (reply : OpReply) → IsWorld world
+    → ((value : List ℕ) → effect caller (Setattr node name value) world ≡ replied reply after
+    → ChangesOneNode node.0 (HasValueAfter name (Some value)) world after)
+    × (effect caller (Delattr node name) world ≡ replied reply after
+    → ChangesOneNode node.0 (HasValueAfter name None) world after)
+
+-- a node that gets another owner keeps all else, and all other nodes stay
+abbrev pub OwnersChangeAlone : Type 0
+OwnersChangeAlone = (caller owner : List ℕ) (node : NodeId) (world after : World) (reply : OpReply)
+    → effect caller (Chown node owner) world ≡ replied reply after
+    → ChangesOneNode node.0 (λ before later. later ≡ item_with_owner owner before) world after
+
+-- the needs of an operation have rising places from 1 on, none of them beyond the procaps that it brings
+abbrev pub NeedsHaveProcaps : Type 0
+NeedsHaveProcaps = (world : World) (op : Op)
+    → IsStrictlySortedBy nat_cmp (map (λ need. need.place) (needs world op))
+    × AllByRecursion (λ need. (1 ≤ need.place) × (need.place ≤ slots op)) (needs world op)

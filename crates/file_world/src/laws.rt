@@ -1,6 +1,6 @@
 //! Laws of the definitions. The functions do nothing: each contract is a law.
 
-ghost use Rattle.file_world.specs.Laws.{TreesStayTrees, WalksAreLongEnough, NamesAreChildren, RefusalsComeInOrder, NumbersAreUsedOnce, MarksStayMarks, HalvesFollow, MarksChangeAlone, HalvesKeepStep, WorldsStayWorlds, FreshIsWorld, RenamesKeepTheRest, WritesAreReadBack};
+ghost use Rattle.file_world.specs.Laws.{TreesStayTrees, WalksAreLongEnough, NamesAreChildren, RefusalsComeInOrder, NumbersAreUsedOnce, MarksStayMarks, HalvesFollow, MarksChangeAlone, HalvesKeepStep, WorldsStayWorlds, FreshIsWorld, RenamesKeepTheRest, WritesAreReadBack, TruncatesKeepTheFirst, ContentsChangeAlone, AttributesChangeAlone, OwnersChangeAlone, NeedsHaveProcaps};
 
 /// An operation that is not refused leaves a tree a tree.
 pub fn trees_stay_trees()
@@ -72,4 +72,30 @@ pub fn renames_keep_the_rest()
 /// What is written is read back, the bytes beside it stay, and a gap before it is filled with zero bytes.
 pub fn writes_are_read_back()
     ensures { WritesAreReadBack }
+{}
+
+/// A file that is cut keeps its first bytes, and one that is filled up keeps all of them and has zero bytes after them.
+pub fn truncates_keep_the_first()
+    ensures { TruncatesKeepTheFirst }
+{}
+
+/// A file that is written or cut keeps all but its contents, and every other node stays as it is.
+pub fn contents_change_alone()
+    ensures { ContentsChangeAlone }
+{}
+
+/// An attribute that is set has its value, and one that is removed is gone; the node's other attributes, all else that is
+/// kept of it, and every other node stay as they are.
+pub fn attributes_change_alone()
+    ensures { AttributesChangeAlone }
+{}
+
+/// A node that gets another owner keeps all else, and every other node stays as it is.
+pub fn owners_change_alone()
+    ensures { OwnersChangeAlone }
+{}
+
+/// The needs of an operation have rising places from 1 on, none of them beyond the procaps that it brings.
+pub fn needs_have_procaps()
+    ensures { NeedsHaveProcaps }
 {}
