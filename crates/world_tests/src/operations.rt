@@ -14,6 +14,8 @@ enum Call<'a> {
     Mkdir(u64, &'a [u8]),
     Write(u64, u64, &'a [u8]),
     Read(u64, u64, u64),
+    List(u64),
+    Lookup(u64, &'a [u8]),
     Rename(u64, &'a [u8], u64, &'a [u8]),
     Unlink(u64, &'a [u8]),
     Getattr(u64, &'a [u8]),
@@ -53,6 +55,8 @@ fn op_of(alloc: Global, call: &Call) -> Result<Op, Fail> {
             Ok(Op::Write(NodeId(*file), *offset, bytes(alloc, part)?))
         }
         Call::Read(file, offset, len) => Ok(Op::Read(NodeId(*file), *offset, *len)),
+        Call::List(directory) => Ok(Op::List(NodeId(*directory))),
+        Call::Lookup(directory, name) => Ok(Op::Lookup(NodeId(*directory), bytes(alloc, name)?)),
         Call::Rename(directory, name, target, renamed) => {
             let from = bytes(alloc, name)?;
             let to = bytes(alloc, renamed)?;
@@ -156,5 +160,96 @@ fn needs_name_the_child(rt: HostRuntime) -> Result<(), Fail> {
     assert_eq!(rt; third.0.0, 2);
     let missing = op_of(rt.alloc(), &Call::Unlink(1, b"kept"))?;
     assert_eq!(rt; world.needs(&missing).as_slice().len(), 1);
+    Ok(())
+}
+
+// The nodes 2, 3 and 4 are a file, a directory, and a directory in it.
+#[test]
+fn operations_are_refused(rt: HostRuntime) -> Result<(), Fail> {
+    let mut world = World::new(rt.alloc())?;
+    let made = [
+        (Call::Create(1, b"a"), Wanted::Node(2)),
+        (Call::Mkdir(1, b"d"), Wanted::Node(3)),
+        (Call::Mkdir(3, b"e"), Wanted::Node(4)),
+    ];
+    let refused = [
+        (Call::Read(9, 0, 1), Wanted::Refused(Refusal::NoNode)),
+        (Call::List(2), Wanted::Refused(Refusal::NotDirectory)),
+        (Call::Read(1, 0, 1), Wanted::Refused(Refusal::IsDirectory)),
+        (Call::Lookup(1, b"z"), Wanted::Refused(Refusal::NoEntry)),
+        (Call::Create(1, b"a"), Wanted::Refused(Refusal::Exists)),
+        (
+            Call::Rename(1, b"a", 1, b"a"),
+            Wanted::Refused(Refusal::Exists),
+        ),
+        (Call::Unlink(1, b"d"), Wanted::Refused(Refusal::NotEmpty)),
+        (Call::Create(1, b"."), Wanted::Refused(Refusal::BadName)),
+        (
+            Call::Write(2, 1_048_575, b"ab"),
+            Wanted::Refused(Refusal::TooBig),
+        ),
+        (
+            Call::Rename(1, b"d", 4, b"x"),
+            Wanted::Refused(Refusal::IntoItself),
+        ),
+        (
+            Call::Getattr(2, b"a"),
+            Wanted::Refused(Refusal::NoAttribute),
+        ),
+        (
+            Call::Getattr(2, b"Aa"),
+            Wanted::Refused(Refusal::BadAttrName),
+        ),
+    ];
+    assert!(rt; all_answer(&mut world, rt.alloc(), made.as_slice())?);
+    assert!(rt; all_answer(&mut world, rt.alloc(), refused.as_slice())?);
+    Ok(())
+}
+
+// Sets 32 attributes of the root, whose names end in these bytes.
+fn are_set(world: &mut World, alloc: Global) -> Result<bool, Fail> {
+    for last in b"z9a.8b_7c6d5e4f3g2h1i0jklmnopqrs" {
+        let call = Call::Setattr(1, &[b'x', *last], b"old");
+        if !answers(world, alloc, &call, &Wanted::Done)? {
+            return Ok(false);
+        }
+    }
+    Ok(true)
+}
+
+// Three digits of base 26, as a name.
+fn name_of(number: u64) -> [u8; 3] {
+    [
+        b'a' + (number / 676 % 26) as u8,
+        b'a' + (number / 26 % 26) as u8,
+        b'a' + (number % 26) as u8,
+    ]
+}
+
+// Creates all nodes from 2 to 16,384.
+fn are_created(world: &mut World, alloc: Global) -> Result<bool, Fail> {
+    for number in 2..16_385 {
+        let name = name_of(number);
+        if !answers(world, alloc, &Call::Create(1, &name), &Wanted::Node(number))? {
+            return Ok(false);
+        }
+    }
+    Ok(true)
+}
+
+#[test]
+fn a_world_is_full(rt: HostRuntime) -> Result<(), Fail> {
+    let mut world = World::new(rt.alloc())?;
+    let calls = [
+        (
+            Call::Setattr(1, b"x", b"new"),
+            Wanted::Refused(Refusal::AttrFull),
+        ),
+        (Call::Setattr(1, b"xz", b"new"), Wanted::Done),
+        (Call::Create(1, b"more"), Wanted::Refused(Refusal::TreeFull)),
+        (Call::Create(1, b"aac"), Wanted::Refused(Refusal::Exists)),
+    ];
+    assert!(rt; are_set(&mut world, rt.alloc())? && are_created(&mut world, rt.alloc())?);
+    assert!(rt; all_answer(&mut world, rt.alloc(), calls.as_slice())?);
     Ok(())
 }
