@@ -246,3 +246,21 @@ fn a_node_has_at_most_32_attributes(rt: HostRuntime) -> Result<(), Fail> {
     assert!(rt; fill(&mut meta, rt.alloc())? && all_answer(&mut meta, rt.alloc(), &calls)?);
     Ok(())
 }
+
+#[test]
+fn a_copy_has_the_same_marks(rt: HostRuntime) -> Result<(), Fail> {
+    let mut meta = Meta::new(rt.alloc())?;
+    let calls = [
+        (Call::Add(2, b"alice", 1), Wanted::Done),
+        (Call::Set(2, b"pcfs.class", b"public"), Wanted::Done),
+    ];
+    assert!(rt; all_answer(&mut meta, rt.alloc(), &calls)?);
+    let held = [
+        owned(2, b"alice")?,
+        has(2, b"pcfs.class", b"public")?,
+        is_in(2, 1),
+    ];
+    let copy = meta.copy()?;
+    assert!(rt; true_of(&copy, &held) == 3);
+    Ok(())
+}

@@ -71,6 +71,12 @@ fn op_of(alloc: Global, call: &Call) -> Result<Op, Fail> {
     }
 }
 
+// The operation in memory of its own again.
+fn copied(alloc: Global, call: &Call) -> Result<Op, Fail> {
+    let op = op_of(alloc, call)?;
+    Ok(op.copy(alloc)?)
+}
+
 fn is_wanted(reply: &OpReply, wanted: &Wanted) -> bool {
     match (reply, wanted) {
         (OpReply::Tree(TreeReply::Done), Wanted::Done) => true,
@@ -87,7 +93,7 @@ fn is_wanted(reply: &OpReply, wanted: &Wanted) -> bool {
 // Whether the caller's operation, reserved and applied, answers what is wanted.
 fn answers(world: &mut World, alloc: Global, call: &Call, wanted: &Wanted) -> Result<bool, Fail> {
     let caller = principal(b"alice")?;
-    let (op, answer) = world.reserve(alloc, &caller, op_of(alloc, call)?);
+    let (op, answer) = world.reserve(alloc, &caller, copied(alloc, call)?);
     match (answer, wanted) {
         (Ok(reply), wanted) => {
             world.apply(&caller, op);
