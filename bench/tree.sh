@@ -34,10 +34,9 @@ use condition_set::Facts;
 use file_tree::Tree;
 use file_world::{MetaOp, TreeOp};
 use std::alloc::{AllocError, Global};
-use std::env;
-use std::io;
 use std::rt::Clock;
 use std::time::Instant;
+use std::{env, io};
 
 /// How many operations are timed together.
 const COUNT: u64 = 32;
@@ -136,7 +135,8 @@ fn letters(number: u64) -> [u8; 3] {
 
 fn name(alloc: Global, shape: Shape, first: u8, number: u64) -> Option<Bytes> {
     let mut name = Bytes::new(alloc);
-    name.extend(if shape.has_prefix { PREFIX } else { NO_PREFIX }).ok()?;
+    name.extend(if shape.has_prefix { PREFIX } else { NO_PREFIX })
+        .ok()?;
     name.push(first).ok()?;
     name.extend(&letters(number)).ok()?;
     Some(name)
@@ -145,7 +145,11 @@ fn name(alloc: Global, shape: Shape, first: u8, number: u64) -> Option<Bytes> {
 // The directory of the child of that number, of which the first is 0. In a chain the last 32 stand together.
 fn directory_of(shape: Shape, child: u64) -> NodeId {
     if shape.is_chain {
-        NodeId(child.saturating_add(1).min(shape.nodes.saturating_sub(COUNT)))
+        NodeId(
+            child
+                .saturating_add(1)
+                .min(shape.nodes.saturating_sub(COUNT)),
+        )
     } else {
         NodeId(1)
     }
@@ -444,13 +448,12 @@ fn predicate(alloc: Global, shape: Shape, fact: Fact, i: u64) -> Option<StatePre
     match fact {
         Fact::Owner => Some(StatePred::Owner(node, Term::Prin(Principal::new(b"alice")?))),
         Fact::Attribute => {
-            let name = Text::new(name(alloc, shape, b'k', 7)?.as_slice())?;
+            let bytes = name(alloc, shape, b'k', 7)?;
+            let name = Text::new(bytes.as_slice())?;
             let value = Text::new(b"public")?;
             Some(StatePred::HasXattr(node, Term::Text(name), Term::Text(value)))
         }
-        Fact::Directory => {
-            Some(StatePred::InDir(node, Term::File(directory_of(shape, child))))
-        }
+        Fact::Directory => { Some(StatePred::InDir(node, Term::File(directory_of(shape, child)))) }
     }
 }
 
