@@ -63,7 +63,9 @@ contents_change_alone caller file world after found = (
 
 pub truncates_keep_the_first : TruncatesKeepTheFirst
 truncates_keep_the_first old len =
-    (length-resized old len, split (nat_le (length old) len) (λ t. filled (leb-true (length old) len t)) (λ f. cut (leb-false (length old) len f)))
+    let parts : (take (length old) (resize_to old len) ≡ take len old) × (drop (length old) (resize_to old len) ≡ replicate (len - length old) 0) =
+    split (nat_le (length old) len) (λ t. filled (leb-true (length old) len t)) (λ f. cut (leb-false (length old) len f)) in
+    (length-resized old len, parts.0, parts.1)
   where
     filled : length old ≤ len → (take (length old) (resize_to old len) ≡ take len old) × (drop (length old) (resize_to old len) ≡ replicate (len - length old) 0)
     filled le =
