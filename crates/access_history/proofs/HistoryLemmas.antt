@@ -8,14 +8,19 @@ use mir.Val.{SFits}
 use Rattle.bl_syntax.specs.TimeOrder.{IsMoment}
 use Rattle.policy_statement.specs.Ring.{KeyView}
 use Rattle.policy_statement.specs.Registered.{RegisteredView}
+use Rattle.file_world.specs.declared.operation.Op.{Op}
+use Rattle.file_world.specs.declared.refusal.OpFault.{OpFault}
+use Rattle.file_world.specs.declared.reply.OpReply.{OpReply}
 use Rattle.file_world.specs.World.{World}
+use Rattle.world_state.specs.State.{WorldState, ReservesWorld}
+use Rattle.access_history.specs.declared.event.Entry.{Entry}
 use Rattle.access_history.specs.declared.event.Issue.{Issue}
 use Rattle.access_history.specs.declared.event.Event.{Event}
 use Rattle.access_history.specs.declared.event.Event.TheVariants.{Registered, Issued, Acted}
 use Rattle.access_history.specs.declared.history.History.TheInside.{Inside}
 use Rattle.access_history.specs.Base.{BaseView}
 use Rattle.access_history.specs.Authority.{Authority}
-use Rattle.access_history.specs.History.{authority_with, authority_of, state_of, entry_of}
+use Rattle.access_history.specs.History.{HistoryView, authority_with, authority_of, state_of, world_of, entry_of, IsReadyFor, IsReadyIn}
 use Rattle.access_history.specs.HistoryParts.{kept_by, shown_state, IsKeeping}
 use Rattle.access_history.specs.Keeping.{world_next, moment_next, statements_with, issues_with, HasMomentInRange, HasPlaceAmong}
 use Rattle.access_history.specs.Lawful.{IsLawful, one_more, MayFollow}
@@ -81,3 +86,36 @@ pub HasPlace-follows : (authority : Authority) (state : BaseView) (event : Event
 HasPlace-follows authority state (Registered pass statement signature) may = may.room
 HasPlace-follows authority state (Issued pass cited proof grant) may = tt
 HasPlace-follows authority state (Acted pass caller op procaps moment) may = tt
+
+-- ---- the world
+
+-- the world that the fields show is that of the state
+pub world_shown : (h : Inside) → IsKeeping h → h.world ≡ world_of (kept_by h)
+world_shown h keeping = ap (λ (w : World). let state : WorldState = record { world = w; ready = h.world.ready } in state) (ap (λ (s : BaseView). s.world) keeping.state_is)
+
+-- a world of which only what it is ready for differs
+pub IsKeeping-world : (h : Inside) (w : WorldState) → w.world ≡ h.world.world → IsKeeping h → IsKeeping (record h { world = w })
+IsKeeping-world h w same keeping = record {
+  lawful = keeping.lawful;
+  state_is = ap (λ (v : World). state_with v h.statements.entries h.issues.items h.moment h.count) same ∙ keeping.state_is;
+}
+
+-- what the world returned is what the state's world returns
+pub reserved_shown : (h : Inside) (w : WorldState) (k : HistoryView) (caller : List ℕ) (op : Op) (answer : Result OpReply OpFault) → IsKeeping h → kept_by h ≡ k → w.world ≡ h.world.world →
+    ReservesWorld caller h.world.world op answer w → ReservesWorld caller (state_of k).world op answer (world_of (kept_by (record h { world = w })))
+reserved_shown h w k caller op answer keeping is same reserves =
+    subst (λ (v : HistoryView). ReservesWorld caller (state_of v).world op answer (world_of (kept_by (record h { world = w })))) is
+    (subst (λ (s : BaseView). ReservesWorld caller s.world op answer (world_of (kept_by (record h { world = w })))) keeping.state_is
+    (subst (λ (v : WorldState). ReservesWorld caller h.world.world op answer v) (world_shown (record h { world = w }) (IsKeeping-world h w same keeping)) reserves))
+
+-- what the history is ready for, its world is ready for
+pub ready_shown : (h : Inside) (k : HistoryView) (event : Event) → IsKeeping h → kept_by h ≡ k → IsReadyFor k event → IsReadyIn h.world event
+ready_shown h k event keeping is ready =
+    subst (λ (w : WorldState). IsReadyIn w event) (sym (world_shown h keeping)) (subst (λ (v : HistoryView). IsReadyFor v event) (sym is) ready)
+
+-- there is a place for what the state keeps of an event that may come next
+pub place_shown : (h : Inside) (k : HistoryView) (event : Event) (entry : Entry) → IsKeeping h → kept_by h ≡ k → entry ≡ entry_of event → MayFollow (authority_of k) (state_of k) event → HasPlaceAmong h.statements.entries entry
+place_shown h k event entry keeping is entry_is may =
+    subst (λ (e : Entry). HasPlaceAmong h.statements.entries e) (sym entry_is)
+    (subst (λ (s : BaseView). HasPlaceAmong s.statements (entry_of event)) (sym keeping.state_is)
+    (subst (λ (v : HistoryView). HasPlaceAmong (state_of v).statements (entry_of event)) (sym is) (HasPlace-follows (authority_of k) (state_of k) event may)))
