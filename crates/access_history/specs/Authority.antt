@@ -25,10 +25,10 @@ abbrev pub sayings : List RegisteredView → List StatementView
 sayings entries = map (λ (entry : RegisteredView). entry.statement) entries
 
 -- the statement may be registered beside these: it may be said, its signature is accepted, no equal one is there, and there is room
-pub record MayBeRegistered (authority : Authority) (entries : List RegisteredView) (statement : StatementView) (signature : List ℕ) : Type 0 where
-  pub statement : IsStatement statement
-  pub signed : IsSignedStatement authority statement signature
-  pub new : Contains (sayings entries) statement → ⊥
+pub record MayBeRegistered (authority : Authority) (entries : List RegisteredView) (said : StatementView) (signature : List ℕ) : Type 0 where
+  pub statement : IsStatement said
+  pub signed : IsSignedStatement authority said signature
+  pub new : Contains (sayings entries) said → ⊥
   pub room : length entries < 4096
 
 -- the procap of a grant under a key: the grant with its seal

@@ -140,7 +140,7 @@ impl History {
     pub fn headline(&self) -> &World
         ensures { Headline (authority_of self.now) self.now.base self.now.events result.now.world }
     {
-        self.world()
+        &self.world
     }
 
     /// Makes room for one more event, whatever it is.
