@@ -50,5 +50,5 @@ shown_fresh world statements issues moment count world_is none none_too moment_i
     ∙ ap (λ (n : ℕ). state_with fresh.world [] [] fresh.moment n) count_is
 
 -- the first moment, as a word has it
-pub first_moment_kept : (base : BaseView) → base ≡ fresh → to_z w64 (of_z w64 base.moment) ≡ base.moment
-first_moment_kept base is = to_z-of_z w64 base.moment (SFits-moment base.moment (subst (λ (b : BaseView). IsMoment b.moment) (sym is) first_moment))
+pub first_moment_kept : (moment : ℤ) → moment ≡ fresh.moment → to_z w64 (of_z w64 moment) ≡ fresh.moment
+first_moment_kept moment is = to_z-of_z w64 moment (SFits-moment moment (subst IsMoment (sym is) first_moment)) ∙ is
