@@ -1,16 +1,20 @@
 -- The first test that a procap does not pass, over plain values.
 use Rattle.std.proofs.Common.{◌≡◌, ◌<◌, ◌+◌, ℕ, List, [], ◌∷◌, ◌++◌, length, get_or, refl, ap, subst, sym, ◌∙◌, arith, append_assoc, Option, Some, None}
-use Rattle.std.specs.Prelude.{ℤ, MatchOption}
+use Rattle.std.specs.Prelude.{ℤ, Contains, MatchOption}
 use Rattle.std.specs.Prelude.{Bool, true, false, IsTrue, ◌↔◌}
 use Rattle.std.specs.List.{AllByRecursion}
 use Rattle.std.proofs.lemmas.List.{length-append}
 use Rattle.bl_syntax.specs.declared.terms.NodeId.{NodeId}
 use Rattle.bl_syntax.specs.declared.terms.Perm.{Perm}
 use Rattle.bl_syntax.specs.declared.terms.Term.TheVariants as terms
+use Rattle.bl_syntax.specs.declared.terms.Constraint.{Constraint}
+use Rattle.bl_syntax.specs.declared.terms.StatePred.{StatePred}
 use Rattle.bl_syntax.specs.declared.grant.Goal.{Goal}
 use Rattle.bl_syntax.specs.FirstFailing.{IsFirstFailing}
+use Rattle.bl_syntax.specs.Grant.{HoldsAt}
 use Rattle.procap.specs.Genuine.{IsGenuine}
 use Rattle.procap.specs.declared.procap.Procap.{Procap}
+use Rattle.file_world.specs.Facts.{facts}
 use Rattle.access_history.specs.declared.reply.DenialCause.{DenialCause}
 use Rattle.access_history.specs.declared.reply.DenialCause.TheVariants as causes
 use Rattle.access_history.specs.Base.{BaseView}
@@ -111,6 +115,56 @@ denied_condition key state moment wanted p cause sealed names fails =
 pub admitted_all : (key : List ℕ) (state : BaseView) (moment : ℤ) (wanted : Goal) (p : Procap) → IsGenuine key p → AllByRecursion (Passes key state moment wanted p) name_checks → AllByRecursion (Passes key state moment wanted p) (condition_checks p.grant) →
     Admits key state moment wanted p
 admitted_all key state moment wanted p sealed names conditions = (sealed, all_joined (Passes key state moment wanted p) name_checks (condition_checks p.grant) names conditions)
+
+-- ---- the names, by the grant's goal
+
+pub names_principal : (key : List ℕ) (state : BaseView) (moment : ℤ) (wanted goal : Goal) (p : Procap) → goal ≡ p.grant.goal → (goal.who ≡ wanted.who → ⊥) → FailsAt (Passes key state moment wanted p) name_checks causes.Principal
+names_principal key state moment wanted goal p same other =
+    FailsAt-head (Passes key state moment wanted p) causes.Principal (causes.File ∷ causes.Permission ∷ []) (λ e. other (ap (λ (x : Goal). x.who) same ∙ e))
+
+pub names_file : (key : List ℕ) (state : BaseView) (moment : ℤ) (wanted goal : Goal) (p : Procap) → goal ≡ p.grant.goal → goal.who ≡ wanted.who → (goal.file ≡ wanted.file → ⊥) → FailsAt (Passes key state moment wanted p) name_checks causes.File
+names_file key state moment wanted goal p same who other =
+    let P = Passes key state moment wanted p in
+    FailsAt-behind P (causes.Principal ∷ []) (causes.File ∷ causes.Permission ∷ []) causes.File (sym (ap (λ (x : Goal). x.who) same) ∙ who, tt)
+    (FailsAt-head P causes.File (causes.Permission ∷ []) (λ e. other (ap (λ (x : Goal). x.file) same ∙ e)))
+
+pub names_permission : (key : List ℕ) (state : BaseView) (moment : ℤ) (wanted goal : Goal) (p : Procap) → goal ≡ p.grant.goal → goal.who ≡ wanted.who → goal.file ≡ wanted.file → (goal.perm ≡ wanted.perm → ⊥) →
+    FailsAt (Passes key state moment wanted p) name_checks causes.Permission
+names_permission key state moment wanted goal p same who file other =
+    let P = Passes key state moment wanted p in
+    FailsAt-behind P (causes.Principal ∷ causes.File ∷ []) (causes.Permission ∷ []) causes.Permission (sym (ap (λ (x : Goal). x.who) same) ∙ who, (sym (ap (λ (x : Goal). x.file) same) ∙ file, tt))
+    (FailsAt-head P causes.Permission [] (λ e. other (ap (λ (x : Goal). x.perm) same ∙ e)))
+
+pub names_all : (key : List ℕ) (state : BaseView) (moment : ℤ) (wanted goal : Goal) (p : Procap) → goal ≡ p.grant.goal → goal.who ≡ wanted.who → goal.file ≡ wanted.file → goal.perm ≡ wanted.perm → AllByRecursion (Passes key state moment wanted p) name_checks
+names_all key state moment wanted goal p same who file perm =
+    (sym (ap (λ (x : Goal). x.who) same) ∙ who, (sym (ap (λ (x : Goal). x.file) same) ∙ file, (sym (ap (λ (x : Goal). x.perm) same) ∙ perm, tt)))
+
+-- ---- the conditions
+
+pub condition_time : (key : List ℕ) (state : BaseView) (moment : ℤ) (wanted : Goal) (p : Procap) (place : ℕ) (c : Constraint) → IsFirstFailing (HoldsAt moment) p.grant.times place c →
+    FailsAt (Passes key state moment wanted p) (condition_checks p.grant) (causes.Time (place + 1) c)
+condition_time key state moment wanted p place c first =
+    let P = Passes key state moment wanted p in
+    FailsAt-front P (causes_from causes.Time 1 p.grant.times) (causes_from causes.State 1 p.grant.states) (causes.Time (place + 1) c)
+    (FailsAt-cause P (HoldsAt moment) causes.Time 1 p.grant.times place c (λ n x h. h) (λ n x h. h) first)
+
+pub condition_state : (key : List ℕ) (state : BaseView) (moment : ℤ) (wanted : Goal) (p : Procap) (place : ℕ) (s : StatePred) → AllByRecursion (HoldsAt moment) p.grant.times → IsFirstFailing (Contains (facts state.world)) p.grant.states place s →
+    FailsAt (Passes key state moment wanted p) (condition_checks p.grant) (causes.State (place + 1) s)
+condition_state key state moment wanted p place s times first =
+    let P = Passes key state moment wanted p in
+    FailsAt-behind P (causes_from causes.Time 1 p.grant.times) (causes_from causes.State 1 p.grant.states) (causes.State (place + 1) s)
+    (all_causes P (HoldsAt moment) causes.Time 1 p.grant.times (λ n x h. h) times)
+    (FailsAt-cause P (Contains (facts state.world)) causes.State 1 p.grant.states place s (λ n x h. h) (λ n x h. h) first)
+
+pub conditions_hold : (key : List ℕ) (state : BaseView) (moment : ℤ) (wanted : Goal) (p : Procap) → AllByRecursion (HoldsAt moment) p.grant.times → AllByRecursion (Contains (facts state.world)) p.grant.states →
+    AllByRecursion (Passes key state moment wanted p) (condition_checks p.grant)
+conditions_hold key state moment wanted p times states =
+    let P = Passes key state moment wanted p in
+    all_joined P (causes_from causes.Time 1 p.grant.times) (causes_from causes.State 1 p.grant.states)
+    (all_causes P (HoldsAt moment) causes.Time 1 p.grant.times (λ n x h. h) times)
+    (all_causes P (Contains (facts state.world)) causes.State 1 p.grant.states (λ n x h. h) states)
+
+-- ---- what calls tell
 
 -- the place of the first failing item is within the list
 pub place_within : {A : Type 0} (P : A → Type 0) (items : List A) (place : ℕ) (item : A) → IsFirstFailing P items place item → place < length items

@@ -38,12 +38,13 @@ fn first_denial(
     let pairs = needs.as_slice();
     for place in 0..pairs.len() {
         let (file, perm) = pairs[place];
-        let goal = Goal {
+        let wanted = Goal {
             who: *caller,
             file,
             perm,
         };
-        if let Some(cause) = denial_cause(history, &procaps[place], &goal, moment) {
+        let procap = &procaps[place];
+        if let Some(cause) = denial_cause(history, procap, &wanted, moment) {
             return Some(Denial {
                 need: place as u32 + 1,
                 cause,

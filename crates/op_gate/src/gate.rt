@@ -151,13 +151,7 @@ impl Gate {
 
     /// Decides the request at the moment that the clock shows, in whole seconds from 1970-01-01T00:00:00Z. An event
     /// that is to be kept is pending then; nothing else is changed.
-    pub fn decide(
-        &mut self,
-        alloc: Global,
-        pass: u64,
-        request: StepRequest,
-        clock: i64,
-    ) -> Decision
+    pub fn decide(&mut self, alloc: Global, pass: u64, request: StepRequest, clock: i64) -> Decision
         requires in_range { IsMoment clock }
         requires well_formed { IsWellFormed request }
         ensures key { self.new.key ≡ self.old.key }
