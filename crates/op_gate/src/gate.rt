@@ -164,6 +164,7 @@ impl Gate {
         if self.history.reserve().is_err() {
             return Decision::NoMemory;
         }
+        self.history.lawful();
         match decide_request(alloc, &mut self.history, pass, request, clock) {
             Decided::Answer(reply) => Decision::Answer(reply),
             Decided::Keep(reply, pending) => {
