@@ -43,7 +43,7 @@ pub registered_decided : (h : HistoryView) (pass : ℕ) (clock : ℤ) (statement
 registered_decided h pass clock statement signature number decided may number_is keeps =
     kept_decided h h pass clock (requests.Register statement signature) (replies.Statement (number + 1)) (Registered pass statement signature) decided
     (subst (λ (n : ℕ). Answers (authority_of h) (state_of h) pass clock (requests.Register statement signature) (replies.Statement (n + 1)) (Some (Registered pass statement signature))) (sym number_is) (registered statement signature may))
-    tt keeps
+    (tt, tt) keeps
 
 -- the item before the place of that number
 pub numbered_at : {A : Type 0} (items : List A) (number : ℕ) (item : A) → (number ≡ 0 → ⊥) → slice_get items (number - 1) ≡ Some item → IsNumbered items number item
@@ -57,7 +57,7 @@ issued_decided h pass clock checked issues decided rising granted stand issues_i
     kept_decided h h pass clock (requests.Issue checked) (replies.Issue (issues + 1) (length checked.grant.times) (length checked.grant.states)) (Issued pass (numbers_of checked.cited) checked.proof checked.grant) decided
     (subst (λ (n : ℕ). Answers (authority_of h) (state_of h) pass clock (requests.Issue checked) (replies.Issue (n + 1) (length checked.grant.times) (length checked.grant.states)) (Some (Issued pass (numbers_of checked.cited) checked.proof checked.grant))) (sym issues_is)
     (issued checked rising granted stand))
-    tt keeps
+    (tt, tt) keeps
 
 -- what holds of an Ok, from what holds of it
 pub ok_so : {A E : Type 0} {P Q : A → Type 0} (r : Result A E) → ((x : A) → P x → Q x) → IfOk r P → IfOk r Q

@@ -14,7 +14,6 @@ use Rattle.proof_verifier.specs.Cited.{statements_of}
 use Rattle.proof_verifier.specs.CheckedView.{IsGranted}
 use Rattle.proof_verifier.proofs.SoundnessVerdict.{goal-verdict}
 use Rattle.access_history.specs.declared.event.Event.{Event}
-use Rattle.access_history.specs.declared.event.Event.TheVariants.{Registered, Issued, Acted}
 use Rattle.access_history.specs.declared.request.StepRequest.{StepRequest}
 use Rattle.access_history.specs.declared.reply.StepReply.{StepReply}
 use Rattle.access_history.specs.Base.{BaseView}
@@ -22,12 +21,12 @@ use Rattle.access_history.specs.Citing.{numbers_of}
 use Rattle.access_history.specs.Authority.{Authority}
 use Rattle.access_history.specs.Answer.{Answers, registered, issued, acted, moment_of}
 use Rattle.access_history.specs.WellFormed.{IsWellFormed}
-use Rattle.access_history.specs.History.{HistoryView, authority_of, state_of, IsReadyFor}
+use Rattle.access_history.specs.History.{HistoryView, authority_of, state_of}
 use Rattle.access_history.specs.Lawful.{IsLawfulBase, MayFollow}
-use Rattle.access_history.proofs.GoodIssueLemmas.{AreDerived-admitted}
+use Rattle.access_history.proofs.AdmissionLemmas.{AreDerived-admitted}
 use Rattle.op_gate.specs.declared.decided.Decided.TheVariants.{Keep}
 use Rattle.op_gate.specs.declared.decided.Pending.{Pending}
-use Rattle.op_gate.specs.Decision.{IsDecided, IsPrepared, CanKeep}
+use Rattle.op_gate.specs.Decision.{IsDecided, IsProper, CanKeep}
 
 -- the greater of two moments is a moment, and not before the second
 max_in_range : (a b : ℤ) → IsMoment a → IsMoment b → IsMoment (int_max a b)
@@ -41,16 +40,16 @@ IsGranted-goal : (statements : List StatementView) (goal : Goal) (proof : ProofV
 IsGranted-goal statements goal proof g granted = subst (λ (x : Goal). IsGranted statements x proof g) (sym (goal-verdict statements goal proof g granted.verdict_is)) granted
 
 -- the event of an answer may come next, if its operation and its caller are what their types say
-pub MayFollow-answered : (h : HistoryView) (state : BaseView) (authority : Authority) (pass : ℕ) (clock : ℤ) (request : StepRequest) (reply : StepReply) (event : Event) → IsMoment clock → IsLawfulBase authority state → IsWellFormed request → IsPrepared h event →
+pub MayFollow-answered : (authority : Authority) (state : BaseView) (pass : ℕ) (clock : ℤ) (request : StepRequest) (reply : StepReply) (event : Event) → IsMoment clock → IsLawfulBase authority state → IsWellFormed request → IsProper event →
     Answers authority state pass clock request reply (Some event) → MayFollow authority state event
-MayFollow-answered h state authority pass clock request reply event at base formed prepared (registered statement signature may) = may
-MayFollow-answered h state authority pass clock request reply event at base formed prepared (issued checked rising granted stand) =
+MayFollow-answered authority state pass clock request reply event at base formed proper (registered statement signature may) = may
+MayFollow-answered authority state pass clock request reply event at base formed proper (issued checked rising granted stand) =
     record { cites = checked.cited; cited = refl; rising = rising; stand = stand; granted = IsGranted-goal (statements_of checked.cited) checked.goal checked.proof checked.grant granted }
-MayFollow-answered h state authority pass clock request reply event at base formed prepared (acted caller op procaps admitted free) = record {
+MayFollow-answered authority state pass clock request reply event at base formed proper (acted caller op procaps admitted free) = record {
   not_before = last_up_to_max clock state.moment;
   in_range = max_in_range clock state.moment at base.moment_in_range;
-  named = prepared.0;
-  operation = prepared.1;
+  named = proper.0;
+  operation = proper.1;
   slots = formed.0;
   few_bytes = formed.1;
   admitted = admitted;
@@ -58,22 +57,16 @@ MayFollow-answered h state authority pass clock request reply event at base form
   derived = AreDerived-admitted authority.key state caller op procaps (moment_of state clock) base.good_issues admitted;
 }
 
--- the history is ready for an event that is prepared
-ready_for : (h : HistoryView) (event : Event) → IsPrepared h event → IsReadyFor h event
-ready_for h (Registered pass statement signature) prepared = tt
-ready_for h (Issued pass cited proof grant) prepared = tt
-ready_for h (Acted pass caller op procaps moment) prepared = prepared.2
-
 -- an event that was decided can be kept
 pub CanKeep-decided : (before after : HistoryView) (pass : ℕ) (clock : ℤ) (request : StepRequest) (reply : StepReply) (pending : Pending) → after ≡ record before { ready = after.ready } → 1 ≤ before.room → IsLawfulBase (authority_of before) (state_of before) → IsMoment clock → IsWellFormed request →
     IsDecided before pass clock request (Keep reply pending) after → CanKeep after pending
 CanKeep-decided before after pass clock request reply pending same room base at formed decided =
-    let follows : MayFollow (authority_of before) (state_of before) pending.event = MayFollow-answered after (state_of before) (authority_of before) pass clock request reply pending.event at base formed decided.2 decided.0 in
+    let follows : MayFollow (authority_of before) (state_of before) pending.event = MayFollow-answered (authority_of before) (state_of before) pass clock request reply pending.event at base formed decided.2.0 decided.0 in
     record {
       room = subst (λ (h : HistoryView). 1 ≤ h.room) (sym same) room;
       lawful = subst (λ (h : HistoryView). MayFollow (authority_of h) (state_of h) pending.event) (sym same) follows;
       entry = decided.1;
-      ready = ready_for after pending.event decided.2;
+      ready = decided.2.1;
     }
 
 -- nothing is pending

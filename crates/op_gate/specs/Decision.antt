@@ -31,11 +31,15 @@ Keeps reply event (Answer told) = ⊥
 Keeps reply event (Keep told pending) = (told ≡ reply) × (pending ≡ record { event = event; entry = entry_of event })
 Keeps reply event NoMemory = Unit {0}
 
--- an event that the history's world is ready to follow, if it is an operation of a principal
+-- a principal acts, by an operation whose owner is a principal's name and whose value is a text; the other events are no operations
+abbrev pub IsProper : Event → Type 0
+IsProper (Registered pass statement signature) = Unit {0}
+IsProper (Issued pass cited proof grant) = Unit {0}
+IsProper (Acted pass caller op procaps moment) = IsTrue (is_principal_name caller) × IsOperation op
+
+-- the history is ready for the event, which is proper
 abbrev pub IsPrepared : HistoryView → Event → Type 0
-IsPrepared h (Registered pass statement signature) = Unit {0}
-IsPrepared h (Issued pass cited proof grant) = Unit {0}
-IsPrepared h (Acted pass caller op procaps moment) = IsTrue (is_principal_name caller) × IsOperation op × IsReadyFor h (Acted pass caller op procaps moment)
+IsPrepared h event = IsProper event × IsReadyFor h event
 
 -- what was decided over a history is the answer, and the history after it can keep the event of the answer
 abbrev pub IsDecided : HistoryView → ℕ → ℤ → StepRequest → Decided → HistoryView → Type 0
