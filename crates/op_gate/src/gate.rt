@@ -125,6 +125,16 @@ impl Gate {
         self.history.ring()
     }
 
+    /// The history of what was kept. It says that it is lawful, and what is promised of it.
+    pub fn history(&self) -> &History
+        ensures key { result.now.key ≡ self.now.key }
+        ensures ring { result.now.ring ≡ self.now.ring }
+        ensures base { result.now.base ≡ self.now.base }
+        ensures events { result.now.events ≡ self.now.events }
+    {
+        &self.history
+    }
+
     /// The procap of the issue of that number; none exactly if there is no such issue.
     pub fn procap(&self, alloc: Global, number: u64) -> Result<Option<Procap>, NoMemory>
         ensures { IfOk result (λ found. MatchOption found (HasNone (replay self.now.base self.now.events).issues number) (IsProcapOf self.now.key (replay self.now.base self.now.events).issues number)) }
