@@ -1,5 +1,5 @@
 -- Needs in their order, and the procaps in their places, over plain values.
-use Rattle.std.proofs.Common.{◌≡◌, ◌≤◌, ◌<◌, ◌+◌, ℕ, List, [], ◌∷◌, ◌++◌, length, take, drop, get_or, refl, sym, ap, subst, ◌∙◌, arith, Option, Some, None}
+use Rattle.std.proofs.Common.{◌≡◌, ◌≤◌, ◌<◌, ◌+◌, ℕ, suc, List, [], ◌∷◌, ◌++◌, length, take, drop, get_or, refl, sym, ap, subst, ◌∙◌, arith, Option, Some, None}
 use Rattle.std.specs.Prelude.{ℤ}
 use Rattle.std.specs.List.{AllByRecursion, slice_get}
 use Rattle.std.proofs.lemmas.List.{take-append-drop, drop_more, take_more, take_all, length-take-le}
@@ -10,7 +10,7 @@ use Rattle.bl_syntax.specs.FirstFailing.{IsFirstFailing}
 use Rattle.procap.specs.declared.procap.Procap.{Procap}
 use Rattle.file_world.specs.declared.operation.Op.{Op}
 use Rattle.file_world.specs.declared.operation.Op.TheVariants.{Read, Write, Truncate, List as ListOf, Lookup, Create, Mkdir, Unlink, Rename, Getattr, Setattr, Delattr, Chown}
-use Rattle.file_world.specs.Needs.{Need, need, needs, slots, child_need}
+use Rattle.file_world.specs.Needs.{Need, need as need_at, needs, slots, child_need}
 use Rattle.file_world.specs.TreeEffect.{child_of}
 use Rattle.file_world.specs.World.{World, tree_of}
 use Rattle.world_state.specs.Needed.{placed}
@@ -48,7 +48,7 @@ needs_few world (Chown node owner) = omega arith
 
 length-placed : (from : ℕ) (pairs : List Pair) → length (placed from pairs) ≡ length pairs
 length-placed from [] = refl
-length-placed from (pair ∷ pairs) = ap (λ (n : ℕ). n + 1) (length-placed (from + 1) pairs)
+length-placed from (pair ∷ pairs) = ap suc (length-placed (from + 1) pairs)
 
 -- there is a procap for each pair of node and permission
 pub procap_there : (world : World) (op : Op) (pairs : List Pair) (procaps : List Procap) (place : ℕ) → placed 1 pairs ≡ needs world op → length procaps ≡ slots op → place < length pairs → place < length procaps
@@ -57,16 +57,16 @@ procap_there world op pairs procaps place same brought within =
 
 -- ---- needs one after the other
 
-placed-joined : (from : ℕ) (before behind : List Pair) (pair : Pair) → placed from (before ++ pair ∷ behind) ≡ placed from before ++ need (length before + from) pair.0 pair.1 ∷ placed (length before + from + 1) behind
+placed-joined : (from : ℕ) (before behind : List Pair) (pair : Pair) → placed from (before ++ pair ∷ behind) ≡ placed from before ++ need_at (length before + from) pair.0 pair.1 ∷ placed (length before + from + 1) behind
 placed-joined from [] behind pair =
     let at : from ≡ 0 + from = omega arith in
-    ap (λ (n : ℕ). need n pair.0 pair.1 ∷ placed (n + 1) behind) at
+    ap (λ (n : ℕ). need_at n pair.0 pair.1 ∷ placed (n + 1) behind) at
 placed-joined from (first ∷ before) behind pair =
     let at : length before + (from + 1) ≡ length (first ∷ before) + from = omega arith in
-    ap (λ (rest : List Need). need from first.0 first.1 ∷ rest)
-    (placed-joined (from + 1) before behind pair ∙ ap (λ (n : ℕ). placed (from + 1) before ++ need n pair.0 pair.1 ∷ placed (n + 1) behind) at)
+    ap (λ (rest : List Need). need_at from first.0 first.1 ∷ rest)
+    (placed-joined (from + 1) before behind pair ∙ ap (λ (n : ℕ). placed (from + 1) before ++ need_at n pair.0 pair.1 ∷ placed (n + 1) behind) at)
 
-placed-push : (from : ℕ) (before : List Pair) (pair : Pair) → placed from (before ++ pair ∷ []) ≡ placed from before ++ need (length before + from) pair.0 pair.1 ∷ []
+placed-push : (from : ℕ) (before : List Pair) (pair : Pair) → placed from (before ++ pair ∷ []) ≡ placed from before ++ need_at (length before + from) pair.0 pair.1 ∷ []
 placed-push from before pair = placed-joined from before [] pair
 
 -- the procap at a place has the number of its need
@@ -80,11 +80,11 @@ pub met_more : (key : List ℕ) (state : BaseView) (caller : List ℕ) (procaps 
 met_more key state caller procaps moment pairs place pair p within at there read admits met =
     let P = IsNeedMet key state caller procaps moment in
     let count : length (take place pairs) + 1 ≡ place + 1 = ap (λ (n : ℕ). n + 1) (length-take-le place pairs (omega (arith, within))) in
-    let one : IsNeedMet key state caller procaps moment (need (length (take place pairs) + 1) pair.0 pair.1) =
+    let one : IsNeedMet key state caller procaps moment (need_at (length (take place pairs) + 1) pair.0 pair.1) =
     record { procap = p; brought = subst (λ (n : ℕ). IsNumbered procaps n p) (sym count) (procap_numbered procaps place p there read); admits = admits } in
     let more : take (place + 1) pairs ≡ take place pairs ++ pair ∷ [] = take_more pairs place pair within ∙ ap (λ (x : Pair). take place pairs ++ x ∷ []) (sym at) in
     subst (λ (xs : List Pair). AllByRecursion P (placed 1 xs)) (sym more)
-    (subst (AllByRecursion P) (sym (placed-push 1 (take place pairs) pair)) (AllByRecursion-push P (placed 1 (take place pairs)) (need (length (take place pairs) + 1) pair.0 pair.1) met one))
+    (subst (AllByRecursion P) (sym (placed-push 1 (take place pairs) pair)) (AllByRecursion-push P (placed 1 (take place pairs)) (need_at (length (take place pairs) + 1) pair.0 pair.1) met one))
 
 -- all needs are met
 pub all_met : (key : List ℕ) (state : BaseView) (caller : List ℕ) (op : Op) (procaps : List Procap) (moment : ℤ) (pairs : List Pair) (place : ℕ) → placed 1 pairs ≡ needs state.world op → length pairs ≤ place →
@@ -112,14 +112,14 @@ denied_at key state caller op procaps moment pairs place pair p cause same withi
     let brought : IsNumbered procaps (length (take place pairs) + 1) p = subst (λ (n : ℕ). IsNumbered procaps n p) (sym count) (procap_numbered procaps place p there read) in
     record {
       index = length (placed 1 (take place pairs));
-      need = need (length (take place pairs) + 1) pair.0 pair.1;
+      need = need_at (length (take place pairs) + 1) pair.0 pair.1;
       first = record {
         before = placed 1 (take place pairs);
         behind = placed (length (take place pairs) + 1 + 1) (drop (place + 1) pairs);
         parts = sym same ∙ ap (placed 1) split ∙ placed-joined 1 (take place pairs) (drop (place + 1) pairs) pair;
         place_is = refl;
         holds_before = met;
-        fails = not_met key state caller procaps moment (need (length (take place pairs) + 1) pair.0 pair.1) p cause brought denies;
+        fails = not_met key state caller procaps moment (need_at (length (take place pairs) + 1) pair.0 pair.1) p cause brought denies;
       };
       place_is = sym count;
       procap = p;
