@@ -1,15 +1,13 @@
 -- The answer to an operation, over plain values.
 use Rattle.std.proofs.Common.{◌≡◌, ℕ, List, refl, sym, ap, subst, ◌∙◌, Some, None}
-use Rattle.std.specs.Prelude.{ℤ, Ok, Err, IsTrue}
-use Rattle.bl_syntax.specs.Names.{is_principal_name}
+use Rattle.std.specs.Prelude.{ℤ, Ok}
 use Rattle.policy_statement.specs.Ring.{KeyView}
 use Rattle.procap.specs.declared.procap.Procap.{Procap}
 use Rattle.file_world.specs.declared.operation.Op.{Op}
-use Rattle.file_world.specs.declared.refusal.OpFault.TheVariants as faults
 use Rattle.file_world.specs.declared.refusal.Refusal.{Refusal}
 use Rattle.file_world.specs.declared.reply.OpReply.{OpReply}
-use Rattle.file_world.specs.Effect.{IsOperation, refusal, reply}
-use Rattle.world_state.specs.State.{IsWorldReady, ReservesWorld}
+use Rattle.file_world.specs.Effect.{refusal, reply}
+use Rattle.world_state.specs.State.{ReservesWorld}
 use Rattle.access_history.specs.declared.event.Entry.TheVariants as entries
 use Rattle.access_history.specs.declared.event.Event.{Event}
 use Rattle.access_history.specs.declared.event.Event.TheVariants.{Acted}
@@ -53,9 +51,9 @@ refused_decided before after pass clock caller op procaps why count admitted ref
 
 -- it is done, and its event is to be kept
 pub acted_decided : (before after : HistoryView) (pass : ℕ) (clock : ℤ) (caller : List ℕ) (op given : Op) (procaps : List Procap) (moment : ℤ) (told : OpReply) (pending : Pending) → IsAdmitted before.key (state_of before) caller op procaps (moment_of (state_of before) clock) →
-    given ≡ op → moment ≡ moment_of (state_of before) clock → IsTrue (is_principal_name caller) → IsOperation op → ReservesWorld caller (state_of before).world op (Ok told) (world_of after) →
+    given ≡ op → moment ≡ moment_of (state_of before) clock → ReservesWorld caller (state_of before).world op (Ok told) (world_of after) →
     pending ≡ record { event = Acted pass caller given procaps moment; entry = entries.Operation } → IsDecided before pass clock (Act caller op procaps) (Keep (replies.Operation told) pending) after
-acted_decided before after pass clock caller op given procaps moment told pending admitted given_is moment_is named operation reserves pending_is =
+acted_decided before after pass clock caller op given procaps moment told pending admitted given_is moment_is reserves pending_is =
     kept_decided before after pass clock (Act caller op procaps) (replies.Operation (reply (state_of before).world op)) (Acted pass caller op procaps (moment_of (state_of before) clock)) (Keep (replies.Operation told) pending)
     (acted caller op procaps admitted reserves.0)
     (named, operation, reserves.2) (

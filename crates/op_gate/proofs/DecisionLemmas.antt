@@ -17,25 +17,25 @@ use Rattle.access_history.specs.declared.reply.StepReply.TheVariants as replies
 use Rattle.access_history.specs.Numbered.{IsNumbered, HasNumber}
 use Rattle.access_history.specs.Citing.{StandsUnderNumber, numbers_of}
 use Rattle.access_history.specs.Authority.{MayBeRegistered, sayings}
-use Rattle.access_history.specs.History.{HistoryView, authority_of, state_of, entry_of}
+use Rattle.access_history.specs.History.{HistoryView, authority_of, state_of, entry_of, IsReadyFor}
 use Rattle.access_history.specs.Answer.{Answers, registered, issued}
 use Rattle.op_gate.specs.declared.decided.Decided.{Decided}
 use Rattle.op_gate.specs.declared.decided.Decided.TheVariants.{Answer, Keep, NoMemory}
 use Rattle.op_gate.specs.declared.decided.Pending.{Pending}
-use Rattle.op_gate.specs.Decision.{IsDecided, IsPrepared, Keeps}
+use Rattle.op_gate.specs.Decision.{IsDecided, Keeps}
 
 -- what keeps the event of the answer is decided so
 pub kept_decided : (before after : HistoryView) (pass : ℕ) (clock : ℤ) (request : StepRequest) (reply : StepReply) (event : Event) (decided : Decided) →
-    Answers (authority_of before) (state_of before) pass clock request reply (Some event) → IsPrepared after event → Keeps reply event decided → IsDecided before pass clock request decided after
-kept_decided before after pass clock request reply event (Answer told) answers prepared keeps = absurd keeps
-kept_decided before after pass clock request reply event (Keep told pending) answers prepared keeps =
+    Answers (authority_of before) (state_of before) pass clock request reply (Some event) → IsReadyFor after event → Keeps reply event decided → IsDecided before pass clock request decided after
+kept_decided before after pass clock request reply event (Answer told) answers ready keeps = absurd keeps
+kept_decided before after pass clock request reply event (Keep told pending) answers ready keeps =
     let event_is : event ≡ pending.event = sym (ap (λ (p : Pending). p.event) keeps.1) in (
       subst (λ (r : StepReply). Answers (authority_of before) (state_of before) pass clock request r (Some pending.event)) (sym keeps.0)
           (subst (λ (e : Event). Answers (authority_of before) (state_of before) pass clock request reply (Some e)) event_is answers),
       subst (λ (e : Event). pending.entry ≡ entry_of e) event_is (ap (λ (p : Pending). p.entry) keeps.1),
-      subst (IsPrepared after) event_is prepared,
+      subst (IsReadyFor after) event_is ready,
     )
-kept_decided before after pass clock request reply event NoMemory answers prepared keeps = tt
+kept_decided before after pass clock request reply event NoMemory answers ready keeps = tt
 
 -- a statement is registered
 pub registered_decided : (h : HistoryView) (pass : ℕ) (clock : ℤ) (statement : StatementView) (signature : List ℕ) (number : ℕ) (decided : Decided) → MayBeRegistered (authority_of h) (state_of h).statements statement signature → number ≡ length (state_of h).statements →
@@ -43,7 +43,7 @@ pub registered_decided : (h : HistoryView) (pass : ℕ) (clock : ℤ) (statement
 registered_decided h pass clock statement signature number decided may number_is keeps =
     kept_decided h h pass clock (requests.Register statement signature) (replies.Statement (number + 1)) (Registered pass statement signature) decided
     (subst (λ (n : ℕ). Answers (authority_of h) (state_of h) pass clock (requests.Register statement signature) (replies.Statement (n + 1)) (Some (Registered pass statement signature))) (sym number_is) (registered statement signature may))
-    (tt, tt) keeps
+    tt keeps
 
 -- the item before the place of that number
 pub numbered_at : {A : Type 0} (items : List A) (number : ℕ) (item : A) → (number ≡ 0 → ⊥) → slice_get items (number - 1) ≡ Some item → IsNumbered items number item
@@ -57,7 +57,7 @@ issued_decided h pass clock checked issues decided rising granted stand issues_i
     kept_decided h h pass clock (requests.Issue checked) (replies.Issue (issues + 1) (length checked.grant.times) (length checked.grant.states)) (Issued pass (numbers_of checked.cited) checked.proof checked.grant) decided
     (subst (λ (n : ℕ). Answers (authority_of h) (state_of h) pass clock (requests.Issue checked) (replies.Issue (n + 1) (length checked.grant.times) (length checked.grant.states)) (Some (Issued pass (numbers_of checked.cited) checked.proof checked.grant))) (sym issues_is)
     (issued checked rising granted stand))
-    (tt, tt) keeps
+    tt keeps
 
 -- what holds of an Ok, from what holds of it
 pub ok_so : {A E : Type 0} {P Q : A → Type 0} (r : Result A E) → ((x : A) → P x → Q x) → IfOk r P → IfOk r Q

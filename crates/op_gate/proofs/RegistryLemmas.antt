@@ -5,7 +5,7 @@ use Rattle.std.specs.List.{slice_get}
 use Rattle.std.specs.Option.{option_map}
 use Rattle.std.proofs.lemmas.List.{length-map}
 use Rattle.std.proofs.lemmas.Option.{slice_get-map, slice_get_read}
-use Rattle.bl_syntax.specs.Statement.{StatementView}
+use Rattle.bl_syntax.specs.Statement.{StatementView, IsStatement}
 use Rattle.policy_statement.specs.Registered.{RegisteredView}
 use Rattle.policy_statement.specs.Registry.{statement_of_number, IsNewStatement}
 use Rattle.policy_statement.specs.Messages.{statement_message}
@@ -73,9 +73,9 @@ MayRegister-shown ring shown_ring entries shown_entries statement signature show
     (subst (λ (es : List RegisteredView). MayRegister (is_accepted shown_ring statement.who (statement_message statement) shown) es statement told) entries_are may))
 
 -- a statement that the registry takes may be registered
-pub may_register : (key : List ℕ) (ring : List KeyView) (entries : List RegisteredView) (statement : StatementView) (signature : List ℕ) (told : Unit {0}) → MayRegister (is_accepted ring statement.who (statement_message statement) signature) entries statement (Ok told) →
+pub may_register : (key : List ℕ) (ring : List KeyView) (entries : List RegisteredView) (statement : StatementView) (signature : List ℕ) (told : Unit {0}) → IsStatement statement → MayRegister (is_accepted ring statement.who (statement_message statement) signature) entries statement (Ok told) →
     MayBeRegistered (authority_with key ring) entries statement signature
-may_register key ring entries statement signature told may = record { signed = may.0; new = new_to_registry entries statement may.1.0; room = may.1.1 }
+may_register key ring entries statement signature told is may = record { statement = is; signed = may.0; new = new_to_registry entries statement may.1.0; room = may.1.1 }
 
 -- a statement that the registry does not take is rejected
 pub rejected_decided : (h : HistoryView) (pass : ℕ) (clock : ℤ) (statement : StatementView) (signature : List ℕ) (fault : Fault) (decided : Decided) →

@@ -1,13 +1,10 @@
 -- What the gate decided, and what it keeps until the event is committed (this project's own).
-use Rattle.std.specs.Prelude.{◌≡◌, ◌≤◌, ℕ, ℤ, List, Option, Some, None, IsTrue}
-use Rattle.bl_syntax.specs.Names.{is_principal_name}
+use Rattle.std.specs.Prelude.{◌≡◌, ◌≤◌, ℕ, ℤ, List, Option, Some, None}
 use Rattle.policy_statement.specs.Ring.{KeyView}
 use Rattle.procap.specs.declared.procap.Procap.{Procap}
 use Rattle.file_world.specs.declared.operation.Op.{Op}
-use Rattle.file_world.specs.Effect.{IsOperation}
 use Rattle.file_world.specs.Needs.{needs}
 use Rattle.access_history.specs.declared.event.Event.{Event}
-use Rattle.access_history.specs.declared.event.Event.TheVariants.{Registered, Issued, Acted}
 use Rattle.access_history.specs.declared.reply.Denial.{Denial}
 use Rattle.access_history.specs.declared.reply.StepReply.{StepReply}
 use Rattle.access_history.specs.declared.request.StepRequest.{StepRequest}
@@ -31,21 +28,11 @@ Keeps reply event (Answer told) = ⊥
 Keeps reply event (Keep told pending) = (told ≡ reply) × (pending ≡ record { event = event; entry = entry_of event })
 Keeps reply event NoMemory = Unit {0}
 
--- a principal acts, by an operation whose owner is a principal's name and whose value is a text; the other events are no operations
-abbrev pub IsProper : Event → Type 0
-IsProper (Registered pass statement signature) = Unit {0}
-IsProper (Issued pass cited proof grant) = Unit {0}
-IsProper (Acted pass caller op procaps moment) = IsTrue (is_principal_name caller) × IsOperation op
-
--- the history is ready for the event, which is proper
-abbrev pub IsPrepared : HistoryView → Event → Type 0
-IsPrepared h event = IsProper event × IsReadyFor h event
-
 -- what was decided over a history is the answer, and the history after it can keep the event of the answer
 abbrev pub IsDecided : HistoryView → ℕ → ℤ → StepRequest → Decided → HistoryView → Type 0
 IsDecided before pass clock request (Answer reply) after = Answers (authority_of before) (state_of before) pass clock request reply None
 IsDecided before pass clock request (Keep reply pending) after =
-    Answers (authority_of before) (state_of before) pass clock request reply (Some pending.event) × (pending.entry ≡ entry_of pending.event) × IsPrepared after pending.event
+    Answers (authority_of before) (state_of before) pass clock request reply (Some pending.event) × (pending.entry ≡ entry_of pending.event) × IsReadyFor after pending.event
 IsDecided before pass clock request NoMemory after = Unit {0}
 
 -- a gate: the key of the seal, the ring of those whose signatures are accepted, the history's base and events, and the event that is decided and not kept yet

@@ -1,6 +1,7 @@
 //! The answers to requests on statements and issues, and what is to be kept.
 
 ghost use Rattle.std.specs.Prelude.{◌≡◌, ◌∷◌, ◌↔◌, [], Some, None, IfOk, MatchOption, IsTrue, ℕ, ℤ, length};
+ghost use Rattle.bl_syntax.specs.Statement.{IsStatement};
 ghost use Rattle.access_history.specs.Answer.{Answers, MaySee};
 ghost use Rattle.access_history.specs.Citing.{numbers_of};
 ghost use Rattle.access_history.specs.History.{authority_of, state_of};
@@ -79,6 +80,7 @@ pub fn decide_register(
     statement: Statement,
     signature: Bytes,
 ) -> Decided
+    requires { IsStatement statement }
     ensures { (clock : ℤ) → IsDecided history.now pass clock (StepRequest.Register statement signature) result history.now }
 {
     let registry = history.registry();
