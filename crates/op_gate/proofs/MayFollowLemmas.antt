@@ -24,20 +24,20 @@ use Rattle.access_history.specs.WellFormed.{IsWellFormed}
 use Rattle.access_history.specs.History.{HistoryView, authority_of, state_of}
 use Rattle.access_history.specs.Lawful.{IsLawfulBase, MayFollow}
 use Rattle.access_history.proofs.AdmissionLemmas.{AreDerived-admitted}
-use Rattle.op_gate.specs.declared.decided.Decided.TheVariants.{Keep}
-use Rattle.op_gate.specs.declared.decided.Pending.{Pending}
-use Rattle.op_gate.specs.Decision.{IsDecided, IsProper, CanKeep}
+use Rattle.op_gate.specs.declared.planned.Planned.TheVariants.{Keep}
+use Rattle.op_gate.specs.declared.planned.Pending.{Pending}
+use Rattle.op_gate.specs.Decision.{IsPlanned, IsProper, CanKeep}
 
 -- an event that was decided can be kept
-pub CanKeep-decided : (before after : HistoryView) (pass : ℕ) (clock : ℤ) (request : StepRequest) (reply : StepReply) (pending : Pending) → after ≡ record before { ready = after.ready } → 1 ≤ before.room → IsLawfulBase (authority_of before) (state_of before) → IsMoment clock → IsWellFormed request →
-    IsDecided before pass clock request (Keep reply pending) after → CanKeep after pending
-CanKeep-decided before after pass clock request reply pending same room base at formed decided =
-    let follows : MayFollow (authority_of before) (state_of before) pending.event = MayFollow-answered (authority_of before) (state_of before) pass clock request reply pending.event at base formed decided.0 in
+pub CanKeep-planned : (before after : HistoryView) (pass : ℕ) (clock : ℤ) (request : StepRequest) (reply : StepReply) (pending : Pending) → after ≡ record before { ready = after.ready } → 1 ≤ before.room → IsLawfulBase (authority_of before) (state_of before) → IsMoment clock → IsWellFormed request →
+    IsPlanned before pass clock request (Keep reply pending) after → CanKeep after pending
+CanKeep-planned before after pass clock request reply pending same room base at formed planned =
+    let follows : MayFollow (authority_of before) (state_of before) pending.event = MayFollow-answered (authority_of before) (state_of before) pass clock request reply pending.event at base formed planned.0 in
     record {
       room = subst (λ (h : HistoryView). 1 ≤ h.room) (sym same) room;
       lawful = subst (λ (h : HistoryView). MayFollow (authority_of h) (state_of h) pending.event) (sym same) follows;
-      entry = decided.1;
-      ready = decided.2;
+      entry = planned.1;
+      ready = planned.2;
     }
 
 -- nothing is pending
