@@ -26,7 +26,36 @@ use Rattle.access_history.specs.Lawful.{IsLawfulBase, MayFollow}
 use Rattle.access_history.proofs.AdmissionLemmas.{AreDerived-admitted}
 use Rattle.op_gate.specs.declared.planned.Planned.TheVariants.{Keep}
 use Rattle.op_gate.specs.declared.planned.Pending.{Pending}
-use Rattle.op_gate.specs.Decision.{IsPlanned, IsProper, CanKeep}
+use Rattle.op_gate.specs.Decision.{IsPlanned, CanKeep}
+
+-- the greater of two moments is a moment, and not before the second
+max_in_range : (a b : ℤ) → IsMoment a → IsMoment b → IsMoment (int_max a b)
+max_in_range a b m n = record { not_before = omega (arith, ints, int_max_is a b, m.not_before, n.not_before); not_after = omega (arith, ints, int_max_is a b, m.not_after, n.not_after) }
+
+last_up_to_max : (a b : ℤ) → b ≤ℤ int_max a b
+last_up_to_max a b = omega (arith, ints, int_max_is a b)
+
+-- a grant is of the goal that was to be proved
+IsGranted-goal : (statements : List StatementView) (goal : Goal) (proof : ProofView) (g : GrantView) → IsGranted statements goal proof g → IsGranted statements g.goal proof g
+IsGranted-goal statements goal proof g granted = subst (λ (x : Goal). IsGranted statements x proof g) (sym (goal-verdict statements goal proof g granted.verdict_is)) granted
+
+-- the event of an answer may come next
+MayFollow-answered : (authority : Authority) (state : BaseView) (pass : ℕ) (clock : ℤ) (request : StepRequest) (reply : StepReply) (event : Event) → IsMoment clock → IsLawfulBase authority state → IsWellFormed request →
+    Answers authority state pass clock request reply (Some event) → MayFollow authority state event
+MayFollow-answered authority state pass clock request reply event at base formed (registered statement signature may) = may
+MayFollow-answered authority state pass clock request reply event at base formed (issued checked rising granted stand) =
+    record { cites = checked.cited; cited = refl; rising = rising; stand = stand; granted = IsGranted-goal (statements_of checked.cited) checked.goal checked.proof checked.grant granted }
+MayFollow-answered authority state pass clock request reply event at base formed (acted caller op procaps admitted free) = record {
+  not_before = last_up_to_max clock state.moment;
+  in_range = max_in_range clock state.moment at base.moment_in_range;
+  named = formed.named;
+  operation = formed.operation;
+  slots = formed.slots;
+  few_bytes = formed.few_bytes;
+  admitted = admitted;
+  not_refused = free;
+  derived = AreDerived-admitted authority.key state caller op procaps (moment_of state clock) base.good_issues admitted;
+}
 
 -- an event that was decided can be kept
 pub CanKeep-planned : (before after : HistoryView) (pass : ℕ) (clock : ℤ) (request : StepRequest) (reply : StepReply) (pending : Pending) → after ≡ record before { ready = after.ready } → 1 ≤ before.room → IsLawfulBase (authority_of before) (state_of before) → IsMoment clock → IsWellFormed request →
