@@ -9,7 +9,7 @@ use Rattle.access_history.proofs.LawfulLemmas.{IsLawfulBase-lawful}
 use Rattle.op_gate.specs.declared.planned.Planned.TheVariants.{Keep}
 use Rattle.op_gate.specs.declared.planned.Pending.{Pending}
 use Rattle.op_gate.specs.Decision.{IsPlanned, CanKeep}
-use Rattle.op_gate.proofs.MayFollowLemmas.{CanKeep-planned, on_no_err}
+use Rattle.op_gate.proofs.KeepLemmas.{CanKeep-planned, on_no_err}
 use Rattle.op_gate.proofs.gate.Gate.decide.Goals as goal
 
 pub invariant_of-self-in-Keep : goal.invariant_of-self-in-Keep
