@@ -1,3 +1,4 @@
+pub mod LimitLemmas
 pub mod LineLemmas
 pub mod ProcapCount
 pub mod ReadLemmas
