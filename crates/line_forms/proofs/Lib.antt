@@ -2,3 +2,4 @@ pub mod LimitLemmas
 pub mod LineLemmas
 pub mod ProcapCount
 pub mod ReadLemmas
+pub mod TotalLemmas

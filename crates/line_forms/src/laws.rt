@@ -1,6 +1,6 @@
 //! Laws of lines. A law is the contract of an empty function, which nothing calls.
 
-ghost use Rattle.std.specs.Prelude.{◌≡◌, ◌≤◌, ℕ, ℤ, List, length};
+ghost use Rattle.std.specs.Prelude.{◌≡◌, ◌≤◌, ◌⊎◌, ℕ, ℤ, List, length};
 ghost use Rattle.bl_syntax.specs.TimeOrder.{IsMoment};
 ghost use Rattle.bl_syntax.specs.declared.grant.Goal.{Goal};
 ghost use Rattle.file_world.specs.declared.operation.Op.{Op};
@@ -26,6 +26,11 @@ pub fn no_fault_of_a_command()
 /// A line has one first fault at most.
 pub fn one_fault_of_a_line()
     ensures { (line : List ℕ) (first second : LineFault) → IsLineFault line first → IsLineFault line second → first ≡ second }
+{}
+
+/// Each line asks for something or has a first fault.
+pub fn command_or_fault_of_a_line()
+    ensures { (line : List ℕ) → ((command : Command) × IsLine line command) ⊎ ((fault : LineFault) × IsLineFault line fault) }
 {}
 
 /// A line that asks for an operation gives a procap for each place of its needs.
