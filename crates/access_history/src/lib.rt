@@ -21,7 +21,7 @@ pub use laws::{
     lawful_histories_are_rightful,
 };
 pub use node_name::is_node_name;
-pub use reply::{Denial, DenialCause, Rejection, Reply, StepReply};
+pub use reply::{Denial, DenialCause, Rejection, Reply};
 pub use request::StepRequest;
 pub use step::{AddedNode, StateChange, Step};
 pub use world::{Row, RowKind, TreeRows, create_refusal, created_row};

@@ -1,7 +1,6 @@
 //! What the server answers.
 
 use bl_syntax::{Constraint, Grant, NodeId, StatePred};
-use file_world::{OpReply, Refusal};
 use procap::Procap;
 
 /// Why a statement was not registered.
@@ -71,23 +70,4 @@ pub enum Reply {
     BadText(u32, u64),
     /// There was no memory for it, and nothing changed.
     NoMemory,
-}
-
-/// An answer to a request.
-#[derive(Debug, Drop)]
-pub enum StepReply {
-    /// The number of the statement that was registered.
-    Statement(u32),
-    /// The number of the issue, and how many conditions on time and on the state its grant has.
-    Issue(u64, u32, u32),
-    /// The procap of an issue.
-    Procap(Procap),
-    /// What the operation answers.
-    Operation(OpReply),
-    Denied(Denial),
-    /// The operation was admitted, and is refused; and the number of the last event.
-    Refused(Refusal, u64),
-    Rejected(Rejection),
-    /// There is no statement or issue of this number.
-    Absent(u64),
 }
