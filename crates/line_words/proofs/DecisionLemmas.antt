@@ -50,9 +50,9 @@ decided false d = inr (λ p. false≢true (d.1 p))
 refined : {A : Type 0} (P Q : A → Type 0) → IsDecided P → ((x : A) → P x → Q x ⊎ (Q x → ⊥)) → ((x y : A) → P x → P y → x ≡ y) → ((x : A) → Q x → P x) → IsDecided Q
 refined P Q h test same back = elim h [
   | inl one ↦ elim (test one.0 one.1) [
-      | inl is ↦ inl (one.0, is)
-      | inr no ↦ inr (λ y q. no (subst Q (sym (same one.0 y one.1 (back y q))) q))
-    ]
+    | inl is ↦ inl (one.0, is)
+    | inr no ↦ inr (λ y q. no (subst Q (sym (same one.0 y one.1 (back y q))) q))
+  ]
   | inr none ↦ inr (λ y q. none y (back y q))
 ]
 
@@ -68,9 +68,9 @@ long_or_not : (most : ℕ) (word : List ℕ) → IsTrue (list_all is_digit word)
 long_or_not most word digits = elim (cases_lt most (length word)) [
   | inl long ↦ inr (λ h. omega (arith, h.few, long))
   | inr few ↦ elim (cases_lt 0 (length word)) [
-      | inl some ↦ inl (record { digits = digits; some = omega arith; few = few })
-      | inr none ↦ inr (λ h. omega (arith, h.some, none))
-    ]
+    | inl some ↦ inl (record { digits = digits; some = omega arith; few = few })
+    | inr none ↦ inr (λ h. omega (arith, h.some, none))
+  ]
 ]
 
 run_or_not : (most : ℕ) (word : List ℕ) → IsRun most word ⊎ (IsRun most word → ⊥)
@@ -88,9 +88,9 @@ digits_or_not word = elim (run_or_not 18 word) [
 zero_or_not : (word : List ℕ) → IsRun 20 word → IsPlain word ⊎ (IsPlain word → ⊥)
 zero_or_not word h = elim (cases_eq (slice_index word 0) 48) [
   | inl zero_first ↦ elim (cases_eq (length word) 1) [
-      | inl one ↦ inl (record { some = h.some; few = h.few; digits = h.digits; no_zero = λ _. one })
-      | inr more ↦ inr (λ p. more (p.no_zero zero_first))
-    ]
+    | inl one ↦ inl (record { some = h.some; few = h.few; digits = h.digits; no_zero = λ _. one })
+    | inr more ↦ inr (λ p. more (p.no_zero zero_first))
+  ]
   | inr other ↦ inl (record { some = h.some; few = h.few; digits = h.digits; no_zero = λ is. absurd (other is) })
 ]
 
@@ -103,9 +103,9 @@ plain_or_not word = elim (run_or_not 20 word) [
 pub number_decided : (limit : ℕ) → limit ≤ 2 ^ 64 → (word : List ℕ) → IsDecided (IsNumberBelow limit word)
 number_decided limit few word = elim (plain_or_not word) [
   | inl is ↦ elim (cases_lt (digits_value 10 word) limit) [
-      | inl fits ↦ inl (digits_value 10 word, number_of limit word few is fits)
-      | inr large ↦ inr (λ n h. omega (arith, h.fits, large, (IsWritten-below limit few word n h).value))
-    ]
+    | inl fits ↦ inl (digits_value 10 word, number_of limit word few is fits)
+    | inr large ↦ inr (λ n h. omega (arith, h.fits, large, (IsWritten-below limit few word n h).value))
+  ]
   | inr no ↦ inr (λ n h. no (IsWritten-below limit few word n h).plain)
 ]
 
@@ -113,12 +113,12 @@ pub file_decided : (word : List ℕ) → IsDecided (IsFile word)
 file_decided [] = inr (λ node h. let no = h.word_is in absurd (cc))
 file_decided (byte ∷ digits) = elim (cases_eq byte 35) [
   | inl sign ↦ elim (number_decided (2 ^ 64) (omega arith) digits) [
-      | inl one ↦ inl (record { 0 = one.0 }, record { digits = digits; word_is = ap (λ b. b ∷ digits) sign; number = one.1 })
-      | inr none ↦ inr (λ node h.
-          let both : byte ∷ digits ≡ 35 ∷ h.digits = h.word_is in
-          let same : h.digits ≡ digits = cc in
-          none node.0 (subst (λ ds. IsNumberBelow (2 ^ 64) ds node.0) same h.number))
-    ]
+    | inl one ↦ inl (record { 0 = one.0 }, record { digits = digits; word_is = ap (λ b. b ∷ digits) sign; number = one.1 })
+    | inr none ↦ inr (λ node h.
+        let both : byte ∷ digits ≡ 35 ∷ h.digits = h.word_is in
+        let same : h.digits ≡ digits = cc in
+        none node.0 (subst (λ ds. IsNumberBelow (2 ^ 64) ds node.0) same h.number))
+  ]
   | inr other ↦ inr (λ node h.
       let both : byte ∷ digits ≡ 35 ∷ h.digits = h.word_is in
       let is : byte ≡ 35 = cc in
@@ -139,9 +139,9 @@ no_integer (negated digits h) not_plain not_negated = not_negated digits refl h
 minus_decided : (byte : ℕ) (rest : List ℕ) → (IsDigits (byte ∷ rest) → ⊥) → IsDecided (IsInteger (byte ∷ rest))
 minus_decided byte rest not_plain = elim (cases_eq byte 45) [
   | inl minus ↦ elim (digits_or_not rest) [
-      | inl digits ↦ inl (pos 0 -ℤ pos (digits_value 10 rest), IsInteger-from_minus (byte ∷ rest) rest (pos 0 -ℤ pos (digits_value 10 rest)) (ap (λ b. b ∷ rest) minus) digits refl)
-      | inr none ↦ inr (λ n h. no_integer h not_plain (λ ds same d. let tails : ds ≡ rest = cc in none (subst IsDigits tails d)))
-    ]
+    | inl digits ↦ inl (pos 0 -ℤ pos (digits_value 10 rest), IsInteger-from_minus (byte ∷ rest) rest (pos 0 -ℤ pos (digits_value 10 rest)) (ap (λ b. b ∷ rest) minus) digits refl)
+    | inr none ↦ inr (λ n h. no_integer h not_plain (λ ds same d. let tails : ds ≡ rest = cc in none (subst IsDigits tails d)))
+  ]
   | inr other ↦ inr (λ n h. no_integer h not_plain (λ ds same d. let is : byte ≡ 45 = cc in other is))
 ]
 
@@ -155,9 +155,9 @@ integer_decided (byte ∷ rest) = elim (digits_or_not (byte ∷ rest)) [
 moment_or_not : (second : ℤ) → IsMoment second ⊎ (IsMoment second → ⊥)
 moment_or_not second = elim (decided (is_at_most (negsuc 62135596799) second) (Decides-is_at_most (negsuc 62135596799) second)) [
   | inl low ↦ elim (decided (is_at_most second (pos 253402300799)) (Decides-is_at_most second (pos 253402300799))) [
-      | inl high ↦ inl (record { not_before = low; not_after = high })
-      | inr late ↦ inr (λ h. late h.not_after)
-    ]
+    | inl high ↦ inl (record { not_before = low; not_after = high })
+    | inr late ↦ inr (λ h. late h.not_after)
+  ]
   | inr early ↦ inr (λ h. early h.not_before)
 ]
 
@@ -219,9 +219,9 @@ between_decided : (word : List ℕ) → IsDecided (IsBetweenQuotes word)
 between_decided [] = inr (λ text h. absurd (cc))
 between_decided (byte ∷ rest) = elim (cases_eq byte 34) [
   | inl quote ↦ elim (end_decided rest) [
-      | inl one ↦ inl (one.0, ap (λ b. b ∷ rest) quote ∙ ap (λ l. 34 ∷ l) one.1)
-      | inr none ↦ inr (λ text h. let tails : rest ≡ text ++ 34 ∷ [] = cc in none text tails)
-    ]
+    | inl one ↦ inl (one.0, ap (λ b. b ∷ rest) quote ∙ ap (λ l. 34 ∷ l) one.1)
+    | inr none ↦ inr (λ text h. let tails : rest ≡ text ++ 34 ∷ [] = cc in none text tails)
+  ]
   | inr other ↦ inr (λ text h. let is : byte ≡ 34 = cc in other is)
 ]
 
@@ -252,18 +252,18 @@ pub permission_decided : (word : List ℕ) → IsDecided (IsPermission word)
 permission_decided word = elim (same_or_not word (codes "read")) [
   | inl is ↦ inl (Read, is)
   | inr a ↦ elim (same_or_not word (codes "write")) [
-      | inl is ↦ inl (Write, is)
-      | inr b ↦ elim (same_or_not word (codes "execute")) [
-          | inl is ↦ inl (Execute, is)
-          | inr c ↦ elim (same_or_not word (codes "identity")) [
-              | inl is ↦ inl (Identity, is)
-              | inr d ↦ elim (same_or_not word (codes "govern")) [
-                  | inl is ↦ inl (Govern, is)
-                  | inr e ↦ inr (no_permission word a b c d e)
-                ]
-            ]
+    | inl is ↦ inl (Write, is)
+    | inr b ↦ elim (same_or_not word (codes "execute")) [
+      | inl is ↦ inl (Execute, is)
+      | inr c ↦ elim (same_or_not word (codes "identity")) [
+        | inl is ↦ inl (Identity, is)
+        | inr d ↦ elim (same_or_not word (codes "govern")) [
+          | inl is ↦ inl (Govern, is)
+          | inr e ↦ inr (no_permission word a b c d e)
         ]
+      ]
     ]
+  ]
 ]
 
 -- ---- hexadecimal
@@ -275,9 +275,9 @@ by_decoding word other some lower (Err e) is = inr (λ bytes h. let both : ◌�
 digits_decided : (word : List ℕ) → (word ≡ codes "-" → ⊥) → IsDecided (IsHex word)
 digits_decided word other = elim (cases_lt 0 (length word)) [
   | inl some ↦ elim (cases_Bool (has_no_upper_case word)) [
-      | inl lower ↦ by_decoding word other some lower (decode_of word) refl
-      | inr upper ↦ inr (λ bytes h. false≢true (sym upper ∙ (IsHex-form word bytes other h).1))
-    ]
+    | inl lower ↦ by_decoding word other some lower (decode_of word) refl
+    | inr upper ↦ inr (λ bytes h. false≢true (sym upper ∙ (IsHex-form word bytes other h).1))
+  ]
   | inr none ↦ inr (λ bytes h. omega (arith, none, (IsHex-form word bytes other h).0))
 ]
 
@@ -315,9 +315,9 @@ pub signed_decided : (word : List ℕ) → IsDecided (IsSigned word)
 signed_decided word = elim (same_or_not word (codes "-")) [
   | inl dash ↦ inl (None, subst (λ w. IsSigned w None) (sym dash) by_ring)
   | inr other ↦ elim (signature_decided word) [
-      | inl one ↦ inl (Some one.0, by_bytes word one.0 one.1)
-      | inr none ↦ inr (λ signature h. no_signed h other none)
-    ]
+    | inl one ↦ inl (Some one.0, by_bytes word one.0 one.1)
+    | inr none ↦ inr (λ signature h. no_signed h other none)
+  ]
 ]
 
 -- ---- numbers of statements
@@ -350,9 +350,9 @@ last_decided front no_comma = elim (number_decided (2 ^ 32) (omega arith) front)
 comma_decided : (front rest : List ℕ) → HasNo 44 front → IsDecided (AreJoined rest) → IsDecided (AreJoined (front ++ 44 ∷ rest))
 comma_decided front rest no_comma others = elim (number_decided (2 ^ 32) (omega arith) front) [
   | inl one ↦ elim others [
-      | inl more ↦ inl (one.0 ∷ more.0, more_numbers front rest one.0 more.0 one.1 more.1)
-      | inr none ↦ inr (λ numbers h. no_others (first_of front (44 ∷ rest) (one_way front (44 ∷ rest) no_comma refl) h) rest refl none)
-    ]
+    | inl more ↦ inl (one.0 ∷ more.0, more_numbers front rest one.0 more.0 one.1 more.1)
+    | inr none ↦ inr (λ numbers h. no_others (first_of front (44 ∷ rest) (one_way front (44 ∷ rest) no_comma refl) h) rest refl none)
+  ]
   | inr none ↦ inr (λ numbers h. no_first (first_of front (44 ∷ rest) (one_way front (44 ∷ rest) no_comma refl) h) none)
 ]
 
@@ -368,9 +368,9 @@ rising_or_not [] = inl (rising-short [] (omega arith))
 rising_or_not (first ∷ []) = inl (rising-short (first ∷ []) (omega arith))
 rising_or_not (first ∷ second ∷ others) = elim (cases_lt first second) [
   | inl below ↦ elim (rising_or_not (second ∷ others)) [
-      | inl h ↦ inl (rising-more first second others below h)
-      | inr no ↦ inr (λ h. no (rising-fewer first second others h).1)
-    ]
+    | inl h ↦ inl (rising-more first second others below h)
+    | inr no ↦ inr (λ h. no (rising-fewer first second others h).1)
+  ]
   | inr high ↦ inr (λ h. omega (arith, high, (rising-fewer first second others h).0))
 ]
 
@@ -378,9 +378,9 @@ cited_or_not : (word numbers : List ℕ) → AreJoined word numbers → IsCited 
 cited_or_not word numbers h = elim (cases_lt 64 (length numbers)) [
   | inl many ↦ inr (λ c. omega (arith, c.few, many))
   | inr few ↦ elim (rising_or_not numbers) [
-      | inl rising ↦ inl (record { joined = h; few = few; rising = rising })
-      | inr no ↦ inr (λ c. no c.rising)
-    ]
+    | inl rising ↦ inl (record { joined = h; few = few; rising = rising })
+    | inr no ↦ inr (λ c. no c.rising)
+  ]
 ]
 
 pub cited_decided : (word : List ℕ) → IsDecided (IsCited word)
@@ -425,8 +425,8 @@ pub procap_decided : (word : List ℕ) → IsDecided (IsProcapWord word)
 procap_decided [] = without_sign [] (λ rest same. absurd (cc))
 procap_decided (byte ∷ digits) = elim (cases_eq byte 64) [
   | inl sign ↦ elim (number_decided (2 ^ 32) (omega arith) digits) [
-      | inl one ↦ inl (Issue one.0, subst (λ b. IsProcapWord (b ∷ digits) (Issue one.0)) (sym sign) (by_number digits one.0 one.1))
-      | inr none ↦ inr (λ given h. let of = number_of_word h digits (ap (λ b. b ∷ digits) sign) in none of.0 of.1)
-    ]
+    | inl one ↦ inl (Issue one.0, subst (λ b. IsProcapWord (b ∷ digits) (Issue one.0)) (sym sign) (by_number digits one.0 one.1))
+    | inr none ↦ inr (λ given h. let of = number_of_word h digits (ap (λ b. b ∷ digits) sign) in none of.0 of.1)
+  ]
   | inr other ↦ without_sign (byte ∷ digits) (λ rest same. let is : byte ≡ 64 = cc in other is)
 ]
