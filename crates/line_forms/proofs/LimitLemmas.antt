@@ -1,8 +1,10 @@
 -- What is known of the arguments that the words of a line write: few bytes, a second within the range, numbers that can be cited.
-use Rattle.std.proofs.Common.{◌≡◌, ◌≤◌, ℕ, ℤ, List, [], ◌∷◌, ◌++◌, length, refl, sym, ap, ◌∙◌, subst, arith}
+use Rattle.std.proofs.Common.{◌≡◌, ◌≤◌, ℕ, ℤ, List, [], ◌∷◌, length, IsTrue, sym, ap, ◌∙◌, subst, arith}
+use Rattle.bl_syntax.specs.Names.{is_text, is_principal_name}
 use Rattle.bl_syntax.specs.TimeOrder.{IsMoment}
 use Rattle.bl_syntax.specs.declared.grant.Goal.{Goal}
 use Rattle.file_world.specs.declared.operation.Op.{Op}
+use Rattle.file_world.specs.Effect.{IsOperation}
 use Rattle.file_world.specs.Needs.{bytes_to_write}
 use Rattle.proof_term.specs.Proof.{ProofView}
 use Rattle.line_words.specs.Cited.{IsCited}
@@ -84,6 +86,73 @@ few_asked (Do operation) behind a rest text op procaps words asked =
 
 pub few_bytes : (line : List ℕ) (op : Op) (procaps : List ProcapWord) → IsLine line (commands.Do op procaps) → bytes_to_write op ≤ 65536
 few_bytes line op procaps h = few_asked h.form h.has_words.behind h.arguments h.rest _ op procaps h.has_words.words h.asked
+
+-- ---- owners and values
+
+is_value : (behind : List ℕ) (before after : Arguments) (rest : List ℕ) → AreWords (kinds.Value ∷ kinds.Procap ∷ []) behind before after rest → IsTrue (is_text after.value)
+is_value [] before after rest h = absurd h
+is_value (space ∷ line) before after rest h =
+    let procap = last kinds.Procap (first_cut line).behind h.0 after rest h.2 in
+    let kept : after.value ≡ h.0.value = ap (λ (a : Arguments). a.value) procap.set.2 in
+    subst (λ value. IsTrue (is_text value)) (sym kept) h.1.0.fits
+
+is_owner : (behind : List ℕ) (before after : Arguments) (rest : List ℕ) → AreWords (kinds.Who ∷ kinds.Procap ∷ []) behind before after rest → IsTrue (is_principal_name after.who)
+is_owner [] before after rest h = absurd h
+is_owner (space ∷ line) before after rest h =
+    let procap = last kinds.Procap (first_cut line).behind h.0 after rest h.2 in
+    let kept : after.who ≡ h.0.who = ap (λ (a : Arguments). a.who) procap.set.2 in
+    subst (λ who. IsTrue (is_principal_name who)) (sym kept) (subst (λ who. IsTrue (is_principal_name who)) (sym h.1.0.same) h.1.0.named)
+
+operation_written : (operation : Operation) (behind : List ℕ) (a : Arguments) (rest : List ℕ) → AreWords (kinds_of_operation operation) behind blank a rest → IsOperation (op_of operation a)
+operation_written Read behind a rest words = tt
+operation_written Write behind a rest words = tt
+operation_written Truncate behind a rest words = tt
+operation_written ListOf behind a rest words = tt
+operation_written Lookup behind a rest words = tt
+operation_written Create behind a rest words = tt
+operation_written Mkdir behind a rest words = tt
+operation_written Unlink behind a rest words = tt
+operation_written Rename behind a rest words = tt
+operation_written Getattr behind a rest words = tt
+operation_written Setattr behind a rest words =
+    let second = others kinds.Node (kinds.Name ∷ kinds.Value ∷ kinds.Procap ∷ []) behind blank a rest words in
+    let third = others kinds.Name (kinds.Value ∷ kinds.Procap ∷ []) second.behind second.before a rest second.words in
+    is_value third.behind third.before a rest third.words
+operation_written Delattr behind a rest words = tt
+operation_written Chown behind a rest words =
+    let second = others kinds.Node (kinds.Who ∷ kinds.Procap ∷ []) behind blank a rest words in
+    is_owner second.behind second.before a rest second.words
+
+operation_asked : (form : Form) (behind : List ℕ) (a : Arguments) (rest text : List ℕ) (op : Op) (procaps : List ProcapWord) → AreWords (kinds_of form) behind blank a rest → IsAsked form a text (commands.Do op procaps) → IsOperation op
+operation_asked At behind a rest text op procaps words asked = absurd (cc)
+operation_asked As behind a rest text op procaps words asked = absurd (cc)
+operation_asked Register behind a rest text op procaps words asked = let no = asked.2 in absurd (cc)
+operation_asked Procap behind a rest text op procaps words asked = absurd (cc)
+operation_asked Verify behind a rest text op procaps words asked = let no = asked.2 in absurd (cc)
+operation_asked Check behind a rest text op procaps words asked = let no = asked.2 in absurd (cc)
+operation_asked (Do operation) behind a rest text op procaps words asked =
+    let op_is : op_of operation a ≡ op = cc in
+    subst IsOperation op_is (operation_written operation behind a rest words)
+
+pub operation_of_line : (line : List ℕ) (op : Op) (procaps : List ProcapWord) → IsLine line (commands.Do op procaps) → IsOperation op
+operation_of_line line op procaps h = operation_asked h.form h.has_words.behind h.arguments h.rest _ op procaps h.has_words.words h.asked
+
+-- ---- the caller
+
+caller_asked : (form : Form) (behind : List ℕ) (a : Arguments) (rest text who : List ℕ) → AreWords (kinds_of form) behind blank a rest → IsAsked form a text (commands.As who) → IsTrue (is_principal_name who)
+caller_asked At behind a rest text who words asked = absurd (cc)
+caller_asked As behind a rest text who words asked =
+    let caller = last kinds.Who behind blank a rest words in
+    let word_is : caller.word ≡ who = let asked_is : a.who ≡ who = cc in sym caller.set.0.same ∙ asked_is in
+    subst (λ name. IsTrue (is_principal_name name)) word_is caller.set.0.named
+caller_asked Register behind a rest text who words asked = let no = asked.2 in absurd (cc)
+caller_asked Procap behind a rest text who words asked = absurd (cc)
+caller_asked Verify behind a rest text who words asked = let no = asked.2 in absurd (cc)
+caller_asked Check behind a rest text who words asked = let no = asked.2 in absurd (cc)
+caller_asked (Do operation) behind a rest text who words asked = absurd (cc)
+
+pub caller_of_line : (line who : List ℕ) → IsLine line (commands.As who) → IsTrue (is_principal_name who)
+caller_of_line line who h = caller_asked h.form h.has_words.behind h.arguments h.rest _ who h.has_words.words h.asked
 
 -- ---- the clock
 
