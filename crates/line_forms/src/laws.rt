@@ -1,7 +1,8 @@
 //! Laws of lines. A law is the contract of an empty function, which nothing calls.
 
-ghost use Rattle.std.specs.Prelude.{◌≡◌, ◌≤◌, ◌⊎◌, ℕ, ℤ, List, length, IsTrue};
+ghost use Rattle.std.specs.Prelude.{◌≡◌, ◌≤◌, ◌⊎◌, ℕ, ℤ, List, length, Option, IsTrue};
 ghost use Rattle.bl_syntax.specs.Names.{is_principal_name};
+ghost use Rattle.bl_syntax.specs.Statement.{StatementView, IsStatement};
 ghost use Rattle.bl_syntax.specs.TimeOrder.{IsMoment};
 ghost use Rattle.bl_syntax.specs.declared.grant.Goal.{Goal};
 ghost use Rattle.file_world.specs.declared.operation.Op.{Op};
@@ -10,7 +11,7 @@ ghost use Rattle.file_world.specs.Needs.{slots, bytes_to_write};
 ghost use Rattle.proof_term.specs.Proof.{ProofView};
 ghost use Rattle.line_words.specs.declared.procap_word.ProcapWord.{ProcapWord};
 ghost use Rattle.line_forms.specs.declared.command.Command.{Command};
-ghost use Rattle.line_forms.specs.declared.command.Command.TheVariants.{At, As, Verify, Check, Do};
+ghost use Rattle.line_forms.specs.declared.command.Command.TheVariants.{At, As, Register, Verify, Check, Do};
 ghost use Rattle.line_forms.specs.declared.fault.LineFault.{LineFault};
 ghost use Rattle.line_forms.specs.Cited.{CanBeCited};
 ghost use Rattle.line_forms.specs.Lines.{IsLine, IsLineFault};
@@ -48,6 +49,11 @@ pub fn few_bytes_to_write()
 /// An operation that a line asks for brings no owner but a principal's name, and no value but a text.
 pub fn operation_of_a_line()
     ensures { (line : List ℕ) (op : Op) (procaps : List ProcapWord) → IsLine line (Do op procaps) → IsOperation op }
+{}
+
+/// What a line asks to register may be said.
+pub fn statement_of_a_line()
+    ensures { (line : List ℕ) (signature : Option (List ℕ)) (statement : StatementView) → IsLine line (Register signature statement) → IsStatement statement }
 {}
 
 /// A line that sets the caller names a principal.
