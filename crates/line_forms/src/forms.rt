@@ -3,7 +3,7 @@
 ghost use Rattle.std.specs.Prelude.{◌≡◌, ◌==◌};
 ghost use Rattle.line_forms.specs.Forms.{form_named, tree_operation_named, attribute_operation_named, operation_named, kinds_of_operation, kinds_of, has_text};
 
-use line_words::WordKind;
+use line_words::WordKind as Kind;
 
 /// An operation on the file system, by its name.
 #[derive(Clone, Copy, Debug, PartialEq, Eq)]
@@ -109,75 +109,45 @@ pub fn operation_named(word: &[u8]) -> Option<Operation>
 }
 
 // The kinds of the words after an operation's name: those of its arguments, and a procap for each place of its needs.
-fn kinds_of_operation(operation: Operation) -> &'static [WordKind]
+fn kinds_of_operation(operation: Operation) -> &'static [Kind]
     ensures { result.now ≡ kinds_of_operation operation }
 {
     match operation {
-        Operation::Read => &[
-            WordKind::Node,
-            WordKind::Offset,
-            WordKind::Most,
-            WordKind::Procap,
-        ],
-        Operation::Write => &[
-            WordKind::Node,
-            WordKind::Offset,
-            WordKind::Data,
-            WordKind::Procap,
-        ],
-        Operation::Truncate => &[WordKind::Node, WordKind::Len, WordKind::Procap],
-        Operation::List => &[WordKind::Node, WordKind::Procap],
-        Operation::Lookup => &[WordKind::Node, WordKind::Name, WordKind::Procap],
-        Operation::Create => &[WordKind::Node, WordKind::Name, WordKind::Procap],
-        Operation::Mkdir => &[WordKind::Node, WordKind::Name, WordKind::Procap],
-        Operation::Unlink => &[
-            WordKind::Node,
-            WordKind::Name,
-            WordKind::Procap,
-            WordKind::Procap,
-        ],
+        Operation::Read => &[Kind::Node, Kind::Offset, Kind::Most, Kind::Procap],
+        Operation::Write => &[Kind::Node, Kind::Offset, Kind::Data, Kind::Procap],
+        Operation::Truncate => &[Kind::Node, Kind::Len, Kind::Procap],
+        Operation::List => &[Kind::Node, Kind::Procap],
+        Operation::Lookup => &[Kind::Node, Kind::Name, Kind::Procap],
+        Operation::Create => &[Kind::Node, Kind::Name, Kind::Procap],
+        Operation::Mkdir => &[Kind::Node, Kind::Name, Kind::Procap],
+        Operation::Unlink => &[Kind::Node, Kind::Name, Kind::Procap, Kind::Procap],
         Operation::Rename => &[
-            WordKind::Node,
-            WordKind::Name,
-            WordKind::Target,
-            WordKind::NewName,
-            WordKind::Procap,
-            WordKind::Procap,
-            WordKind::Procap,
+            Kind::Node,
+            Kind::Name,
+            Kind::Target,
+            Kind::NewName,
+            Kind::Procap,
+            Kind::Procap,
+            Kind::Procap,
         ],
-        Operation::Getattr => &[WordKind::Node, WordKind::Name, WordKind::Procap],
-        Operation::Setattr => &[
-            WordKind::Node,
-            WordKind::Name,
-            WordKind::Value,
-            WordKind::Procap,
-        ],
-        Operation::Delattr => &[WordKind::Node, WordKind::Name, WordKind::Procap],
-        Operation::Chown => &[WordKind::Node, WordKind::Who, WordKind::Procap],
+        Operation::Getattr => &[Kind::Node, Kind::Name, Kind::Procap],
+        Operation::Setattr => &[Kind::Node, Kind::Name, Kind::Value, Kind::Procap],
+        Operation::Delattr => &[Kind::Node, Kind::Name, Kind::Procap],
+        Operation::Chown => &[Kind::Node, Kind::Who, Kind::Procap],
     }
 }
 
 /// The kinds of the words after the name of a form.
-pub fn kinds_of(form: Form) -> &'static [WordKind]
+pub fn kinds_of(form: Form) -> &'static [Kind]
     ensures { result.now ≡ kinds_of form }
 {
     match form {
-        Form::At => &[WordKind::Second],
-        Form::As => &[WordKind::Who],
-        Form::Register => &[WordKind::Signature],
-        Form::Procap => &[WordKind::Issue],
-        Form::Verify => &[
-            WordKind::Who,
-            WordKind::Node,
-            WordKind::Permission,
-            WordKind::Cited,
-        ],
-        Form::Check => &[
-            WordKind::Who,
-            WordKind::Node,
-            WordKind::Permission,
-            WordKind::Cited,
-        ],
+        Form::At => &[Kind::Second],
+        Form::As => &[Kind::Who],
+        Form::Register => &[Kind::Signature],
+        Form::Procap => &[Kind::Issue],
+        Form::Verify => &[Kind::Who, Kind::Node, Kind::Permission, Kind::Cited],
+        Form::Check => &[Kind::Who, Kind::Node, Kind::Permission, Kind::Cited],
         Form::Do(operation) => kinds_of_operation(operation),
     }
 }
