@@ -7,6 +7,7 @@ use Rattle.bl_syntax.specs.declared.grant.Goal.{Goal}
 use Rattle.file_world.specs.declared.operation.Op.{Op}
 use Rattle.file_world.specs.Effect.{IsOperation}
 use Rattle.file_world.specs.Needs.{bytes_to_write}
+use Rattle.proof_term.specs.Limits.{HasTimesInRange}
 use Rattle.proof_term.specs.Proof.{ProofView}
 use Rattle.line_words.specs.Cited.{IsCited}
 use Rattle.line_words.specs.Cutting.{first_cut}
@@ -27,6 +28,7 @@ use Rattle.line_forms.specs.Cited.{CanBeCited}
 use Rattle.line_forms.specs.Forms.{kinds_of_operation, kinds_of}
 use Rattle.line_forms.specs.Lines.{IsAsked, IsLine}
 use Rattle.line_forms.specs.Making.{op_of}
+use Rattle.line_forms.proofs.ProofTimeLemmas.{IsProofText-times}
 
 -- what is left of the words after the first of them
 record AreOthers (kinds : List WordKind) (after : Arguments) (rest : List ℕ) : Type 0 where
@@ -233,3 +235,35 @@ cited_of_verify line goal numbers proof h = verify_asked h.form h.has_words.behi
 
 pub cited_of_check : (line : List ℕ) (goal : Goal) (numbers : List ℕ) (proof : ProofView) → IsLine line (commands.Check goal numbers proof) → CanBeCited numbers
 cited_of_check line goal numbers proof h = check_asked h.form h.has_words.behind h.arguments h.rest _ goal numbers proof h.has_words.words h.asked
+
+-- ---- times in proofs
+
+verify_times : (form : Form) (a : Arguments) (text : List ℕ) (goal : Goal) (numbers : List ℕ) (proof : ProofView) → IsAsked form a text (commands.Verify goal numbers proof) → HasTimesInRange proof
+verify_times At a text goal numbers proof asked = absurd (cc)
+verify_times As a text goal numbers proof asked = absurd (cc)
+verify_times Register a text goal numbers proof asked = let no = asked.2 in absurd (cc)
+verify_times Procap a text goal numbers proof asked = absurd (cc)
+verify_times Verify a text goal numbers proof asked =
+    let same = asked.2 in
+    let proof_is : asked.0 ≡ proof = cc in
+    subst HasTimesInRange proof_is (IsProofText-times asked.1)
+verify_times Check a text goal numbers proof asked = let no = asked.2 in absurd (cc)
+verify_times (Do operation) a text goal numbers proof asked = absurd (cc)
+
+pub times_of_verify : (line : List ℕ) (goal : Goal) (numbers : List ℕ) (proof : ProofView) → IsLine line (commands.Verify goal numbers proof) → HasTimesInRange proof
+times_of_verify line goal numbers proof h = verify_times h.form h.arguments _ goal numbers proof h.asked
+
+check_times : (form : Form) (a : Arguments) (text : List ℕ) (goal : Goal) (numbers : List ℕ) (proof : ProofView) → IsAsked form a text (commands.Check goal numbers proof) → HasTimesInRange proof
+check_times At a text goal numbers proof asked = absurd (cc)
+check_times As a text goal numbers proof asked = absurd (cc)
+check_times Register a text goal numbers proof asked = let no = asked.2 in absurd (cc)
+check_times Procap a text goal numbers proof asked = absurd (cc)
+check_times Verify a text goal numbers proof asked = let no = asked.2 in absurd (cc)
+check_times Check a text goal numbers proof asked =
+    let same = asked.2 in
+    let proof_is : asked.0 ≡ proof = cc in
+    subst HasTimesInRange proof_is (IsProofText-times asked.1)
+check_times (Do operation) a text goal numbers proof asked = absurd (cc)
+
+pub times_of_check : (line : List ℕ) (goal : Goal) (numbers : List ℕ) (proof : ProofView) → IsLine line (commands.Check goal numbers proof) → HasTimesInRange proof
+times_of_check line goal numbers proof h = check_times h.form h.arguments _ goal numbers proof h.asked

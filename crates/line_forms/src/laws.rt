@@ -8,6 +8,7 @@ ghost use Rattle.bl_syntax.specs.declared.grant.Goal.{Goal};
 ghost use Rattle.file_world.specs.declared.operation.Op.{Op};
 ghost use Rattle.file_world.specs.Effect.{IsOperation};
 ghost use Rattle.file_world.specs.Needs.{slots, bytes_to_write};
+ghost use Rattle.proof_term.specs.Limits.{HasTimesInRange};
 ghost use Rattle.proof_term.specs.Proof.{ProofView};
 ghost use Rattle.line_words.specs.declared.procap_word.ProcapWord.{ProcapWord};
 ghost use Rattle.line_forms.specs.declared.command.Command.{Command};
@@ -64,6 +65,12 @@ pub fn caller_of_a_line()
 /// A line that sets the clock sets it within the range of moments.
 pub fn second_in_range()
     ensures { (line : List ℕ) (second : ℤ) → IsLine line (At second) → IsMoment second }
+{}
+
+/// The proof of a line names no time outside the range of moments.
+pub fn times_of_a_proof()
+    ensures verified { (line : List ℕ) (goal : Goal) (numbers : List ℕ) (proof : ProofView) → IsLine line (Verify goal numbers proof) → HasTimesInRange proof }
+    ensures checked { (line : List ℕ) (goal : Goal) (numbers : List ℕ) (proof : ProofView) → IsLine line (Check goal numbers proof) → HasTimesInRange proof }
 {}
 
 /// The numbers that a line with a proof cites can be cited: there are 1 to 64, strictly rising.
