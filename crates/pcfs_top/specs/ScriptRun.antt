@@ -1,0 +1,54 @@
+-- The run of a script: its lines in order, each answered over the state that the lines before it left (this project's own).
+use Rattle.std.specs.Prelude.{◌≢◌, ℕ, List, [], ◌∷◌, ◌++◌, Option}
+use Rattle.std.specs.List.{AllByRecursion}
+use Rattle.std.specs.Option.{option_to_list}
+use Rattle.access_history.specs.declared.event.Event.{Event}
+use Rattle.access_history.specs.Base.{BaseView}
+use Rattle.access_history.specs.Lawful.{IsLawful}
+use Rattle.access_history.specs.Replay.{replay, fresh}
+use Rattle.line_wire.specs.declared.line_reply.LineReply.{LineReply}
+use Rattle.line_wire.specs.declared.line_reply.LineReply.TheVariants.{NoMemory}
+use Rattle.pcfs_secrets.specs.declared.secrets.Secrets.{Secrets}
+use Rattle.pcfs_top.specs.Asker.{Asker, IsAsker, first_asker}
+use Rattle.pcfs_top.specs.LineAnswer.{authority_under, AnswersLine}
+
+-- where a line is answered: under which secrets, over which base and the events since, and for whom
+pub record Standing : Type 0 where
+  pub secrets : Secrets
+  pub base : BaseView
+  pub events : List Event
+  pub asker : Asker
+
+-- the state to which the events lead
+abbrev pub state_at : Standing → BaseView
+state_at s = replay s.base s.events
+
+-- the history so far is lawful, and a principal asks at a moment
+pub record IsLawfulStanding (s : Standing) : Type 0 where
+  pub lawful : IsLawful (authority_under s.secrets) s.base s.events
+  pub asker : IsAsker s.asker
+
+-- after an answer: its event is kept
+abbrev pub standing_after : Standing → Option Event → Asker → Standing
+standing_after s event asker = record s { events = s.events ++ option_to_list event; asker = asker }
+
+-- a run of these lines from a start: a reply for each, and the events that they add. Instead of any reply memory may run out, and then nothing changes
+pub data ScriptRun : Standing → List (List ℕ) → List LineReply → List Event → Type 0 where
+  ended : (start : Standing) → ScriptRun start [] [] []
+  answered : (start : Standing) (line : List ℕ) (lines : List (List ℕ)) (reply : LineReply) (replies : List LineReply) (event : Option Event) (asker : Asker) (added : List Event) →
+      AnswersLine start.secrets (state_at start) start.asker line reply event asker → ScriptRun (standing_after start event asker) lines replies added →
+      ScriptRun start (line ∷ lines) (reply ∷ replies) (option_to_list event ++ added)
+  without_memory : (start : Standing) (line : List ℕ) (lines : List (List ℕ)) (replies : List LineReply) (added : List Event) →
+      ScriptRun start lines replies added → ScriptRun start (line ∷ lines) (NoMemory ∷ replies) added
+
+-- memory did not run out for any of these replies
+abbrev pub HadMemory : List LineReply → Type 0
+HadMemory replies = AllByRecursion (λ (reply : LineReply). reply ≢ NoMemory) replies
+
+-- the events of an operator's script carry this number
+abbrev pub script_pass : ℕ
+script_pass = 1
+
+-- where a script over a store before its first event begins, under these secrets
+abbrev pub fresh_start : Secrets → Standing
+fresh_start secrets = record { secrets = secrets; base = fresh; events = []; asker = first_asker script_pass }
