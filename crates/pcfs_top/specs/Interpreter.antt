@@ -9,8 +9,8 @@ use Rattle.access_history.specs.Answer.{Answers}
 use Rattle.access_history.specs.Citing.{AreCitable}
 use Rattle.line_forms.specs.declared.command.Command.{Command}
 use Rattle.line_forms.specs.declared.command.Command.TheVariants.{At, As, Register, Procap, Verify, Check, Do}
-use Rattle.line_wire.specs.declared.line_reply.LineReply.{LineReply}
-use Rattle.line_wire.specs.declared.line_reply.LineReply.TheVariants as replies
+use Rattle.line_wire.specs.declared.reply.LineReply.{LineReply}
+use Rattle.line_wire.specs.declared.reply.LineReply.TheVariants as replies
 use Rattle.pcfs_top.specs.Asker.{Asker, asker_after}
 use Rattle.pcfs_top.specs.LineAnswer.{authority_under, LineAnswer, AnswersLine}
 use Rattle.pcfs_top.specs.ScriptRun.{Standing, state_at, standing_after}

@@ -1,15 +1,11 @@
 -- Laws of runs and lines: what runs keep is lawful, and lines and runs have one answer each.
-use Rattle.std.specs.Prelude.{◌≡◌, ◌≤◌, ◌+◌, ◌-◌, ◌^◌, ℕ, List, ◌++◌, length, Option}
+use Rattle.std.specs.Prelude.{◌≡◌, ℕ, List, ◌++◌, Option}
 use Rattle.access_history.specs.declared.event.Event.{Event}
 use Rattle.access_history.specs.Lawful.{IsLawful}
-use Rattle.line_wire.specs.declared.line_reply.LineReply.{LineReply}
+use Rattle.line_wire.specs.declared.reply.LineReply.{LineReply}
 use Rattle.pcfs_top.specs.Asker.{Asker}
 use Rattle.pcfs_top.specs.LineAnswer.{authority_under, AnswersLine}
-use Rattle.pcfs_top.specs.ScriptRun.{Standing, state_at, IsLawfulStanding, ScriptRun, HadMemory}
-
--- there are numbers for as many events as there are lines
-abbrev pub CanNumber : Standing → List (List ℕ) → Type 0
-CanNumber start lines = start.base.count + (length start.events + length lines) ≤ 2 ^ 48 - 1
+use Rattle.pcfs_top.specs.ScriptRun.{Standing, state_at, IsLawfulStanding, CanNumber, ScriptRun, HadMemory}
 
 -- the events of a run from a lawful start are lawful
 abbrev pub RunsAreLawful : Type 0
@@ -18,8 +14,8 @@ RunsAreLawful = (start : Standing) (lines : List (List ℕ)) (replies : List Lin
 
 -- over the state of a lawful history a line has one answer at most
 abbrev pub LinesHaveOneAnswer : Type 0
-LinesHaveOneAnswer = (s : Standing) (line : List ℕ) (first second : LineReply) (one other : Option Event) (after then : Asker) → IsLawful (authority_under s.secrets) s.base s.events →
-    AnswersLine s.secrets (state_at s) s.asker line first one after → AnswersLine s.secrets (state_at s) s.asker line second other then → (first ≡ second) × (one ≡ other) × (after ≡ then)
+LinesHaveOneAnswer = (s : Standing) (line : List ℕ) (first second : LineReply) (one other : Option Event) (after later : Asker) → IsLawful (authority_under s.secrets) s.base s.events →
+    AnswersLine s.secrets (state_at s) s.asker line first one after → AnswersLine s.secrets (state_at s) s.asker line second other later → (first ≡ second) × (one ≡ other) × (after ≡ later)
 
 -- and it has one
 abbrev pub LinesHaveAnAnswer : Type 0

@@ -4,6 +4,7 @@ pub mod Brought
 pub mod Interpreter
 pub mod Laws
 pub mod LineAnswer
+pub mod Outbox
 pub mod Ports
 pub mod Procaps
 pub mod Proved

@@ -24,9 +24,9 @@ use Rattle.line_words.specs.declared.procap_word.ProcapWord.{ProcapWord}
 use Rattle.line_forms.specs.declared.command.Command.{Command}
 use Rattle.line_forms.specs.declared.command.Command.TheVariants.{At, As, Register, Procap, Verify, Check, Do}
 use Rattle.line_forms.specs.declared.fault.LineFault.{LineFault}
-use Rattle.line_forms.specs.Lines.{IsLine, IsFault}
-use Rattle.line_wire.specs.declared.line_reply.LineReply.{LineReply}
-use Rattle.line_wire.specs.declared.line_reply.LineReply.TheVariants as replies
+use Rattle.line_forms.specs.Lines.{IsLine, IsLineFault}
+use Rattle.line_wire.specs.declared.reply.LineReply.{LineReply}
+use Rattle.line_wire.specs.declared.reply.LineReply.TheVariants as replies
 use Rattle.pcfs_top.specs.Asker.{Asker, asker_after}
 use Rattle.pcfs_top.specs.Procaps.{AreBrought, IsFirstUnissued}
 use Rattle.pcfs_top.specs.Proved.{IsUnproved, IsProved}
@@ -74,6 +74,6 @@ pub data LineAnswer (secrets : Secrets) (state : BaseView) (asker : Asker) (comm
 
 -- how the bytes of a line are answered, the event to keep if there is one, and who asks then: the line has a fault, or asks for a command
 pub data AnswersLine (secrets : Secrets) (state : BaseView) (asker : Asker) (line : List ℕ) : LineReply → Option Event → Asker → Type 0 where
-  faulty : (fault : LineFault) → IsFault line fault → AnswersLine secrets state asker line (replies.Faulty fault) None asker
+  faulty : (fault : LineFault) → IsLineFault line fault → AnswersLine secrets state asker line (replies.Faulty fault) None asker
   asks : (command : Command) (reply : LineReply) (event : Option Event) → IsLine line command → LineAnswer secrets state asker command reply event →
       AnswersLine secrets state asker line reply event (asker_after asker command)

@@ -10,8 +10,8 @@ use Rattle.proof_verifier.specs.Cited.{statements_of}
 use Rattle.proof_verifier.specs.Verdict.{verdict}
 use Rattle.access_history.specs.Citing.{AreFound, IsAbsent}
 use Rattle.access_history.specs.declared.reply.StepReply.TheVariants.{Absent}
-use Rattle.line_wire.specs.declared.line_reply.LineReply.{LineReply}
-use Rattle.line_wire.specs.declared.line_reply.LineReply.TheVariants as replies
+use Rattle.line_wire.specs.declared.reply.LineReply.{LineReply}
+use Rattle.line_wire.specs.declared.reply.LineReply.TheVariants as replies
 
 -- why the proof of a goal from the statements of these numbers proves nothing: a statement is not there, or the proof has a fault
 pub data IsUnproved (statements : List StatementView) (goal : Goal) (numbers : List ℕ) (proof : ProofView) : LineReply → Type 0 where

@@ -9,7 +9,7 @@ use Rattle.line_text.specs.Lines.{lines_of}
 use Rattle.access_history.specs.declared.event.Event.{Event}
 use Rattle.access_history.specs.Headline.{Headline}
 use Rattle.access_history.specs.Replay.{replay}
-use Rattle.line_wire.specs.declared.line_reply.LineReply.{LineReply}
+use Rattle.line_wire.specs.declared.reply.LineReply.{LineReply}
 use Rattle.line_wire.specs.ReplyText.{output_of}
 use Rattle.pcfs_secrets.specs.declared.secrets.Secrets.{Secrets}
 use Rattle.pcfs_top.specs.LineAnswer.{authority_under}

@@ -1,13 +1,13 @@
 -- The run of a script: its lines in order, each answered over the state that the lines before it left (this project's own).
-use Rattle.std.specs.Prelude.{◌≢◌, ℕ, List, [], ◌∷◌, ◌++◌, Option}
+use Rattle.std.specs.Prelude.{◌≢◌, ◌≤◌, ◌+◌, ◌-◌, ◌^◌, ℕ, List, [], ◌∷◌, ◌++◌, length, Option}
 use Rattle.std.specs.List.{AllByRecursion}
 use Rattle.std.specs.Option.{option_to_list}
 use Rattle.access_history.specs.declared.event.Event.{Event}
 use Rattle.access_history.specs.Base.{BaseView}
 use Rattle.access_history.specs.Lawful.{IsLawful}
 use Rattle.access_history.specs.Replay.{replay, fresh}
-use Rattle.line_wire.specs.declared.line_reply.LineReply.{LineReply}
-use Rattle.line_wire.specs.declared.line_reply.LineReply.TheVariants.{NoMemory}
+use Rattle.line_wire.specs.declared.reply.LineReply.{LineReply}
+use Rattle.line_wire.specs.declared.reply.LineReply.TheVariants.{NoMemory}
 use Rattle.pcfs_secrets.specs.declared.secrets.Secrets.{Secrets}
 use Rattle.pcfs_top.specs.Asker.{Asker, IsAsker, first_asker}
 use Rattle.pcfs_top.specs.LineAnswer.{authority_under, AnswersLine}
@@ -44,6 +44,10 @@ pub data ScriptRun : Standing → List (List ℕ) → List LineReply → List Ev
 -- memory did not run out for any of these replies
 abbrev pub HadMemory : List LineReply → Type 0
 HadMemory replies = AllByRecursion (λ (reply : LineReply). reply ≢ NoMemory) replies
+
+-- there are numbers for an event of each line
+abbrev pub CanNumber : Standing → List (List ℕ) → Type 0
+CanNumber start lines = start.base.count + (length start.events + length lines) ≤ 2 ^ 48 - 1
 
 -- the events of an operator's script carry this number
 abbrev pub script_pass : ℕ
