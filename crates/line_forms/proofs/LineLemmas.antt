@@ -18,7 +18,7 @@ use Rattle.line_forms.specs.declared.fault.LineFault.{LineFault}
 use Rattle.line_forms.specs.declared.fault.LineFault.TheVariants.{BadWord, BadCount, BadText, NoMemory}
 use Rattle.line_forms.specs.Forms.{kinds_of}
 use Rattle.line_forms.specs.Heads.{Head, head_of, is_counted, text_of}
-use Rattle.line_forms.specs.Lines.{IsAsked, HasTextFault, HasWords, IsLine, IsFault, of_head, of_count, of_word, of_text}
+use Rattle.line_forms.specs.Lines.{IsAsked, HasTextFault, HasWords, IsLine, IsLineFault, of_head, of_count, of_word, of_text}
 
 abbrev head : Form → List ℕ → Head
 head form behind = (form, behind)
@@ -100,7 +100,7 @@ same_count line {f} {g} {x} {y} h k =
     let one = one_head line h k in
     ap (λ form. is_counted form x) one.form ∙ ap (λ v. is_counted g v) one.behind
 
-pub command_or_fault : {line : List ℕ} {command : Command} {fault : LineFault} → IsLine line command → IsFault line fault → ⊥
+pub command_or_fault : {line : List ℕ} {command : Command} {fault : LineFault} → IsLine line command → IsLineFault line fault → ⊥
 command_or_fault {line} h (of_head fault is) = no_head line h.has_words.head_is is
 command_or_fault {line} h (of_count form behind head wrong) = false≢true (sym wrong ∙ sym (same_count line h.has_words.head_is head) ∙ h.has_words.counted)
 command_or_fault {line} h (of_word form behind place head counted bad) = words_not_bad h.has_words head bad
@@ -131,7 +131,7 @@ one_bad_place line {f} {g} {x} {y} {whole} {first} {second} h k bad other =
     subst (λ v. IsBadWord whole (kinds_of f) v second) (sym one.behind) (subst (λ form. IsBadWord whole (kinds_of form) y second) (sym one.form) other) in
     bad_once bad second moved
 
-pub one_fault : {line : List ℕ} {first : LineFault} → IsFault line first → (second : LineFault) → IsFault line second → first ≡ second
+pub one_fault : {line : List ℕ} {first : LineFault} → IsLineFault line first → (second : LineFault) → IsLineFault line second → first ≡ second
 one_fault {line} (of_head e is) second (of_head f other) = one_of_heads line is other
 one_fault {line} (of_head e is) second (of_count g y head wrong) = absurd (no_head line head is)
 one_fault {line} (of_head e is) second (of_word g y p head counted bad) = absurd (no_head line head is)

@@ -5,7 +5,7 @@ use Rattle.line_words.specs.declared.arguments.Arguments.{Arguments}
 use Rattle.line_words.specs.declared.fault.WordFault.{WordFault}
 use Rattle.line_words.specs.declared.fault.WordFault.TheVariants as words
 use Rattle.line_words.specs.Kinds.{blank}
-use Rattle.line_words.specs.Reading.{AreWords, IsBadWord, IsFault as IsWordFault}
+use Rattle.line_words.specs.Reading.{AreWords, IsBadWord, AreUnread}
 use Rattle.line_forms.specs.declared.command.Command.{Command}
 use Rattle.line_forms.specs.declared.forms.Form.{Form}
 use Rattle.line_forms.specs.declared.fault.LineFault.{LineFault}
@@ -52,11 +52,11 @@ pub line_read : (line : List ℕ) (form : Form) (behind : List ℕ) (kinds : Lis
 line_read line form behind kinds start arguments rest text r head counted kinds_are start_is words text_is h =
     asked_of line form arguments rest text r (has_words line form behind kinds start arguments rest head counted kinds_are start_is words) text_is h
 
-unread_words : (line : List ℕ) (form : Form) (behind : List ℕ) (kinds : List Kind) (fault : WordFault) → head_of line ≡ Ok (form, behind) → is_counted form behind ≡ true → kinds ≡ kinds_of form → IsWordFault (length line) kinds behind fault → IsUnread line (word_fault fault)
+unread_words : (line : List ℕ) (form : Form) (behind : List ℕ) (kinds : List Kind) (fault : WordFault) → head_of line ≡ Ok (form, behind) → is_counted form behind ≡ true → kinds ≡ kinds_of form → AreUnread (length line) kinds behind fault → IsUnread line (word_fault fault)
 unread_words line form behind kinds (words.Bad place) head counted kinds_are bad =
     of_word form behind place head counted (subst (λ ks. IsBadWord (length line) ks behind place) kinds_are bad)
 unread_words line form behind kinds words.NoMemory head counted kinds_are bad = tt
 
-pub words_unread : (line : List ℕ) (form : Form) (behind : List ℕ) (kinds : List Kind) (fault : WordFault) (told : LineFault) → head_of line ≡ Ok (form, behind) → is_counted form behind ≡ true → kinds ≡ kinds_of form → IsWordFault (length line) kinds behind fault
+pub words_unread : (line : List ℕ) (form : Form) (behind : List ℕ) (kinds : List Kind) (fault : WordFault) (told : LineFault) → head_of line ≡ Ok (form, behind) → is_counted form behind ≡ true → kinds ≡ kinds_of form → AreUnread (length line) kinds behind fault
     → told ≡ word_fault fault → IsUnread line told
 words_unread line form behind kinds fault told head counted kinds_are bad told_is = subst (IsUnread line) (sym told_is) (unread_words line form behind kinds fault head counted kinds_are bad)

@@ -55,19 +55,19 @@ pub record IsLine (line : List ℕ) (command : Command) : Type 0 where
   pub asked : IsAsked form arguments (text_of rest) command
 
 -- the first fault of the line: the form is unknown, the number of words is wrong, a word is not of its kind, or the text is faulty
-pub data IsFault (line : List ℕ) : LineFault → Type 0 where
-  of_head : (fault : LineFault) → head_of line ≡ Err fault → IsFault line fault
-  of_count : (form : Form) (behind : List ℕ) → head_of line ≡ Ok (form, behind) → is_counted form behind ≡ false → IsFault line BadCount
+pub data IsLineFault (line : List ℕ) : LineFault → Type 0 where
+  of_head : (fault : LineFault) → head_of line ≡ Err fault → IsLineFault line fault
+  of_count : (form : Form) (behind : List ℕ) → head_of line ≡ Ok (form, behind) → is_counted form behind ≡ false → IsLineFault line BadCount
   of_word : (form : Form) (behind : List ℕ) (place : ℕ) → head_of line ≡ Ok (form, behind) → IsTrue (is_counted form behind) →
-      IsBadWord (length line) (kinds_of form) behind place → IsFault line (BadWord place)
+      IsBadWord (length line) (kinds_of form) behind place → IsLineFault line (BadWord place)
   of_text : (form : Form) (arguments : Arguments) (rest : List ℕ) (fault : TextFault) → HasWords line form arguments rest →
-      HasTextFault form (text_of rest) fault → fault ≢ texts.NoMemory → IsFault line (BadText fault)
+      HasTextFault form (text_of rest) fault → fault ≢ texts.NoMemory → IsLineFault line (BadText fault)
 
 -- the line has this fault, or there was no memory to read it
 abbrev pub IsUnread : List ℕ → LineFault → Type 0
-IsUnread line (BadWord place) = IsFault line (BadWord place)
-IsUnread line BadCount = IsFault line BadCount
-IsUnread line (BadText fault) = IsFault line (BadText fault)
+IsUnread line (BadWord place) = IsLineFault line (BadWord place)
+IsUnread line BadCount = IsLineFault line BadCount
+IsUnread line (BadText fault) = IsLineFault line (BadText fault)
 IsUnread line NoMemory = Unit {0}
 
 -- the text has this fault, or there was no memory to read it

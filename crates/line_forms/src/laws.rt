@@ -1,13 +1,17 @@
 //! Laws of lines. A law is the contract of an empty function, which nothing calls.
 
-ghost use Rattle.std.specs.Prelude.{◌≡◌, ℕ, List, length};
+ghost use Rattle.std.specs.Prelude.{◌≡◌, ◌≤◌, ℕ, ℤ, List, length};
+ghost use Rattle.bl_syntax.specs.TimeOrder.{IsMoment};
+ghost use Rattle.bl_syntax.specs.declared.grant.Goal.{Goal};
 ghost use Rattle.file_world.specs.declared.operation.Op.{Op};
-ghost use Rattle.file_world.specs.Needs.{slots};
+ghost use Rattle.file_world.specs.Needs.{slots, bytes_to_write};
+ghost use Rattle.proof_term.specs.Proof.{ProofView};
 ghost use Rattle.line_words.specs.declared.procap_word.ProcapWord.{ProcapWord};
 ghost use Rattle.line_forms.specs.declared.command.Command.{Command};
-ghost use Rattle.line_forms.specs.declared.command.Command.TheVariants.{Do};
+ghost use Rattle.line_forms.specs.declared.command.Command.TheVariants.{At, Verify, Check, Do};
 ghost use Rattle.line_forms.specs.declared.fault.LineFault.{LineFault};
-ghost use Rattle.line_forms.specs.Lines.{IsLine, IsFault};
+ghost use Rattle.line_forms.specs.Cited.{CanBeCited};
+ghost use Rattle.line_forms.specs.Lines.{IsLine, IsLineFault};
 
 /// A line asks for one thing at most.
 pub fn one_command_of_a_line()
@@ -16,15 +20,31 @@ pub fn one_command_of_a_line()
 
 /// A line that asks for something has no fault.
 pub fn no_fault_of_a_command()
-    ensures { (line : List ℕ) (command : Command) (fault : LineFault) → IsLine line command → IsFault line fault → ⊥ }
+    ensures { (line : List ℕ) (command : Command) (fault : LineFault) → IsLine line command → IsLineFault line fault → ⊥ }
 {}
 
 /// A line has one first fault at most.
 pub fn one_fault_of_a_line()
-    ensures { (line : List ℕ) (first second : LineFault) → IsFault line first → IsFault line second → first ≡ second }
+    ensures { (line : List ℕ) (first second : LineFault) → IsLineFault line first → IsLineFault line second → first ≡ second }
 {}
 
 /// A line that asks for an operation gives a procap for each place of its needs.
 pub fn procap_for_each_need()
     ensures { (line : List ℕ) (op : Op) (procaps : List ProcapWord) → IsLine line (Do op procaps) → length procaps ≡ slots op }
+{}
+
+/// A line that asks for an operation brings few bytes to be written.
+pub fn few_bytes_to_write()
+    ensures { (line : List ℕ) (op : Op) (procaps : List ProcapWord) → IsLine line (Do op procaps) → bytes_to_write op ≤ 65536 }
+{}
+
+/// A line that sets the clock sets it within the range of moments.
+pub fn second_in_range()
+    ensures { (line : List ℕ) (second : ℤ) → IsLine line (At second) → IsMoment second }
+{}
+
+/// The numbers that a line with a proof cites can be cited: there are 1 to 64, strictly rising.
+pub fn cited_numbers_can_be_cited()
+    ensures verified { (line : List ℕ) (goal : Goal) (numbers : List ℕ) (proof : ProofView) → IsLine line (Verify goal numbers proof) → CanBeCited numbers }
+    ensures checked { (line : List ℕ) (goal : Goal) (numbers : List ℕ) (proof : ProofView) → IsLine line (Check goal numbers proof) → CanBeCited numbers }
 {}

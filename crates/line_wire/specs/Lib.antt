@@ -1,6 +1,7 @@
-pub mod Faults
-pub mod Forms
-pub mod Lines
-pub mod Numerals
+pub mod CheckedText
+pub mod FaultText
+pub mod FirstWord
+pub mod GateText
+pub mod OperationText
 pub mod ReplyText
-pub mod Written
+pub mod Unbroken

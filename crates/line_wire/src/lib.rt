@@ -1,23 +1,17 @@
-//! Lines both ways: what a line asks for, and the line that a reply is written as.
+//! The line that each reply is written as.
 //!
-//! A line of a form asks for one command, a line whose text has a fault is answered with the first one and its place,
-//! and any other is outside the forms; a reply is written in one way. The laws of lines say that no line is two of
-//! these.
+//! A reply is written in one way, all of its line or nothing. The numbers of causes, refusals and faults stand here and
+//! nowhere else: below, they have names. Laws say that a reply is one line, and which word it begins with.
 #![tactic(auto)]
 
-mod cited;
-mod command;
-mod fault;
-mod forms;
-mod inquiry;
-pub mod line_laws;
-mod numerals;
-mod procap_word;
+mod checked_text;
+mod fault_text;
+mod gate_text;
+mod hex_text;
+pub mod laws;
+mod operation_text;
+mod reply;
 mod reply_text;
-mod signature;
-mod words;
 
-pub use command::{Command, Line, ProcapWord, ProcapWords};
-pub use fault::proof_fault_reply;
-pub use forms::read_line;
+pub use reply::LineReply;
 pub use reply_text::write_reply;

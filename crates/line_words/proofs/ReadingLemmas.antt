@@ -9,7 +9,7 @@ use Rattle.line_words.specs.declared.kinds.Kind.{Kind}
 use Rattle.line_words.specs.declared.arguments.Arguments.{Arguments}
 use Rattle.line_words.specs.Cutting.{first_cut}
 use Rattle.line_words.specs.Kinds.{Sets, IsOutside}
-use Rattle.line_words.specs.Reading.{AreWords, IsBadWord, missing, outside, later, IsFault}
+use Rattle.line_words.specs.Reading.{AreWords, IsBadWord, missing, outside, later, AreUnread}
 use Rattle.line_words.proofs.KindLemmas.{Sets-unique}
 
 pub AreWords-unique : (kinds : List Kind) (behind : List ℕ) (before first second : Arguments) (x y : List ℕ) → AreWords kinds behind before first x → AreWords kinds behind before second y
@@ -66,7 +66,7 @@ words_more kinds behind word rest before between after last some more word_is re
     (subst (λ b. AreWords (kind ∷ others_of kinds) b before after last) (sym (parts behind 0 more)) here)
 
 pub fault_later : (whole : ℕ) (kinds : List Kind) (behind word rest : List ℕ) (before between : Arguments) (fault : WordFault) → 1 ≤ length kinds → 1 ≤ length behind → word ≡ (first_cut (others_of behind)).word → rest ≡ (first_cut (others_of behind)).behind
-    → Sets (get_or kinds 0 Node) word before between → IsFault whole (others_of kinds) rest fault → IsFault whole kinds behind fault
+    → Sets (get_or kinds 0 Node) word before between → AreUnread whole (others_of kinds) rest fault → AreUnread whole kinds behind fault
 fault_later whole kinds behind word rest before between NoMemory some more word_is rest_is set others = tt
 fault_later whole kinds behind word rest before between (Bad place) some more word_is rest_is set others =
     let kind = get_or kinds 0 Node in

@@ -28,6 +28,6 @@ pub data IsBadWord (whole : ℕ) : List Kind → List ℕ → ℕ → Type 0 whe
       Sets kind (first_cut line).word before after → IsBadWord whole kinds (first_cut line).behind place → IsBadWord whole (kind ∷ kinds) (space ∷ line) place
 
 -- why words were not read
-abbrev pub IsFault : ℕ → List Kind → List ℕ → WordFault → Type 0
-IsFault whole kinds behind (Bad place) = IsBadWord whole kinds behind place
-IsFault whole kinds behind NoMemory = Unit {0}
+abbrev pub AreUnread : ℕ → List Kind → List ℕ → WordFault → Type 0
+AreUnread whole kinds behind (Bad place) = IsBadWord whole kinds behind place
+AreUnread whole kinds behind NoMemory = Unit {0}

@@ -1,6 +1,6 @@
 //! What the words of a line write.
 
-ghost use Rattle.std.specs.Prelude.{◌≡◌, true, false, IsTrue, IfOk, IfSome, IfNone};
+ghost use Rattle.std.specs.Prelude.{◌≡◌, true, false, IsTrue, IfOk, IfSome, IfNone, OnErr};
 ghost use Rattle.line_words.specs.Kinds.{blank, Sets, IsOutside};
 
 use crate::cited::cited_numbers;
@@ -35,6 +35,7 @@ pub struct Arguments {
 fn put<T: Drop>(field: &mut T, value: Option<T>) -> bool
     ensures found { IfSome value (λ v. (result ≡ true) × (field.new ≡ v)) }
     ensures outside { IfNone value (result ≡ false) }
+    ensures kept { result ≡ false → field.new ≡ field.old }
 {
     match value {
         Some(value) => {
@@ -73,6 +74,8 @@ impl Arguments {
     fn add_procap(&mut self, alloc: Global, word: &[u8]) -> Result<bool, NoMemory>
         ensures set { IfOk result (λ fits. IsTrue fits → Sets Kind.Procap word.now self.old self.new) }
         ensures outside { IfOk result (λ fits. fits ≡ false → IsOutside Kind.Procap word.now) }
+        ensures kept { IfOk result (λ fits. fits ≡ false → self.new ≡ self.old) }
+        ensures err { OnErr result (self.new ≡ self.old) }
     {
         match procap_word(alloc, word)? {
             Some(given) => {
@@ -83,10 +86,13 @@ impl Arguments {
         }
     }
 
-    /// Reads a word into the field of its kind. It returns false exactly if the word is not of the kind.
+    /// Reads a word into the field of its kind. It returns false exactly if the word is not of the kind; then, and if
+    /// memory runs out, no field is changed.
     pub fn read(&mut self, alloc: Global, kind: Kind, word: &[u8]) -> Result<bool, NoMemory>
         ensures set { IfOk result (λ fits. IsTrue fits → Sets kind word.now self.old self.new) }
         ensures outside { IfOk result (λ fits. fits ≡ false → IsOutside kind word.now) }
+        ensures kept { IfOk result (λ fits. fits ≡ false → self.new ≡ self.old) }
+        ensures err { OnErr result (self.new ≡ self.old) }
     {
         match kind {
             Kind::Node => Ok(put(&mut self.node, file(word))),

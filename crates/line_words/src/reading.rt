@@ -1,7 +1,7 @@
 //! Words of given kinds, one after another.
 
 ghost use Rattle.std.specs.Prelude.{◌≡◌, ◌≤◌, length, Some, None, MatchOption, MatchResult};
-ghost use Rattle.line_words.specs.Reading.{after_words, AreWords, IsFault};
+ghost use Rattle.line_words.specs.Reading.{after_words, AreWords, AreUnread};
 
 use crate::arguments::Arguments;
 use crate::cutting::first_word;
@@ -35,7 +35,7 @@ pub fn read_words<'a>(
     arguments: &mut Arguments,
 ) -> Result<&'a [u8], WordFault>
     requires { length behind.now ≤ whole }
-    ensures { MatchResult result (λ rest. AreWords kinds.now behind.now arguments.old arguments.new rest.now) (IsFault whole kinds.now behind.now) }
+    ensures { MatchResult result (λ rest. AreWords kinds.now behind.now arguments.old arguments.new rest.now) (AreUnread whole kinds.now behind.now) }
 {
     match kinds {
         [] => Ok(behind),

@@ -1,9 +1,0 @@
-pub mod CitedLemmas
-pub mod IsFaultyLemmas
-pub mod FormLemmas
-pub mod InquiryLemmas
-pub mod NumeralLemmas
-pub mod IsLineLemmas
-pub mod OptionLemmas
-pub mod ProcapLemmas
-pub mod WrittenLemmas

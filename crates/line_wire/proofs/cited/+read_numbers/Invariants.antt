@@ -1,6 +1,0 @@
-use Rattle.std.proofs.Common.{length}
-use Rattle.line_wire.proofs.cited.+read_numbers.Given as goal
-
--- the word that is left is shorter
-abbrev pub decreases-read_numbers : goal.decreases-read_numbers
-decreases-read_numbers l = length l.word.now

@@ -1,0 +1,23 @@
+//! What is returned for a line.
+
+use access_history::StepReply;
+use bl_syntax::Grant;
+use line_forms::LineFault;
+use proof_verifier::CheckFault;
+
+/// What is returned for a line.
+#[derive(Debug, Drop)]
+pub enum LineReply {
+    /// It was done, and there is nothing to say.
+    Done,
+    /// What the step returned.
+    Step(StepReply),
+    /// What the proof grants, which is not issued.
+    Checked(Grant),
+    /// The proof is refused. Out of memory is no fault of a proof: it is written as `NoMemory` is.
+    Unproved(CheckFault),
+    /// The line asks for nothing. Out of memory is no fault of a line: it is written as `NoMemory` is.
+    Faulty(LineFault),
+    /// Out of memory, and nothing changed.
+    NoMemory,
+}
