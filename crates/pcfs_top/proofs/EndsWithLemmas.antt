@@ -1,49 +1,80 @@
 -- The ends of a run.
-use Rattle.std.proofs.Common.{◌≡◌, ◌⊎◌, inl, inr, ℕ, ◌≤◌, ◌<◌, Bool, true, List, [], ◌∷◌, length, get_or, ap, sym, ◌∙◌, subst, arith, Option}
+use Rattle.std.proofs.Common.{◌≡◌, ◌⊎◌, inl, inr, ℕ, ◌≤◌, ◌<◌, Bool, true, List, [], ◌∷◌, ◌++◌, length, take, drop, get_or, ap, sym, ◌∙◌, subst, arith, append-nil, Option, Some, None, refl}
 use Rattle.std.specs.Prelude.{String, codes}
 use Rattle.std.specs.String.{string_bytes}
 use Rattle.std.specs.Str.{bytes_eq}
+use Rattle.std.proofs.lemmas.List.{take-append-drop}
 use Rattle.std.proofs.lemmas.Slice.Eq.{bytes_eq-Decides}
 use Rattle.std.specs.declared.alloc.Global.{Global}
 use Rattle.pcfs_ports.specs.Faults.{HasRisen}
-use Rattle.pcfs_ports.specs.Told.{with_back, ReadsToEnd, HoldsSome}
+use Rattle.pcfs_ports.specs.Told.{with_front, with_back, ReadsToEnd, TakesSome, HoldsSome}
+use Rattle.line_text.specs.Lines.{lines_of}
 use Rattle.pcfs_secrets.specs.declared.secrets.Secrets.{Secrets}
-use Rattle.pcfs_top.specs.Run.{IsScript, IsToWrite, IsCutShort, RunsWhole, RunsPart, EndsWith}
+use Rattle.pcfs_top.specs.Ports.{Ports}
+use Rattle.pcfs_top.specs.Run.{IsScript, RunsOver, RunsPart, IsUnderWay, HasToWrite, EndsWith}
 use Rattle.pcfs_top.specs.Run as run
+use Rattle.pcfs_top.specs.ScriptRun.{fresh_start}
+use Rattle.pcfs_top.proofs.OutboxLemmas.{with_back-nil}
+use Rattle.pcfs_top.proofs.ScriptLemmas.{RunsPart-none}
 
--- a last line was written, or the output failed
-pub EndsWith-told : (secrets : Secrets) (words : List (String Global)) (left left_after : Option (List ℕ)) (read_faults read_faults_after : ℕ) (held held_after : Option (List ℕ)) (write_faults write_faults_after : ℕ) (line : List ℕ) (status result : ℕ) →
-    ((result ≡ status) × (held_after ≡ with_back held line)) ⊎ ((result ≡ 7) × HasRisen write_faults write_faults_after × HoldsSome held held_after line) →
-    (held_after ≡ with_back held line → EndsWith secrets words left left_after read_faults read_faults_after held held_after write_faults write_faults_after status) →
-    IsToWrite secrets words left left_after read_faults read_faults_after line →
-    EndsWith secrets words left left_after read_faults read_faults_after held held_after write_faults write_faults_after result
-EndsWith-told secrets words left left_after read_faults read_faults_after held held_after write_faults write_faults_after line status result (inl told) ends to_write =
-    subst (λ (s : ℕ). EndsWith secrets words left left_after read_faults read_faults_after held held_after write_faults write_faults_after s) (sym told.0) (ends told.1)
-EndsWith-told secrets words left left_after read_faults read_faults_after held held_after write_faults write_faults_after line status result (inr failed) ends to_write =
-    subst (λ (s : ℕ). EndsWith secrets words left left_after read_faults read_faults_after held held_after write_faults write_faults_after s) (sym failed.0)
-    (run.write_fault failed.1 (record { whole = line; to_write = to_write; output = failed.2 }))
+-- ---- what was taken
+
+-- some bytes that an input gave
+record AreTaken (old new : Option (List ℕ)) : Type 0 where
+  bytes : List ℕ
+  taken : old ≡ with_front bytes new
+
+some_taken : (old new : Option (List ℕ)) → TakesSome old new → AreTaken old new
+some_taken None new some = record { bytes = []; taken = ap (with_front []) (sym some.taken.rest) }
+some_taken (Some left) new some =
+    record { bytes = take some.count left; taken = ap Some (sym (take-append-drop some.count left)) ∙ ap (with_front (take some.count left)) (sym some.taken.rest) }
+
+all_taken : (old new : Option (List ℕ)) (bytes : List ℕ) → ReadsToEnd old new bytes → old ≡ with_front bytes new
+all_taken None new bytes read = ap (with_front bytes) (sym read.end)
+all_taken (Some left) new bytes read = ap Some (read.all ∙ sym (append-nil bytes)) ∙ ap (with_front bytes) (sym read.end)
+
+-- nothing was answered yet
+pub IsUnderWay-none : (secrets : Secrets) (words : List (String Global)) (before after : Ports) → IsScript words → TakesSome before.left after.left → IsUnderWay secrets words before after []
+IsUnderWay-none secrets words before after is some =
+    let t = some_taken before.left after.left some in record { script = is; bytes = t.bytes; taken = t.taken; part = RunsPart-none secrets t.bytes }
+
+-- the first lines of the whole input were answered
+IsUnderWay-read : (secrets : Secrets) (words : List (String Global)) (before after : Ports) (bytes written : List ℕ) → IsScript words → ReadsToEnd before.left after.left bytes → RunsPart (fresh_start secrets) bytes written → IsUnderWay secrets words before after written
+IsUnderWay-read secrets words before after bytes written is read part = record { script = is; bytes = bytes; taken = all_taken before.left after.left bytes read; part = part }
 
 -- what was read is what the slice shows
 pub ReadsWhole-shown : (left left_after : Option (List ℕ)) (bytes shown : List ℕ) → shown ≡ bytes → ReadsToEnd left left_after bytes → ReadsToEnd left left_after shown
 ReadsWhole-shown left left_after bytes shown same read = subst (λ (b : List ℕ). ReadsToEnd left left_after b) (sym same) read
 
+-- ---- the ends
+
+-- a last line was written, or the output failed
+pub EndsWith-told : (secrets : Secrets) (words : List (String Global)) (before after : Ports) (line : List ℕ) (status result : ℕ) → HasToWrite secrets words before after status line →
+    ((result ≡ status) × (after.held ≡ with_back before.held line)) ⊎ ((result ≡ 7) × HasRisen before.write_faults after.write_faults × HoldsSome before.held after.held line) → EndsWith secrets words before after result
+EndsWith-told secrets words before after line status result to_write (inl told) = subst (EndsWith secrets words before after) (sym told.0) (run.written status line to_write told.1)
+EndsWith-told secrets words before after line status result to_write (inr failed) = subst (EndsWith secrets words before after) (sym failed.0) (run.cut_short status line failed.1 to_write failed.2)
+
+-- memory ran out before a line was answered
+pub EndsWith-unread : (secrets : Secrets) (words : List (String Global)) (before after : Ports) → IsScript words → TakesSome before.left after.left → after.held ≡ before.held → EndsWith secrets words before after 9
+EndsWith-unread secrets words before after is some same =
+    run.out_of_memory [] (IsUnderWay-none secrets words before after is some) (record { count = 0; within = omega arith; held = same ∙ with_back-nil before.held })
+
 -- each line was answered
-pub EndsWith-done : (secrets : Secrets) (words : List (String Global)) (left left_after : Option (List ℕ)) (read_faults read_faults_after : ℕ) (held held_after : Option (List ℕ)) (write_faults write_faults_after : ℕ) (bytes : List ℕ) → IsScript words → ReadsToEnd left left_after bytes →
-    ((written : List ℕ) × RunsWhole secrets bytes written × (held_after ≡ with_back held written)) → EndsWith secrets words left left_after read_faults read_faults_after held held_after write_faults write_faults_after 0
-EndsWith-done secrets words left left_after read_faults read_faults_after held held_after write_faults write_faults_after bytes is read ran =
-    run.done is (record { bytes = bytes; written = ran.0; read = read; run = ran.1; output = ran.2 })
+pub EndsWith-done : (secrets : Secrets) (words : List (String Global)) (before after : Ports) (bytes : List ℕ) → IsScript words → ReadsToEnd before.left after.left bytes →
+    ((written : List ℕ) × RunsOver (fresh_start secrets) (lines_of bytes) written × (after.held ≡ with_back before.held written)) → EndsWith secrets words before after 0
+EndsWith-done secrets words before after bytes is read ran = run.written 0 ran.0 (run.done bytes ran.0 is read ran.1) ran.2
 
 -- the output failed in the midst of the replies
-pub EndsWith-cut_short : (secrets : Secrets) (words : List (String Global)) (left left_after : Option (List ℕ)) (read_faults read_faults_after : ℕ) (held held_after : Option (List ℕ)) (write_faults write_faults_after : ℕ) (bytes : List ℕ) → IsScript words → ReadsToEnd left left_after bytes →
-    ((written : List ℕ) × RunsPart secrets bytes written × HoldsSome held held_after written) → HasRisen write_faults write_faults_after → EndsWith secrets words left left_after read_faults read_faults_after held held_after write_faults write_faults_after 7
-EndsWith-cut_short secrets words left left_after read_faults read_faults_after held held_after write_faults write_faults_after bytes is read ran risen =
-    run.write_fault risen (record { whole = ran.0; to_write = run.replies bytes ran.0 is read ran.1; output = ran.2 })
+pub EndsWith-cut : (secrets : Secrets) (words : List (String Global)) (before after : Ports) (bytes : List ℕ) → IsScript words → ReadsToEnd before.left after.left bytes →
+    ((written : List ℕ) × RunsPart (fresh_start secrets) bytes written × HoldsSome before.held after.held written) → HasRisen before.write_faults after.write_faults → EndsWith secrets words before after 7
+EndsWith-cut secrets words before after bytes is read ran risen = run.write_fault ran.0 risen (IsUnderWay-read secrets words before after bytes ran.0 is read ran.1) ran.2
 
--- there was no memory in the midst of the replies
-pub EndsWith-no_memory : (secrets : Secrets) (words : List (String Global)) (left left_after : Option (List ℕ)) (read_faults read_faults_after : ℕ) (held held_after : Option (List ℕ)) (write_faults write_faults_after : ℕ) (bytes : List ℕ) → IsScript words → ReadsToEnd left left_after bytes →
-    ((written : List ℕ) × RunsPart secrets bytes written × HoldsSome held held_after written) → EndsWith secrets words left left_after read_faults read_faults_after held held_after write_faults write_faults_after 9
-EndsWith-no_memory secrets words left left_after read_faults read_faults_after held held_after write_faults write_faults_after bytes is read ran =
-    run.out_of_memory (run.while_answering bytes ran.0 is read ran.1 ran.2)
+-- memory ran out in the midst of the replies
+pub EndsWith-no_memory : (secrets : Secrets) (words : List (String Global)) (before after : Ports) (bytes : List ℕ) → IsScript words → ReadsToEnd before.left after.left bytes →
+    ((written : List ℕ) × RunsPart (fresh_start secrets) bytes written × HoldsSome before.held after.held written) → EndsWith secrets words before after 9
+EndsWith-no_memory secrets words before after bytes is read ran = run.out_of_memory ran.0 (IsUnderWay-read secrets words before after bytes ran.0 is read ran.1) ran.2
+
+-- ---- the words
 
 first_of_one : (x y : List ℕ) → x ∷ [] ≡ y ∷ [] → x ≡ y
 first_of_one x y e = cc
