@@ -1,5 +1,8 @@
+pub mod AdmissionLemmas
 pub mod AnswerLemmas
-pub mod GoodIssueLemmas
+pub mod AnswerableLemmas
+pub mod CitingLemmas
+pub mod EitherLemmas
 pub mod FreshLemmas
 pub mod HeadlineLemmas
 pub mod HistoryLemmas
@@ -7,4 +10,3 @@ pub mod LawfulLemmas
 pub mod ListLemmas
 pub mod NumberedLemmas
 pub mod ReplayLemmas
-pub mod TreeLemmas

@@ -42,7 +42,7 @@ pub record MayAct (authority : Authority) (state : BaseView) (caller : List ℕ)
   pub in_range : IsMoment moment
   pub named : IsTrue (is_principal_name caller)
   pub operation : IsOperation op
-  pub slots : length procaps ≡ slots op
+  pub brought : length procaps ≡ slots op
   pub few_bytes : bytes_to_write op ≤ 65536
   pub admitted : IsAdmitted authority.key state caller op procaps moment
   pub not_refused : refusal state.world op ≡ None

@@ -1,3 +1,5 @@
+pub mod LimitLemmas
 pub mod LineLemmas
 pub mod ProcapCount
 pub mod ReadLemmas
+pub mod TotalLemmas

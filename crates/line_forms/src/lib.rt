@@ -1,7 +1,7 @@
 //! The forms of the lines of a script: what a line asks for, or its first fault with its place.
 //!
 //! The first words are read by a function and those after them by a table of kinds for each form, so a new form is one
-//! row. A line asks for at most one command or has at most one first fault, and never both.
+//! row. Each line asks for one command or has one first fault, and never both.
 #![tactic(auto)]
 
 mod command;

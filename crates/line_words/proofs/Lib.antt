@@ -1,9 +1,11 @@
 pub mod ArgumentLemmas
 pub mod CitedLemmas
 pub mod CutLemmas
+pub mod DecisionLemmas
 pub mod GrammarLemmas
 pub mod KindLemmas
 pub mod NumeralLemmas
 pub mod OptionLemmas
 pub mod ProcapLemmas
 pub mod ReadingLemmas
+pub mod TotalLemmas

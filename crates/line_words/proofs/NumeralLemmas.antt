@@ -84,7 +84,7 @@ IsWritten-decimal n fits = record {
 pub IsWritten-below : (limit : ℕ) → limit ≤ 2 ^ 64 → (word : List ℕ) (n : ℕ) → IsNumberBelow limit word n → IsWritten word n
 IsWritten-below limit few word n h = subst (λ w. IsWritten w n) (sym h.decimal_is) (IsWritten-decimal n (omega (arith, few, h.fits)))
 
-number_of : (limit : ℕ) (word : List ℕ) → limit ≤ 2 ^ 64 → IsPlain word → digits_value 10 word < limit → IsNumberBelow limit word (digits_value 10 word)
+pub number_of : (limit : ℕ) (word : List ℕ) → limit ≤ 2 ^ 64 → IsPlain word → digits_value 10 word < limit → IsNumberBelow limit word (digits_value 10 word)
 number_of limit word few h fits = record {
   decimal_is = sym (decimal-digits_value is_numeral_model word h.digits h.some h.no_zero (omega (arith, few, fits)));
   fits = fits;

@@ -1,6 +1,6 @@
 //! Laws of words. A law is the contract of an empty function, which nothing calls.
 
-ghost use Rattle.std.specs.Prelude.{◌≡◌, ◌≤◌, ◌<◌, ◌^◌, [], ◌∷◌, ◌++◌, ℕ, List, codes, length, not, IsTrue};
+ghost use Rattle.std.specs.Prelude.{◌≡◌, ◌≤◌, ◌<◌, ◌^◌, ◌⊎◌, [], ◌∷◌, ◌++◌, ℕ, List, codes, length, not, IsTrue};
 ghost use Rattle.std.specs.Fmt.{decimal};
 ghost use Rattle.bl_syntax.specs.Codec.{AreBytes};
 ghost use Rattle.bl_syntax.specs.Names.{is_text};
@@ -13,7 +13,7 @@ ghost use Rattle.line_words.specs.declared.arguments.Arguments.{Arguments};
 ghost use Rattle.line_words.specs.declared.kinds.Kind.{Kind};
 ghost use Rattle.line_words.specs.declared.procap_word.ProcapWord.TheVariants.{Held};
 ghost use Rattle.line_words.specs.Cutting.{first_cut};
-ghost use Rattle.line_words.specs.Kinds.{Sets};
+ghost use Rattle.line_words.specs.Kinds.{Sets, IsOutside};
 ghost use Rattle.line_words.specs.Grammar.{IsData, IsQuoted};
 ghost use Rattle.line_words.specs.Numbers.{IsFile};
 ghost use Rattle.line_words.specs.Procaps.{IsProcapWord};
@@ -38,6 +38,17 @@ pub fn quoted_text_is_cut()
 /// A word of a kind writes one thing.
 pub fn one_meaning_of_a_word()
     ensures { (kind : Kind) (word : List ℕ) (before first second : Arguments) → Sets kind word before first → Sets kind word before second → first ≡ second }
+{}
+
+/// A word is of a kind, or it is of no such kind.
+pub fn each_word_is_told()
+    ensures { (kind : Kind) (word : List ℕ) (before : Arguments) → ((after : Arguments) × Sets kind word before after) ⊎ IsOutside kind word }
+{}
+
+/// Words of given kinds come next, or one of them is the first bad one.
+pub fn words_or_a_bad_word()
+    ensures { (whole : ℕ) (kinds : List Kind) (behind : List ℕ) (before : Arguments) → ((after : Arguments) × (rest : List ℕ) × AreWords kinds behind before after rest)
+        ⊎ ((place : ℕ) × IsBadWord whole kinds behind place) }
 {}
 
 /// Words of given kinds write one thing.

@@ -1,0 +1,4 @@
+pub mod FirstWordLemmas
+pub mod HexTextLemmas
+pub mod LinesLemmas
+pub mod UnbrokenLemmas
