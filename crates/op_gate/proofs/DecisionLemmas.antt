@@ -1,52 +1,63 @@
 -- What was decided is an answer, over plain values.
-use Rattle.std.proofs.Common.{◌≡◌, ◌≤◌, ◌<◌, ◌+◌, ◌-◌, ℕ, List, length, get_or, refl, ap, subst, sym, arith, Some}
-use Rattle.std.specs.Prelude.{ℤ, Contains}
+use Rattle.std.proofs.Common.{◌≡◌, ◌≤◌, ◌<◌, ◌+◌, ◌-◌, ℕ, List, length, get_or, refl, ap, subst, sym, arith, Some, None}
+use Rattle.std.specs.Prelude.{ℤ}
 use Rattle.std.specs.Prelude.{Result, Ok, Err, IfOk}
 use Rattle.std.specs.List.{slice_get, AllByRecursion}
 use Rattle.std.proofs.lemmas.Option.{slice_get_read}
 use Rattle.bl_syntax.specs.Statement.{StatementView}
-use Rattle.access_history.specs.declared.event.Base.{Base}
-use Rattle.access_history.specs.declared.event.Event.TheVariants.{Registered, Issued}
-use Rattle.access_history.specs.declared.request.StepRequest.TheVariants as requests
-use Rattle.access_history.specs.declared.reply.Reply.TheVariants as replies
-use Rattle.access_history.specs.declared.step.Step.{Step}
-use Rattle.access_history.specs.declared.step.StateChange.{StateChange}
-use Rattle.access_history.specs.declared.step.StateChange.TheVariants as changes
-use Rattle.access_history.specs.Numbered.{IsNumbered, HasNumber}
 use Rattle.proof_verifier.specs.Cited.{AreCited}
 use Rattle.proof_verifier.specs.CheckedView.{CheckedView, IsChecked}
+use Rattle.access_history.specs.declared.event.Entry.{Entry}
+use Rattle.access_history.specs.declared.event.Event.{Event}
+use Rattle.access_history.specs.declared.event.Event.TheVariants.{Registered, Issued}
+use Rattle.access_history.specs.declared.request.StepRequest.{StepRequest}
+use Rattle.access_history.specs.declared.request.StepRequest.TheVariants as requests
+use Rattle.access_history.specs.declared.reply.StepReply.{StepReply}
+use Rattle.access_history.specs.declared.reply.StepReply.TheVariants as replies
+use Rattle.access_history.specs.Numbered.{IsNumbered, HasNumber}
 use Rattle.access_history.specs.Citing.{StandsUnderNumber, numbers_of}
-use Rattle.access_history.specs.Authority.{Authority, IsSignedStatement, sayings}
-use Rattle.access_history.specs.History.{Brings}
+use Rattle.access_history.specs.Authority.{MayBeRegistered, sayings}
+use Rattle.access_history.specs.History.{HistoryView, authority_of, state_of, entry_of}
 use Rattle.access_history.specs.Answer.{Answers, registered, issued}
+use Rattle.op_gate.specs.declared.decided.Decided.{Decided}
+use Rattle.op_gate.specs.declared.decided.Decided.TheVariants.{Answer, Keep, NoMemory}
+use Rattle.op_gate.specs.declared.decided.Pending.{Pending}
+use Rattle.op_gate.specs.Decision.{IsDecided, IsPrepared, Keeps}
+
+-- what keeps the event of the answer is decided so
+pub kept_decided : (before after : HistoryView) (pass : ℕ) (clock : ℤ) (request : StepRequest) (reply : StepReply) (event : Event) (decided : Decided) →
+    Answers (authority_of before) (state_of before) pass clock request reply (Some event) → IsPrepared after event → Keeps reply event decided → IsDecided before pass clock request decided after
+kept_decided before after pass clock request reply event (Answer told) answers prepared keeps = absurd keeps
+kept_decided before after pass clock request reply event (Keep told pending) answers prepared keeps =
+    let event_is : event ≡ pending.event = sym (ap (λ (p : Pending). p.event) keeps.1) in (
+      subst (λ (r : StepReply). Answers (authority_of before) (state_of before) pass clock request r (Some pending.event)) (sym keeps.0)
+          (subst (λ (e : Event). Answers (authority_of before) (state_of before) pass clock request reply (Some e)) event_is answers),
+      subst (λ (e : Event). pending.entry ≡ entry_of e) event_is (ap (λ (p : Pending). p.entry) keeps.1),
+      subst (IsPrepared after) event_is prepared,
+    )
+kept_decided before after pass clock request reply event NoMemory answers prepared keeps = tt
 
 -- a statement is registered
-pub registered_decided : (authority : Authority) (state : Base) (pass : ℕ) (clock : ℤ) (statement : StatementView) (signature : List ℕ) (step : Step) (number : ℕ) → IsSignedStatement authority statement signature → (Contains (sayings state.statements) statement → ⊥) → length state.statements < 4096 →
-    number ≡ length state.statements → step.event ≡ Registered pass statement signature → step.change ≡ changes.Statement statement signature →
-    Answers authority state pass clock (requests.Register statement signature) (replies.Statement (number + 1)) (Some step.event) × Brings state step.event step.change
-registered_decided authority state pass clock statement signature step number signed new room number_is event_is change_is =
-    subst (λ (n : ℕ). Answers authority state pass clock (requests.Register statement signature) (replies.Statement (n + 1)) (Some step.event) × Brings state step.event step.change) (sym number_is)
-    (subst (λ e. Answers authority state pass clock (requests.Register statement signature) (replies.Statement (length state.statements + 1)) (Some e) × Brings state e step.change) (sym event_is)
-    (subst (λ (ch : StateChange). Answers authority state pass clock (requests.Register statement signature) (replies.Statement (length state.statements + 1)) (Some (Registered pass statement signature)) × Brings state (Registered pass statement signature) ch) (sym change_is)
-    (registered statement signature signed new room, refl)))
+pub registered_decided : (h : HistoryView) (pass : ℕ) (clock : ℤ) (statement : StatementView) (signature : List ℕ) (number : ℕ) (decided : Decided) → MayBeRegistered (authority_of h) (state_of h).statements statement signature → number ≡ length (state_of h).statements →
+    Keeps (replies.Statement (number + 1)) (Registered pass statement signature) decided → IsDecided h pass clock (requests.Register statement signature) decided h
+registered_decided h pass clock statement signature number decided may number_is keeps =
+    kept_decided h h pass clock (requests.Register statement signature) (replies.Statement (number + 1)) (Registered pass statement signature) decided
+    (subst (λ (n : ℕ). Answers (authority_of h) (state_of h) pass clock (requests.Register statement signature) (replies.Statement (n + 1)) (Some (Registered pass statement signature))) (sym number_is) (registered statement signature may))
+    (tt, tt) keeps
 
 -- the item before the place of that number
 pub numbered_at : {A : Type 0} (items : List A) (number : ℕ) (item : A) → (number ≡ 0 → ⊥) → slice_get items (number - 1) ≡ Some item → IsNumbered items number item
 numbered_at items number item some found = record { place = number - 1; from_one = omega (arith, some); found = found }
 
 -- a grant is issued
-pub issued_decided : (authority : Authority) (state : Base) (pass : ℕ) (clock : ℤ) (checked : CheckedView) (times states : ℕ) (issues : ℕ) (step : Step) →
-    AreCited checked.cited → IsChecked checked → AllByRecursion (StandsUnderNumber (sayings state.statements)) checked.cited → issues ≡ length state.issues → times ≡ length checked.grant.times → states ≡ length checked.grant.states →
-    step.event ≡ Issued pass (numbers_of checked.cited) checked.proof checked.grant → step.change ≡ changes.Issue (record { cited = numbers_of checked.cited; proof = checked.proof; grant = checked.grant }) →
-    Answers authority state pass clock (requests.Issue checked) (replies.Issue (issues + 1) times states) (Some step.event) × Brings state step.event step.change
-issued_decided authority state pass clock checked times states issues step rising granted stand issues_is times_is states_is event_is change_is =
-    subst (λ (n : ℕ). Answers authority state pass clock (requests.Issue checked) (replies.Issue (n + 1) times states) (Some step.event) × Brings state step.event step.change) (sym issues_is)
-    (subst (λ (n : ℕ). Answers authority state pass clock (requests.Issue checked) (replies.Issue (length state.issues + 1) n states) (Some step.event) × Brings state step.event step.change) (sym times_is)
-    (subst (λ (n : ℕ). Answers authority state pass clock (requests.Issue checked) (replies.Issue (length state.issues + 1) (length checked.grant.times) n) (Some step.event) × Brings state step.event step.change) (sym states_is)
-    (subst (λ e. Answers authority state pass clock (requests.Issue checked) (replies.Issue (length state.issues + 1) (length checked.grant.times) (length checked.grant.states)) (Some e) × Brings state e step.change) (sym event_is)
-    (subst (λ (ch : StateChange). Answers authority state pass clock (requests.Issue checked) (replies.Issue (length state.issues + 1) (length checked.grant.times) (length checked.grant.states))
-    (Some (Issued pass (numbers_of checked.cited) checked.proof checked.grant)) × Brings state (Issued pass (numbers_of checked.cited) checked.proof checked.grant) ch) (sym change_is)
-    (issued checked rising granted stand, refl)))))
+pub issued_decided : (h : HistoryView) (pass : ℕ) (clock : ℤ) (checked : CheckedView) (issues : ℕ) (decided : Decided) → AreCited checked.cited → IsChecked checked → AllByRecursion (StandsUnderNumber (sayings (state_of h).statements)) checked.cited →
+    issues ≡ length (state_of h).issues → Keeps (replies.Issue (issues + 1) (length checked.grant.times) (length checked.grant.states)) (Issued pass (numbers_of checked.cited) checked.proof checked.grant) decided →
+    IsDecided h pass clock (requests.Issue checked) decided h
+issued_decided h pass clock checked issues decided rising granted stand issues_is keeps =
+    kept_decided h h pass clock (requests.Issue checked) (replies.Issue (issues + 1) (length checked.grant.times) (length checked.grant.states)) (Issued pass (numbers_of checked.cited) checked.proof checked.grant) decided
+    (subst (λ (n : ℕ). Answers (authority_of h) (state_of h) pass clock (requests.Issue checked) (replies.Issue (n + 1) (length checked.grant.times) (length checked.grant.states)) (Some (Issued pass (numbers_of checked.cited) checked.proof checked.grant))) (sym issues_is)
+    (issued checked rising granted stand))
+    (tt, tt) keeps
 
 -- what holds of an Ok, from what holds of it
 pub ok_so : {A E : Type 0} {P Q : A → Type 0} (r : Result A E) → ((x : A) → P x → Q x) → IfOk r P → IfOk r Q

@@ -2,9 +2,9 @@
 use Rattle.std.proofs.Common.{◌≡◌, ℕ, List, Option, Some, None, sym, ap, subst, ◌∙◌}
 use Rattle.std.specs.Prelude.{ℤ, MatchOption}
 use Rattle.procap.specs.declared.procap.Procap.{Procap}
-use Rattle.access_history.specs.declared.event.Base.{Base}
+use Rattle.access_history.specs.Base.{BaseView}
 use Rattle.access_history.specs.declared.event.Issue.{Issue}
-use Rattle.access_history.specs.declared.reply.Reply.TheVariants as replies
+use Rattle.access_history.specs.declared.reply.StepReply.TheVariants as replies
 use Rattle.access_history.specs.declared.request.StepRequest.TheVariants as requests
 use Rattle.access_history.specs.Answer.{Answers, MaySee, not_shown, shown}
 use Rattle.access_history.specs.Authority.{Authority}
@@ -19,14 +19,14 @@ pub found_none : (key : List ℕ) (issues : List Issue) (number : ℕ) (found : 
 found_none key issues number found is holds = subst (λ (o : Option Procap). MatchOption o (HasNone issues number) (IsProcapOf key issues number)) is holds
 
 -- the procap may be seen
-pub shown_decided : (authority : Authority) (state : Base) (pass : ℕ) (clock : ℤ) (number : ℕ) (who : Option (List ℕ)) (p : Procap) → IsProcapOf authority.key state.issues number p → MaySee who p.grant →
+pub shown_decided : (authority : Authority) (state : BaseView) (pass : ℕ) (clock : ℤ) (number : ℕ) (who : Option (List ℕ)) (p : Procap) → IsProcapOf authority.key state.issues number p → MaySee who p.grant →
     Answers authority state pass clock (requests.ShowProcap number who) (replies.Procap p) None
 shown_decided authority state pass clock number who p of seen =
     subst (λ (q : Procap). Answers authority state pass clock (requests.ShowProcap number who) (replies.Procap q) None) (sym of.procap_is)
     (shown number who of.issue (record { issued = of.numbered; seen = subst (λ (q : Procap). MaySee who q.grant) of.procap_is seen }))
 
 -- it may not
-pub hidden_decided : (authority : Authority) (state : Base) (pass : ℕ) (clock : ℤ) (number : ℕ) (who : Option (List ℕ)) (p : Procap) → IsProcapOf authority.key state.issues number p → (MaySee who p.grant → ⊥) →
+pub hidden_decided : (authority : Authority) (state : BaseView) (pass : ℕ) (clock : ℤ) (number : ℕ) (who : Option (List ℕ)) (p : Procap) → IsProcapOf authority.key state.issues number p → (MaySee who p.grant → ⊥) →
     Answers authority state pass clock (requests.ShowProcap number who) (replies.Absent number) None
 hidden_decided authority state pass clock number who p of unseen =
     not_shown number who (λ issue there.
@@ -35,6 +35,6 @@ hidden_decided authority state pass clock number who p of unseen =
     unseen (subst (MaySee who) grant there.seen))
 
 -- there is no such issue
-pub absent_decided : (authority : Authority) (state : Base) (pass : ℕ) (clock : ℤ) (number : ℕ) (who : Option (List ℕ)) → HasNone state.issues number →
+pub absent_decided : (authority : Authority) (state : BaseView) (pass : ℕ) (clock : ℤ) (number : ℕ) (who : Option (List ℕ)) → HasNone state.issues number →
     Answers authority state pass clock (requests.ShowProcap number who) (replies.Absent number) None
 absent_decided authority state pass clock number who none = not_shown number who (λ issue there. none issue there.issued)

@@ -1,7 +1,8 @@
-pub mod CauseLemmas
+pub mod ActLemmas
+pub mod CheckLemmas
 pub mod CitingLemmas
 pub mod DecisionLemmas
-pub mod MayFollowLemmas
-pub mod CreateLemmas
-pub mod RegistryLemmas
 pub mod IssuedLemmas
+pub mod MayFollowLemmas
+pub mod NeedLemmas
+pub mod RegistryLemmas

@@ -1,6 +1,6 @@
 -- What the registry and the history tell of statements and issues, over plain values.
 use Rattle.std.proofs.Common.{◌≡◌, ◌≤◌, ◌-◌, ℕ, zero, suc, List, length, get_or, refl, sym, ap, subst, ◌∙◌, arith, Some, None, Bool}
-use Rattle.std.specs.Prelude.{Contains, ℤ, Result, Err, IsTrue}
+use Rattle.std.specs.Prelude.{Contains, ℤ, Result, Ok, Err, IsTrue, MatchOption}
 use Rattle.std.specs.List.{slice_get}
 use Rattle.std.specs.Option.{option_map}
 use Rattle.std.proofs.lemmas.List.{length-map}
@@ -13,15 +13,15 @@ use Rattle.policy_statement.specs.Registry.{MayRegister}
 use Rattle.policy_statement.specs.Ring.{KeyView, is_accepted}
 use Rattle.policy_statement.specs.declared.registry.RegisterFault.{RegisterFault as Fault}
 use Rattle.policy_statement.specs.declared.registry.RegisterFault.TheVariants as faults
-use Rattle.access_history.specs.declared.event.Base.{Base}
-use Rattle.access_history.specs.declared.reply.Rejection.{Rejection}
-use Rattle.access_history.specs.declared.reply.Rejection.TheVariants.{BadSignature, RegistryFull, Duplicate}
-use Rattle.access_history.specs.declared.reply.Reply.TheVariants as replies
+use Rattle.access_history.specs.declared.reply.StepReply.TheVariants as replies
 use Rattle.access_history.specs.declared.request.StepRequest.TheVariants as requests
-use Rattle.access_history.specs.Answer.{Answers, unsigned, duplicate, registry_full}
-use Rattle.access_history.specs.Authority.{sayings}
-use Rattle.access_history.specs.History.{authority_with}
+use Rattle.access_history.specs.Answer.{unsigned, duplicate, registry_full}
+use Rattle.access_history.specs.Authority.{MayBeRegistered, sayings}
+use Rattle.access_history.specs.History.{HistoryView, authority_with, state_of}
 use Rattle.op_gate.specs.Rejection.{rejection_of}
+use Rattle.op_gate.specs.Decision.{IsDecided}
+use Rattle.op_gate.specs.declared.decided.Decided.{Decided}
+use Rattle.op_gate.specs.declared.decided.Decided.TheVariants.{Answer, NoMemory}
 use Rattle.std.proofs.lemmas.Bool.{false≢true}
 use Rattle.access_history.specs.Numbered.{IsNumbered, HasNumber}
 use Rattle.access_history.specs.Citing.{StandsUnderNumber}
@@ -72,20 +72,23 @@ MayRegister-shown ring shown_ring entries shown_entries statement signature show
     (subst (λ (s : List ℕ). MayRegister (is_accepted shown_ring statement.who (statement_message statement) s) entries statement told) signature_is
     (subst (λ (es : List RegisteredView). MayRegister (is_accepted shown_ring statement.who (statement_message statement) shown) es statement told) entries_are may))
 
+-- a statement that the registry takes may be registered
+pub may_register : (key : List ℕ) (ring : List KeyView) (entries : List RegisteredView) (statement : StatementView) (signature : List ℕ) (told : Unit {0}) → MayRegister (is_accepted ring statement.who (statement_message statement) signature) entries statement (Ok told) →
+    MayBeRegistered (authority_with key ring) entries statement signature
+may_register key ring entries statement signature told may = record { signed = may.0; new = new_to_registry entries statement may.1.0; room = may.1.1 }
+
 -- a statement that the registry does not take is rejected
-pub rejected_decided : (key : List ℕ) (ring : List KeyView) (state : Base) (pass : ℕ) (clock : ℤ) (statement : StatementView) (signature : List ℕ) (fault : Fault) (rejection : Rejection) →
-    MayRegister (is_accepted ring statement.who (statement_message statement) signature) state.statements statement (Err fault) → rejection_of fault ≡ Some rejection →
-    Answers (authority_with key ring) state pass clock (requests.Register statement signature) (replies.Rejected rejection) None
-rejected_decided key ring state pass clock statement signature faults.BadSignature rejection may told =
-    let is : BadSignature ≡ rejection = cc in
-    subst (λ (r : Rejection). Answers (authority_with key ring) state pass clock (requests.Register statement signature) (replies.Rejected r) None) is
-    (unsigned statement signature (λ signed. false≢true (sym may ∙ signed)))
-rejected_decided key ring state pass clock statement signature faults.RegistryFull rejection may told =
-    let is : RegistryFull ≡ rejection = cc in
-    subst (λ (r : Rejection). Answers (authority_with key ring) state pass clock (requests.Register statement signature) (replies.Rejected r) None) is
-    (registry_full statement signature may.0 (new_to_registry state.statements statement may.1.0) may.1.1)
-rejected_decided key ring state pass clock statement signature (faults.Duplicate number) rejection may told =
-    let is : Duplicate number ≡ rejection = cc in
-    subst (λ (r : Rejection). Answers (authority_with key ring) state pass clock (requests.Register statement signature) (replies.Rejected r) None) is
-    (duplicate statement signature number may.0 (said_from_registry state.statements number statement may.1))
-rejected_decided key ring state pass clock statement signature faults.NoMemory rejection may told = absurd cc
+pub rejected_decided : (h : HistoryView) (pass : ℕ) (clock : ℤ) (statement : StatementView) (signature : List ℕ) (fault : Fault) (decided : Decided) →
+    MayRegister (is_accepted h.ring statement.who (statement_message statement) signature) (state_of h).statements statement (Err fault) →
+    MatchOption (rejection_of fault) (decided ≡ NoMemory) (λ rejection. decided ≡ Answer (replies.Rejected rejection)) →
+    IsDecided h pass clock (requests.Register statement signature) decided h
+rejected_decided h pass clock statement signature faults.BadSignature decided may told =
+    subst (λ (d : Decided). IsDecided h pass clock (requests.Register statement signature) d h) (sym told) (unsigned statement signature (λ signed. false≢true (sym may ∙ signed)))
+rejected_decided h pass clock statement signature faults.RegistryFull decided may told =
+    subst (λ (d : Decided). IsDecided h pass clock (requests.Register statement signature) d h) (sym told)
+    (registry_full statement signature may.0 (new_to_registry (state_of h).statements statement may.1.0) may.1.1)
+rejected_decided h pass clock statement signature (faults.Duplicate number) decided may told =
+    subst (λ (d : Decided). IsDecided h pass clock (requests.Register statement signature) d h) (sym told)
+    (duplicate statement signature number may.0 (said_from_registry (state_of h).statements number statement may.1))
+rejected_decided h pass clock statement signature faults.NoMemory decided may told =
+    subst (λ (d : Decided). IsDecided h pass clock (requests.Register statement signature) d h) (sym told) tt

@@ -1,7 +1,7 @@
+pub mod Checks
 pub mod Citations
 pub mod Decides
 pub mod Decision
 pub mod DecisionCode
-pub mod Differs
 pub mod Issued
 pub mod Rejection

@@ -1,133 +1,135 @@
 //! The answer to an operation.
 
-ghost use Rattle.std.specs.Prelude.{◌≡◌, ◌≤◌, ◌<◌, ◌+◌, ◌∷◌, [], Some, None, IfOk, MatchOption, length, IsTrue};
-ghost use Rattle.access_history.specs.History.{authority_of, state_of};
-ghost use Rattle.access_history.specs.Needs.{slots};
-ghost use Rattle.op_gate.specs.Decision.{IsDecided, IsMade};
+ghost use Rattle.std.specs.Prelude.{◌≡◌, length, MatchOption};
+ghost use Rattle.file_world.specs.Needs.{slots};
+ghost use Rattle.access_history.specs.Admission.{IsAdmitted};
+ghost use Rattle.access_history.specs.Answer.{moment_of};
+ghost use Rattle.access_history.specs.History.{state_of};
+ghost use Rattle.op_gate.specs.Decision.{IsDecided, IsDenial};
 
 use crate::cause::denial_cause;
-use crate::decide::{Decided, answer_alone};
-use access_history::{
-    AddedNode, Denial, Event, FileOp, History, Procaps, Reply, Row, StateChange, Step, StepRequest,
-    create_refusal, created_row,
-};
-use bl_syntax::{Bytes, NoMemory, NodeId, Perm, Principal};
+use crate::decided::{Decided, Pending};
+use access_history::{Denial, Entry, Event, History, Procaps, StepReply};
+use bl_syntax::{Goal, Principal};
+use file_world::{Op, OpFault};
 use procap::Procap;
 use std::alloc::Global;
 
-// The list of this one procap.
-fn procap_list(alloc: Global, procap: &Procap) -> Result<Procaps, NoMemory>
-    ensures { IfOk result (λ procaps. procaps ≡ procap.now ∷ []) }
+// The moment of a step: the clock's, but not before the last one.
+fn step_moment(history: &History, clock: i64) -> i64
+    ensures { result ≡ moment_of (state_of history.now) clock }
 {
-    let mut procaps = Procaps::new(alloc);
-    procaps.push(procap.copy(alloc)?)?;
-    Ok(procaps)
+    clock.max(history.moment())
 }
 
-// The step that makes a file.
-fn create_step(
-    alloc: Global,
-    pass: u64,
+// The first need of the caller's operation whose procap fails a test, with the first test that it fails; none exactly
+// if the operation is admitted.
+fn first_denial(
+    history: &History,
     caller: &Principal,
-    row: Row,
-    name: &Bytes,
-    procap: &Procap,
+    op: &Op,
+    procaps: &[Procap],
     moment: i64,
-) -> Result<Step, NoMemory>
-    ensures event { IfOk result (λ step. step.event ≡ Event.Acted pass caller.now (FileOp.Create (record { 0 = row.parent }) name.now) (procap.now ∷ []) moment) }
-    ensures change { IfOk result (λ step. step.change ≡ StateChange.Node (record { row = row; moment = moment })) }
+) -> Option<Denial>
+    requires { length procaps.now ≡ slots op.now }
+    ensures { MatchOption result (IsAdmitted history.now.key (state_of history.now) caller.now op.now procaps.now moment) (IsDenial history.now.key (state_of history.now) caller.now op.now procaps.now moment) }
 {
-    let name = name.copy(alloc)?;
-    let procaps = procap_list(alloc, procap)?;
-    Ok(Step {
+    let needs = history.world().needs(op);
+    let pairs = needs.as_slice();
+    for place in 0..pairs.len() {
+        let (file, perm) = pairs[place];
+        let wanted = Goal {
+            who: *caller,
+            file,
+            perm,
+        };
+        let procap = &procaps[place];
+        if let Some(cause) = denial_cause(history, procap, &wanted, moment) {
+            return Some(Denial {
+                need: place as u32 + 1,
+                cause,
+                at: history.count(),
+            });
+        }
+    }
+    None
+}
+
+/// The denial of the caller's operation at the moment that the clock shows; none exactly if it is admitted. There is one
+/// procap for each slot. It takes no memory.
+pub fn deny(
+    history: &History,
+    caller: &Principal,
+    op: &Op,
+    procaps: &Procaps,
+    clock: i64,
+) -> Option<Denial>
+    requires { length procaps.now ≡ slots op.now }
+    ensures { MatchOption result (IsAdmitted history.now.key (state_of history.now) caller.now op.now procaps.now (moment_of (state_of history.now) clock)) (IsDenial history.now.key (state_of history.now) caller.now op.now procaps.now (moment_of (state_of history.now) clock)) }
+{
+    let moment = step_moment(history, clock);
+    first_denial(history, caller, op, procaps.as_slice(), moment)
+}
+
+// The event of an operation, of which the state keeps nothing beside it.
+fn acted(pass: u64, caller: Principal, op: Op, procaps: Procaps, moment: i64) -> Pending
+    ensures { result ≡ record { event = Event.Acted pass caller op procaps moment; entry = Entry.Operation } }
+{
+    Pending {
         event: Event::Acted {
             pass,
-            caller: *caller,
-            op: FileOp::Create(NodeId(row.parent), name),
+            caller,
+            op,
             procaps,
             moment,
         },
-        change: StateChange::Node(AddedNode { row, moment }),
-    })
-}
-
-// What an admitted making of a file does.
-fn make(
-    alloc: Global,
-    history: &History,
-    pass: u64,
-    caller: &Principal,
-    directory: NodeId,
-    name: &Bytes,
-    procap: &Procap,
-    moment: i64,
-) -> Result<Decided, NoMemory>
-    ensures { IfOk result (λ d. IsMade (state_of history.now) pass caller.now directory name.now (procap.now ∷ []) moment d.reply d.step) }
-{
-    let next = history.next_number();
-    if let Some(refusal) = create_refusal(history.rows(), next, directory, name.as_slice()) {
-        return Ok(answer_alone(Reply::Refused(refusal, history.count())));
+        entry: Entry::Operation,
     }
-    let row = created_row(*caller, directory, name.as_slice(), next);
-    Ok(Decided {
-        reply: Reply::Node(NodeId(next)),
-        step: Some(create_step(alloc, pass, caller, row, name, procap, moment)?),
-    })
 }
 
-// Whether the making of a file is admitted under this procap, and what it does.
-fn decide_create(
+// What the caller's admitted operation does, with all memory taken for it.
+fn act(
     alloc: Global,
-    history: &History,
+    history: &mut History,
     pass: u64,
-    caller: &Principal,
-    directory: NodeId,
-    name: &Bytes,
-    procap: &Procap,
+    caller: Principal,
+    op: Op,
+    procaps: Procaps,
     clock: i64,
-) -> Result<Decided, NoMemory>
-    ensures { IfOk result (λ d. IsDecided (authority_of history.now) (state_of history.now) pass clock (StepRequest.Act caller.now (FileOp.Create directory name.now) (procap.now ∷ [])) d.reply d.step) }
+) -> Decided
+    requires { IsAdmitted history.old.key (state_of history.old) caller op procaps (moment_of (state_of history.old) clock) }
+    ensures same { history.new ≡ record history.old { ready = history.new.ready } }
+    ensures decided { IsDecided history.old pass clock (StepRequest.Act caller op procaps) result history.new }
 {
-    let moment = clock.max(history.moment());
-    if let Some(cause) = denial_cause(
-        history.key(),
-        procap,
-        caller,
-        directory,
-        Perm::Write,
-        moment,
-        history.rows(),
-    ) {
-        return Ok(answer_alone(Reply::Denied(Denial {
-            need: 1,
-            cause,
-            at: history.count(),
-        })));
+    let moment = step_moment(history, clock);
+    let count = history.count();
+    let (op, answer) = history.prepare(alloc, &caller, op);
+    match answer {
+        Ok(reply) => Decided::Keep(
+            StepReply::Operation(reply),
+            acted(pass, caller, op, procaps, moment),
+        ),
+        Err(OpFault::Refused(refusal)) => Decided::Answer(StepReply::Refused(refusal, count)),
+        Err(OpFault::NoMemory) => Decided::NoMemory,
     }
-    make(
-        alloc, history, pass, caller, directory, name, procap, moment,
-    )
 }
 
-/// Whether an operation is admitted, and what it does. There is one procap for each place of its needs.
+/// Whether an operation is admitted, and what it does. There is one procap for each place.
 pub fn decide_act(
     alloc: Global,
-    history: &History,
+    history: &mut History,
     pass: u64,
-    caller: &Principal,
-    op: &FileOp,
-    procaps: &Procaps,
+    caller: Principal,
+    op: Op,
+    procaps: Procaps,
     clock: i64,
-) -> Result<Decided, NoMemory>
-    requires { length procaps.now ≡ slots op.now }
-    ensures { IfOk result (λ d. IsDecided (authority_of history.now) (state_of history.now) pass clock (StepRequest.Act caller.now op.now procaps.now) d.reply d.step) }
+) -> Decided
+    requires { length procaps ≡ slots op }
+    ensures same { history.new ≡ record history.old { ready = history.new.ready } }
+    ensures decided { IsDecided history.old pass clock (StepRequest.Act caller op procaps) result history.new }
 {
-    let procap = &procaps.as_slice()[0];
-    match op {
-        FileOp::Create(directory, name) => {
-            decide_create(
-                alloc, history, pass, caller, *directory, name, procap, clock,
-            )
-        }
+    match deny(history, &caller, &op, &procaps, clock) {
+        Some(denial) => Decided::Answer(StepReply::Denied(denial)),
+        None => act(alloc, history, pass, caller, op, procaps, clock),
     }
 }

@@ -1,81 +1,74 @@
-//! The answers to requests, and the steps to keep.
+//! The answers to requests on statements and issues, and what is to be kept.
 
-ghost use Rattle.std.specs.Prelude.{◌≡◌, ◌∷◌, ◌↔◌, [], Some, None, IfOk, OnErr, MatchOption, IsTrue, ℕ, ℤ};
-ghost use Rattle.access_history.specs.Answer.{MaySee};
+ghost use Rattle.std.specs.Prelude.{◌≡◌, ◌∷◌, ◌↔◌, [], Some, None, IfOk, MatchOption, IsTrue, ℕ, ℤ, length};
+ghost use Rattle.access_history.specs.Answer.{Answers, MaySee};
+ghost use Rattle.access_history.specs.Citing.{numbers_of};
 ghost use Rattle.access_history.specs.History.{authority_of, state_of};
+ghost use Rattle.op_gate.specs.Decision.{IsDecided, Keeps};
 ghost use Rattle.op_gate.specs.Issued.{IsIssued, HasNone, IsProcapOf};
 ghost use Rattle.op_gate.specs.Rejection.{rejection_of};
-ghost use Rattle.op_gate.specs.Decision.{IsDecided};
-ghost use Rattle.access_history.specs.Citing.{numbers_of};
 
 use crate::cite::{cited_numbers, first_moved};
-use access_history::{Event, History, Issue, Rejection, Reply, StateChange, Step, StepRequest};
-use bl_syntax::{Bytes, Grant, NoMemory, Principal, Statement};
+use crate::decided::{Decided, Pending};
+use access_history::{Entry, Event, History, Issue, Rejection, StepReply};
+use bl_syntax::{Bytes, Grant, NoMemory, Numbers, Principal, Statement};
 use policy_statement::RegisterFault as RegistryFault;
 use procap::Procap;
 use proof_verifier::Checked;
 use std::alloc::Global;
 
-/// A reply, and the step to keep where there is one.
-#[derive(Debug, Drop)]
-pub struct Decided {
-    pub reply: Reply,
-    pub step: Option<Step>,
-}
-
-/// The answer without anything to keep.
-pub fn answer_alone(reply: Reply) -> Decided
-    ensures { result ≡ record { reply = reply; step = None } }
-{
-    Decided { reply, step: None }
-}
-
-// The rejection of a statement that may not be registered. An error exactly if there was no memory.
-fn rejection(fault: RegistryFault) -> Result<Rejection, NoMemory>
-    ensures ok { IfOk result (λ rejection. rejection_of fault ≡ Some rejection) }
-    ensures err { OnErr result (rejection_of fault ≡ None) }
+// The answer to a statement that may not be registered, or out of memory.
+fn rejected(fault: RegistryFault) -> Decided
+    ensures { MatchOption (rejection_of fault) (result ≡ Decided.NoMemory) (λ rejection. result ≡ Decided.Answer (StepReply.Rejected rejection)) }
 {
     match fault {
-        RegistryFault::BadSignature => Ok(Rejection::BadSignature),
-        RegistryFault::RegistryFull => Ok(Rejection::RegistryFull),
-        RegistryFault::Duplicate(number) => Ok(Rejection::Duplicate(number)),
-        RegistryFault::NoMemory => Err(NoMemory),
+        RegistryFault::BadSignature => {
+            Decided::Answer(StepReply::Rejected(Rejection::BadSignature))
+        }
+        RegistryFault::RegistryFull => {
+            Decided::Answer(StepReply::Rejected(Rejection::RegistryFull))
+        }
+        RegistryFault::Duplicate(number) => {
+            Decided::Answer(StepReply::Rejected(Rejection::Duplicate(number)))
+        }
+        RegistryFault::NoMemory => Decided::NoMemory,
     }
 }
 
-// A statement and its signature in memory of their own.
-fn signed_copy(
+// What the registry keeps of a statement, in memory of its own.
+fn statement_entry(
     alloc: Global,
     statement: &Statement,
     signature: &Bytes,
-) -> Result<(Statement, Bytes), NoMemory>
-    ensures { IfOk result (λ copied. copied ≡ (statement.now, signature.now)) }
+) -> Result<Entry, NoMemory>
+    ensures { IfOk result (λ entry. entry ≡ Entry.Statement statement.now signature.now) }
 {
     let statement = statement.copy(alloc)?;
     let signature = signature.copy(alloc)?;
-    Ok((statement, signature))
+    Ok(Entry::Statement(statement, signature))
 }
 
-// The step that registers a statement.
-fn register_step(
+// Has the statement to be kept under that number.
+fn keep_statement(
     alloc: Global,
     pass: u64,
-    statement: &Statement,
-    signature: &Bytes,
-) -> Result<Step, NoMemory>
-    ensures event { IfOk result (λ step. step.event ≡ Event.Registered pass statement.now signature.now) }
-    ensures change { IfOk result (λ step. step.change ≡ StateChange.Statement statement.now signature.now) }
+    number: u32,
+    statement: Statement,
+    signature: Bytes,
+) -> Decided
+    ensures { Keeps (StepReply.Statement number) (Event.Registered pass statement signature) result }
 {
-    let (kept_statement, kept_signature) = signed_copy(alloc, statement, signature)?;
-    let (statement, signature) = signed_copy(alloc, statement, signature)?;
-    Ok(Step {
-        event: Event::Registered {
-            pass,
-            statement,
-            signature,
-        },
-        change: StateChange::Statement(kept_statement, kept_signature),
-    })
+    match statement_entry(alloc, &statement, &signature) {
+        Ok(entry) => {
+            let event = Event::Registered {
+                pass,
+                statement,
+                signature,
+            };
+            Decided::Keep(StepReply::Statement(number), Pending { event, entry })
+        }
+        Err(_) => Decided::NoMemory,
+    }
 }
 
 /// Whether and as what a statement is registered under a signature.
@@ -83,21 +76,18 @@ pub fn decide_register(
     alloc: Global,
     history: &History,
     pass: u64,
-    statement: &Statement,
-    signature: &Bytes,
-) -> Result<Decided, NoMemory>
-    ensures { IfOk result (λ d. (clock : ℤ) → IsDecided (authority_of history.now) (state_of history.now) pass clock (StepRequest.Register statement.now signature.now) d.reply d.step) }
+    statement: Statement,
+    signature: Bytes,
+) -> Decided
+    ensures { (clock : ℤ) → IsDecided history.now pass clock (StepRequest.Register statement signature) result history.now }
 {
     let registry = history.registry();
-    match registry.test(alloc, history.ring(), statement, signature.as_slice()) {
+    match registry.test(alloc, history.ring(), &statement, signature.as_slice()) {
         Ok(()) => {
             let number = history.statements().len() as u32 + 1;
-            Ok(Decided {
-                reply: Reply::Statement(number),
-                step: Some(register_step(alloc, pass, statement, signature)?),
-            })
+            keep_statement(alloc, pass, number, statement, signature)
         }
-        Err(fault) => Ok(answer_alone(Reply::Rejected(rejection(fault)?))),
+        Err(fault) => rejected(fault),
     }
 }
 
@@ -142,22 +132,22 @@ pub fn decide_show(
     history: &History,
     number: u64,
     who: &Option<Principal>,
-) -> Result<Decided, NoMemory>
-    ensures { IfOk result (λ d. (pass : ℕ) (clock : ℤ) → IsDecided (authority_of history.now) (state_of history.now) pass clock (StepRequest.ShowProcap number who.now) d.reply d.step) }
+) -> Result<StepReply, NoMemory>
+    ensures { IfOk result (λ reply. (pass : ℕ) (clock : ℤ) → Answers (authority_of history.now) (state_of history.now) pass clock (StepRequest.ShowProcap number who.now) reply None) }
 {
     match issued_procap(alloc, history, number)? {
         Some(procap) => {
             if may_see(who, &procap.grant) {
-                Ok(answer_alone(Reply::Procap(procap)))
+                Ok(StepReply::Procap(procap))
             } else {
-                Ok(answer_alone(Reply::Absent(number)))
+                Ok(StepReply::Absent(number))
             }
         }
-        None => Ok(answer_alone(Reply::Absent(number))),
+        None => Ok(StepReply::Absent(number)),
     }
 }
 
-// A grant that is issued by a checked proof.
+// The grant that a checked proof issues, in memory of its own.
 fn issue_of(alloc: Global, checked: &Checked) -> Result<Issue, NoMemory>
     ensures { IfOk result (λ issue. issue ≡ record { cited = numbers_of checked.now.cited; proof = checked.now.proof; grant = checked.now.grant }) }
 {
@@ -171,47 +161,63 @@ fn issue_of(alloc: Global, checked: &Checked) -> Result<Issue, NoMemory>
     })
 }
 
-// The step that issues the grant.
-fn issue_step(alloc: Global, pass: u64, checked: &Checked) -> Result<Step, NoMemory>
-    ensures event { IfOk result (λ step. step.event ≡ Event.Issued pass (numbers_of checked.now.cited) checked.now.proof checked.now.grant) }
-    ensures change { IfOk result (λ step. step.change ≡ StateChange.Issue (record { cited = numbers_of checked.now.cited; proof = checked.now.proof; grant = checked.now.grant })) }
+// What is made of a checked proof beside it: the numbers that it cites, and what the state keeps of its issue.
+#[derive(Debug, Drop)]
+struct IssueParts {
+    cited: Numbers,
+    issue: Issue,
+}
+
+fn issue_parts(alloc: Global, checked: &Checked) -> Result<IssueParts, NoMemory>
+    ensures cited { IfOk result (λ parts. parts.cited ≡ numbers_of checked.now.cited) }
+    ensures issue { IfOk result (λ parts. parts.issue ≡ record { cited = numbers_of checked.now.cited; proof = checked.now.proof; grant = checked.now.grant }) }
 {
-    let kept = issue_of(alloc, checked)?;
-    let Issue {
-        cited,
-        proof,
-        grant,
-    } = issue_of(alloc, checked)?;
-    Ok(Step {
+    let issue = issue_of(alloc, checked)?;
+    let cited = cited_numbers(alloc, checked.cited().as_slice())?;
+    Ok(IssueParts { cited, issue })
+}
+
+// The event that issues the grant of the checked proof, and what the state keeps of it.
+fn issued(pass: u64, checked: Checked, parts: IssueParts) -> Pending
+    ensures { result ≡ record { event = Event.Issued pass parts.cited checked.proof checked.grant; entry = Entry.Issue parts.issue } }
+{
+    let IssueParts { cited, issue } = parts;
+    let (_cites, proof, grant) = checked.into_parts();
+    Pending {
         event: Event::Issued {
             pass,
             cited,
             proof,
             grant,
         },
-        change: StateChange::Issue(kept),
-    })
+        entry: Entry::Issue(issue),
+    }
+}
+
+// Has the grant of the checked proof to be kept under that number.
+fn keep_issue(alloc: Global, pass: u64, number: u64, checked: Checked) -> Decided
+    ensures { Keeps (StepReply.Issue number (length checked.grant.times) (length checked.grant.states)) (Event.Issued pass (numbers_of checked.cited) checked.proof checked.grant) result }
+{
+    let times = checked.grant().times().len() as u32;
+    let states = checked.grant().states().len() as u32;
+    match issue_parts(alloc, &checked) {
+        Ok(parts) => Decided::Keep(
+            StepReply::Issue(number, times, states),
+            issued(pass, checked, parts),
+        ),
+        Err(_) => Decided::NoMemory,
+    }
 }
 
 /// Whether and as what the grant of a checked proof is issued.
-pub fn decide_issue(
-    alloc: Global,
-    history: &History,
-    pass: u64,
-    checked: &Checked,
-) -> Result<Decided, NoMemory>
-    ensures { IfOk result (λ d. (clock : ℤ) → IsDecided (authority_of history.now) (state_of history.now) pass clock (StepRequest.Issue checked.now) d.reply d.step) }
+pub fn decide_issue(alloc: Global, history: &History, pass: u64, checked: Checked) -> Decided
+    ensures { (clock : ℤ) → IsDecided history.now pass clock (StepRequest.Issue checked) result history.now }
 {
-    let cites = checked.cited().as_slice();
-    if let Some(number) = first_moved(history.statements(), cites) {
-        return Ok(answer_alone(Reply::Absent(number as u64)));
+    match first_moved(history.statements(), checked.cited().as_slice()) {
+        Some(number) => Decided::Answer(StepReply::Absent(number as u64)),
+        None => {
+            let number = history.issues().len() as u64 + 1;
+            keep_issue(alloc, pass, number, checked)
+        }
     }
-    let grant = checked.grant();
-    let times = grant.times().len() as u32;
-    let states = grant.states().len() as u32;
-    let issues = history.issues().len() as u64;
-    Ok(Decided {
-        reply: Reply::Issue(issues + 1, times, states),
-        step: Some(issue_step(alloc, pass, checked)?),
-    })
 }

@@ -1,15 +1,17 @@
 //! The gate: what may happen is decided, and what was decided is kept.
 
-ghost use Rattle.std.specs.Prelude.{◌≡◌, ◌≤◌, ◌<◌, ◌+◌, ◌-◌, ◌^◌, ◌++◌, ◌∷◌, [], Some, None, IfOk, IfSome, IsSome, MatchOption, OnOk, OnErr, length};
+ghost use Rattle.std.specs.Prelude.{◌≡◌, ◌≤◌, ◌<◌, ◌+◌, ◌-◌, ◌^◌, ◌++◌, ◌∷◌, [], Some, None, IfOk, IfSome, IsSome, MatchOption, OnOk, OnErr, MatchResult, length};
 ghost use Rattle.access_history.specs.History.{authority_of, state_of};
 ghost use Rattle.op_gate.specs.Decision.{IsDecided};
 ghost use Rattle.access_history.specs.WellFormed.{IsWellFormed};
 
-use crate::act::decide_act;
+use crate::act::{decide_act, deny};
 use crate::cite::{Citation, cite};
-use crate::decide::{Decided, decide_issue, decide_register, decide_show, issued_procap};
-use access_history::{History, Reply, Step, StepRequest};
-use bl_syntax::NoMemory;
+use crate::decide::{decide_issue, decide_register, decide_show, issued_procap};
+use crate::decided::{Decided, Pending};
+use access_history::{Denial, History, Procaps, StepReply, StepRequest};
+use bl_syntax::{NoMemory, Principal};
+use file_world::Op;
 use policy_statement::Keyring;
 use procap::{Procap, SealKey};
 use std::alloc::Global;
@@ -19,18 +21,18 @@ use std::marker::Model;
 #[derive(Debug, Drop)]
 pub enum Decision {
     /// The answer, with nothing to keep.
-    Answer(Reply),
+    Answer(StepReply),
     /// The answer, and an event is pending.
-    Keep(Reply),
+    Keep(StepReply),
     /// There was no memory, and nothing was decided.
     NoMemory,
 }
 
-/// A history, and the step that was decided and is not kept yet.
+/// A history, and the event that was decided and is not kept yet.
 #[derive(Drop)]
 pub struct Gate {
     history: History,
-    pending: Option<Step>,
+    pending: Option<Pending>,
 }
 
 impl Model for Gate {
@@ -43,28 +45,39 @@ impl Model for Gate {
 
     ghost coded = { gate_code };
 
-    ghost view = { λ g. record { key = g.history.key; ring = g.history.ring; base = g.history.base; events = g.history.events; pending = option_map (λ s. s.event) g.pending } };
+    ghost view = { λ g. record { key = g.history.key; ring = g.history.ring; base = g.history.base; events = g.history.events; pending = option_map (λ p. p.event) g.pending } };
 
     ghost invariant = { λ g. MatchOption g.pending ⊤ (CanKeep g.history) };
 }
 
-// Puts the step in the place of what was pending.
-fn put(pending: &mut Option<Step>, step: Step)
-    ensures { pending.new ≡ Some step }
+// Puts the event in the place of what was pending.
+fn put(place: &mut Option<Pending>, pending: Pending)
+    ensures { place.new ≡ Some pending }
 {
-    *pending = Some(step);
+    *place = Some(pending);
 }
 
-/// The answer to a request, and the step where there is one to keep.
+// The answer, or out of memory.
+fn answered(reply: Result<StepReply, NoMemory>) -> Decided
+    ensures { MatchResult reply (λ told. result ≡ Decided.Answer told) (λ _. result ≡ Decided.NoMemory) }
+{
+    match reply {
+        Ok(reply) => Decided::Answer(reply),
+        Err(_) => Decided::NoMemory,
+    }
+}
+
+// What is decided on a request.
 fn decide_request(
     alloc: Global,
-    history: &History,
+    history: &mut History,
     pass: u64,
-    request: &StepRequest,
+    request: StepRequest,
     clock: i64,
-) -> Result<Decided, NoMemory>
-    requires { IsWellFormed request.now }
-    ensures { IfOk result (λ d. IsDecided (authority_of history.now) (state_of history.now) pass clock request.now d.reply d.step) }
+) -> Decided
+    requires { IsWellFormed request }
+    ensures same { history.new ≡ record history.old { ready = history.new.ready } }
+    ensures decided { IsDecided history.old pass clock request result history.new }
 {
     match request {
         StepRequest::Register(statement, signature) => {
@@ -74,14 +87,20 @@ fn decide_request(
         StepRequest::Act(caller, op, procaps) => {
             decide_act(alloc, history, pass, caller, op, procaps, clock)
         }
-        StepRequest::ShowProcap(number, who) => decide_show(alloc, history, *number, who),
+        StepRequest::ShowProcap(number, who) => {
+            answered(decide_show(alloc, history, number, &who))
+        }
     }
 }
 
 impl Gate {
     ghost use Rattle.bl_syntax.specs.TimeOrder.{IsMoment};
+    ghost use Rattle.file_world.specs.Needs.{slots};
+    ghost use Rattle.access_history.specs.Admission.{IsAdmitted};
+    ghost use Rattle.access_history.specs.Answer.{moment_of};
     ghost use Rattle.access_history.specs.Replay.{replay, fresh};
     ghost use Rattle.op_gate.specs.Decides.{Decides};
+    ghost use Rattle.op_gate.specs.Decision.{IsDenial};
     ghost use Rattle.access_history.specs.Authority.{sayings};
     ghost use Rattle.access_history.specs.Citing.{AreCitable};
     ghost use Rattle.access_history.specs.History.{authority_with};
@@ -106,6 +125,16 @@ impl Gate {
         self.history.ring()
     }
 
+    /// The history of what was kept. It says that it is lawful, and what is promised of it.
+    pub fn history(&self) -> &History
+        ensures key { result.now.key ≡ self.now.key }
+        ensures ring { result.now.ring ≡ self.now.ring }
+        ensures base { result.now.base ≡ self.now.base }
+        ensures events { result.now.events ≡ self.now.events }
+    {
+        &self.history
+    }
+
     /// The procap of the issue of that number; none exactly if there is no such issue.
     pub fn procap(&self, alloc: Global, number: u64) -> Result<Option<Procap>, NoMemory>
         ensures { IfOk result (λ found. MatchOption found (HasNone (replay self.now.base self.now.events).issues number) (IsProcapOf self.now.key (replay self.now.base self.now.events).issues number)) }
@@ -121,39 +150,38 @@ impl Gate {
         cite(alloc, self.history.statements(), numbers)
     }
 
+    /// The denial of the caller's operation at the moment that the clock shows; none exactly if it is admitted. There is
+    /// one procap for each place of its needs. It takes no memory.
+    pub fn deny(&self, caller: &Principal, op: &Op, procaps: &Procaps, clock: i64) -> Option<Denial>
+        requires { length procaps.now ≡ slots op.now }
+        ensures { let state = replay self.now.base self.now.events in MatchOption result (IsAdmitted self.now.key state caller.now op.now procaps.now (moment_of state clock)) (IsDenial self.now.key state caller.now op.now procaps.now (moment_of state clock)) }
+    {
+        deny(&self.history, caller, op, procaps, clock)
+    }
+
     /// Decides the request at the moment that the clock shows, in whole seconds from 1970-01-01T00:00:00Z. An event
     /// that is to be kept is pending then; nothing else is changed.
-    pub fn decide(
-        &mut self,
-        alloc: Global,
-        pass: u64,
-        request: &StepRequest,
-        clock: i64,
-    ) -> Decision
+    pub fn decide(&mut self, alloc: Global, pass: u64, request: StepRequest, clock: i64) -> Decision
         requires in_range { IsMoment clock }
-        requires well_formed { IsWellFormed request.now }
+        requires well_formed { IsWellFormed request }
         ensures key { self.new.key ≡ self.old.key }
         ensures ring { self.new.ring ≡ self.old.ring }
         ensures base { self.new.base ≡ self.old.base }
         ensures events { self.new.events ≡ self.old.events }
-        ensures answer { Decides (authority_with self.old.key self.old.ring) (replay self.old.base self.old.events) pass clock request.now result self.new.pending }
+        ensures answer { Decides (authority_with self.old.key self.old.ring) (replay self.old.base self.old.events) pass clock request result self.new.pending }
     {
         self.forget();
         if self.history.reserve().is_err() {
             return Decision::NoMemory;
         }
-        match decide_request(alloc, &self.history, pass, request, clock) {
-            Ok(decided) => {
-                let Decided { reply, step } = decided;
-                match step {
-                    None => Decision::Answer(reply),
-                    Some(step) => {
-                        put(&mut self.pending, step);
-                        Decision::Keep(reply)
-                    }
-                }
+        self.history.lawful();
+        match decide_request(alloc, &mut self.history, pass, request, clock) {
+            Decided::Answer(reply) => Decision::Answer(reply),
+            Decided::Keep(reply, pending) => {
+                put(&mut self.pending, pending);
+                Decision::Keep(reply)
             }
-            Err(_) => Decision::NoMemory,
+            Decided::NoMemory => Decision::NoMemory,
         }
     }
 
@@ -163,8 +191,9 @@ impl Gate {
         requires counted { (replay self.old.base self.old.events).count < 2 ^ 48 - 1 }
         ensures kept { IfSome self.old.pending (λ event. self.new ≡ record self.old { events = self.old.events ++ event ∷ []; pending = None }) }
     {
-        if let Some(step) = self.pending.take() {
-            self.history.keep(step);
+        if let Some(pending) = self.pending.take() {
+            let Pending { event, entry } = pending;
+            self.history.keep(event, entry);
         }
     }
 

@@ -1,10 +1,7 @@
 -- The procap is there and may be seen, or not.
-use Rattle.std.proofs.Common.{subst, sym, ◌∙◌}
+use Rattle.std.proofs.Common.{sym, ◌∙◌}
 use Rattle.std.proofs.lemmas.Bool.{false≢true}
-use Rattle.op_gate.specs.declared.decide.Decided.{Decided}
-use Rattle.access_history.specs.declared.request.StepRequest.TheVariants.{ShowProcap}
 use Rattle.access_history.specs.History.{authority_of, state_of}
-use Rattle.op_gate.specs.Decision.{IsDecided}
 use Rattle.op_gate.specs.Issued.{IsProcapOf, HasNone}
 use Rattle.op_gate.proofs.IssuedLemmas.{found_some, found_none, shown_decided, hidden_decided, absent_decided}
 use Rattle.op_gate.proofs.decide.decide_show.Goals as goal
@@ -13,19 +10,16 @@ pub returns-then-may_see : goal.returns-then-may_see
 returns-then-may_see c = λ pass clock.
     let state = state_of c.args.history.now in
     let of : IsProcapOf c.args.history.now.key state.issues c.args.number c.in-Some.procap = found_some c.args.history.now.key state.issues c.args.number c.in_ok-procap.field-0 c.in-Some.procap c.in-Some.is c.in_ok-procap.ensures in
-    subst (λ (d : Decided). IsDecided (authority_of c.args.history.now) state pass clock (ShowProcap c.args.number c.args.who.now) d.reply d.step) (sym c.answer_alone.ensures)
-    (shown_decided (authority_of c.args.history.now) state pass clock c.args.number c.args.who.now c.in-Some.procap of (c.may_see.ensures.0 c.if-may_see.true))
+    shown_decided (authority_of c.args.history.now) state pass clock c.args.number c.args.who.now c.in-Some.procap of (c.may_see.ensures.0 c.if-may_see.true)
 
 pub returns-else-may_see : goal.returns-else-may_see
 returns-else-may_see c = λ pass clock.
     let state = state_of c.args.history.now in
     let of : IsProcapOf c.args.history.now.key state.issues c.args.number c.in-Some.procap = found_some c.args.history.now.key state.issues c.args.number c.in_ok-procap.field-0 c.in-Some.procap c.in-Some.is c.in_ok-procap.ensures in
-    subst (λ (d : Decided). IsDecided (authority_of c.args.history.now) state pass clock (ShowProcap c.args.number c.args.who.now) d.reply d.step) (sym c.answer_alone-else-may_see.ensures)
-    (hidden_decided (authority_of c.args.history.now) state pass clock c.args.number c.args.who.now c.in-Some.procap of (λ seen. false≢true (sym c.if-may_see.false ∙ c.may_see.ensures.1 seen)))
+    hidden_decided (authority_of c.args.history.now) state pass clock c.args.number c.args.who.now c.in-Some.procap of (λ seen. false≢true (sym c.if-may_see.false ∙ c.may_see.ensures.1 seen))
 
 pub returns-in-None : goal.returns-in-None
 returns-in-None c = λ pass clock.
     let state = state_of c.args.history.now in
     let none : HasNone state.issues c.args.number = found_none c.args.history.now.key state.issues c.args.number c.in_ok-procap.field-0 c.in-None.is c.in_ok-procap.ensures in
-    subst (λ (d : Decided). IsDecided (authority_of c.args.history.now) state pass clock (ShowProcap c.args.number c.args.who.now) d.reply d.step) (sym c.answer_alone-in-None.ensures)
-    (absent_decided (authority_of c.args.history.now) state pass clock c.args.number c.args.who.now none)
+    absent_decided (authority_of c.args.history.now) state pass clock c.args.number c.args.who.now none

@@ -1,9 +1,0 @@
--- No node before this one makes it true.
-use Rattle.std.proofs.Common.{◌≡◌, ℕ, ◌<◌, get_or}
-use Rattle.bl_syntax.specs.declared.terms.StatePred.TheVariants.{Owner}
-use Rattle.access_history.specs.declared.world.Row.{Row}
-use Rattle.access_history.specs.Facts.{ownership}
-use Rattle.op_gate.proofs.cause.is_owned.Given as goal
-
-abbrev pub invariant-loop-row : goal.invariant-loop-row
-invariant-loop-row l = (k : ℕ) (d : Row) → k < l.row-index → ownership (get_or l.rows k d) ≡ Owner l.file l.owner → ⊥

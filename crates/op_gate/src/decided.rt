@@ -1,0 +1,21 @@
+//! What was decided on a request.
+
+use access_history::{Entry, Event, StepReply};
+
+/// An event that was decided, and what the state keeps beside it.
+#[derive(Debug, Drop)]
+pub struct Pending {
+    pub event: Event,
+    pub entry: Entry,
+}
+
+/// What was decided on a request.
+#[derive(Debug, Drop)]
+pub enum Decided {
+    /// The answer, with nothing to keep.
+    Answer(StepReply),
+    /// The answer, and the event to keep.
+    Keep(StepReply, Pending),
+    /// Out of memory.
+    NoMemory,
+}
