@@ -6,26 +6,29 @@ use Rattle.std.proofs.lemmas.Int.{ints}
 use Rattle.bl_syntax.specs.Names.{is_principal_name}
 use Rattle.bl_syntax.specs.TimeOrder.{IsMoment}
 use Rattle.procap.specs.declared.procap.Procap.{Procap as Sealed}
-use Rattle.file_world.specs.Effect.{IsOperation}
+use Rattle.file_world.specs.Effect.{IsOperation, reply as op_reply}
 use Rattle.file_world.specs.Needs.{slots, bytes_to_write}
 use Rattle.access_history.specs.declared.event.Event.{Event}
+use Rattle.access_history.specs.declared.event.Event.TheVariants as events
 use Rattle.access_history.specs.declared.event.Issue.{Issue}
 use Rattle.access_history.specs.declared.request.StepRequest.{StepRequest}
 use Rattle.access_history.specs.declared.request.StepRequest.TheVariants as requests
 use Rattle.access_history.specs.declared.reply.StepReply.{StepReply}
+use Rattle.access_history.specs.declared.reply.StepReply.TheVariants as steps
 use Rattle.access_history.specs.Base.{BaseView}
 use Rattle.access_history.specs.Answer.{Answers, registered, issued, acted, moment_of}
 use Rattle.access_history.specs.Authority.{Authority}
+use Rattle.access_history.specs.Citing.{numbers_of}
 use Rattle.access_history.specs.Lawful.{IsLawful, IsLawfulBase, MayFollow, one_more}
 use Rattle.access_history.specs.Replay.{replay, fresh}
 use Rattle.access_history.proofs.FreshLemmas.{IsLawful-fresh}
-use Rattle.access_history.proofs.GoodIssueLemmas.{AreDerived-admitted}
 use Rattle.access_history.proofs.LawfulLemmas.{IsLawfulBase-replay}
-use Rattle.op_gate.proofs.MayFollowLemmas.{max_in_range, last_up_to_max, IsGoodIssue-checked}
+use Rattle.op_gate.proofs.MayFollowLemmas.{MayFollow-answered}
 use Rattle.line_words.specs.declared.procap_word.ProcapWord.{ProcapWord}
 use Rattle.line_forms.specs.declared.command.Command.{Command}
 use Rattle.line_forms.specs.declared.command.Command.TheVariants.{At, As, Register, Procap, Verify, Check, Do}
 use Rattle.line_forms.specs.Lines.{IsLine}
+use Rattle.line_forms.proofs.LimitLemmas.{operation_of_line, caller_of_line}
 use Rattle.line_wire.specs.declared.reply.LineReply.{LineReply}
 use Rattle.pcfs_secrets.specs.declared.secrets.Secrets.{Secrets}
 use Rattle.pcfs_top.specs.Asker.{Asker, IsAsker, asker_after}
@@ -34,7 +37,7 @@ use Rattle.pcfs_top.specs.LineAnswer.{authority_under, requested, ComesTo, acts,
 use Rattle.pcfs_top.specs.LineAnswer as line_answer
 use Rattle.pcfs_top.specs.ScriptRun.{Standing, state_at, standing_after, IsLawfulStanding, CanNumber, ScriptRun, fresh_start}
 use Rattle.pcfs_top.specs.ScriptRun as script
-use Rattle.pcfs_top.proofs.AllowedLemmas.{IsAllowed-line, named_caller, operation_of_line}
+use Rattle.pcfs_top.proofs.AllowedLemmas.{IsAllowed-line}
 
 -- as many words are there as procaps that they bring
 pub same_length : (key : List ℕ) (issues : List Issue) (words : List ProcapWord) (procaps : List Sealed) → AreBrought key issues words procaps → length words ≡ length procaps
@@ -47,7 +50,7 @@ same_length key issues (word ∷ words) (p ∷ procaps) all = ap suc (same_lengt
 abbrev IsProperRequest : StepRequest → Type 0
 IsProperRequest (requests.Register statement signature) = Unit {0}
 IsProperRequest (requests.Issue checked) = Unit {0}
-IsProperRequest (requests.Act caller op procaps) = IsTrue (is_principal_name caller) × IsOperation op × (length procaps ≡ slots op) × (bytes_to_write op ≤ 65536)
+IsProperRequest (requests.Act caller op procaps) = (IsTrue (is_principal_name caller) × IsOperation op) × ((length procaps ≡ slots op) × (bytes_to_write op ≤ 65536))
 IsProperRequest (requests.ShowProcap number who) = Unit {0}
 
 -- the event, if there is one, may come next
@@ -57,19 +60,13 @@ FollowsIn authority state (Some event) = MayFollow authority state event
 
 kept_event : (authority : Authority) (state : BaseView) (pass : ℕ) (clock : ℤ) (request : StepRequest) (reply : StepReply) (event : Event) → IsMoment clock → IsLawfulBase authority state → IsProperRequest request →
     Answers authority state pass clock request reply (Some event) → MayFollow authority state event
-kept_event authority state pass clock request reply event at base proper (registered statement signature may) = may
-kept_event authority state pass clock request reply event at base proper (issued checked rising granted stand) = IsGoodIssue-checked checked rising granted stand
-kept_event authority state pass clock request reply event at base proper (acted caller op procaps admitted free) = record {
-  not_before = last_up_to_max clock state.moment;
-  in_range = max_in_range clock state.moment at base.moment_in_range;
-  named = proper.0;
-  operation = proper.1;
-  slots = proper.2;
-  few_bytes = proper.3;
-  admitted = admitted;
-  not_refused = free;
-  derived = AreDerived-admitted authority.key state caller op procaps (moment_of state clock) base.good_issues admitted;
-}
+kept_event authority state pass clock _ _ _ at base proper (registered statement signature may) =
+    MayFollow-answered authority state pass clock (requests.Register statement signature) (steps.Statement (length state.statements + 1)) (events.Registered pass statement signature) at base tt tt (registered statement signature may)
+kept_event authority state pass clock _ _ _ at base proper (issued checked rising granted stand) =
+    MayFollow-answered authority state pass clock (requests.Issue checked) (steps.Issue (length state.issues + 1) (length checked.grant.times) (length checked.grant.states)) (events.Issued pass (numbers_of checked.cited) checked.proof checked.grant) at base (rising, granted) tt
+    (issued checked rising granted stand)
+kept_event authority state pass clock _ _ _ at base proper (acted caller op procaps admitted free) =
+    MayFollow-answered authority state pass clock (requests.Act caller op procaps) (steps.Operation (op_reply state.world op)) (events.Acted pass caller op procaps (moment_of state clock)) at base proper.1 proper.0 (acted caller op procaps admitted free)
 
 follows_in : (authority : Authority) (state : BaseView) (pass : ℕ) (clock : ℤ) (request : StepRequest) (reply : StepReply) (event : Option Event) → IsMoment clock → IsLawfulBase authority state → IsProperRequest request →
     Answers authority state pass clock request reply event → FollowsIn authority state event
@@ -83,7 +80,7 @@ proper_request secrets state asker line _ _ named is (line_answer.shows number) 
 proper_request secrets state asker line _ _ named is (line_answer.verifies goal numbers proof cites g proved) = tt
 proper_request secrets state asker line _ _ named is (acts op words procaps brought) =
     let allowed = IsAllowed-line line (Do op words) is in
-    (named, operation_of_line line op words is, sym (same_length secrets.seal_key state.issues words procaps brought) ∙ allowed.0, allowed.1)
+    ((named, operation_of_line line op words is), (sym (same_length secrets.seal_key state.issues words procaps brought) ∙ allowed.0, allowed.1))
 
 answer_follows : (secrets : Secrets) (state : BaseView) (asker : Asker) (line : List ℕ) (command : Command) (reply : LineReply) (event : Option Event) → IsAsker asker → IsLawfulBase (authority_under secrets) state → IsLine line command →
     LineAnswer secrets state asker command reply event → FollowsIn (authority_under secrets) state event
@@ -94,7 +91,7 @@ answer_follows secrets state asker line command _ _ is_asker base is (decided re
 -- who asks after a line still asks at a moment, as a principal
 asker_stays : (asker : Asker) (line : List ℕ) (command : Command) → IsAsker asker → IsLine line command → IsAsker (asker_after asker command)
 asker_stays asker line (At second) is_asker is = record { moment = IsAllowed-line line (At second) is; named = is_asker.named }
-asker_stays asker line (As who) is_asker is = record { moment = is_asker.moment; named = named_caller line who is }
+asker_stays asker line (As who) is_asker is = record { moment = is_asker.moment; named = caller_of_line line who is }
 asker_stays asker line (Register signature statement) is_asker is = is_asker
 asker_stays asker line (Procap number) is_asker is = is_asker
 asker_stays asker line (Verify goal numbers proof) is_asker is = is_asker
