@@ -119,3 +119,14 @@ place_shown h k event entry keeping is entry_is may =
     subst (λ (e : Entry). HasPlaceAmong h.statements.entries e) (sym entry_is)
     (subst (λ (s : BaseView). HasPlaceAmong s.statements (entry_of event)) (sym keeping.state_is)
     (subst (λ (v : HistoryView). HasPlaceAmong (state_of v).statements (entry_of event)) (sym is) (HasPlace-follows (authority_of k) (state_of k) event may)))
+
+-- the fields after an event that may come next: each part changed as the event changes it, and the event, which was given back, at the end
+pub IsKeeping-kept : (h after : Inside) (k : HistoryView) (event given : Event) (entry : Entry) → IsKeeping h → kept_by h ≡ k → MayFollow (authority_of k) (state_of k) event → (state_of k).count < 2 ^ 48 - 1 → entry ≡ entry_of event → given ≡ event
+    → after.key ≡ h.key → after.ring ≡ h.ring → after.base ≡ h.base
+    → after.world.world ≡ world_next h.world.world event → after.moment ≡ moment_next h.moment event
+    → after.statements.entries ≡ statements_with h.statements.entries entry → after.issues.items ≡ issues_with h.issues.items entry
+    → after.events.items ≡ h.events.items ++ given ∷ [] → after.count ≡ h.count + 1 → IsKeeping after
+IsKeeping-kept h after k event given entry keeping is follows counted entry_is given_is same_key same_ring same_base world moment statements issues more count =
+    IsKeeping-more h after event keeping (subst (λ (v : HistoryView). MayFollow (authority_of v) (state_of v) event) (sym is) follows) (subst (λ (v : HistoryView). (state_of v).count < 2 ^ 48 - 1) (sym is) counted) same_key same_ring same_base
+    (more ∙ ap (λ (e : Event). h.events.items ++ e ∷ []) given_is)
+    (shown_next h after event world (statements ∙ ap (statements_with h.statements.entries) entry_is) (issues ∙ ap (issues_with h.issues.items) entry_is) moment count)
