@@ -1,7 +1,7 @@
-//! Bytes as they are written in a reply: digits go straight to the end of what is written.
+//! Bytes as they are written in a reply: piece by piece, so that there is no second copy of them all.
 #![tactic(auto, using(bl_syntax::proofs::BeginsWithLemmas::writing))]
 
-ghost use Rattle.std.specs.Prelude.{◌≡◌, ◌++◌, codes, OnOk, OnErr};
+ghost use Rattle.std.specs.Prelude.{◌≡◌, ◌≤◌, ◌++◌, codes, length, OnOk, OnErr};
 ghost use Rattle.hex.specs.Hex.{encode_lower};
 ghost use Rattle.bl_syntax.specs.BeginsWith.{BeginsWith};
 ghost use Rattle.procap.specs.Procap.{procap_spelling};
@@ -12,19 +12,34 @@ use bl_syntax::{Bytes, NoMemory};
 use procap::{Procap, write_procap};
 use std::alloc::Global;
 
-/// The digits by their values.
-const DIGITS: &[u8; 16] = b"0123456789abcdef";
+/// How many bytes are written at a time.
+const PIECE: usize = 256;
+
+// Adds two digits for each of few bytes.
+fn put_piece(out: &mut Bytes, bytes: &[u8]) -> Result<(), NoMemory>
+    requires { length bytes.now ≤ 256 }
+    ensures ok { OnOk result (out.new ≡ out.old ++ encode_lower bytes.now) }
+    ensures err { OnErr result (out.new ≡ out.old) }
+{
+    let mut room = [0u8; 512];
+    let digits = &mut room[..2 * bytes.len()];
+    let encoded = hex::encode_to_slice(bytes, digits);
+    prove!(encoded.is_ok());
+    out.extend(digits)
+}
 
 // Adds two digits for each byte.
 fn put_digits(out: &mut Bytes, bytes: &[u8]) -> Result<(), NoMemory>
     ensures ok { OnOk result (out.new ≡ out.old ++ encode_lower bytes.now) }
     ensures err { OnErr result (BeginsWith out.new out.old) }
 {
-    for byte in bytes {
-        out.push(DIGITS[(*byte / 16) as usize])?;
-        out.push(DIGITS[(*byte % 16) as usize])?;
+    let mut rest = bytes;
+    'pieces: while PIECE < rest.len() {
+        let (piece, others) = rest.split_at(PIECE);
+        put_piece(out, piece)?;
+        rest = others;
     }
-    Ok(())
+    put_piece(out, rest)
 }
 
 /// Writes words, and after them the word of hexadecimal for these bytes.
