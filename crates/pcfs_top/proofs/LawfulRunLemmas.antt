@@ -22,7 +22,7 @@ use Rattle.access_history.specs.Citing.{numbers_of}
 use Rattle.access_history.specs.Lawful.{IsLawful, IsLawfulBase, MayFollow, one_more}
 use Rattle.access_history.specs.Replay.{replay, fresh}
 use Rattle.access_history.proofs.FreshLemmas.{IsLawful-fresh}
-use Rattle.access_history.proofs.LawfulLemmas.{IsLawfulBase-replay}
+use Rattle.access_history.proofs.LawfulLemmas.{IsLawfulBase-lawful}
 use Rattle.op_gate.proofs.MayFollowLemmas.{MayFollow-answered}
 use Rattle.line_words.specs.declared.procap_word.ProcapWord.{ProcapWord}
 use Rattle.line_forms.specs.declared.command.Command.{Command}
@@ -33,9 +33,9 @@ use Rattle.line_wire.specs.declared.reply.LineReply.{LineReply}
 use Rattle.pcfs_secrets.specs.declared.secrets.Secrets.{Secrets}
 use Rattle.pcfs_top.specs.Asker.{Asker, IsAsker, asker_after}
 use Rattle.pcfs_top.specs.Procaps.{AreBrought}
-use Rattle.pcfs_top.specs.LineAnswer.{authority_under, requested, ComesTo, acts, LineAnswer, at_once, decided, AnswersLine, faulty, asks}
+use Rattle.pcfs_top.specs.LineAnswer.{authority_under, requested, ComesTo, acts, AnswersCommand, at_once, decided, AnswersLine, faulty, asks}
 use Rattle.pcfs_top.specs.LineAnswer as line_answer
-use Rattle.pcfs_top.specs.ScriptRun.{Standing, state_at, standing_after, IsLawfulStanding, CanNumber, ScriptRun, fresh_start}
+use Rattle.pcfs_top.specs.ScriptRun.{Standing, state_of_standing, standing_after, IsLawfulStanding, CanNumber, ScriptRun, fresh_start}
 use Rattle.pcfs_top.specs.ScriptRun as script
 use Rattle.pcfs_top.proofs.AllowedLemmas.{IsAllowed-line}
 
@@ -83,7 +83,7 @@ proper_request secrets state asker line _ _ named is (acts op words procaps brou
     ((named, operation_of_line line op words is), (sym (same_length secrets.seal_key state.issues words procaps brought) ∙ allowed.0, allowed.1))
 
 answer_follows : (secrets : Secrets) (state : BaseView) (asker : Asker) (line : List ℕ) (command : Command) (reply : LineReply) (event : Option Event) → IsAsker asker → IsLawfulBase (authority_under secrets) state → IsLine line command →
-    LineAnswer secrets state asker command reply event → FollowsIn (authority_under secrets) state event
+    AnswersCommand secrets state asker command reply event → FollowsIn (authority_under secrets) state event
 answer_follows secrets state asker line command _ _ is_asker base is (at_once reply look) = tt
 answer_follows secrets state asker line command _ _ is_asker base is (decided request reply event look answer) =
     follows_in (authority_under secrets) state asker.pass asker.clock request reply event is_asker.moment base (proper_request secrets state asker line command request is_asker.named is look) answer
@@ -113,12 +113,12 @@ with_event authority base events (Some event) lawful few follows = record {
 }
 
 -- a line leaves a lawful standing lawful
-pub IsLawfulStanding-answered : (s : Standing) (line : List ℕ) (reply : LineReply) (event : Option Event) (asker : Asker) → IsLawfulStanding s → s.base.count + (length s.events + 1) ≤ 2 ^ 48 - 1 → AnswersLine s.secrets (state_at s) s.asker line reply event asker →
+pub IsLawfulStanding-answered : (s : Standing) (line : List ℕ) (reply : LineReply) (event : Option Event) (asker : Asker) → IsLawfulStanding s → s.base.count + (length s.events + 1) ≤ 2 ^ 48 - 1 → AnswersLine s.secrets (state_of_standing s) s.asker line reply event asker →
     IsLawfulStanding (standing_after s event asker)
 IsLawfulStanding-answered s line _ _ _ stands few (faulty fault bad) = record { lawful = with_event (authority_under s.secrets) s.base s.events None stands.lawful few tt; asker = stands.asker }
 IsLawfulStanding-answered s line _ _ _ stands few (asks command reply event is answer) = record {
   lawful = with_event (authority_under s.secrets) s.base s.events event stands.lawful few
-      (answer_follows s.secrets (state_at s) s.asker line command reply event stands.asker (IsLawfulBase-replay (authority_under s.secrets) s.base s.events stands.lawful) is answer);
+      (answer_follows s.secrets (state_of_standing s) s.asker line command reply event stands.asker (IsLawfulBase-lawful (authority_under s.secrets) s.base s.events stands.lawful) is answer);
   asker = asker_stays s.asker line command stands.asker is;
 }
 

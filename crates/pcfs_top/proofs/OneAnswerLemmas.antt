@@ -40,9 +40,9 @@ use Rattle.line_wire.specs.declared.reply.LineReply.TheVariants as replies
 use Rattle.pcfs_top.specs.Asker.{Asker, asker_after}
 use Rattle.pcfs_top.specs.Procaps.{BringsProcap, held, issued, NamesIssue, AreBrought, IsFirstUnissued}
 use Rattle.pcfs_top.specs.Proved.{IsUnproved, cites_none, proves_none, IsProved}
-use Rattle.pcfs_top.specs.LineAnswer.{authority_under, signature_under, Look, replied, requested, ComesTo, LineAnswer, at_once, decided, AnswersLine, faulty, asks}
+use Rattle.pcfs_top.specs.LineAnswer.{authority_under, signature_under, Look, replied, requested, ComesTo, AnswersCommand, at_once, decided, AnswersLine, faulty, asks}
 use Rattle.pcfs_top.specs.LineAnswer as line_answer
-use Rattle.pcfs_top.specs.ScriptRun.{Standing, state_at}
+use Rattle.pcfs_top.specs.ScriptRun.{Standing, state_of_standing}
 use Rattle.pcfs_top.proofs.BroughtLemmas.{NamesIssue-brought}
 
 -- ---- the statements of numbers, and what a proof from them comes to
@@ -171,32 +171,32 @@ abbrev AreSame : LineReply → LineReply → Option Event → Option Event → T
 AreSame first second one other = (first ≡ second) × (one ≡ other)
 
 module _ (s : Standing) (lawful : IsLawful (authority_under s.secrets) s.base s.events) where
-  told_once : (request : StepRequest) (first second : StepReply) (one other : Option Event) → Answers (authority_under s.secrets) (state_at s) s.asker.pass s.asker.clock request first one
-      → Answers (authority_under s.secrets) (state_at s) s.asker.pass s.asker.clock request second other → AreSame (replies.Step first) (replies.Step second) one other
+  told_once : (request : StepRequest) (first second : StepReply) (one other : Option Event) → Answers (authority_under s.secrets) (state_of_standing s) s.asker.pass s.asker.clock request first one
+      → Answers (authority_under s.secrets) (state_of_standing s) s.asker.pass s.asker.clock request second other → AreSame (replies.Step first) (replies.Step second) one other
   told_once request first second one other told told' =
       let same = one_answer (authority_under s.secrets) s.base s.events s.asker.pass s.asker.clock request first second one other lawful told told' in
       (ap replies.Step same.0, same.1)
 
   -- a command has one answer
-  answer_once : (command : Command) (first second : LineReply) (one other : Option Event) → LineAnswer s.secrets (state_at s) s.asker command first one → LineAnswer s.secrets (state_at s) s.asker command second other → AreSame first second one other
+  answer_once : (command : Command) (first second : LineReply) (one other : Option Event) → AnswersCommand s.secrets (state_of_standing s) s.asker command first one → AnswersCommand s.secrets (state_of_standing s) s.asker command second other → AreSame first second one other
   answer_once command _ _ _ _ (at_once first look) (at_once second look') =
-      let same = one_look s.secrets (state_at s) s.asker command (replied first) (replied second) look look' in
+      let same = one_look s.secrets (state_of_standing s) s.asker command (replied first) (replied second) look look' in
       let told : first ≡ second = cc in
       (told, refl)
-  answer_once command _ _ _ _ (at_once first look) (decided request second event look' told) = absurd (reply_or_request s.secrets (state_at s) s.asker command first request look look')
-  answer_once command _ _ _ _ (decided request first event look told) (at_once second look') = absurd (reply_or_request s.secrets (state_at s) s.asker command second request look' look)
+  answer_once command _ _ _ _ (at_once first look) (decided request second event look' told) = absurd (reply_or_request s.secrets (state_of_standing s) s.asker command first request look look')
+  answer_once command _ _ _ _ (decided request first event look told) (at_once second look') = absurd (reply_or_request s.secrets (state_of_standing s) s.asker command second request look' look)
   answer_once command _ _ _ _ (decided request first one look told) (decided request' second other look' told') =
-      let same = one_look s.secrets (state_at s) s.asker command (requested request) (requested request') look look' in
+      let same = one_look s.secrets (state_of_standing s) s.asker command (requested request) (requested request') look look' in
       let request_is : request ≡ request' = cc in
-      told_once request' first second one other (subst (λ (r : StepRequest). Answers (authority_under s.secrets) (state_at s) s.asker.pass s.asker.clock r first one) request_is told) told'
+      told_once request' first second one other (subst (λ (r : StepRequest). Answers (authority_under s.secrets) (state_of_standing s) s.asker.pass s.asker.clock r first one) request_is told) told'
 
   -- and so has a line
-  pub line_once : (line : List ℕ) (first second : LineReply) (one other : Option Event) (after later : Asker) → AnswersLine s.secrets (state_at s) s.asker line first one after → AnswersLine s.secrets (state_at s) s.asker line second other later
+  pub line_once : (line : List ℕ) (first second : LineReply) (one other : Option Event) (after later : Asker) → AnswersLine s.secrets (state_of_standing s) s.asker line first one after → AnswersLine s.secrets (state_of_standing s) s.asker line second other later
       → (first ≡ second) × (one ≡ other) × (after ≡ later)
   line_once line _ _ _ _ _ _ (faulty fault bad) (faulty other bad') = (ap replies.Faulty (one_fault bad other bad'), refl, refl)
   line_once line _ _ _ _ _ _ (faulty fault bad) (asks command reply event is answer) = absurd (command_or_fault is bad)
   line_once line _ _ _ _ _ _ (asks command reply event is answer) (faulty fault bad) = absurd (command_or_fault is bad)
   line_once line _ _ _ _ _ _ (asks command first one is answer) (asks command' second other is' answer') =
       let same : command ≡ command' = IsLine-unique is is' in
-      let both = answer_once command' first second one other (subst (λ (c : Command). LineAnswer s.secrets (state_at s) s.asker c first one) same answer) answer' in
+      let both = answer_once command' first second one other (subst (λ (c : Command). AnswersCommand s.secrets (state_of_standing s) s.asker c first one) same answer) answer' in
       (both.0, both.1, ap (asker_after s.asker) same)

@@ -4,7 +4,7 @@ use Rattle.std.specs.Option.{option_to_list}
 use Rattle.access_history.specs.declared.event.Event.{Event}
 use Rattle.line_wire.specs.declared.reply.LineReply.{LineReply}
 use Rattle.pcfs_top.specs.Asker.{Asker}
-use Rattle.pcfs_top.specs.ScriptRun.{Standing, state_at, standing_after, IsLawfulStanding, CanNumber, ScriptRun, HadMemory}
+use Rattle.pcfs_top.specs.ScriptRun.{Standing, state_of_standing, standing_after, IsLawfulStanding, CanNumber, ScriptRun, HadMemory}
 use Rattle.pcfs_top.specs.ScriptRun as script
 use Rattle.pcfs_top.proofs.LawfulRunLemmas.{IsLawfulStanding-answered, CanNumber-one, CanNumber-answered}
 use Rattle.pcfs_top.proofs.OneAnswerLemmas.{line_once}

@@ -14,7 +14,7 @@ use Rattle.line_wire.specs.declared.reply.LineReply.TheVariants.{NoMemory}
 use Rattle.line_wire.specs.ReplyText.{reply_text, output_of}
 use Rattle.pcfs_secrets.specs.declared.secrets.Secrets.{Secrets}
 use Rattle.pcfs_top.specs.LineAnswer.{authority_under}
-use Rattle.pcfs_top.specs.ScriptRun.{Standing, state_at, standing_after, IsLawfulStanding, CanNumber, ScriptRun, fresh_start}
+use Rattle.pcfs_top.specs.ScriptRun.{Standing, state_of_standing, standing_after, IsLawfulStanding, CanNumber, ScriptRun, fresh_start}
 use Rattle.pcfs_top.specs.ScriptRun as script
 use Rattle.pcfs_top.specs.Interpreter.{IsReplied}
 use Rattle.pcfs_top.specs.Interpreter as interpreter
@@ -86,7 +86,7 @@ HasRun-start start now bytes held collected same few empty =
     })
 
 -- the next event has a number
-pub HasRun-counted : (start now : Standing) (bytes rest others line : List ℕ) (held mid : Option (List ℕ)) (collected : List ℕ) → HasRun start now bytes rest held mid collected → lines_of rest ≡ line ∷ lines_of others → (state_at now).count < 2 ^ 48 - 1
+pub HasRun-counted : (start now : Standing) (bytes rest others line : List ℕ) (held mid : Option (List ℕ)) (collected : List ℕ) → HasRun start now bytes rest held mid collected → lines_of rest ≡ line ∷ lines_of others → (state_of_standing now).count < 2 ^ 48 - 1
 HasRun-counted start now bytes rest others line held mid collected h first =
     let lines_are : length (lines_of rest) ≡ length (line ∷ lines_of others) = ap length first in
     omega (arith, h.few, lines_are, count-replay now.base now.events)

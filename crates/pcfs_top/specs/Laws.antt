@@ -5,7 +5,7 @@ use Rattle.access_history.specs.Lawful.{IsLawful}
 use Rattle.line_wire.specs.declared.reply.LineReply.{LineReply}
 use Rattle.pcfs_top.specs.Asker.{Asker}
 use Rattle.pcfs_top.specs.LineAnswer.{authority_under, AnswersLine}
-use Rattle.pcfs_top.specs.ScriptRun.{Standing, state_at, IsLawfulStanding, CanNumber, ScriptRun, HadMemory}
+use Rattle.pcfs_top.specs.ScriptRun.{Standing, state_of_standing, IsLawfulStanding, CanNumber, ScriptRun, HadMemory}
 
 -- the events of a run from a lawful start are lawful
 abbrev pub RunsAreLawful : Type 0
@@ -15,12 +15,12 @@ RunsAreLawful = (start : Standing) (lines : List (List ℕ)) (replies : List Lin
 -- over the state of a lawful history a line has one answer at most
 abbrev pub LinesHaveOneAnswer : Type 0
 LinesHaveOneAnswer = (s : Standing) (line : List ℕ) (first second : LineReply) (one other : Option Event) (after later : Asker) → IsLawful (authority_under s.secrets) s.base s.events →
-    AnswersLine s.secrets (state_at s) s.asker line first one after → AnswersLine s.secrets (state_at s) s.asker line second other later → (first ≡ second) × (one ≡ other) × (after ≡ later)
+    AnswersLine s.secrets (state_of_standing s) s.asker line first one after → AnswersLine s.secrets (state_of_standing s) s.asker line second other later → (first ≡ second) × (one ≡ other) × (after ≡ later)
 
 -- and it has one
 abbrev pub LinesHaveAnAnswer : Type 0
-LinesHaveAnAnswer = (s : Standing) (line : List ℕ) → IsLawfulStanding s →
-    (reply : LineReply) × (event : Option Event) × (after : Asker) × AnswersLine s.secrets (state_at s) s.asker line reply event after
+LinesHaveAnAnswer = (s : Standing) (line : List ℕ) → IsLawful (authority_under s.secrets) s.base s.events →
+    (reply : LineReply) × (event : Option Event) × (after : Asker) × AnswersLine s.secrets (state_of_standing s) s.asker line reply event after
 
 -- two runs of the same lines from a lawful start that do not run out of memory have the same outcome
 abbrev pub RunsHaveOneOutcome : Type 0

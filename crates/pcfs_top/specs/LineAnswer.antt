@@ -1,5 +1,6 @@
--- The answer to a line over a state (this project's own). What a command comes to where the state is looked at, and what is decided of it then, stand apart: another may have its turn between them.
-use Rattle.std.specs.Prelude.{◌≡◌, ℕ, ℤ, List, [], Option, Some, None, unwrap_or}
+-- The answer to a line over a state (this project's own). What a look at the state makes of a command, and what is decided of it then, stand apart: another may have its turn between them. That somebody may
+-- set the clock and the caller, or leave a signature to the ring, is a matter of the lines that they have; what they may see is said by who asks.
+use Rattle.std.specs.Prelude.{ℕ, ℤ, List, [], Option, Some, None, unwrap_or}
 use Rattle.bl_syntax.specs.declared.grant.Goal.{Goal}
 use Rattle.bl_syntax.specs.Statement.{StatementView}
 use Rattle.bl_syntax.specs.Grant.{GrantView}
@@ -52,7 +53,7 @@ pub data ComesTo (secrets : Secrets) (state : BaseView) (asker : Asker) : Comman
   sets_caller : (who : List ℕ) → ComesTo secrets state asker (As who) (replied replies.Done)
   registers : (signature : Option (List ℕ)) (statement : StatementView) →
       ComesTo secrets state asker (Register signature statement) (requested (requests.Register statement (signature_under secrets.ring statement signature)))
-  shows : (number : ℕ) → ComesTo secrets state asker (Procap number) (requested (requests.ShowProcap number None))
+  shows : (number : ℕ) → ComesTo secrets state asker (Procap number) (requested (requests.ShowProcap number asker.sees))
   verifies_nothing : (goal : Goal) (numbers : List ℕ) (proof : ProofView) (reply : LineReply) → IsUnproved (sayings state.statements) goal numbers proof reply →
       ComesTo secrets state asker (Verify goal numbers proof) (replied reply)
   verifies : (goal : Goal) (numbers : List ℕ) (proof : ProofView) (cites : List Cite) (g : GrantView) → IsProved (sayings state.statements) goal numbers proof cites g →
@@ -67,13 +68,13 @@ pub data ComesTo (secrets : Secrets) (state : BaseView) (asker : Asker) : Comman
       ComesTo secrets state asker (Do op words) (requested (requests.Act asker.caller op procaps))
 
 -- the answer to a command over a state, and the event to keep if there is one
-pub data LineAnswer (secrets : Secrets) (state : BaseView) (asker : Asker) (command : Command) : LineReply → Option Event → Type 0 where
-  at_once : (reply : LineReply) → ComesTo secrets state asker command (replied reply) → LineAnswer secrets state asker command reply None
+pub data AnswersCommand (secrets : Secrets) (state : BaseView) (asker : Asker) (command : Command) : LineReply → Option Event → Type 0 where
+  at_once : (reply : LineReply) → ComesTo secrets state asker command (replied reply) → AnswersCommand secrets state asker command reply None
   decided : (request : StepRequest) (reply : StepReply) (event : Option Event) → ComesTo secrets state asker command (requested request) →
-      Answers (authority_under secrets) state asker.pass asker.clock request reply event → LineAnswer secrets state asker command (replies.Step reply) event
+      Answers (authority_under secrets) state asker.pass asker.clock request reply event → AnswersCommand secrets state asker command (replies.Step reply) event
 
 -- how the bytes of a line are answered, the event to keep if there is one, and who asks then: the line has a fault, or asks for a command
 pub data AnswersLine (secrets : Secrets) (state : BaseView) (asker : Asker) (line : List ℕ) : LineReply → Option Event → Asker → Type 0 where
   faulty : (fault : LineFault) → IsLineFault line fault → AnswersLine secrets state asker line (replies.Faulty fault) None asker
-  asks : (command : Command) (reply : LineReply) (event : Option Event) → IsLine line command → LineAnswer secrets state asker command reply event →
+  asks : (command : Command) (reply : LineReply) (event : Option Event) → IsLine line command → AnswersCommand secrets state asker command reply event →
       AnswersLine secrets state asker line reply event (asker_after asker command)

@@ -1,6 +1,7 @@
 -- How a run of the program ends: its status, what it took and what it wrote. If the input does not tell what it has, or the output what it holds, nothing is said of that
 -- (this project's own).
 use Rattle.std.specs.Prelude.{◌≡◌, ℕ, List, [], ◌∷◌, ◌++◌, String, map, codes}
+use Rattle.std.specs.List.{flat_map}
 use Rattle.std.specs.String.{string_bytes}
 use Rattle.std.specs.declared.alloc.Global.{Global}
 use Rattle.pcfs_ports.specs.Faults.{HasRisen}
@@ -39,21 +40,25 @@ pub record RunsPart (start : Standing) (bytes written : List ℕ) : Type 0 where
   pub parts : lines_of bytes ≡ front ++ others
   pub run : RunsOver start front written
 
--- these bytes were taken of the input, and the script was run over the first lines of them
-pub record IsUnderWay (secrets : Secrets) (words : List (String Global)) (before after : Ports) (written : List ℕ) : Type 0 where
-  pub script : IsScript words
-  pub bytes : List ℕ
-  pub taken : before.left ≡ with_front bytes after.left
-  pub part : RunsPart (fresh_start secrets) bytes written
+-- these lines were taken of the input, each with its end, and then some rest
+pub record AreTaken (before after : Ports) (lines : List (List ℕ)) : Type 0 where
+  pub rest : List ℕ
+  pub are_lines : lines_of (flat_map with_line_end lines) ≡ lines
+  pub taken : before.left ≡ with_front (flat_map with_line_end lines ++ rest) after.left
 
--- what a run has written if it ends with this status: the replies to all lines of the input, or a last line with the cause, which may come after the replies to the first lines
+-- the script was run over the first lines that were taken; or over the first lines of the whole input, of which the last may lack its end
+pub data IsUnderWay (secrets : Secrets) (before after : Ports) (written : List ℕ) : Type 0 where
+  while_reading : (lines : List (List ℕ)) → AreTaken before after lines → RunsOver (fresh_start secrets) lines written → IsUnderWay secrets before after written
+  all_read : (bytes : List ℕ) → ReadsToEnd before.left after.left bytes → RunsPart (fresh_start secrets) bytes written → IsUnderWay secrets before after written
+
+-- what a run has to write if it ends with this status: the replies to all lines of the input; or a last line with the cause, which may come after the replies to the first lines that were taken
 pub data HasToWrite (secrets : Secrets) (words : List (String Global)) (before after : Ports) : ℕ → List ℕ → Type 0 where
   done : (bytes written : List ℕ) → IsScript words → ReadsToEnd before.left after.left bytes → RunsOver (fresh_start secrets) (lines_of bytes) written →
       HasToWrite secrets words before after 0 written
   usage : (IsScript words → ⊥) → after.left ≡ before.left → HasToWrite secrets words before after 1 (with_line_end (codes "usage"))
-  read_fault : (written : List ℕ) → HasRisen before.read_faults after.read_faults → IsUnderWay secrets words before after written →
+  read_fault : (lines : List (List ℕ)) (written : List ℕ) → IsScript words → HasRisen before.read_faults after.read_faults → AreTaken before after lines → RunsOver (fresh_start secrets) lines written →
       HasToWrite secrets words before after 6 (written ++ with_line_end (codes "readfault"))
-  too_long : (written : List ℕ) → TakesFirst 1073741824 before.left after.left → IsUnderWay secrets words before after written →
+  too_long : (lines : List (List ℕ)) (written : List ℕ) → IsScript words → TakesFirst 1073741824 before.left after.left → AreTaken before after lines → RunsOver (fresh_start secrets) lines written →
       HasToWrite secrets words before after 13 (written ++ with_line_end (codes "toolong"))
 
 -- the status that a run ends with, and its cause: all was written; or the output failed, and holds some first part of it or of the replies to the first lines; or memory ran out, and
@@ -62,6 +67,6 @@ pub data EndsWith (secrets : Secrets) (words : List (String Global)) (before aft
   written : (status : ℕ) (whole : List ℕ) → HasToWrite secrets words before after status whole → after.held ≡ with_back before.held whole → EndsWith secrets words before after status
   cut_short : (status : ℕ) (whole : List ℕ) → HasRisen before.write_faults after.write_faults → HasToWrite secrets words before after status whole →
       HoldsSome before.held after.held whole → EndsWith secrets words before after 7
-  write_fault : (whole : List ℕ) → HasRisen before.write_faults after.write_faults → IsUnderWay secrets words before after whole → HoldsSome before.held after.held whole →
+  write_fault : (whole : List ℕ) → IsScript words → HasRisen before.write_faults after.write_faults → IsUnderWay secrets before after whole → HoldsSome before.held after.held whole →
       EndsWith secrets words before after 7
-  out_of_memory : (whole : List ℕ) → IsUnderWay secrets words before after whole → HoldsSome before.held after.held whole → EndsWith secrets words before after 9
+  out_of_memory : (whole : List ℕ) → IsScript words → IsUnderWay secrets before after whole → HoldsSome before.held after.held whole → EndsWith secrets words before after 9

@@ -1,5 +1,5 @@
 -- The run of a script: its lines in order, each answered over the state that the lines before it left (this project's own).
-use Rattle.std.specs.Prelude.{◌≢◌, ◌≤◌, ◌+◌, ◌-◌, ◌^◌, ℕ, List, [], ◌∷◌, ◌++◌, length, Option}
+use Rattle.std.specs.Prelude.{◌≢◌, ◌≤◌, ◌+◌, ◌-◌, ◌^◌, ℕ, List, [], ◌∷◌, ◌++◌, length, Option, None}
 use Rattle.std.specs.List.{AllByRecursion}
 use Rattle.std.specs.Option.{option_to_list}
 use Rattle.access_history.specs.declared.event.Event.{Event}
@@ -20,8 +20,8 @@ pub record Standing : Type 0 where
   pub asker : Asker
 
 -- the state to which the events lead
-abbrev pub state_at : Standing → BaseView
-state_at s = replay s.base s.events
+abbrev pub state_of_standing : Standing → BaseView
+state_of_standing s = replay s.base s.events
 
 -- the history so far is lawful, and a principal asks at a moment
 pub record IsLawfulStanding (s : Standing) : Type 0 where
@@ -32,14 +32,17 @@ pub record IsLawfulStanding (s : Standing) : Type 0 where
 abbrev pub standing_after : Standing → Option Event → Asker → Standing
 standing_after s event asker = record s { events = s.events ++ option_to_list event; asker = asker }
 
--- a run of these lines from a start: a reply for each, and the events that they add. Instead of any reply memory may run out, and then nothing changes
+-- a line is answered and its event kept; or memory runs out instead of its reply, and nothing changes
+pub data IsReplied (before : Standing) (line : List ℕ) : LineReply → Option Event → Standing → Type 0 where
+  answered : (reply : LineReply) (event : Option Event) (asker : Asker) → AnswersLine before.secrets (state_of_standing before) before.asker line reply event asker →
+      IsReplied before line reply event (standing_after before event asker)
+  without_memory : IsReplied before line NoMemory None before
+
+-- a run of these lines from a start: a reply for each, and the events that they add
 pub data ScriptRun : Standing → List (List ℕ) → List LineReply → List Event → Type 0 where
   ended : (start : Standing) → ScriptRun start [] [] []
-  answered : (start : Standing) (line : List ℕ) (lines : List (List ℕ)) (reply : LineReply) (replies : List LineReply) (event : Option Event) (asker : Asker) (added : List Event) →
-      AnswersLine start.secrets (state_at start) start.asker line reply event asker → ScriptRun (standing_after start event asker) lines replies added →
-      ScriptRun start (line ∷ lines) (reply ∷ replies) (option_to_list event ++ added)
-  without_memory : (start : Standing) (line : List ℕ) (lines : List (List ℕ)) (replies : List LineReply) (added : List Event) →
-      ScriptRun start lines replies added → ScriptRun start (line ∷ lines) (NoMemory ∷ replies) added
+  one_more : (start : Standing) (line : List ℕ) (lines : List (List ℕ)) (reply : LineReply) (replies : List LineReply) (event : Option Event) (after : Standing) (added : List Event) →
+      IsReplied start line reply event after → ScriptRun after lines replies added → ScriptRun start (line ∷ lines) (reply ∷ replies) (option_to_list event ++ added)
 
 -- memory did not run out for any of these replies
 abbrev pub HadMemory : List LineReply → Type 0

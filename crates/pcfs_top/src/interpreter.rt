@@ -1,4 +1,4 @@
-//! The interpreter, which answers the lines of a script.
+//! The interpreter, which answers the lines of an operator's script.
 
 ghost use Rattle.std.specs.Prelude.{◌≡◌, ◌≢◌, ◌≤◌, ◌<◌, ◌-◌, ◌^◌, length, IfOk, OnErr};
 
@@ -40,7 +40,7 @@ impl Model for Interpreter {
 
     ghost coded = { standing_code };
 
-    ghost view = { λ d. record { secrets = record { seal_key = d.gate.key; ring = d.gate.ring }; base = d.gate.base; events = d.gate.events; asker = record { pass = d.pass; clock = d.clock; caller = d.caller } } };
+    ghost view = { λ d. record { secrets = record { seal_key = d.gate.key; ring = d.gate.ring }; base = d.gate.base; events = d.gate.events; asker = record { pass = d.pass; clock = d.clock; caller = d.caller; sees = None } } };
 
     ghost invariant = { λ d. IsMoment d.clock × (d.gate.pending ≡ None) };
 }
@@ -56,12 +56,14 @@ fn unproved(fault: CheckFault) -> Result<LineReply, NoMemory>
 }
 
 impl Interpreter {
+    ghost use Rattle.std.specs.Prelude.{Option};
+    ghost use Rattle.access_history.specs.declared.event.Event.{Event};
     ghost use Rattle.access_history.specs.WellFormed.{IsWellFormed};
     ghost use Rattle.access_history.specs.Citing.{AreCitable};
     ghost use Rattle.file_world.specs.Needs.{slots, bytes_to_write};
     ghost use Rattle.line_forms.specs.declared.command.Command.TheVariants.{Register, Verify, Check, Do};
-    ghost use Rattle.pcfs_top.specs.ScriptRun.{state_at, fresh_start};
-    ghost use Rattle.pcfs_top.specs.Interpreter.{IsAsked, IsFollowed, IsReplied, IsAllowed};
+    ghost use Rattle.pcfs_top.specs.ScriptRun.{state_of_standing, IsReplied, fresh_start};
+    ghost use Rattle.pcfs_top.specs.Interpreter.{IsDecidedAs, IsFollowed, IsAllowed};
 
     /// An interpreter over a store before its first event, where an operator's script begins under these secrets.
     pub fn fresh(alloc: Global, secrets: &Secrets) -> Result<Interpreter, NoMemory>
@@ -78,9 +80,9 @@ impl Interpreter {
 
     // Asks the gate, and keeps the event if there is one.
     fn ask(&mut self, alloc: Global, request: StepRequest) -> Result<LineReply, NoMemory>
-        requires counted { (state_at self.old).count < 2 ^ 48 - 1 }
+        requires counted { (state_of_standing self.old).count < 2 ^ 48 - 1 }
         requires well_formed { IsWellFormed request }
-        ensures ok { IfOk result (λ reply. IsAsked self.old request reply self.new) }
+        ensures ok { IfOk result (λ reply. IsDecidedAs self.old request reply self.new) }
         ensures err { OnErr result (self.new ≡ self.old) }
     {
         match self.gate.decide(alloc, self.pass, request, self.clock) {
@@ -101,7 +103,7 @@ impl Interpreter {
         numbers: &Numbers,
         proof: ProofTree,
     ) -> Result<LineReply, NoMemory>
-        requires counted { (state_at self.old).count < 2 ^ 48 - 1 }
+        requires counted { (state_of_standing self.old).count < 2 ^ 48 - 1 }
         requires citable { AreCitable numbers.now }
         ensures ok { IfOk result (λ reply. IsFollowed self.old (Verify goal numbers.now proof) reply self.new) }
         ensures err { OnErr result (self.new ≡ self.old) }
@@ -142,7 +144,7 @@ impl Interpreter {
         signature: Option<Bytes>,
         statement: Statement,
     ) -> Result<LineReply, NoMemory>
-        requires { (state_at self.old).count < 2 ^ 48 - 1 }
+        requires { (state_of_standing self.old).count < 2 ^ 48 - 1 }
         ensures ok { IfOk result (λ reply. IsFollowed self.old (Register signature statement) reply self.new) }
         ensures err { OnErr result (self.new ≡ self.old) }
     {
@@ -152,7 +154,7 @@ impl Interpreter {
 
     // Does the operation under the procaps that the words bring.
     fn act(&mut self, alloc: Global, op: Op, words: &ProcapWords) -> Result<LineReply, NoMemory>
-        requires counted { (state_at self.old).count < 2 ^ 48 - 1 }
+        requires counted { (state_of_standing self.old).count < 2 ^ 48 - 1 }
         requires one_each { length words.now ≡ slots op }
         requires few_bytes { bytes_to_write op ≤ 65536 }
         ensures ok { IfOk result (λ reply. IsFollowed self.old (Do op words.now) reply self.new) }
@@ -167,7 +169,7 @@ impl Interpreter {
 
     // Does what a line of a script asks for.
     fn follow(&mut self, alloc: Global, command: Command) -> Result<LineReply, NoMemory>
-        requires counted { (state_at self.old).count < 2 ^ 48 - 1 }
+        requires counted { (state_of_standing self.old).count < 2 ^ 48 - 1 }
         requires allowed { IsAllowed command }
         ensures ok { IfOk result (λ reply. IsFollowed self.old command reply self.new) }
         ensures err { OnErr result (self.new ≡ self.old) }
@@ -194,8 +196,8 @@ impl Interpreter {
     /// The reply to a line of a script, which is given without its end; out of memory, and then nothing changes, if
     /// there is none for it.
     pub fn reply_to(&mut self, alloc: Global, line: &[u8]) -> LineReply
-        requires { (state_at self.old).count < 2 ^ 48 - 1 }
-        ensures { IsReplied self.old line.now result self.new }
+        requires { (state_of_standing self.old).count < 2 ^ 48 - 1 }
+        ensures { (event : Option Event) × IsReplied self.old line.now result event self.new }
     {
         match read_line(alloc, line) {
             Ok(command) => match self.follow(alloc, command) {

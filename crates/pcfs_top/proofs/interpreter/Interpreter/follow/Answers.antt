@@ -1,9 +1,10 @@
 -- Each command is answered.
-use Rattle.std.proofs.Common.{subst, sym}
+use Rattle.std.proofs.Common.{subst, sym, ap}
 use Rattle.std.proofs.lemmas.Result.{IfOk-weaker}
 use Rattle.std.proofs.lemmas.Int.{to_z-of_z}
 use Rattle.std.specs.Int.{w64}
 use Rattle.pcfs_top.specs.Interpreter.{IsAllowed}
+use Rattle.pcfs_top.specs.ScriptRun.{Standing}
 use Rattle.access_history.proofs.HistoryLemmas.{SFits-moment}
 use Rattle.pcfs_top.proofs.InterpreterLemmas.{IsFollowed-at, IsFollowed-as, IsFollowed-show, IsFollowed-same}
 use Rattle.pcfs_top.proofs.interpreter.Interpreter.follow.Goals as goal
@@ -25,7 +26,7 @@ pub returns-in-Verify-clause-ok : goal.returns-in-Verify-clause-ok
 returns-in-Verify-clause-ok c = IfOk-weaker c.verify.result _ _ (λ reply followed. IsFollowed-same _ _ c.args.command _ reply c.in-Verify.is followed) c.verify.ensures.ok
 
 pub returns-in-Procap-clause-ok : goal.returns-in-Procap-clause-ok
-returns-in-Procap-clause-ok c = IfOk-weaker c.ask.result _ _ (λ reply asked. IsFollowed-show _ _ c.args.command c.in-Procap.number reply c.in-Procap.is asked) c.ask.ensures.ok
+returns-in-Procap-clause-ok c = IfOk-weaker c.ask.result _ _ (λ reply asked. IsFollowed-show _ _ c.args.command c.in-Procap.number reply (ap (λ (s : Standing). s.asker.sees) c.self.view_is) c.in-Procap.is asked) c.ask.ensures.ok
 
 pub returns-in-Do-clause-ok : goal.returns-in-Do-clause-ok
 returns-in-Do-clause-ok c = IfOk-weaker c.act.result _ _ (λ reply followed. IsFollowed-same _ _ c.args.command _ reply c.in-Do.is followed) c.act.ensures.ok
