@@ -1,5 +1,6 @@
 pub mod LimitLemmas
 pub mod LineLemmas
 pub mod ProcapCount
+pub mod ProofTimeLemmas
 pub mod ReadLemmas
 pub mod TotalLemmas

@@ -1,18 +1,20 @@
 -- What is known of the arguments that the words of a line write: few bytes, a second within the range, numbers that can be cited.
-use Rattle.std.proofs.Common.{◌≡◌, ◌≤◌, ℕ, ℤ, List, [], ◌∷◌, length, IsTrue, sym, ap, ◌∙◌, subst, arith}
+use Rattle.std.proofs.Common.{◌≡◌, ◌≤◌, ℕ, ℤ, List, [], ◌∷◌, length, Option, IsTrue, sym, ap, ◌∙◌, subst, arith}
 use Rattle.bl_syntax.specs.Names.{is_text, is_principal_name}
+use Rattle.bl_syntax.specs.Statement.{StatementView, IsStatement}
 use Rattle.bl_syntax.specs.TimeOrder.{IsMoment}
 use Rattle.bl_syntax.specs.declared.grant.Goal.{Goal}
 use Rattle.file_world.specs.declared.operation.Op.{Op}
 use Rattle.file_world.specs.Effect.{IsOperation}
 use Rattle.file_world.specs.Needs.{bytes_to_write}
+use Rattle.proof_term.specs.Limits.{HasTimesInRange}
 use Rattle.proof_term.specs.Proof.{ProofView}
 use Rattle.line_words.specs.Cited.{IsCited}
 use Rattle.line_words.specs.Cutting.{first_cut}
 use Rattle.line_words.specs.Kinds.{blank, Sets}
 use Rattle.line_words.specs.Reading.{AreWords}
-use Rattle.line_words.specs.declared.kinds.Kind.{Kind}
-use Rattle.line_words.specs.declared.kinds.Kind.TheVariants as kinds
+use Rattle.line_words.specs.declared.kinds.WordKind.{WordKind}
+use Rattle.line_words.specs.declared.kinds.WordKind.TheVariants as kinds
 use Rattle.line_words.specs.declared.arguments.Arguments.{Arguments}
 use Rattle.line_words.specs.declared.procap_word.ProcapWord.{ProcapWord}
 use Rattle.line_words.proofs.CitedLemmas.{joined_some}
@@ -26,23 +28,24 @@ use Rattle.line_forms.specs.Cited.{CanBeCited}
 use Rattle.line_forms.specs.Forms.{kinds_of_operation, kinds_of}
 use Rattle.line_forms.specs.Lines.{IsAsked, IsLine}
 use Rattle.line_forms.specs.Making.{op_of}
+use Rattle.line_forms.proofs.ProofTimeLemmas.{IsProofText-times}
 
 -- what is left of the words after the first of them
-record AreOthers (kinds : List Kind) (after : Arguments) (rest : List ℕ) : Type 0 where
+record AreOthers (kinds : List WordKind) (after : Arguments) (rest : List ℕ) : Type 0 where
   behind : List ℕ
   before : Arguments
   words : AreWords kinds behind before after rest
 
-others : (kind : Kind) (kinds : List Kind) (behind : List ℕ) (before after : Arguments) (rest : List ℕ) → AreWords (kind ∷ kinds) behind before after rest → AreOthers kinds after rest
+others : (kind : WordKind) (kinds : List WordKind) (behind : List ℕ) (before after : Arguments) (rest : List ℕ) → AreWords (kind ∷ kinds) behind before after rest → AreOthers kinds after rest
 others kind kinds [] before after rest h = absurd h
 others kind kinds (space ∷ line) before after rest h = record { behind = (first_cut line).behind; before = h.0; words = h.2 }
 
 -- a last word of its kind
-record IsLast (kind : Kind) (before after : Arguments) : Type 0 where
+record IsLast (kind : WordKind) (before after : Arguments) : Type 0 where
   word : List ℕ
   set : Sets kind word before after
 
-last : (kind : Kind) (behind : List ℕ) (before after : Arguments) (rest : List ℕ) → AreWords (kind ∷ []) behind before after rest → IsLast kind before after
+last : (kind : WordKind) (behind : List ℕ) (before after : Arguments) (rest : List ℕ) → AreWords (kind ∷ []) behind before after rest → IsLast kind before after
 last kind [] before after rest h = absurd h
 last kind (space ∷ line) before after rest h = record { word = (first_cut line).word; set = subst (λ a. Sets kind (first_cut line).word before a) (sym h.2.0) h.1 }
 
@@ -154,6 +157,23 @@ caller_asked (Do operation) behind a rest text who words asked = absurd (cc)
 pub caller_of_line : (line who : List ℕ) → IsLine line (commands.As who) → IsTrue (is_principal_name who)
 caller_of_line line who h = caller_asked h.form h.has_words.behind h.arguments h.rest _ who h.has_words.words h.asked
 
+-- ---- the statement
+
+statement_asked : (form : Form) (a : Arguments) (text : List ℕ) (signature : Option (List ℕ)) (statement : StatementView) → IsAsked form a text (commands.Register signature statement) → IsStatement statement
+statement_asked At a text signature statement asked = absurd (cc)
+statement_asked As a text signature statement asked = absurd (cc)
+statement_asked Register a text signature statement asked =
+    let same = asked.2 in
+    let statement_is : asked.0 ≡ statement = cc in
+    subst IsStatement statement_is asked.1.is_statement
+statement_asked Procap a text signature statement asked = absurd (cc)
+statement_asked Verify a text signature statement asked = let no = asked.2 in absurd (cc)
+statement_asked Check a text signature statement asked = let no = asked.2 in absurd (cc)
+statement_asked (Do operation) a text signature statement asked = absurd (cc)
+
+pub statement_of_line : (line : List ℕ) (signature : Option (List ℕ)) (statement : StatementView) → IsLine line (commands.Register signature statement) → IsStatement statement
+statement_of_line line signature statement h = statement_asked h.form h.arguments _ signature statement h.asked
+
 -- ---- the clock
 
 second_asked : (form : Form) (behind : List ℕ) (a : Arguments) (rest text : List ℕ) (second : ℤ) → AreWords (kinds_of form) behind blank a rest → IsAsked form a text (commands.At second) → IsMoment second
@@ -215,3 +235,35 @@ cited_of_verify line goal numbers proof h = verify_asked h.form h.has_words.behi
 
 pub cited_of_check : (line : List ℕ) (goal : Goal) (numbers : List ℕ) (proof : ProofView) → IsLine line (commands.Check goal numbers proof) → CanBeCited numbers
 cited_of_check line goal numbers proof h = check_asked h.form h.has_words.behind h.arguments h.rest _ goal numbers proof h.has_words.words h.asked
+
+-- ---- times in proofs
+
+verify_times : (form : Form) (a : Arguments) (text : List ℕ) (goal : Goal) (numbers : List ℕ) (proof : ProofView) → IsAsked form a text (commands.Verify goal numbers proof) → HasTimesInRange proof
+verify_times At a text goal numbers proof asked = absurd (cc)
+verify_times As a text goal numbers proof asked = absurd (cc)
+verify_times Register a text goal numbers proof asked = let no = asked.2 in absurd (cc)
+verify_times Procap a text goal numbers proof asked = absurd (cc)
+verify_times Verify a text goal numbers proof asked =
+    let same = asked.2 in
+    let proof_is : asked.0 ≡ proof = cc in
+    subst HasTimesInRange proof_is (IsProofText-times asked.1)
+verify_times Check a text goal numbers proof asked = let no = asked.2 in absurd (cc)
+verify_times (Do operation) a text goal numbers proof asked = absurd (cc)
+
+pub times_of_verify : (line : List ℕ) (goal : Goal) (numbers : List ℕ) (proof : ProofView) → IsLine line (commands.Verify goal numbers proof) → HasTimesInRange proof
+times_of_verify line goal numbers proof h = verify_times h.form h.arguments _ goal numbers proof h.asked
+
+check_times : (form : Form) (a : Arguments) (text : List ℕ) (goal : Goal) (numbers : List ℕ) (proof : ProofView) → IsAsked form a text (commands.Check goal numbers proof) → HasTimesInRange proof
+check_times At a text goal numbers proof asked = absurd (cc)
+check_times As a text goal numbers proof asked = absurd (cc)
+check_times Register a text goal numbers proof asked = let no = asked.2 in absurd (cc)
+check_times Procap a text goal numbers proof asked = absurd (cc)
+check_times Verify a text goal numbers proof asked = let no = asked.2 in absurd (cc)
+check_times Check a text goal numbers proof asked =
+    let same = asked.2 in
+    let proof_is : asked.0 ≡ proof = cc in
+    subst HasTimesInRange proof_is (IsProofText-times asked.1)
+check_times (Do operation) a text goal numbers proof asked = absurd (cc)
+
+pub times_of_check : (line : List ℕ) (goal : Goal) (numbers : List ℕ) (proof : ProofView) → IsLine line (commands.Check goal numbers proof) → HasTimesInRange proof
+times_of_check line goal numbers proof h = check_times h.form h.arguments _ goal numbers proof h.asked

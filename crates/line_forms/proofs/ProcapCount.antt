@@ -5,8 +5,8 @@ use Rattle.file_world.specs.Needs.{slots}
 use Rattle.line_words.specs.Cutting.{first_cut}
 use Rattle.line_words.specs.Kinds.{blank, Sets}
 use Rattle.line_words.specs.Reading.{AreWords}
-use Rattle.line_words.specs.declared.kinds.Kind.{Kind}
-use Rattle.line_words.specs.declared.kinds.Kind.TheVariants as kinds
+use Rattle.line_words.specs.declared.kinds.WordKind.{WordKind}
+use Rattle.line_words.specs.declared.kinds.WordKind.TheVariants as kinds
 use Rattle.line_words.specs.declared.arguments.Arguments.{Arguments}
 use Rattle.line_words.specs.declared.procap_word.ProcapWord.{ProcapWord}
 use Rattle.line_forms.specs.declared.command.Command.{Command}
@@ -20,7 +20,7 @@ use Rattle.line_forms.specs.Lines.{IsAsked, IsLine}
 use Rattle.line_forms.specs.Making.{op_of}
 
 -- how many procaps a word of the kind gives
-abbrev procaps_of : Kind → ℕ
+abbrev procaps_of : WordKind → ℕ
 procaps_of kinds.Node = 0
 procaps_of kinds.Target = 0
 procaps_of kinds.Name = 0
@@ -38,14 +38,14 @@ procaps_of kinds.Cited = 0
 procaps_of kinds.Signature = 0
 procaps_of kinds.Procap = 1
 
-abbrev procaps_in : List Kind → ℕ
+abbrev procaps_in : List WordKind → ℕ
 procaps_in [] = 0
 procaps_in (kind ∷ kinds) = procaps_of kind + procaps_in kinds
 
 none_more : (before after plain : Arguments) → after ≡ plain → length plain.procaps ≡ length before.procaps → length after.procaps ≡ length before.procaps + 0
 none_more before after plain same h = omega (arith, ap (λ (a : Arguments). length a.procaps) same, h)
 
-one_word : (kind : Kind) (word : List ℕ) (before after : Arguments) → Sets kind word before after → length after.procaps ≡ length before.procaps + procaps_of kind
+one_word : (kind : WordKind) (word : List ℕ) (before after : Arguments) → Sets kind word before after → length after.procaps ≡ length before.procaps + procaps_of kind
 one_word kinds.Node word before after h = none_more before after _ h.1 refl
 one_word kinds.Target word before after h = none_more before after _ h.1 refl
 one_word kinds.Name word before after h = none_more before after _ h.1 refl
@@ -63,7 +63,7 @@ one_word kinds.Cited word before after h = none_more before after _ h.1 refl
 one_word kinds.Signature word before after h = none_more before after _ h.1 refl
 one_word kinds.Procap word before after h = omega (arith, ap (λ (a : Arguments). length a.procaps) h.2, length-append before.procaps (h.0 ∷ []))
 
-all_words : (kinds : List Kind) (behind : List ℕ) (before after : Arguments) (rest : List ℕ) → AreWords kinds behind before after rest → length after.procaps ≡ length before.procaps + procaps_in kinds
+all_words : (kinds : List WordKind) (behind : List ℕ) (before after : Arguments) (rest : List ℕ) → AreWords kinds behind before after rest → length after.procaps ≡ length before.procaps + procaps_in kinds
 all_words [] behind before after rest h = omega (arith, ap (λ (a : Arguments). length a.procaps) h.0)
 all_words (kind ∷ kinds) [] before after rest h = absurd h
 all_words (kind ∷ kinds) (space ∷ line) before after rest h =

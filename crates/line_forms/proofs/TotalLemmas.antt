@@ -15,7 +15,7 @@ use Rattle.line_forms.specs.declared.fault.LineFault.TheVariants.{BadWord, BadCo
 use Rattle.line_forms.specs.Forms.{kinds_of}
 use Rattle.line_forms.specs.Heads.{Head, head_of, is_counted, text_of}
 use Rattle.line_forms.specs.Lines.{HasWords, IsLine, IsLineFault, of_head, of_count, of_word, of_text}
-use Rattle.line_forms.specs.Making.{op_of, goal_of}
+use Rattle.line_forms.specs.Making.{op_of, written_goal}
 
 -- the line asks for something, or has a fault
 abbrev IsToldOf : List ℕ → Type 0
@@ -30,11 +30,11 @@ by_form line Register a rest h = elim (statement_or_its_fault (text_of rest)) [
 ]
 by_form line Procap a rest h = inl (commands.Procap a.issue, record { form = Procap; arguments = a; rest = rest; has_words = h; asked = refl })
 by_form line Verify a rest h = elim (proof_or_its_fault (text_of rest)) [
-  | inl one ↦ inl (commands.Verify (goal_of a) a.cited one.0, record { form = Verify; arguments = a; rest = rest; has_words = h; asked = (one.0, one.1, refl) })
+  | inl one ↦ inl (commands.Verify (written_goal a) a.cited one.0, record { form = Verify; arguments = a; rest = rest; has_words = h; asked = (one.0, one.1, refl) })
   | inr bad ↦ inr (BadText bad.0, of_text Verify a rest bad.0 h bad.1 bad.2)
 ]
 by_form line Check a rest h = elim (proof_or_its_fault (text_of rest)) [
-  | inl one ↦ inl (commands.Check (goal_of a) a.cited one.0, record { form = Check; arguments = a; rest = rest; has_words = h; asked = (one.0, one.1, refl) })
+  | inl one ↦ inl (commands.Check (written_goal a) a.cited one.0, record { form = Check; arguments = a; rest = rest; has_words = h; asked = (one.0, one.1, refl) })
   | inr bad ↦ inr (BadText bad.0, of_text Check a rest bad.0 h bad.1 bad.2)
 ]
 by_form line (Do operation) a rest h = inl (commands.Do (op_of operation a) a.procaps, record { form = Do operation; arguments = a; rest = rest; has_words = h; asked = refl })

@@ -1,8 +1,8 @@
 -- The forms of lines: their names and the kinds of their words (this project's own).
 use Rattle.std.specs.Prelude.{ℕ, List, [], ◌∷◌, codes, Bool, true, false, Option, Some, None, if◌then◌else◌}
 use Rattle.std.specs.Str.{bytes_eq}
-use Rattle.line_words.specs.declared.kinds.Kind.{Kind}
-use Rattle.line_words.specs.declared.kinds.Kind.TheVariants as kinds
+use Rattle.line_words.specs.declared.kinds.WordKind.{WordKind}
+use Rattle.line_words.specs.declared.kinds.WordKind.TheVariants as kinds
 use Rattle.line_forms.specs.declared.forms.Operation.{Operation}
 use Rattle.line_forms.specs.declared.forms.Operation.TheVariants.{Read, Write, Truncate, List as ListOf, Lookup, Create, Mkdir, Unlink, Rename, Getattr, Setattr, Delattr, Chown}
 use Rattle.line_forms.specs.declared.forms.Form.{Form}
@@ -51,7 +51,7 @@ abbrev pub operation_named : List ℕ → Option Operation
 operation_named word = first_found (tree_operation_named word) (attribute_operation_named word)
 
 -- the kinds of the words after an operation's name: those of its arguments, and a procap for each place of its needs
-abbrev pub kinds_of_operation : Operation → List Kind
+abbrev pub kinds_of_operation : Operation → List WordKind
 kinds_of_operation Read = kinds.Node ∷ kinds.Offset ∷ kinds.Most ∷ kinds.Procap ∷ []
 kinds_of_operation Write = kinds.Node ∷ kinds.Offset ∷ kinds.Data ∷ kinds.Procap ∷ []
 kinds_of_operation Truncate = kinds.Node ∷ kinds.Len ∷ kinds.Procap ∷ []
@@ -67,7 +67,7 @@ kinds_of_operation Delattr = kinds.Node ∷ kinds.Name ∷ kinds.Procap ∷ []
 kinds_of_operation Chown = kinds.Node ∷ kinds.Who ∷ kinds.Procap ∷ []
 
 -- the kinds of the words after the name of a form
-abbrev pub kinds_of : Form → List Kind
+abbrev pub kinds_of : Form → List WordKind
 kinds_of At = kinds.Second ∷ []
 kinds_of As = kinds.Who ∷ []
 kinds_of Register = kinds.Signature ∷ []

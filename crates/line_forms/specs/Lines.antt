@@ -17,7 +17,7 @@ use Rattle.line_forms.specs.declared.fault.LineFault.{LineFault}
 use Rattle.line_forms.specs.declared.fault.LineFault.TheVariants.{BadWord, BadCount, BadText, NoMemory}
 use Rattle.line_forms.specs.Forms.{kinds_of}
 use Rattle.line_forms.specs.Heads.{head_of, is_counted, text_of}
-use Rattle.line_forms.specs.Making.{op_of, goal_of}
+use Rattle.line_forms.specs.Making.{op_of, written_goal}
 
 -- a line of the form with these arguments and this text asks for the command
 abbrev pub IsAsked : Form → Arguments → List ℕ → Command → Type 0
@@ -25,8 +25,8 @@ IsAsked At a text command = command ≡ commands.At a.second
 IsAsked As a text command = command ≡ commands.As a.who
 IsAsked Register a text command = (statement : StatementView) × IsStatementText text statement × (command ≡ commands.Register a.signature statement)
 IsAsked Procap a text command = command ≡ commands.Procap a.issue
-IsAsked Verify a text command = (proof : ProofView) × IsProofText text proof × (command ≡ commands.Verify (goal_of a) a.cited proof)
-IsAsked Check a text command = (proof : ProofView) × IsProofText text proof × (command ≡ commands.Check (goal_of a) a.cited proof)
+IsAsked Verify a text command = (proof : ProofView) × IsProofText text proof × (command ≡ commands.Verify (written_goal a) a.cited proof)
+IsAsked Check a text command = (proof : ProofView) × IsProofText text proof × (command ≡ commands.Check (written_goal a) a.cited proof)
 IsAsked (Do operation) a text command = command ≡ commands.Do (op_of operation a) a.procaps
 
 -- the text, which is none of what a line of the form has there, has this first fault

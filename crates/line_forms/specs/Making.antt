@@ -23,5 +23,5 @@ op_of Delattr a = ops.Delattr a.node a.name
 op_of Chown a = ops.Chown a.node a.who
 
 -- the goal of a proof
-abbrev pub goal_of : Arguments → Goal
-goal_of a = record { who = a.who; file = a.node; perm = a.perm }
+abbrev pub written_goal : Arguments → Goal
+written_goal a = record { who = a.who; file = a.node; perm = a.perm }

@@ -3,7 +3,7 @@
 ghost use Rattle.std.specs.Prelude.{◌≡◌, ◌==◌};
 ghost use Rattle.line_forms.specs.Forms.{form_named, tree_operation_named, attribute_operation_named, operation_named, kinds_of_operation, kinds_of, has_text};
 
-use line_words::Kind;
+use line_words::WordKind as Kind;
 
 /// An operation on the file system, by its name.
 #[derive(Clone, Copy, Debug, PartialEq, Eq)]

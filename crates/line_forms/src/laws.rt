@@ -1,16 +1,18 @@
 //! Laws of lines. A law is the contract of an empty function, which nothing calls.
 
-ghost use Rattle.std.specs.Prelude.{◌≡◌, ◌≤◌, ◌⊎◌, ℕ, ℤ, List, length, IsTrue};
+ghost use Rattle.std.specs.Prelude.{◌≡◌, ◌≤◌, ◌⊎◌, ℕ, ℤ, List, length, Option, IsTrue};
 ghost use Rattle.bl_syntax.specs.Names.{is_principal_name};
+ghost use Rattle.bl_syntax.specs.Statement.{StatementView, IsStatement};
 ghost use Rattle.bl_syntax.specs.TimeOrder.{IsMoment};
 ghost use Rattle.bl_syntax.specs.declared.grant.Goal.{Goal};
 ghost use Rattle.file_world.specs.declared.operation.Op.{Op};
 ghost use Rattle.file_world.specs.Effect.{IsOperation};
 ghost use Rattle.file_world.specs.Needs.{slots, bytes_to_write};
+ghost use Rattle.proof_term.specs.Limits.{HasTimesInRange};
 ghost use Rattle.proof_term.specs.Proof.{ProofView};
 ghost use Rattle.line_words.specs.declared.procap_word.ProcapWord.{ProcapWord};
 ghost use Rattle.line_forms.specs.declared.command.Command.{Command};
-ghost use Rattle.line_forms.specs.declared.command.Command.TheVariants.{At, As, Verify, Check, Do};
+ghost use Rattle.line_forms.specs.declared.command.Command.TheVariants.{At, As, Register, Verify, Check, Do};
 ghost use Rattle.line_forms.specs.declared.fault.LineFault.{LineFault};
 ghost use Rattle.line_forms.specs.Cited.{CanBeCited};
 ghost use Rattle.line_forms.specs.Lines.{IsLine, IsLineFault};
@@ -50,6 +52,11 @@ pub fn operation_of_a_line()
     ensures { (line : List ℕ) (op : Op) (procaps : List ProcapWord) → IsLine line (Do op procaps) → IsOperation op }
 {}
 
+/// What a line asks to register may be said.
+pub fn statement_of_a_line()
+    ensures { (line : List ℕ) (signature : Option (List ℕ)) (statement : StatementView) → IsLine line (Register signature statement) → IsStatement statement }
+{}
+
 /// A line that sets the caller names a principal.
 pub fn caller_of_a_line()
     ensures { (line who : List ℕ) → IsLine line (As who) → IsTrue (is_principal_name who) }
@@ -58,6 +65,12 @@ pub fn caller_of_a_line()
 /// A line that sets the clock sets it within the range of moments.
 pub fn second_in_range()
     ensures { (line : List ℕ) (second : ℤ) → IsLine line (At second) → IsMoment second }
+{}
+
+/// The proof of a line names no time outside the range of moments.
+pub fn times_of_a_proof()
+    ensures verified { (line : List ℕ) (goal : Goal) (numbers : List ℕ) (proof : ProofView) → IsLine line (Verify goal numbers proof) → HasTimesInRange proof }
+    ensures checked { (line : List ℕ) (goal : Goal) (numbers : List ℕ) (proof : ProofView) → IsLine line (Check goal numbers proof) → HasTimesInRange proof }
 {}
 
 /// The numbers that a line with a proof cites can be cited: there are 1 to 64, strictly rising.

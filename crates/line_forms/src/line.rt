@@ -9,7 +9,7 @@ use crate::command::Command;
 use crate::fault::{LineFault, text_fault, word_fault};
 use crate::forms::{Form, kinds_of};
 use crate::head::{head_of, is_counted, text_of};
-use crate::making::{do_command, goal_of};
+use crate::making::{do_command, written_goal};
 use bl_text::parse_statement;
 use line_words::{Arguments, read_words};
 use proof_text::parse_proof;
@@ -30,7 +30,7 @@ fn verify(alloc: Global, arguments: Arguments, text: &[u8]) -> Result<Command, L
     ensures { MatchResult result (IsAsked Verify arguments text.now) (IsTextUnread Verify text.now) }
 {
     match parse_proof(alloc, text) {
-        Ok(proof) => Ok(Command::Verify(goal_of(&arguments), arguments.cited, proof)),
+        Ok(proof) => Ok(Command::Verify(written_goal(&arguments), arguments.cited, proof)),
         Err(fault) => Err(text_fault(fault)),
     }
 }
@@ -40,7 +40,7 @@ fn check(alloc: Global, arguments: Arguments, text: &[u8]) -> Result<Command, Li
     ensures { MatchResult result (IsAsked Check arguments text.now) (IsTextUnread Check text.now) }
 {
     match parse_proof(alloc, text) {
-        Ok(proof) => Ok(Command::Check(goal_of(&arguments), arguments.cited, proof)),
+        Ok(proof) => Ok(Command::Check(written_goal(&arguments), arguments.cited, proof)),
         Err(fault) => Err(text_fault(fault)),
     }
 }

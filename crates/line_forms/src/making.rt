@@ -2,7 +2,7 @@
 
 ghost use Rattle.std.specs.Prelude.{◌≡◌};
 ghost use Rattle.line_forms.specs.declared.command.Command.TheVariants.{Do};
-ghost use Rattle.line_forms.specs.Making.{op_of, goal_of};
+ghost use Rattle.line_forms.specs.Making.{op_of, written_goal};
 
 use crate::command::Command;
 use crate::forms::Operation;
@@ -45,8 +45,8 @@ pub fn do_command(operation: Operation, arguments: Arguments) -> Command
 }
 
 /// The goal of a proof.
-pub fn goal_of(arguments: &Arguments) -> Goal
-    ensures { result ≡ goal_of arguments.now }
+pub fn written_goal(arguments: &Arguments) -> Goal
+    ensures { result ≡ written_goal arguments.now }
 {
     Goal {
         who: arguments.who,

@@ -1,7 +1,7 @@
 -- A word of a kind writes one thing.
 use Rattle.std.proofs.Common.{◌≡◌, ◌^◌, ℕ, List, [], ◌∷◌, ◌++◌, refl, sym, ap, ◌∙◌, arith}
-use Rattle.line_words.specs.declared.kinds.Kind.{Kind}
-use Rattle.line_words.specs.declared.kinds.Kind.TheVariants.{Node, Target, Name, NewName, Offset, Len, Most, Data, Value, Who, Permission, Second, Issue, Cited, Signature, Procap}
+use Rattle.line_words.specs.declared.kinds.WordKind.{WordKind}
+use Rattle.line_words.specs.declared.kinds.WordKind.TheVariants.{Node, Target, Name, NewName, Offset, Len, Most, Data, Value, Who, Permission, Second, Issue, Cited, Signature, Procap}
 use Rattle.line_words.specs.declared.arguments.Arguments.{Arguments}
 use Rattle.line_words.specs.Kinds.{Sets}
 use Rattle.line_words.proofs.NumeralLemmas.{IsFile-unique, IsNumberBelow-unique, IsSecond-unique, IsNumber-unique}
@@ -9,7 +9,7 @@ use Rattle.line_words.proofs.GrammarLemmas.{IsName-unique, IsPrincipal-unique, I
 use Rattle.line_words.proofs.CitedLemmas.{AreJoined-same}
 use Rattle.line_words.proofs.ProcapLemmas.{IsProcapWord-same, IsSigned-same}
 
-pub Sets-unique : (kind : Kind) (word : List ℕ) (before first second : Arguments) → Sets kind word before first → Sets kind word before second → first ≡ second
+pub Sets-unique : (kind : WordKind) (word : List ℕ) (before first second : Arguments) → Sets kind word before first → Sets kind word before second → first ≡ second
 Sets-unique Node word before first second h k = h.1 ∙ ap (λ x. record before { node = x }) (IsFile-unique h.0 k.0) ∙ sym k.1
 Sets-unique Target word before first second h k = h.1 ∙ ap (λ x. record before { target = x }) (IsFile-unique h.0 k.0) ∙ sym k.1
 Sets-unique Name word before first second h k = h.1 ∙ ap (λ x. record before { name = x }) (IsName-unique h.0 k.0) ∙ sym k.1

@@ -1,7 +1,7 @@
 -- A word is of a kind, or of no such kind; words of given kinds come next, or one of them is the first bad one.
 use Rattle.std.proofs.Common.{◌≡◌, ◌^◌, ◌-◌, ℕ, List, [], ◌∷◌, ◌++◌, length, ◌⊎◌, inl, inr, refl, arith}
-use Rattle.line_words.specs.declared.kinds.Kind.{Kind}
-use Rattle.line_words.specs.declared.kinds.Kind.TheVariants.{Node, Target, Name, NewName, Offset, Len, Most, Data, Value, Who, Permission, Second, Issue, Cited, Signature, Procap}
+use Rattle.line_words.specs.declared.kinds.WordKind.{WordKind}
+use Rattle.line_words.specs.declared.kinds.WordKind.TheVariants.{Node, Target, Name, NewName, Offset, Len, Most, Data, Value, Who, Permission, Second, Issue, Cited, Signature, Procap}
 use Rattle.line_words.specs.declared.arguments.Arguments.{Arguments}
 use Rattle.line_words.specs.Cutting.{first_cut}
 use Rattle.line_words.specs.Kinds.{Sets, IsOutside}
@@ -9,10 +9,10 @@ use Rattle.line_words.specs.Reading.{AreWords, IsBadWord, missing, outside, late
 use Rattle.line_words.proofs.DecisionLemmas.{IsDecided, number_decided, file_decided, issue_decided, second_decided, name_decided, principal_decided, quoted_decided, permission_decided, data_decided, signed_decided, cited_decided, procap_decided}
 
 -- the word sets the field, or it is of no such kind
-abbrev IsTold : Kind → List ℕ → Arguments → Type 0
+abbrev IsTold : WordKind → List ℕ → Arguments → Type 0
 IsTold kind word before = ((after : Arguments) × Sets kind word before after) ⊎ IsOutside kind word
 
-pub set_or_outside : (kind : Kind) (word : List ℕ) (before : Arguments) → IsTold kind word before
+pub set_or_outside : (kind : WordKind) (word : List ℕ) (before : Arguments) → IsTold kind word before
 set_or_outside Node word before = elim (file_decided word) [ inl one ↦ inl (record before { node = one.0 }, (one.1, refl)) | inr none ↦ inr (λ b a h. none a.node h.0) ]
 set_or_outside Target word before = elim (file_decided word) [ inl one ↦ inl (record before { target = one.0 }, (one.1, refl)) | inr none ↦ inr (λ b a h. none a.target h.0) ]
 set_or_outside Name word before = elim (name_decided word) [ inl one ↦ inl (record before { name = one.0 }, (one.1, refl)) | inr none ↦ inr (λ b a h. none a.name h.0) ]
@@ -34,10 +34,10 @@ set_or_outside Procap word before = elim (procap_decided word) [
 ]
 
 -- the words set their fields, or one of them is the first bad one
-abbrev AreTold : ℕ → List Kind → List ℕ → Arguments → Type 0
+abbrev AreTold : ℕ → List WordKind → List ℕ → Arguments → Type 0
 AreTold whole kinds behind before = ((after : Arguments) × (rest : List ℕ) × AreWords kinds behind before after rest) ⊎ ((place : ℕ) × IsBadWord whole kinds behind place)
 
-pub words_or_bad_word : (whole : ℕ) (kinds : List Kind) (behind : List ℕ) (before : Arguments) → AreTold whole kinds behind before
+pub words_or_bad_word : (whole : ℕ) (kinds : List WordKind) (behind : List ℕ) (before : Arguments) → AreTold whole kinds behind before
 words_or_bad_word whole [] behind before = inl (before, behind, (refl, refl))
 words_or_bad_word whole (kind ∷ kinds) [] before = inr (whole, missing kind kinds)
 words_or_bad_word whole (kind ∷ kinds) (space ∷ line) before = elim (set_or_outside kind (first_cut line).word before) [

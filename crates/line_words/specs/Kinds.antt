@@ -6,8 +6,8 @@ use Rattle.line_words.specs.Cited.{IsCited}
 use Rattle.line_words.specs.Procaps.{IsProcapWord}
 use Rattle.line_words.specs.Grammar.{IsName, IsPrincipal, IsData, IsQuoted, IsPermission, IsSigned}
 use Rattle.line_words.specs.declared.procap_word.ProcapWord.{ProcapWord}
-use Rattle.line_words.specs.declared.kinds.Kind.{Kind}
-use Rattle.line_words.specs.declared.kinds.Kind.TheVariants.{Node, Target, Name, NewName, Offset, Len, Most, Data, Value, Who, Permission, Second, Issue, Cited, Signature, Procap}
+use Rattle.line_words.specs.declared.kinds.WordKind.{WordKind}
+use Rattle.line_words.specs.declared.kinds.WordKind.TheVariants.{Node, Target, Name, NewName, Offset, Len, Most, Data, Value, Who, Permission, Second, Issue, Cited, Signature, Procap}
 use Rattle.line_words.specs.declared.arguments.Arguments.{Arguments}
 
 -- where no word was read
@@ -31,7 +31,7 @@ blank = record {
 }
 
 -- the word is of the kind, and what it writes goes to the kind's own field
-abbrev pub Sets : Kind → List ℕ → Arguments → Arguments → Type 0
+abbrev pub Sets : WordKind → List ℕ → Arguments → Arguments → Type 0
 Sets Node word before after = IsFile word after.node × (after ≡ record before { node = after.node })
 Sets Target word before after = IsFile word after.target × (after ≡ record before { target = after.target })
 Sets Name word before after = IsName word after.name × (after ≡ record before { name = after.name })
@@ -50,5 +50,5 @@ Sets Signature word before after = IsSigned word after.signature × (after ≡ r
 Sets Procap word before after = (given : ProcapWord) × IsProcapWord word given × (after ≡ record before { procaps = before.procaps ++ given ∷ [] })
 
 -- the word is of no such kind
-abbrev pub IsOutside : Kind → List ℕ → Type 0
+abbrev pub IsOutside : WordKind → List ℕ → Type 0
 IsOutside kind word = (before after : Arguments) → Sets kind word before after → ⊥

@@ -4,7 +4,7 @@ ghost use Rattle.std.specs.Prelude.{◌≡◌, true, false, IsTrue, IfOk, IfSome
 ghost use Rattle.line_words.specs.Kinds.{blank, Sets, IsOutside};
 
 use crate::cited::cited_numbers;
-use crate::kinds::Kind;
+use crate::kinds::WordKind;
 use crate::named::{data, name, permission, principal, quoted, signed};
 use crate::numerals::{count, file, issue, long_number, second};
 use crate::procap_word::{ProcapWords, procap_word};
@@ -72,8 +72,8 @@ impl Arguments {
 
     // Adds the procap that the word gives, and tells whether it gives one.
     fn add_procap(&mut self, alloc: Global, word: &[u8]) -> Result<bool, NoMemory>
-        ensures set { IfOk result (λ fits. IsTrue fits → Sets Kind.Procap word.now self.old self.new) }
-        ensures outside { IfOk result (λ fits. fits ≡ false → IsOutside Kind.Procap word.now) }
+        ensures set { IfOk result (λ fits. IsTrue fits → Sets WordKind.Procap word.now self.old self.new) }
+        ensures outside { IfOk result (λ fits. fits ≡ false → IsOutside WordKind.Procap word.now) }
         ensures kept { IfOk result (λ fits. fits ≡ false → self.new ≡ self.old) }
         ensures err { OnErr result (self.new ≡ self.old) }
     {
@@ -88,29 +88,29 @@ impl Arguments {
 
     /// Reads a word into the field of its kind. It returns false exactly if the word is not of the kind; then, and if
     /// memory runs out, no field is changed.
-    pub fn read(&mut self, alloc: Global, kind: Kind, word: &[u8]) -> Result<bool, NoMemory>
+    pub fn read(&mut self, alloc: Global, kind: WordKind, word: &[u8]) -> Result<bool, NoMemory>
         ensures set { IfOk result (λ fits. IsTrue fits → Sets kind word.now self.old self.new) }
         ensures outside { IfOk result (λ fits. fits ≡ false → IsOutside kind word.now) }
         ensures kept { IfOk result (λ fits. fits ≡ false → self.new ≡ self.old) }
         ensures err { OnErr result (self.new ≡ self.old) }
     {
         match kind {
-            Kind::Node => Ok(put(&mut self.node, file(word))),
-            Kind::Target => Ok(put(&mut self.target, file(word))),
-            Kind::Name => Ok(put(&mut self.name, name(alloc, word)?)),
-            Kind::NewName => Ok(put(&mut self.new_name, name(alloc, word)?)),
-            Kind::Offset => Ok(put(&mut self.offset, long_number(word))),
-            Kind::Len => Ok(put(&mut self.len, long_number(word))),
-            Kind::Most => Ok(put(&mut self.len, count(word))),
-            Kind::Data => Ok(put(&mut self.bytes, data(alloc, word)?)),
-            Kind::Value => Ok(put(&mut self.value, quoted(word))),
-            Kind::Who => Ok(put(&mut self.who, principal(word))),
-            Kind::Permission => Ok(put(&mut self.perm, permission(word))),
-            Kind::Second => Ok(put(&mut self.second, second(word))),
-            Kind::Issue => Ok(put(&mut self.issue, issue(word))),
-            Kind::Cited => Ok(put(&mut self.cited, cited_numbers(alloc, word)?)),
-            Kind::Signature => Ok(put(&mut self.signature, signed(alloc, word)?)),
-            Kind::Procap => self.add_procap(alloc, word),
+            WordKind::Node => Ok(put(&mut self.node, file(word))),
+            WordKind::Target => Ok(put(&mut self.target, file(word))),
+            WordKind::Name => Ok(put(&mut self.name, name(alloc, word)?)),
+            WordKind::NewName => Ok(put(&mut self.new_name, name(alloc, word)?)),
+            WordKind::Offset => Ok(put(&mut self.offset, long_number(word))),
+            WordKind::Len => Ok(put(&mut self.len, long_number(word))),
+            WordKind::Most => Ok(put(&mut self.len, count(word))),
+            WordKind::Data => Ok(put(&mut self.bytes, data(alloc, word)?)),
+            WordKind::Value => Ok(put(&mut self.value, quoted(word))),
+            WordKind::Who => Ok(put(&mut self.who, principal(word))),
+            WordKind::Permission => Ok(put(&mut self.perm, permission(word))),
+            WordKind::Second => Ok(put(&mut self.second, second(word))),
+            WordKind::Issue => Ok(put(&mut self.issue, issue(word))),
+            WordKind::Cited => Ok(put(&mut self.cited, cited_numbers(alloc, word)?)),
+            WordKind::Signature => Ok(put(&mut self.signature, signed(alloc, word)?)),
+            WordKind::Procap => self.add_procap(alloc, word),
         }
     }
 }

@@ -2,7 +2,7 @@
 
 /// What a word of a line stands for.
 #[derive(Clone, Copy, Debug, PartialEq, Eq)]
-pub enum Kind {
+pub enum WordKind {
     /// A node, by its number: `#N`.
     Node,
     /// A second node.

@@ -10,7 +10,7 @@ ghost use Rattle.line_text.specs.Words.{has_first, is_word_end, HasNo};
 ghost use Rattle.procap.specs.declared.procap.Procap.{Procap};
 ghost use Rattle.procap.specs.Procap.{procap_spelling, IsSpellableProcap};
 ghost use Rattle.line_words.specs.declared.arguments.Arguments.{Arguments};
-ghost use Rattle.line_words.specs.declared.kinds.Kind.{Kind};
+ghost use Rattle.line_words.specs.declared.kinds.WordKind.{WordKind};
 ghost use Rattle.line_words.specs.declared.procap_word.ProcapWord.TheVariants.{Held};
 ghost use Rattle.line_words.specs.Cutting.{first_cut};
 ghost use Rattle.line_words.specs.Kinds.{Sets, IsOutside};
@@ -37,35 +37,35 @@ pub fn quoted_text_is_cut()
 
 /// A word of a kind writes one thing.
 pub fn one_meaning_of_a_word()
-    ensures { (kind : Kind) (word : List ℕ) (before first second : Arguments) → Sets kind word before first → Sets kind word before second → first ≡ second }
+    ensures { (kind : WordKind) (word : List ℕ) (before first second : Arguments) → Sets kind word before first → Sets kind word before second → first ≡ second }
 {}
 
 /// A word is of a kind, or it is of no such kind.
 pub fn each_word_is_told()
-    ensures { (kind : Kind) (word : List ℕ) (before : Arguments) → ((after : Arguments) × Sets kind word before after) ⊎ IsOutside kind word }
+    ensures { (kind : WordKind) (word : List ℕ) (before : Arguments) → ((after : Arguments) × Sets kind word before after) ⊎ IsOutside kind word }
 {}
 
 /// Words of given kinds come next, or one of them is the first bad one.
 pub fn words_or_a_bad_word()
-    ensures { (whole : ℕ) (kinds : List Kind) (behind : List ℕ) (before : Arguments) → ((after : Arguments) × (rest : List ℕ) × AreWords kinds behind before after rest)
+    ensures { (whole : ℕ) (kinds : List WordKind) (behind : List ℕ) (before : Arguments) → ((after : Arguments) × (rest : List ℕ) × AreWords kinds behind before after rest)
         ⊎ ((place : ℕ) × IsBadWord whole kinds behind place) }
 {}
 
 /// Words of given kinds write one thing.
 pub fn one_meaning_of_words()
-    ensures { (kinds : List Kind) (behind : List ℕ) (before first second : Arguments) (x y : List ℕ) → AreWords kinds behind before first x → AreWords kinds behind before second y
+    ensures { (kinds : List WordKind) (behind : List ℕ) (before first second : Arguments) (x y : List ℕ) → AreWords kinds behind before first x → AreWords kinds behind before second y
         → (first ≡ second) × (x ≡ y) }
 {}
 
 /// Among words of given kinds none is bad.
 pub fn no_bad_word_among_words()
-    ensures { (whole : ℕ) (kinds : List Kind) (behind : List ℕ) (before after : Arguments) (rest : List ℕ) (place : ℕ) → AreWords kinds behind before after rest
+    ensures { (whole : ℕ) (kinds : List WordKind) (behind : List ℕ) (before after : Arguments) (rest : List ℕ) (place : ℕ) → AreWords kinds behind before after rest
         → IsBadWord whole kinds behind place → ⊥ }
 {}
 
 /// One word at most is the first bad one.
 pub fn one_bad_word()
-    ensures { (whole : ℕ) (kinds : List Kind) (behind : List ℕ) (first second : ℕ) → IsBadWord whole kinds behind first → IsBadWord whole kinds behind second → first ≡ second }
+    ensures { (whole : ℕ) (kinds : List WordKind) (behind : List ℕ) (first second : ℕ) → IsBadWord whole kinds behind first → IsBadWord whole kinds behind second → first ≡ second }
 {}
 
 /// The word that is written for a node is that of the node.

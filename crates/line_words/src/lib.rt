@@ -18,6 +18,6 @@ mod reading;
 pub use arguments::Arguments;
 pub use cutting::first_word;
 pub use fault::WordFault;
-pub use kinds::Kind;
+pub use kinds::WordKind;
 pub use procap_word::{ProcapWord, ProcapWords};
 pub use reading::{after_words, read_words};

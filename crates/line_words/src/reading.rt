@@ -6,11 +6,11 @@ ghost use Rattle.line_words.specs.Reading.{after_words, AreWords, AreUnread};
 use crate::arguments::Arguments;
 use crate::cutting::first_word;
 use crate::fault::WordFault;
-use crate::kinds::Kind;
+use crate::kinds::WordKind;
 use std::alloc::Global;
 
 /// What stands after as many words as there are kinds; none if there are fewer.
-pub fn after_words<'a>(kinds: &[Kind], behind: &'a [u8]) -> Option<&'a [u8]>
+pub fn after_words<'a>(kinds: &[WordKind], behind: &'a [u8]) -> Option<&'a [u8]>
     ensures { MatchOption result (after_words kinds.now behind.now ≡ None) (λ rest. after_words kinds.now behind.now ≡ Some rest.now) }
 {
     match kinds {
@@ -29,7 +29,7 @@ pub fn after_words<'a>(kinds: &[Kind], behind: &'a [u8]) -> Option<&'a [u8]>
 /// is what stands after the words that were read before, and `whole` is the length of the line.
 pub fn read_words<'a>(
     alloc: Global,
-    kinds: &[Kind],
+    kinds: &[WordKind],
     whole: usize,
     behind: &'a [u8],
     arguments: &mut Arguments,
