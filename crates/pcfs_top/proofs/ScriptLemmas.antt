@@ -10,17 +10,14 @@ use Rattle.access_history.specs.Replay.{fresh}
 use Rattle.access_history.proofs.HeadlineLemmas.{Headline-lawful}
 use Rattle.access_history.proofs.ReplayLemmas.{count-replay}
 use Rattle.line_wire.specs.declared.reply.LineReply.{LineReply}
-use Rattle.line_wire.specs.declared.reply.LineReply.TheVariants.{NoMemory}
 use Rattle.line_wire.specs.ReplyText.{reply_text, output_of}
 use Rattle.pcfs_secrets.specs.declared.secrets.Secrets.{Secrets}
 use Rattle.pcfs_top.specs.LineAnswer.{authority_under}
-use Rattle.pcfs_top.specs.ScriptRun.{Standing, state_of_standing, standing_after, IsLawfulStanding, CanNumber, ScriptRun, fresh_start}
+use Rattle.pcfs_top.specs.ScriptRun.{Standing, state_of_standing, IsLawfulStanding, CanNumber, IsReplied, ScriptRun, fresh_start}
 use Rattle.pcfs_top.specs.ScriptRun as script
-use Rattle.pcfs_top.specs.Interpreter.{IsReplied}
-use Rattle.pcfs_top.specs.Interpreter as interpreter
 use Rattle.pcfs_top.specs.Outbox.{GoesOut}
 use Rattle.pcfs_top.specs.Run.{RunsOver, RunsPart}
-use Rattle.pcfs_top.proofs.LawfulRunLemmas.{CanNumber-answered, CanNumber-fewer, IsLawful-run, IsLawfulStanding-fresh}
+use Rattle.pcfs_top.proofs.LawfulRunLemmas.{CanNumber-replied, IsLawful-run, IsLawfulStanding-fresh}
 use Rattle.pcfs_top.proofs.OutboxLemmas.{with_back-nil, GoesOut-none, GoesOut-more, GoesOut-whole, GoesOut-some, GoesOut-part}
 
 -- ---- a run that goes on
@@ -37,30 +34,12 @@ GoesOn start now done told added =
     (lines : List (List ℕ)) (replies : List LineReply) (events : List Event) → ScriptRun now lines replies events → ScriptRun start (done ++ lines) (told ++ replies) (added ++ events)
 
 -- a run that went on after one line more
-record WentOn (start next : Standing) (done : List (List ℕ)) (told : List LineReply) (added : List Event) (line : List ℕ) (reply : LineReply) : Type 0 where
-  event : Option Event
-  goes_on : GoesOn start next (done ++ line ∷ []) (told ++ reply ∷ []) (added ++ option_to_list event)
-
-went_on : (start now next : Standing) (done : List (List ℕ)) (told : List LineReply) (added : List Event) (line : List ℕ) (reply : LineReply) → GoesOn start now done told added → IsReplied now line reply next → WentOn start next done told added line reply
-went_on start now _ done told added line _ so_far (interpreter.answered reply event asker answer) = record {
-  event = event;
-  goes_on = λ lines replies events run.
-      ScriptRun-same start (done ++ line ∷ lines) ((done ++ line ∷ []) ++ lines) (told ++ reply ∷ replies) ((told ++ reply ∷ []) ++ replies) (added ++ (option_to_list event ++ events)) ((added ++ option_to_list event) ++ events)
-      (sym (append_assoc done (line ∷ []) lines)) (sym (append_assoc told (reply ∷ []) replies)) (sym (append_assoc added (option_to_list event) events))
-      (so_far (line ∷ lines) (reply ∷ replies) (option_to_list event ++ events) (script.answered now line lines reply replies event asker events answer run));
-}
-went_on start now _ done told added line _ so_far interpreter.without_memory = record {
-  event = None;
-  goes_on = λ lines replies events run.
-      ScriptRun-same start (done ++ line ∷ lines) ((done ++ line ∷ []) ++ lines) (told ++ NoMemory ∷ replies) ((told ++ NoMemory ∷ []) ++ replies) (added ++ events) ((added ++ []) ++ events)
-      (sym (append_assoc done (line ∷ []) lines)) (sym (append_assoc told (NoMemory ∷ []) replies)) (ap (λ (es : List Event). es ++ events) (sym (append-nil added)))
-      (so_far (line ∷ lines) (NoMemory ∷ replies) events (script.without_memory now line lines replies events run));
-}
-
--- and there are numbers for the lines that are left
-still_few : (now next : Standing) (line : List ℕ) (lines : List (List ℕ)) (reply : LineReply) → CanNumber now (line ∷ lines) → IsReplied now line reply next → CanNumber next lines
-still_few now _ line lines _ few (interpreter.answered reply event asker answer) = CanNumber-answered now line lines event asker few
-still_few now _ line lines _ few interpreter.without_memory = CanNumber-fewer now line lines few
+went_on : (start now next : Standing) (done : List (List ℕ)) (told : List LineReply) (added : List Event) (line : List ℕ) (reply : LineReply) (event : Option Event) → GoesOn start now done told added → IsReplied now line reply event next →
+    GoesOn start next (done ++ line ∷ []) (told ++ reply ∷ []) (added ++ option_to_list event)
+went_on start now next done told added line reply event so_far replied lines replies events run =
+    ScriptRun-same start (done ++ line ∷ lines) ((done ++ line ∷ []) ++ lines) (told ++ reply ∷ replies) ((told ++ reply ∷ []) ++ replies) (added ++ (option_to_list event ++ events)) ((added ++ option_to_list event) ++ events)
+    (sym (append_assoc done (line ∷ []) lines)) (sym (append_assoc told (reply ∷ []) replies)) (sym (append_assoc added (option_to_list event) events))
+    (so_far (line ∷ lines) (reply ∷ replies) (option_to_list event ++ events) (script.one_more now line lines reply replies event next events replied run))
 
 -- the lines before the rest were run, and their replies are on their way
 pub record HasRun (start now : Standing) (bytes rest : List ℕ) (held mid : Option (List ℕ)) (collected : List ℕ) : Type 0 where
@@ -97,23 +76,21 @@ output-more told reply = flat_map-append (λ (r : LineReply). reply_text r ++ 10
 parts-more : (bytes rest others line : List ℕ) (done : List (List ℕ)) → lines_of bytes ≡ done ++ lines_of rest → lines_of rest ≡ line ∷ lines_of others → lines_of bytes ≡ (done ++ line ∷ []) ++ lines_of others
 parts-more bytes rest others line done parts first = parts ∙ ap (λ (l : List (List ℕ)). done ++ l) first ∙ sym (append_assoc done (line ∷ []) (lines_of others))
 
-few-more : (now next : Standing) (rest others line : List ℕ) (reply : LineReply) → CanNumber now (lines_of rest) → lines_of rest ≡ line ∷ lines_of others → IsReplied now line reply next → CanNumber next (lines_of others)
-few-more now next rest others line reply few first replied = still_few now next line (lines_of others) reply (subst (CanNumber now) first few) replied
+few-more : (now next : Standing) (rest others line : List ℕ) (reply : LineReply) (event : Option Event) → CanNumber now (lines_of rest) → lines_of rest ≡ line ∷ lines_of others → IsReplied now line reply event next → CanNumber next (lines_of others)
+few-more now next rest others line reply event few first replied = CanNumber-replied now next line (lines_of others) reply event (subst (CanNumber now) first few) replied
 
 -- one more line was answered, and its reply is on its way
-pub HasRun-more : (start now next : Standing) (bytes rest others line : List ℕ) (reply : LineReply) (held mid new : Option (List ℕ)) (collected after : List ℕ) → HasRun start now bytes rest held mid collected → lines_of rest ≡ line ∷ lines_of others → IsReplied now line reply next →
+pub HasRun-more : (start now next : Standing) (bytes rest others line : List ℕ) (reply : LineReply) (held mid new : Option (List ℕ)) (collected after : List ℕ) → HasRun start now bytes rest held mid collected → lines_of rest ≡ line ∷ lines_of others → ((event : Option Event) × IsReplied now line reply event next) →
     GoesOut mid (collected ++ (reply_text reply ++ 10 ∷ [])) new after → HasRun start next bytes others held new after
-HasRun-more start now next bytes rest others line reply held mid new collected after h first replied out =
-    let went = went_on start now next h.done h.told h.added line reply h.goes_on replied in
-    record {
-      done = h.done ++ line ∷ [];
-      told = h.told ++ reply ∷ [];
-      added = h.added ++ option_to_list went.event;
-      goes_on = went.goes_on;
-      parts = parts-more bytes rest others line h.done h.parts first;
-      few = few-more now next rest others line reply h.few first replied;
-      output = subst (λ (bs : List ℕ). GoesOut held bs new after) (sym (output-more h.told reply)) (GoesOut-more held mid new (output_of h.told) collected (reply_text reply ++ 10 ∷ []) after h.output out);
-    }
+HasRun-more start now next bytes rest others line reply held mid new collected after h first replied out = record {
+  done = h.done ++ line ∷ [];
+  told = h.told ++ reply ∷ [];
+  added = h.added ++ option_to_list replied.0;
+  goes_on = went_on start now next h.done h.told h.added line reply replied.0 h.goes_on replied.1;
+  parts = parts-more bytes rest others line h.done h.parts first;
+  few = few-more now next rest others line reply replied.0 h.few first replied.1;
+  output = subst (λ (bs : List ℕ). GoesOut held bs new after) (sym (output-more h.told reply)) (GoesOut-more held mid new (output_of h.told) collected (reply_text reply ++ 10 ∷ []) after h.output out);
+}
 
 -- ---- what was run
 
@@ -158,16 +135,16 @@ HasRun-part start now bytes rest held mid new collected stands few h some = (
 
 -- one more line was answered, and some first part of the replies is out
 pub HasRun-cut : (start now next : Standing) (bytes rest others line : List ℕ) (reply : LineReply) (held mid new : Option (List ℕ)) (collected : List ℕ) → IsLawfulStanding start → CanNumber start (lines_of bytes) → HasRun start now bytes rest held mid collected →
-    lines_of rest ≡ line ∷ lines_of others → IsReplied now line reply next → HoldsSome mid new (collected ++ (reply_text reply ++ 10 ∷ [])) → (written : List ℕ) × RunsPart start bytes written × HoldsSome held new written
+    lines_of rest ≡ line ∷ lines_of others → ((event : Option Event) × IsReplied now line reply event next) → HoldsSome mid new (collected ++ (reply_text reply ++ 10 ∷ [])) → (written : List ℕ) × RunsPart start bytes written × HoldsSome held new written
 HasRun-cut start now next bytes rest others line reply held mid new collected stands few h first replied some =
-    let went = went_on start now next h.done h.told h.added line reply h.goes_on replied in
     let parts = parts-more bytes rest others line h.done h.parts first in (
       output_of (h.told ++ reply ∷ []),
       record {
         front = h.done ++ line ∷ [];
         others = lines_of others;
         parts = parts;
-        run = RunsOver-done start next (h.done ++ line ∷ []) (h.told ++ reply ∷ []) (h.added ++ option_to_list went.event) stands (fewer start (lines_of bytes) (h.done ++ line ∷ []) (lines_of others) few parts) went.goes_on;
+        run = RunsOver-done start next (h.done ++ line ∷ []) (h.told ++ reply ∷ []) (h.added ++ option_to_list replied.0) stands (fewer start (lines_of bytes) (h.done ++ line ∷ []) (lines_of others) few parts)
+            (went_on start now next h.done h.told h.added line reply replied.0 h.goes_on replied.1);
       },
       subst (HoldsSome held new) (sym (output-more h.told reply)) (GoesOut-some held mid new (output_of h.told) collected (reply_text reply ++ 10 ∷ []) h.output some),
     )
@@ -175,17 +152,12 @@ HasRun-cut start now next bytes rest others line reply held mid new collected st
 -- ---- a script over a store before its first event
 
 -- no line was answered
-pub RunsPart-none : (secrets : Secrets) (bytes : List ℕ) → RunsPart (fresh_start secrets) bytes []
-RunsPart-none secrets bytes = record {
-  front = [];
-  others = lines_of bytes;
-  parts = refl;
-  run = RunsOver-done (fresh_start secrets) (fresh_start secrets) [] [] [] (IsLawfulStanding-fresh secrets) (omega arith) (λ lines replies events run. run);
-}
+pub RunsOver-none : (secrets : Secrets) → RunsOver (fresh_start secrets) [] []
+RunsOver-none secrets = RunsOver-done (fresh_start secrets) (fresh_start secrets) [] [] [] (IsLawfulStanding-fresh secrets) (omega arith) (λ lines replies events run. run)
 
 -- nothing was run, and nothing written
 pub nothing_run : (secrets : Secrets) (bytes : List ℕ) (held : Option (List ℕ)) → (written : List ℕ) × RunsPart (fresh_start secrets) bytes written × HoldsSome held held written
-nothing_run secrets bytes held = ([], RunsPart-none secrets bytes, record { count = 0; within = omega arith; held = with_back-nil held })
+nothing_run secrets bytes held = ([], record { front = []; others = lines_of bytes; parts = refl; run = RunsOver-none secrets }, record { count = 0; within = omega arith; held = with_back-nil held })
 
 -- there are no more lines than bytes
 length-with_byte : (byte : ℕ) (ls : List (List ℕ)) → length (with_byte byte ls) ≤ length ls + 1

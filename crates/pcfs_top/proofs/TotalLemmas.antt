@@ -1,57 +1,51 @@
--- Each line has an answer.
-use Rattle.std.proofs.Common.{◌≡◌, ◌≢◌, ◌≤◌, ◌+◌, ◌⊎◌, inl, inr, ⊎_elim, ℕ, List, [], ◌∷◌, ◌++◌, length, take, Option, Some, None, Result, Ok, Err, refl, sym, ap, subst, ◌∙◌, arith}
+-- Each line has an answer, and the lines of a script have an outcome.
+use Rattle.std.proofs.Common.{◌≡◌, ◌⊎◌, inl, inr, ℕ, List, [], ◌∷◌, ◌++◌, Option, Some, None, Result, Ok, Err, refl, ap}
+use Rattle.std.specs.Prelude.{◌≢◌}
 use Rattle.std.specs.List.{AllByRecursion}
 use Rattle.std.specs.Option.{option_to_list}
-use Rattle.std.proofs.lemmas.List.{take_all}
 use Rattle.bl_syntax.specs.declared.grant.Goal.{Goal}
 use Rattle.bl_syntax.specs.FirstFailing.{IsFirstFailing}
 use Rattle.bl_syntax.specs.Statement.{StatementView, IsStatement}
 use Rattle.bl_syntax.specs.Grant.{GrantView}
 use Rattle.procap.specs.declared.procap.Procap.{Procap as Sealed}
 use Rattle.proof_term.specs.Proof.{ProofView}
-use Rattle.proof_term.specs.Limits.{HasTimesInRange}
 use Rattle.proof_verifier.specs.declared.cites.Cite.{Cite}
 use Rattle.proof_verifier.specs.declared.fault.CheckFault.{CheckFault}
-use Rattle.proof_verifier.specs.Cited.{statements_of, AreCited}
-use Rattle.proof_verifier.specs.CheckedView.{checked_view, IsGranted}
+use Rattle.proof_verifier.specs.Cited.{statements_of}
+use Rattle.proof_verifier.specs.CheckedView.{checked_view}
 use Rattle.proof_verifier.specs.Verdict.{verdict}
-use Rattle.proof_verifier.proofs.SoundnessVerdict.{SoundGrant-verdict, goal-verdict, IsGrant-verdict}
 use Rattle.pcfs_secrets.specs.declared.secrets.Secrets.{Secrets}
 use Rattle.file_world.specs.declared.operation.Op.{Op}
-use Rattle.file_world.specs.Needs.{slots, bytes_to_write}
 use Rattle.access_history.specs.declared.event.Event.{Event}
 use Rattle.access_history.specs.declared.event.Issue.{Issue}
-use Rattle.access_history.specs.declared.request.StepRequest.{StepRequest}
 use Rattle.access_history.specs.declared.request.StepRequest.TheVariants as requests
 use Rattle.access_history.specs.declared.reply.StepReply.TheVariants.{Absent}
 use Rattle.access_history.specs.Authority.{sayings, procap_of}
 use Rattle.access_history.specs.Base.{BaseView}
-use Rattle.access_history.specs.Citing.{StandsUnderNumber, AreCitable, AreFound, IsAbsent, numbers_of}
+use Rattle.access_history.specs.Citing.{AreFound, IsAbsent}
 use Rattle.access_history.specs.Numbered.{HasNumber, IsNumbered}
-use Rattle.access_history.specs.WellFormed.{IsWellFormed}
 use Rattle.access_history.proofs.AnswerableLemmas.{has_answer}
 use Rattle.access_history.proofs.EitherLemmas.{OrNot, HasFailing, all_or_failing, HasItem, item_or_none, item_of_number}
-use Rattle.access_history.proofs.ListLemmas.{AllByRecursion-contains}
-use Rattle.access_history.proofs.NumberedLemmas.{HasNumber-item, Contains-numbered}
-use Rattle.op_gate.proofs.CitingLemmas.{AreCited-found}
+use Rattle.access_history.proofs.LawfulLemmas.{IsLawfulBase-lawful}
+use Rattle.access_history.proofs.NumberedLemmas.{HasNumber-item}
 use Rattle.line_words.specs.declared.procap_word.ProcapWord.{ProcapWord}
 use Rattle.line_words.specs.declared.procap_word.ProcapWord.TheVariants as words
 use Rattle.line_forms.specs.declared.command.Command.{Command}
 use Rattle.line_forms.specs.declared.command.Command.TheVariants.{At, As, Register, Procap, Verify, Check, Do}
 use Rattle.line_forms.specs.declared.fault.LineFault.{LineFault}
 use Rattle.line_forms.specs.Lines.{IsLine, IsLineFault}
-use Rattle.line_forms.proofs.LimitLemmas.{times_of_verify, times_of_check}
 use Rattle.line_forms.proofs.TotalLemmas.{command_or_a_fault}
 use Rattle.line_wire.specs.declared.reply.LineReply.{LineReply}
 use Rattle.line_wire.specs.declared.reply.LineReply.TheVariants as replies
-use Rattle.pcfs_top.specs.Asker.{Asker, asker_after}
+use Rattle.line_wire.specs.declared.reply.LineReply.TheVariants.{NoMemory}
+use Rattle.pcfs_top.specs.Asker.{Asker, IsAsker, asker_after}
 use Rattle.pcfs_top.specs.Procaps.{BringsProcap, held, issued, NamesIssue, AreBrought, IsFirstUnissued}
 use Rattle.pcfs_top.specs.Proved.{IsUnproved, cites_none, proves_none, IsProved}
 use Rattle.pcfs_top.specs.LineAnswer.{authority_under, signature_under, Look, replied, requested, ComesTo, AnswersCommand, at_once, decided, AnswersLine, faulty, asks}
 use Rattle.pcfs_top.specs.LineAnswer as line_answer
-use Rattle.pcfs_top.proofs.AllowedLemmas.{IsAllowed-line}
-use Rattle.pcfs_top.proofs.BroughtLemmas.{NamesIssue-brought}
-use Rattle.pcfs_top.proofs.LawfulRunLemmas.{same_length}
+use Rattle.pcfs_top.specs.ScriptRun.{Standing, state_of_standing, standing_after, IsLawfulStanding, CanNumber, IsReplied, answered, ScriptRun, ended, one_more, HadMemory}
+use Rattle.pcfs_top.proofs.FormedLemmas.{IsWellFormed-line}
+use Rattle.pcfs_top.proofs.LawfulRunLemmas.{IsLawfulStanding-replied, CanNumber-replied}
 
 -- ---- the statements of numbers
 
@@ -80,42 +74,22 @@ told_of statements numbers (inr failing) = inr (failing.item, record { place = f
 told_of_numbers : (statements : List StatementView) (numbers : List ℕ) → IsToldOfNumbers statements numbers
 told_of_numbers statements numbers = told_of statements numbers (all_or_failing (HasNumber statements) (has_or_not statements) numbers)
 
--- what is found among statements is a statement
-found_statements : (statements : List StatementView) (cites : List Cite) → AllByRecursion IsStatement statements → AllByRecursion (StandsUnderNumber statements) cites → AllByRecursion IsStatement (statements_of cites)
-found_statements statements [] are stand = tt
-found_statements statements (cite ∷ cites) are stand =
-    (AllByRecursion-contains IsStatement statements cite.statement are (Contains-numbered statements cite.number cite.statement stand.0), found_statements statements cites are stand.1)
-
-cited : (statements : List StatementView) (numbers : List ℕ) (cites : List Cite) → AreFound statements numbers cites → AreCitable numbers → AreCited cites
-cited statements numbers cites found citable =
-    AreCited-found statements numbers (length numbers) cites (omega arith) (subst (λ (ns : List ℕ). AreFound statements ns cites) (sym (take_all (length numbers) numbers (omega arith))) found) citable
-
 -- ---- a proof from the statements of numbers
 
--- what it proves, which is sound; or why it proves nothing
+-- what it proves, or why it proves nothing
 abbrev IsToldOfProof : List StatementView → Goal → List ℕ → ProofView → Type 0
-IsToldOfProof statements goal numbers proof =
-    ((cites : List Cite) × (g : GrantView) × IsProved statements goal numbers proof cites g × AreCited cites × IsGranted (statements_of cites) goal proof g) ⊎ ((reply : LineReply) × IsUnproved statements goal numbers proof reply)
+IsToldOfProof statements goal numbers proof = ((cites : List Cite) × (g : GrantView) × IsProved statements goal numbers proof cites g) ⊎ ((reply : LineReply) × IsUnproved statements goal numbers proof reply)
 
-by_verdict : (statements : List StatementView) (goal : Goal) (numbers : List ℕ) (proof : ProofView) (cites : List Cite) → AllByRecursion IsStatement statements → AreCitable numbers → HasTimesInRange proof → AreFound statements numbers cites →
-    (r : Result GrantView CheckFault) → verdict (statements_of cites) goal proof ≡ r → IsToldOfProof statements goal numbers proof
-by_verdict statements goal numbers proof cites are citable times found (Ok g) is =
-    let all = found_statements statements cites are found.stand in
-    inl (cites, g, record { found = found; verdict_is = is }, cited statements numbers cites found citable,
-    record {
-      verdict_is = is;
-      sound = SoundGrant-verdict (statements_of cites) goal proof g all times is;
-      same_goal = goal-verdict (statements_of cites) goal proof g is;
-      is_grant = IsGrant-verdict (statements_of cites) goal proof g all times is;
-    })
-by_verdict statements goal numbers proof cites are citable times found (Err fault) is = inr (replies.Unproved fault, proves_none cites fault found is)
+by_verdict : (statements : List StatementView) (goal : Goal) (numbers : List ℕ) (proof : ProofView) (cites : List Cite) → AreFound statements numbers cites → (r : Result GrantView CheckFault) → verdict (statements_of cites) goal proof ≡ r → IsToldOfProof statements goal numbers proof
+by_verdict statements goal numbers proof cites found (Ok g) is = inl (cites, g, record { found = found; verdict_is = is })
+by_verdict statements goal numbers proof cites found (Err fault) is = inr (replies.Unproved fault, proves_none cites fault found is)
 
-by_numbers : (statements : List StatementView) (goal : Goal) (numbers : List ℕ) (proof : ProofView) → AllByRecursion IsStatement statements → AreCitable numbers → HasTimesInRange proof → IsToldOfNumbers statements numbers → IsToldOfProof statements goal numbers proof
-by_numbers statements goal numbers proof are citable times (inl found) = by_verdict statements goal numbers proof found.0 are citable times found.1 (verdict (statements_of found.0) goal proof) refl
-by_numbers statements goal numbers proof are citable times (inr absent) = inr (replies.Step (Absent absent.0), cites_none absent.0 absent.1)
+by_numbers : (statements : List StatementView) (goal : Goal) (numbers : List ℕ) (proof : ProofView) → IsToldOfNumbers statements numbers → IsToldOfProof statements goal numbers proof
+by_numbers statements goal numbers proof (inl found) = by_verdict statements goal numbers proof found.0 found.1 (verdict (statements_of found.0) goal proof) refl
+by_numbers statements goal numbers proof (inr absent) = inr (replies.Step (Absent absent.0), cites_none absent.0 absent.1)
 
-told_of_proof : (statements : List StatementView) (goal : Goal) (numbers : List ℕ) (proof : ProofView) → AllByRecursion IsStatement statements → AreCitable numbers → HasTimesInRange proof → IsToldOfProof statements goal numbers proof
-told_of_proof statements goal numbers proof are citable times = by_numbers statements goal numbers proof are citable times (told_of_numbers statements numbers)
+told_of_proof : (statements : List StatementView) (goal : Goal) (numbers : List ℕ) (proof : ProofView) → IsToldOfProof statements goal numbers proof
+told_of_proof statements goal numbers proof = by_numbers statements goal numbers proof (told_of_numbers statements numbers)
 
 -- ---- the procaps that words bring
 
@@ -155,48 +129,87 @@ told_of_words key issues given = by_words key issues given (all_or_failing (Name
 
 -- ---- a command
 
--- a reply at once, or a well-formed request
+-- something is made of it
 abbrev IsLooked : Secrets → BaseView → Asker → Command → Type 0
-IsLooked secrets state asker command = ((reply : LineReply) × ComesTo secrets state asker command (replied reply)) ⊎ ((request : StepRequest) × ComesTo secrets state asker command (requested request) × IsWellFormed request)
+IsLooked secrets state asker command = (look : Look) × ComesTo secrets state asker command look
 
 module _ (secrets : Secrets) (state : BaseView) (asker : Asker) where
   verified : (goal : Goal) (numbers : List ℕ) (proof : ProofView) → IsToldOfProof (sayings state.statements) goal numbers proof → IsLooked secrets state asker (Verify goal numbers proof)
-  verified goal numbers proof (inl proved) = inr (requests.Issue (checked_view proved.0 goal proof proved.1), line_answer.verifies goal numbers proof proved.0 proved.1 proved.2, (proved.3, proved.4))
-  verified goal numbers proof (inr refused) = inl (refused.0, line_answer.verifies_nothing goal numbers proof refused.0 refused.1)
+  verified goal numbers proof (inl proved) = (requested (requests.Issue (checked_view proved.0 goal proof proved.1)), line_answer.verifies goal numbers proof proved.0 proved.1 proved.2)
+  verified goal numbers proof (inr refused) = (replied refused.0, line_answer.verifies_nothing goal numbers proof refused.0 refused.1)
 
   checked : (goal : Goal) (numbers : List ℕ) (proof : ProofView) → IsToldOfProof (sayings state.statements) goal numbers proof → IsLooked secrets state asker (Check goal numbers proof)
-  checked goal numbers proof (inl proved) = inl (replies.Checked proved.1, line_answer.checks goal numbers proof proved.0 proved.1 proved.2)
-  checked goal numbers proof (inr refused) = inl (refused.0, line_answer.checks_nothing goal numbers proof refused.0 refused.1)
+  checked goal numbers proof (inl proved) = (replied (replies.Checked proved.1), line_answer.checks goal numbers proof proved.0 proved.1 proved.2)
+  checked goal numbers proof (inr refused) = (replied refused.0, line_answer.checks_nothing goal numbers proof refused.0 refused.1)
 
-  done : (op : Op) (given : List ProcapWord) → (length given ≡ slots op) × (bytes_to_write op ≤ 65536) → IsToldOfWords secrets.seal_key state.issues given → IsLooked secrets state asker (Do op given)
-  done op given allowed (inl brought) =
-      inr (requests.Act asker.caller op brought.0, line_answer.acts op given brought.0 brought.1, (sym (same_length secrets.seal_key state.issues given brought.0 brought.1) ∙ allowed.0, allowed.1))
-  done op given allowed (inr none) = inl (replies.Step (Absent none.0), line_answer.acts_under_none op given none.0 none.1)
+  done : (op : Op) (given : List ProcapWord) → IsToldOfWords secrets.seal_key state.issues given → IsLooked secrets state asker (Do op given)
+  done op given (inl brought) = (requested (requests.Act asker.caller op brought.0), line_answer.acts op given brought.0 brought.1)
+  done op given (inr none) = (replied (replies.Step (Absent none.0)), line_answer.acts_under_none op given none.0 none.1)
 
-  look : (line : List ℕ) (command : Command) → IsLine line command → AllByRecursion IsStatement (sayings state.statements) → IsLooked secrets state asker command
-  look line (At second) is are = inl (replies.Done, line_answer.sets_clock second)
-  look line (As who) is are = inl (replies.Done, line_answer.sets_caller who)
-  look line (Register signature statement) is are = inr (requests.Register statement (signature_under secrets.ring statement signature), line_answer.registers signature statement, tt)
-  look line (Verify goal numbers proof) is are =
-      verified goal numbers proof (told_of_proof (sayings state.statements) goal numbers proof are (IsAllowed-line line (Verify goal numbers proof) is) (times_of_verify line goal numbers proof is))
-  look line (Check goal numbers proof) is are =
-      checked goal numbers proof (told_of_proof (sayings state.statements) goal numbers proof are (IsAllowed-line line (Check goal numbers proof) is) (times_of_check line goal numbers proof is))
-  look line (Procap number) is are = inr (requests.ShowProcap number None, line_answer.shows number, tt)
-  look line (Do op given) is are = done op given (IsAllowed-line line (Do op given) is) (told_of_words secrets.seal_key state.issues given)
+  look_at : (command : Command) → IsLooked secrets state asker command
+  look_at (At second) = (replied replies.Done, line_answer.sets_clock second)
+  look_at (As who) = (replied replies.Done, line_answer.sets_caller who)
+  look_at (Register signature statement) = (requested (requests.Register statement (signature_under secrets.ring statement signature)), line_answer.registers signature statement)
+  look_at (Verify goal numbers proof) = verified goal numbers proof (told_of_proof (sayings state.statements) goal numbers proof)
+  look_at (Check goal numbers proof) = checked goal numbers proof (told_of_proof (sayings state.statements) goal numbers proof)
+  look_at (Procap number) = (requested (requests.ShowProcap number asker.sees), line_answer.shows number)
+  look_at (Do op given) = done op given (told_of_words secrets.seal_key state.issues given)
 
-  answer_after : (command : Command) → IsLooked secrets state asker command → (reply : LineReply) × (event : Option Event) × AnswersCommand secrets state asker command reply event
-  answer_after command (inl told) = (told.0, None, at_once told.0 told.1)
-  answer_after command (inr asked) =
-      let answer = has_answer (authority_under secrets) state asker.pass asker.clock asked.0 asked.2 in
-      (replies.Step answer.0, answer.1, decided asked.0 answer.0 answer.1 asked.1 answer.2)
+  module _ (is_asker : IsAsker asker) (are : AllByRecursion IsStatement (sayings state.statements)) (line : List ℕ) where
+    answer_after : (command : Command) → IsLine line command → (look : Look) → ComesTo secrets state asker command look → (reply : LineReply) × (event : Option Event) × AnswersCommand secrets state asker command reply event
+    answer_after command is (replied reply) comes = (reply, None, at_once reply comes)
+    answer_after command is (requested request) comes =
+        let answer = has_answer (authority_under secrets) state asker.pass asker.clock request (IsWellFormed-line secrets state asker line command request is_asker are is comes) in
+        (replies.Step answer.0, answer.1, decided request answer.0 answer.1 comes answer.2)
 
-  line_answered : (line : List ℕ) → AllByRecursion IsStatement (sayings state.statements) → ((command : Command) × IsLine line command) ⊎ ((fault : LineFault) × IsLineFault line fault) →
-      (reply : LineReply) × (event : Option Event) × (after : Asker) × AnswersLine secrets state asker line reply event after
-  line_answered line are (inl one) =
-      let answer = answer_after one.0 (look line one.0 one.1 are) in
-      (answer.0, answer.1, asker_after asker one.0, asks one.0 answer.0 answer.1 one.1 answer.2)
-  line_answered line are (inr bad) = (replies.Faulty bad.0, None, asker, faulty bad.0 bad.1)
+    line_answered : ((command : Command) × IsLine line command) ⊎ ((fault : LineFault) × IsLineFault line fault) → (reply : LineReply) × (event : Option Event) × (after : Asker) × AnswersLine secrets state asker line reply event after
+    line_answered (inl one) =
+        let look = look_at one.0 in
+        let answer = answer_after one.0 one.1 look.0 look.1 in
+        (answer.0, answer.1, asker_after asker one.0, asks one.0 answer.0 answer.1 one.1 answer.2)
+    line_answered (inr bad) = (replies.Faulty bad.0, None, asker, faulty bad.0 bad.1)
 
-  -- each line has an answer
-  pub answer_of_line : (line : List ℕ) → AllByRecursion IsStatement (sayings state.statements) → (reply : LineReply) × (event : Option Event) × (after : Asker) × AnswersLine secrets state asker line reply event after
-  answer_of_line line are = line_answered line are (command_or_a_fault line)
+    -- each line has an answer
+    answer_of_line : (reply : LineReply) × (event : Option Event) × (after : Asker) × AnswersLine secrets state asker line reply event after
+    answer_of_line = line_answered (command_or_a_fault line)
+
+-- over the state of a lawful history each line has an answer
+pub line_has_answer : (s : Standing) (line : List ℕ) → IsLawfulStanding s → (reply : LineReply) × (event : Option Event) × (after : Asker) × AnswersLine s.secrets (state_of_standing s) s.asker line reply event after
+line_has_answer s line stands = answer_of_line s.secrets (state_of_standing s) s.asker stands.asker (IsLawfulBase-lawful (authority_under s.secrets) s.base s.events stands.lawful).statements_formed line
+
+-- ---- a run
+
+-- a reply at once is not that memory ran out
+unproved_memory : (statements : List StatementView) (goal : Goal) (numbers : List ℕ) (proof : ProofView) (reply : LineReply) → IsUnproved statements goal numbers proof reply → reply ≡ NoMemory → ⊥
+unproved_memory statements goal numbers proof _ (cites_none number absent) is = absurd cc
+unproved_memory statements goal numbers proof _ (proves_none cites fault found verdict_is) is = absurd cc
+
+looked_memory : (secrets : Secrets) (state : BaseView) (asker : Asker) (command : Command) (look : Look) → ComesTo secrets state asker command look → look ≡ replied NoMemory → ⊥
+looked_memory secrets state asker _ _ (line_answer.sets_clock second) is = absurd cc
+looked_memory secrets state asker _ _ (line_answer.sets_caller who) is = absurd cc
+looked_memory secrets state asker _ _ (line_answer.registers signature statement) is = absurd cc
+looked_memory secrets state asker _ _ (line_answer.shows number) is = absurd cc
+looked_memory secrets state asker _ _ (line_answer.verifies_nothing goal numbers proof reply refused) is = unproved_memory (sayings state.statements) goal numbers proof reply refused cc
+looked_memory secrets state asker _ _ (line_answer.verifies goal numbers proof cites g proved) is = absurd cc
+looked_memory secrets state asker _ _ (line_answer.checks_nothing goal numbers proof reply refused) is = unproved_memory (sayings state.statements) goal numbers proof reply refused cc
+looked_memory secrets state asker _ _ (line_answer.checks goal numbers proof cites g proved) is = absurd cc
+looked_memory secrets state asker _ _ (line_answer.acts_under_none op given number none) is = absurd cc
+looked_memory secrets state asker _ _ (line_answer.acts op given procaps brought) is = absurd cc
+
+at_once_memory : (secrets : Secrets) (state : BaseView) (asker : Asker) (command : Command) (reply : LineReply) → ComesTo secrets state asker command (replied reply) → reply ≡ NoMemory → ⊥
+at_once_memory secrets state asker command reply comes is = looked_memory secrets state asker command (replied reply) comes (ap replied is)
+
+some_memory : (s : Standing) (line : List ℕ) (reply : LineReply) (event : Option Event) (after : Asker) → AnswersLine s.secrets (state_of_standing s) s.asker line reply event after → reply ≢ NoMemory
+some_memory s line _ _ _ (faulty fault bad) is = absurd cc
+some_memory s line _ _ _ (asks command _ _ is_line (decided request reply event look answer)) is = absurd cc
+some_memory s line _ _ _ (asks command _ _ is_line (at_once reply look)) is = at_once_memory s.secrets (state_of_standing s) s.asker command reply look is
+
+-- a run that does not run out of memory
+pub has_outcome : (start : Standing) (lines : List (List ℕ)) → IsLawfulStanding start → CanNumber start lines → (replies : List LineReply) × (added : List Event) × ScriptRun start lines replies added × HadMemory replies
+has_outcome start [] stands few = ([], [], ended start, tt)
+has_outcome start (line ∷ lines) stands few =
+    let first = line_has_answer start line stands in
+    let after = standing_after start first.1 first.2 in
+    let step : IsReplied start line first.0 first.1 after = answered first.0 first.1 first.2 first.3 in
+    let rest = has_outcome after lines (IsLawfulStanding-replied start after line lines first.0 first.1 stands few step) (CanNumber-replied start after line lines first.0 first.1 few step) in
+    (first.0 ∷ rest.0, option_to_list first.1 ++ rest.1, one_more start line lines first.0 rest.0 first.1 after rest.1 step rest.2, (some_memory start line first.0 first.1 first.2 first.3, rest.3))

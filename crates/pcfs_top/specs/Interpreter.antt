@@ -1,6 +1,9 @@
 -- What an interpreter does with requests and commands.
-use Rattle.std.specs.Prelude.{◌≡◌, ◌≤◌, length, Option}
+use Rattle.std.specs.Prelude.{◌≡◌, ◌≤◌, length, Option, IsTrue}
+use Rattle.bl_syntax.specs.Names.{is_principal_name}
+use Rattle.bl_syntax.specs.Statement.{IsStatement}
 use Rattle.bl_syntax.specs.TimeOrder.{IsMoment}
+use Rattle.file_world.specs.Effect.{IsOperation}
 use Rattle.file_world.specs.Needs.{slots, bytes_to_write}
 use Rattle.access_history.specs.declared.event.Event.{Event}
 use Rattle.access_history.specs.declared.request.StepRequest.{StepRequest}
@@ -29,12 +32,13 @@ pub record IsFollowed (before : Standing) (command : Command) (reply : LineReply
   pub answer : AnswersCommand before.secrets (state_of_standing before) before.asker command reply event
   pub after_is : after ≡ standing_after before event (asker_after before.asker command)
 
--- what a line can ask for: a moment for the clock, numbers that can be cited, and for an operation a procap for each place of its needs and not too many bytes
+-- what a line can ask for: a moment for the clock, a principal for the caller, a statement within its rules, numbers that can be cited, and an operation with a procap for each place of its needs and not too many
+-- bytes
 abbrev pub IsAllowed : Command → Type 0
 IsAllowed (At second) = IsMoment second
-IsAllowed (As who) = Unit {0}
-IsAllowed (Register signature statement) = Unit {0}
+IsAllowed (As who) = IsTrue (is_principal_name who)
+IsAllowed (Register signature statement) = IsStatement statement
 IsAllowed (Verify goal numbers proof) = AreCitable numbers
 IsAllowed (Check goal numbers proof) = AreCitable numbers
 IsAllowed (Procap number) = Unit {0}
-IsAllowed (Do op words) = (length words ≡ slots op) × (bytes_to_write op ≤ 65536)
+IsAllowed (Do op words) = IsOperation op × (length words ≡ slots op) × (bytes_to_write op ≤ 65536)

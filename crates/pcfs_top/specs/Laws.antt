@@ -19,7 +19,7 @@ LinesHaveOneAnswer = (s : Standing) (line : List ℕ) (first second : LineReply)
 
 -- and it has one
 abbrev pub LinesHaveAnAnswer : Type 0
-LinesHaveAnAnswer = (s : Standing) (line : List ℕ) → IsLawful (authority_under s.secrets) s.base s.events →
+LinesHaveAnAnswer = (s : Standing) (line : List ℕ) → IsLawfulStanding s →
     (reply : LineReply) × (event : Option Event) × (after : Asker) × AnswersLine s.secrets (state_of_standing s) s.asker line reply event after
 
 -- two runs of the same lines from a lawful start that do not run out of memory have the same outcome

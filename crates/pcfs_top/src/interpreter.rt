@@ -31,7 +31,8 @@ pub struct Interpreter {
 }
 
 impl Model for Interpreter {
-    ghost use Rattle.std.specs.Prelude.{◌≡◌, None};
+    ghost use Rattle.std.specs.Prelude.{◌≡◌, None, IsTrue};
+    ghost use Rattle.bl_syntax.specs.Names.{is_principal_name};
     ghost use Rattle.bl_syntax.specs.TimeOrder.{IsMoment};
     ghost use Rattle.pcfs_top.specs.ScriptRun.{Standing};
     ghost use Rattle.pcfs_top.specs.StandingCode.{standing_code};
@@ -42,7 +43,7 @@ impl Model for Interpreter {
 
     ghost view = { λ d. record { secrets = record { seal_key = d.gate.key; ring = d.gate.ring }; base = d.gate.base; events = d.gate.events; asker = record { pass = d.pass; clock = d.clock; caller = d.caller; sees = None } } };
 
-    ghost invariant = { λ d. IsMoment d.clock × (d.gate.pending ≡ None) };
+    ghost invariant = { λ d. IsMoment d.clock × IsTrue (is_principal_name d.caller) × (d.gate.pending ≡ None) };
 }
 
 // What is returned if a proof is refused. An error exactly if memory ran out, which is no fault of the proof.
@@ -60,6 +61,8 @@ impl Interpreter {
     ghost use Rattle.access_history.specs.declared.event.Event.{Event};
     ghost use Rattle.access_history.specs.WellFormed.{IsWellFormed};
     ghost use Rattle.access_history.specs.Citing.{AreCitable};
+    ghost use Rattle.bl_syntax.specs.Statement.{IsStatement};
+    ghost use Rattle.file_world.specs.Effect.{IsOperation};
     ghost use Rattle.file_world.specs.Needs.{slots, bytes_to_write};
     ghost use Rattle.line_forms.specs.declared.command.Command.TheVariants.{Register, Verify, Check, Do};
     ghost use Rattle.pcfs_top.specs.ScriptRun.{state_of_standing, IsReplied, fresh_start};
@@ -144,7 +147,8 @@ impl Interpreter {
         signature: Option<Bytes>,
         statement: Statement,
     ) -> Result<LineReply, NoMemory>
-        requires { (state_of_standing self.old).count < 2 ^ 48 - 1 }
+        requires counted { (state_of_standing self.old).count < 2 ^ 48 - 1 }
+        requires statement { IsStatement statement }
         ensures ok { IfOk result (λ reply. IsFollowed self.old (Register signature statement) reply self.new) }
         ensures err { OnErr result (self.new ≡ self.old) }
     {
@@ -155,6 +159,7 @@ impl Interpreter {
     // Does the operation under the procaps that the words bring.
     fn act(&mut self, alloc: Global, op: Op, words: &ProcapWords) -> Result<LineReply, NoMemory>
         requires counted { (state_of_standing self.old).count < 2 ^ 48 - 1 }
+        requires operation { IsOperation op }
         requires one_each { length words.now ≡ slots op }
         requires few_bytes { bytes_to_write op ≤ 65536 }
         ensures ok { IfOk result (λ reply. IsFollowed self.old (Do op words.now) reply self.new) }

@@ -2,7 +2,7 @@
 use Rattle.std.proofs.Common.{◌≡◌, true, false, refl, ap, Err}
 use Rattle.pcfs_top.specs.Run.{IsScript}
 use Rattle.pcfs_top.specs.Run as run
-use Rattle.pcfs_top.proofs.EndsWithLemmas.{ReadsWhole-shown, IsUnderWay-none, EndsWith-told, EndsWith-unread, EndsWith-done, EndsWith-cut, EndsWith-no_memory}
+use Rattle.pcfs_top.proofs.EndsWithLemmas.{ReadsWhole-shown, HasToWrite-read_fault, HasToWrite-too_long, EndsWith-told, EndsWith-unread, EndsWith-done, EndsWith-cut, EndsWith-no_memory}
 use Rattle.pcfs_top.proofs.run.run.Goals as goal
 
 false_true : false ≡ true → ⊥
@@ -17,13 +17,13 @@ pub returns-in-Err-Failed : goal.returns-in-Err-Failed
 returns-in-Err-Failed g c =
     let is = c.if-not-is_script.ensures.0 refl in
     let risen = c.in-Err-Failed.ensures.risen (ap Err c.in-Err-Failed.field-0-is) in
-    EndsWith-told _ _ _ _ _ _ _ (run.read_fault _ risen (IsUnderWay-none _ _ _ _ is c.in-Err-Failed.ensures.err)) c.tell-in-Err-Failed.ensures
+    EndsWith-told _ _ _ _ _ _ _ (HasToWrite-read_fault _ _ _ _ is risen c.in-Err-Failed.ensures.err) c.tell-in-Err-Failed.ensures
 
 pub returns-in-Err-TooLong : goal.returns-in-Err-TooLong
 returns-in-Err-TooLong g c =
     let is = c.if-not-is_script.ensures.0 refl in
     let takes = c.in-Err-TooLong.ensures.too_long (ap Err c.in-Err-TooLong.field-0-is) in
-    EndsWith-told _ _ _ _ _ _ _ (run.too_long _ takes (IsUnderWay-none _ _ _ _ is c.in-Err-TooLong.ensures.err)) c.tell-in-Err-TooLong.ensures
+    EndsWith-told _ _ _ _ _ _ _ (HasToWrite-too_long _ _ _ _ is takes c.in-Err-TooLong.ensures.err) c.tell-in-Err-TooLong.ensures
 
 pub returns-in-Err-NoMemory : goal.returns-in-Err-NoMemory
 returns-in-Err-NoMemory g c = EndsWith-unread _ _ _ _ (c.if-not-is_script.ensures.0 refl) c.in-Err-NoMemory.ensures.err refl
