@@ -1,15 +1,13 @@
 -- The answer to an operation, over plain values.
 use Rattle.std.proofs.Common.{◌≡◌, ℕ, List, refl, sym, ap, subst, ◌∙◌, Some, None}
-use Rattle.std.specs.Prelude.{ℤ, Ok, Err, IsTrue}
-use Rattle.bl_syntax.specs.Names.{is_principal_name}
+use Rattle.std.specs.Prelude.{ℤ, Ok}
 use Rattle.policy_statement.specs.Ring.{KeyView}
 use Rattle.procap.specs.declared.procap.Procap.{Procap}
 use Rattle.file_world.specs.declared.operation.Op.{Op}
-use Rattle.file_world.specs.declared.refusal.OpFault.TheVariants as faults
 use Rattle.file_world.specs.declared.refusal.Refusal.{Refusal}
 use Rattle.file_world.specs.declared.reply.OpReply.{OpReply}
-use Rattle.file_world.specs.Effect.{IsOperation, refusal, reply}
-use Rattle.world_state.specs.State.{IsWorldReady, ReservesWorld}
+use Rattle.file_world.specs.Effect.{refusal, reply}
+use Rattle.world_state.specs.State.{ReservesWorld}
 use Rattle.access_history.specs.declared.event.Entry.TheVariants as entries
 use Rattle.access_history.specs.declared.event.Event.{Event}
 use Rattle.access_history.specs.declared.event.Event.TheVariants.{Acted}
@@ -22,10 +20,10 @@ use Rattle.access_history.specs.Authority.{Authority}
 use Rattle.access_history.specs.Admission.{IsAdmitted}
 use Rattle.access_history.specs.Answer.{Answers, moment_of, denied, refused, acted}
 use Rattle.access_history.specs.History.{HistoryView, authority_of, state_of, world_of}
-use Rattle.op_gate.specs.declared.decided.Decided.{Decided}
-use Rattle.op_gate.specs.declared.decided.Decided.TheVariants.{Answer, Keep}
-use Rattle.op_gate.specs.declared.decided.Pending.{Pending}
-use Rattle.op_gate.specs.Decision.{IsDecided, IsDenial}
+use Rattle.op_gate.specs.declared.planned.Planned.{Planned}
+use Rattle.op_gate.specs.declared.planned.Planned.TheVariants.{Answer, Keep}
+use Rattle.op_gate.specs.declared.planned.Pending.{Pending}
+use Rattle.op_gate.specs.Decision.{IsPlanned, IsDenial}
 use Rattle.op_gate.proofs.DecisionLemmas.{kept_decided}
 
 -- only what the world is ready for is another
@@ -46,16 +44,16 @@ denied_decided authority state pass clock caller op procaps denial is =
 
 -- it is refused
 pub refused_decided : (before after : HistoryView) (pass : ℕ) (clock : ℤ) (caller : List ℕ) (op : Op) (procaps : List Procap) (why : Refusal) (count : ℕ) → IsAdmitted before.key (state_of before) caller op procaps (moment_of (state_of before) clock) →
-    refusal (state_of before).world op ≡ Some why → count ≡ (state_of before).count → IsDecided before pass clock (Act caller op procaps) (Answer (replies.Refused why count)) after
+    refusal (state_of before).world op ≡ Some why → count ≡ (state_of before).count → IsPlanned before pass clock (Act caller op procaps) (Answer (replies.Refused why count)) after
 refused_decided before after pass clock caller op procaps why count admitted refuses count_is =
     subst (λ (at : ℕ). Answers (authority_of before) (state_of before) pass clock (Act caller op procaps) (replies.Refused why at) None) (sym count_is)
     (refused caller op procaps why admitted refuses)
 
 -- it is done, and its event is to be kept
 pub acted_decided : (before after : HistoryView) (pass : ℕ) (clock : ℤ) (caller : List ℕ) (op given : Op) (procaps : List Procap) (moment : ℤ) (told : OpReply) (pending : Pending) → IsAdmitted before.key (state_of before) caller op procaps (moment_of (state_of before) clock) →
-    given ≡ op → moment ≡ moment_of (state_of before) clock → IsTrue (is_principal_name caller) → IsOperation op → ReservesWorld caller (state_of before).world op (Ok told) (world_of after) →
-    pending ≡ record { event = Acted pass caller given procaps moment; entry = entries.Operation } → IsDecided before pass clock (Act caller op procaps) (Keep (replies.Operation told) pending) after
-acted_decided before after pass clock caller op given procaps moment told pending admitted given_is moment_is named operation reserves pending_is =
+    given ≡ op → moment ≡ moment_of (state_of before) clock → ReservesWorld caller (state_of before).world op (Ok told) (world_of after) →
+    pending ≡ record { event = Acted pass caller given procaps moment; entry = entries.Operation } → IsPlanned before pass clock (Act caller op procaps) (Keep (replies.Operation told) pending) after
+acted_decided before after pass clock caller op given procaps moment told pending admitted given_is moment_is reserves pending_is =
     kept_decided before after pass clock (Act caller op procaps) (replies.Operation (reply (state_of before).world op)) (Acted pass caller op procaps (moment_of (state_of before) clock)) (Keep (replies.Operation told) pending)
     (acted caller op procaps admitted reserves.0)
     (named, operation, reserves.2) (

@@ -3,6 +3,6 @@ pub mod CheckLemmas
 pub mod CitingLemmas
 pub mod DecisionLemmas
 pub mod IssuedLemmas
-pub mod MayFollowLemmas
+pub mod KeepLemmas
 pub mod NeedLemmas
 pub mod RegistryLemmas

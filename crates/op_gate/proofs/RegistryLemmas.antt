@@ -5,7 +5,7 @@ use Rattle.std.specs.List.{slice_get}
 use Rattle.std.specs.Option.{option_map}
 use Rattle.std.proofs.lemmas.List.{length-map}
 use Rattle.std.proofs.lemmas.Option.{slice_get-map, slice_get_read}
-use Rattle.bl_syntax.specs.Statement.{StatementView}
+use Rattle.bl_syntax.specs.Statement.{StatementView, IsStatement}
 use Rattle.policy_statement.specs.Registered.{RegisteredView}
 use Rattle.policy_statement.specs.Registry.{statement_of_number, IsNewStatement}
 use Rattle.policy_statement.specs.Messages.{statement_message}
@@ -19,9 +19,9 @@ use Rattle.access_history.specs.Answer.{unsigned, duplicate, registry_full}
 use Rattle.access_history.specs.Authority.{MayBeRegistered, sayings}
 use Rattle.access_history.specs.History.{HistoryView, authority_with, state_of}
 use Rattle.op_gate.specs.Rejection.{rejection_of}
-use Rattle.op_gate.specs.Decision.{IsDecided}
-use Rattle.op_gate.specs.declared.decided.Decided.{Decided}
-use Rattle.op_gate.specs.declared.decided.Decided.TheVariants.{Answer, NoMemory}
+use Rattle.op_gate.specs.Decision.{IsPlanned}
+use Rattle.op_gate.specs.declared.planned.Planned.{Planned}
+use Rattle.op_gate.specs.declared.planned.Planned.TheVariants.{Answer, NoMemory}
 use Rattle.std.proofs.lemmas.Bool.{false≢true}
 use Rattle.access_history.specs.Numbered.{IsNumbered, HasNumber}
 use Rattle.access_history.specs.Citing.{StandsUnderNumber}
@@ -73,22 +73,22 @@ MayRegister-shown ring shown_ring entries shown_entries statement signature show
     (subst (λ (es : List RegisteredView). MayRegister (is_accepted shown_ring statement.who (statement_message statement) shown) es statement told) entries_are may))
 
 -- a statement that the registry takes may be registered
-pub may_register : (key : List ℕ) (ring : List KeyView) (entries : List RegisteredView) (statement : StatementView) (signature : List ℕ) (told : Unit {0}) → MayRegister (is_accepted ring statement.who (statement_message statement) signature) entries statement (Ok told) →
+pub may_register : (key : List ℕ) (ring : List KeyView) (entries : List RegisteredView) (statement : StatementView) (signature : List ℕ) (told : Unit {0}) → IsStatement statement → MayRegister (is_accepted ring statement.who (statement_message statement) signature) entries statement (Ok told) →
     MayBeRegistered (authority_with key ring) entries statement signature
-may_register key ring entries statement signature told may = record { signed = may.0; new = new_to_registry entries statement may.1.0; room = may.1.1 }
+may_register key ring entries statement signature told is may = record { statement = is; signed = may.0; new = new_to_registry entries statement may.1.0; room = may.1.1 }
 
 -- a statement that the registry does not take is rejected
-pub rejected_decided : (h : HistoryView) (pass : ℕ) (clock : ℤ) (statement : StatementView) (signature : List ℕ) (fault : Fault) (decided : Decided) →
+pub rejected_decided : (h : HistoryView) (pass : ℕ) (clock : ℤ) (statement : StatementView) (signature : List ℕ) (fault : Fault) (planned : Planned) →
     MayRegister (is_accepted h.ring statement.who (statement_message statement) signature) (state_of h).statements statement (Err fault) →
-    MatchOption (rejection_of fault) (decided ≡ NoMemory) (λ rejection. decided ≡ Answer (replies.Rejected rejection)) →
-    IsDecided h pass clock (requests.Register statement signature) decided h
-rejected_decided h pass clock statement signature faults.BadSignature decided may told =
-    subst (λ (d : Decided). IsDecided h pass clock (requests.Register statement signature) d h) (sym told) (unsigned statement signature (λ signed. false≢true (sym may ∙ signed)))
-rejected_decided h pass clock statement signature faults.RegistryFull decided may told =
-    subst (λ (d : Decided). IsDecided h pass clock (requests.Register statement signature) d h) (sym told)
+    MatchOption (rejection_of fault) (planned ≡ NoMemory) (λ rejection. planned ≡ Answer (replies.Rejected rejection)) →
+    IsPlanned h pass clock (requests.Register statement signature) planned h
+rejected_decided h pass clock statement signature faults.BadSignature planned may told =
+    subst (λ (d : Planned). IsPlanned h pass clock (requests.Register statement signature) d h) (sym told) (unsigned statement signature (λ signed. false≢true (sym may ∙ signed)))
+rejected_decided h pass clock statement signature faults.RegistryFull planned may told =
+    subst (λ (d : Planned). IsPlanned h pass clock (requests.Register statement signature) d h) (sym told)
     (registry_full statement signature may.0 (new_to_registry (state_of h).statements statement may.1.0) may.1.1)
-rejected_decided h pass clock statement signature (faults.Duplicate number) decided may told =
-    subst (λ (d : Decided). IsDecided h pass clock (requests.Register statement signature) d h) (sym told)
+rejected_decided h pass clock statement signature (faults.Duplicate number) planned may told =
+    subst (λ (d : Planned). IsPlanned h pass clock (requests.Register statement signature) d h) (sym told)
     (duplicate statement signature number may.0 (said_from_registry (state_of h).statements number statement may.1))
-rejected_decided h pass clock statement signature faults.NoMemory decided may told =
-    subst (λ (d : Decided). IsDecided h pass clock (requests.Register statement signature) d h) (sym told) tt
+rejected_decided h pass clock statement signature faults.NoMemory planned may told =
+    subst (λ (d : Planned). IsPlanned h pass clock (requests.Register statement signature) d h) (sym told) tt

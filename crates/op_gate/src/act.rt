@@ -5,10 +5,10 @@ ghost use Rattle.file_world.specs.Needs.{slots};
 ghost use Rattle.access_history.specs.Admission.{IsAdmitted};
 ghost use Rattle.access_history.specs.Answer.{moment_of};
 ghost use Rattle.access_history.specs.History.{state_of};
-ghost use Rattle.op_gate.specs.Decision.{IsDecided, IsDenial};
+ghost use Rattle.op_gate.specs.Decision.{IsPlanned, IsDenial};
 
 use crate::cause::denial_cause;
-use crate::decided::{Decided, Pending};
+use crate::planned::{Pending, Planned};
 use access_history::{Denial, Entry, Event, History, Procaps, StepReply};
 use bl_syntax::{Goal, Principal};
 use file_world::{Op, OpFault};
@@ -96,21 +96,21 @@ fn act(
     op: Op,
     procaps: Procaps,
     clock: i64,
-) -> Decided
+) -> Planned
     requires { IsAdmitted history.old.key (state_of history.old) caller op procaps (moment_of (state_of history.old) clock) }
     ensures same { history.new ≡ record history.old { ready = history.new.ready } }
-    ensures decided { IsDecided history.old pass clock (StepRequest.Act caller op procaps) result history.new }
+    ensures planned { IsPlanned history.old pass clock (StepRequest.Act caller op procaps) result history.new }
 {
     let moment = step_moment(history, clock);
     let count = history.count();
     let (op, answer) = history.prepare(alloc, &caller, op);
     match answer {
-        Ok(reply) => Decided::Keep(
+        Ok(reply) => Planned::Keep(
             StepReply::Operation(reply),
             acted(pass, caller, op, procaps, moment),
         ),
-        Err(OpFault::Refused(refusal)) => Decided::Answer(StepReply::Refused(refusal, count)),
-        Err(OpFault::NoMemory) => Decided::NoMemory,
+        Err(OpFault::Refused(refusal)) => Planned::Answer(StepReply::Refused(refusal, count)),
+        Err(OpFault::NoMemory) => Planned::NoMemory,
     }
 }
 
@@ -123,13 +123,13 @@ pub fn decide_act(
     op: Op,
     procaps: Procaps,
     clock: i64,
-) -> Decided
+) -> Planned
     requires { length procaps ≡ slots op }
     ensures same { history.new ≡ record history.old { ready = history.new.ready } }
-    ensures decided { IsDecided history.old pass clock (StepRequest.Act caller op procaps) result history.new }
+    ensures planned { IsPlanned history.old pass clock (StepRequest.Act caller op procaps) result history.new }
 {
     match deny(history, &caller, &op, &procaps, clock) {
-        Some(denial) => Decided::Answer(StepReply::Denied(denial)),
+        Some(denial) => Planned::Answer(StepReply::Denied(denial)),
         None => act(alloc, history, pass, caller, op, procaps, clock),
     }
 }

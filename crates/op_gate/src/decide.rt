@@ -1,15 +1,16 @@
 //! The answers to requests on statements and issues, and what is to be kept.
 
 ghost use Rattle.std.specs.Prelude.{◌≡◌, ◌∷◌, ◌↔◌, [], Some, None, IfOk, MatchOption, IsTrue, ℕ, ℤ, length};
+ghost use Rattle.bl_syntax.specs.Statement.{IsStatement};
 ghost use Rattle.access_history.specs.Answer.{Answers, MaySee};
 ghost use Rattle.access_history.specs.Citing.{numbers_of};
 ghost use Rattle.access_history.specs.History.{authority_of, state_of};
-ghost use Rattle.op_gate.specs.Decision.{IsDecided, Keeps};
+ghost use Rattle.op_gate.specs.Decision.{IsPlanned, Keeps};
 ghost use Rattle.op_gate.specs.Issued.{IsIssued, HasNone, IsProcapOf};
 ghost use Rattle.op_gate.specs.Rejection.{rejection_of};
 
 use crate::cite::{cited_numbers, first_moved};
-use crate::decided::{Decided, Pending};
+use crate::planned::{Pending, Planned};
 use access_history::{Entry, Event, History, Issue, Rejection, StepReply};
 use bl_syntax::{Bytes, Grant, NoMemory, Numbers, Principal, Statement};
 use policy_statement::RegisterFault as RegistryFault;
@@ -18,20 +19,20 @@ use proof_verifier::Checked;
 use std::alloc::Global;
 
 // The answer to a statement that may not be registered, or out of memory.
-fn rejected(fault: RegistryFault) -> Decided
-    ensures { MatchOption (rejection_of fault) (result ≡ Decided.NoMemory) (λ rejection. result ≡ Decided.Answer (StepReply.Rejected rejection)) }
+fn rejected(fault: RegistryFault) -> Planned
+    ensures { MatchOption (rejection_of fault) (result ≡ Planned.NoMemory) (λ rejection. result ≡ Planned.Answer (StepReply.Rejected rejection)) }
 {
     match fault {
         RegistryFault::BadSignature => {
-            Decided::Answer(StepReply::Rejected(Rejection::BadSignature))
+            Planned::Answer(StepReply::Rejected(Rejection::BadSignature))
         }
         RegistryFault::RegistryFull => {
-            Decided::Answer(StepReply::Rejected(Rejection::RegistryFull))
+            Planned::Answer(StepReply::Rejected(Rejection::RegistryFull))
         }
         RegistryFault::Duplicate(number) => {
-            Decided::Answer(StepReply::Rejected(Rejection::Duplicate(number)))
+            Planned::Answer(StepReply::Rejected(Rejection::Duplicate(number)))
         }
-        RegistryFault::NoMemory => Decided::NoMemory,
+        RegistryFault::NoMemory => Planned::NoMemory,
     }
 }
 
@@ -55,7 +56,7 @@ fn keep_statement(
     number: u32,
     statement: Statement,
     signature: Bytes,
-) -> Decided
+) -> Planned
     ensures { Keeps (StepReply.Statement number) (Event.Registered pass statement signature) result }
 {
     match statement_entry(alloc, &statement, &signature) {
@@ -65,9 +66,9 @@ fn keep_statement(
                 statement,
                 signature,
             };
-            Decided::Keep(StepReply::Statement(number), Pending { event, entry })
+            Planned::Keep(StepReply::Statement(number), Pending { event, entry })
         }
-        Err(_) => Decided::NoMemory,
+        Err(_) => Planned::NoMemory,
     }
 }
 
@@ -78,8 +79,9 @@ pub fn decide_register(
     pass: u64,
     statement: Statement,
     signature: Bytes,
-) -> Decided
-    ensures { (clock : ℤ) → IsDecided history.now pass clock (StepRequest.Register statement signature) result history.now }
+) -> Planned
+    requires { IsStatement statement }
+    ensures { (clock : ℤ) → IsPlanned history.now pass clock (StepRequest.Register statement signature) result history.now }
 {
     let registry = history.registry();
     match registry.test(alloc, history.ring(), &statement, signature.as_slice()) {
@@ -195,26 +197,26 @@ fn issued(pass: u64, checked: Checked, parts: IssueParts) -> Pending
 }
 
 // Has the grant of the checked proof to be kept under that number.
-fn keep_issue(alloc: Global, pass: u64, number: u64, checked: Checked) -> Decided
+fn keep_issue(alloc: Global, pass: u64, number: u64, checked: Checked) -> Planned
     ensures { Keeps (StepReply.Issue number (length checked.grant.times) (length checked.grant.states)) (Event.Issued pass (numbers_of checked.cited) checked.proof checked.grant) result }
 {
     let times = checked.grant().times().len() as u32;
     let states = checked.grant().states().len() as u32;
     match issue_parts(alloc, &checked) {
-        Ok(parts) => Decided::Keep(
+        Ok(parts) => Planned::Keep(
             StepReply::Issue(number, times, states),
             issued(pass, checked, parts),
         ),
-        Err(_) => Decided::NoMemory,
+        Err(_) => Planned::NoMemory,
     }
 }
 
 /// Whether and as what the grant of a checked proof is issued.
-pub fn decide_issue(alloc: Global, history: &History, pass: u64, checked: Checked) -> Decided
-    ensures { (clock : ℤ) → IsDecided history.now pass clock (StepRequest.Issue checked) result history.now }
+pub fn decide_issue(alloc: Global, history: &History, pass: u64, checked: Checked) -> Planned
+    ensures { (clock : ℤ) → IsPlanned history.now pass clock (StepRequest.Issue checked) result history.now }
 {
     match first_moved(history.statements(), checked.cited().as_slice()) {
-        Some(number) => Decided::Answer(StepReply::Absent(number as u64)),
+        Some(number) => Planned::Answer(StepReply::Absent(number as u64)),
         None => {
             let number = history.issues().len() as u64 + 1;
             keep_issue(alloc, pass, number, checked)

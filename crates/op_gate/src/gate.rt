@@ -2,13 +2,13 @@
 
 ghost use Rattle.std.specs.Prelude.{◌≡◌, ◌≤◌, ◌<◌, ◌+◌, ◌-◌, ◌^◌, ◌++◌, ◌∷◌, [], Some, None, IfOk, IfSome, IsSome, MatchOption, OnOk, OnErr, MatchResult, length};
 ghost use Rattle.access_history.specs.History.{authority_of, state_of};
-ghost use Rattle.op_gate.specs.Decision.{IsDecided};
+ghost use Rattle.op_gate.specs.Decision.{IsPlanned};
 ghost use Rattle.access_history.specs.WellFormed.{IsWellFormed};
 
 use crate::act::{decide_act, deny};
 use crate::cite::{Citation, cite};
 use crate::decide::{decide_issue, decide_register, decide_show, issued_procap};
-use crate::decided::{Decided, Pending};
+use crate::planned::{Pending, Planned};
 use access_history::{Denial, History, Procaps, StepReply, StepRequest};
 use bl_syntax::{NoMemory, Principal};
 use file_world::Op;
@@ -58,12 +58,12 @@ fn put(place: &mut Option<Pending>, pending: Pending)
 }
 
 // The answer, or out of memory.
-fn answered(reply: Result<StepReply, NoMemory>) -> Decided
-    ensures { MatchResult reply (λ told. result ≡ Decided.Answer told) (λ _. result ≡ Decided.NoMemory) }
+fn answered(reply: Result<StepReply, NoMemory>) -> Planned
+    ensures { MatchResult reply (λ told. result ≡ Planned.Answer told) (λ _. result ≡ Planned.NoMemory) }
 {
     match reply {
-        Ok(reply) => Decided::Answer(reply),
-        Err(_) => Decided::NoMemory,
+        Ok(reply) => Planned::Answer(reply),
+        Err(_) => Planned::NoMemory,
     }
 }
 
@@ -74,10 +74,10 @@ fn decide_request(
     pass: u64,
     request: StepRequest,
     clock: i64,
-) -> Decided
+) -> Planned
     requires { IsWellFormed request }
     ensures same { history.new ≡ record history.old { ready = history.new.ready } }
-    ensures decided { IsDecided history.old pass clock request result history.new }
+    ensures planned { IsPlanned history.old pass clock request result history.new }
 {
     match request {
         StepRequest::Register(statement, signature) => {
@@ -176,12 +176,12 @@ impl Gate {
         }
         self.history.lawful();
         match decide_request(alloc, &mut self.history, pass, request, clock) {
-            Decided::Answer(reply) => Decision::Answer(reply),
-            Decided::Keep(reply, pending) => {
+            Planned::Answer(reply) => Decision::Answer(reply),
+            Planned::Keep(reply, pending) => {
                 put(&mut self.pending, pending);
                 Decision::Keep(reply)
             }
-            Decided::NoMemory => Decision::NoMemory,
+            Planned::NoMemory => Decision::NoMemory,
         }
     }
 

@@ -9,8 +9,8 @@ mod act;
 mod cause;
 mod cite;
 mod decide;
-mod decided;
 mod gate;
+mod planned;
 
 pub use cite::Citation;
 pub use gate::{Decision, Gate};

@@ -15,7 +15,7 @@ returns-in-Ok c = λ clock.
     let may : MayRegister (is_accepted h.ring c.args.statement.who (statement_message c.args.statement) c.args.signature) (state_of h).statements c.args.statement (Ok c.in-Ok.field-0) = MayRegister-shown h.ring c.ring.result.now (state_of h).statements c.registry-registry.result.now.entries c.args.statement c.args.signature c.as_slice.result.now (Ok c.in-Ok.field-0)
     c.ring.ensures c.as_slice.ensures c.registry-registry.ensures c.in-Ok.ensures in
     registered_decided h c.args.pass clock c.args.statement c.args.signature (length c.statements.result.now) c.keep_statement.result
-    (may_register h.key h.ring (state_of h).statements c.args.statement c.args.signature c.in-Ok.field-0 may) (ap length c.statements.ensures.same) c.keep_statement.ensures
+    (may_register h.key h.ring (state_of h).statements c.args.statement c.args.signature c.in-Ok.field-0 c.requires may) (ap length c.statements.ensures.same) c.keep_statement.ensures
 
 pub returns-in-Err : goal.returns-in-Err
 returns-in-Err c = λ clock.

@@ -1,4 +1,4 @@
-//! What was decided on a request.
+//! What is to be done on a request.
 
 use access_history::{Entry, Event, StepReply};
 
@@ -9,9 +9,9 @@ pub struct Pending {
     pub entry: Entry,
 }
 
-/// What was decided on a request.
+/// What is to be done on a request.
 #[derive(Debug, Drop)]
-pub enum Decided {
+pub enum Planned {
     /// The answer, with nothing to keep.
     Answer(StepReply),
     /// The answer, and the event to keep.
