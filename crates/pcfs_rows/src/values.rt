@@ -1,15 +1,15 @@
 //! Rows that call the crates below directly, for what no line shows: written texts, and values that have no text.
 
-use crate::short_form::{RowFault, number_of, parts_at};
-use access_history::{Reply, TreeRows, create_refusal, created_row};
+use crate::short_form::{RowFault, parts_at};
 use bl_codec::{read_formula, read_statement};
 use bl_syntax::{Bytes, Goal, NoMemory, NodeId, Perm, Principal, Statement, Term};
 use bl_text::{
     TextFault, parse_formula, parse_statement, parse_time, print_formula, print_statement,
     print_term,
 };
+use line_forms::LineFault;
 use line_text::read_hex;
-use line_wire::{proof_fault_reply, write_reply};
+use line_wire::{LineReply, write_reply};
 use proof_term::{ProofTree, read_proof};
 use proof_text::{parse_proof, print_proof};
 use proof_verifier::{CheckFault, Checked, Cite, Cites, check, verdict};
@@ -25,15 +25,13 @@ fn value_end(outcome: Result<(), NoMemory>) -> Result<(), RowFault> {
 
 // Adds the line `bad 4` of a text with this fault.
 fn add_fault(alloc: Global, fault: TextFault, out: &mut Bytes) -> Result<(), RowFault> {
-    let (number, place) = match fault {
-        TextFault::Unexpected(place) => (1, place),
-        TextFault::UnknownName(place) => (2, place),
-        TextFault::BadDate(place) => (3, place),
-        TextFault::Sort(place) => (4, place),
-        TextFault::TooLarge(place) => (5, place),
-        TextFault::NoMemory => return Err(RowFault::NoMemory),
-    };
-    value_end(write_reply(alloc, out, &Reply::BadText(number, place as u64)))
+    match fault {
+        TextFault::NoMemory => Err(RowFault::NoMemory),
+        _ => {
+            let reply = LineReply::Faulty(LineFault::BadText(fault));
+            value_end(write_reply(alloc, out, &reply))
+        }
+    }
 }
 
 fn add_formula(alloc: Global, text: &[u8], out: &mut Bytes) -> Result<(), RowFault> {
@@ -111,9 +109,9 @@ fn cited_statements(alloc: Global, statement: Statement) -> Option<Cites> {
 
 // Adds the fault of a proof.
 fn add_refused(alloc: Global, fault: CheckFault, out: &mut Bytes) -> Result<(), RowFault> {
-    match proof_fault_reply(fault) {
-        Ok(reply) => value_end(write_reply(alloc, out, &reply)),
-        Err(_) => Err(RowFault::NoMemory),
+    match fault {
+        CheckFault::NoMemory => Err(RowFault::NoMemory),
+        _ => value_end(write_reply(alloc, out, &LineReply::Unproved(fault))),
     }
 }
 
@@ -126,7 +124,7 @@ fn add_verified(
     out: &mut Bytes,
 ) -> Result<(), RowFault> {
     match verdict(alloc, cites, goal, proof) {
-        Ok(grant) => value_end(write_reply(alloc, out, &Reply::Checked(grant))),
+        Ok(grant) => value_end(write_reply(alloc, out, &LineReply::Checked(grant))),
         Err(fault) => add_refused(alloc, fault, out),
     }
 }
@@ -134,7 +132,7 @@ fn add_verified(
 // Adds what was granted, and what the proof that was kept grants.
 fn add_kept(alloc: Global, checked: &Checked, out: &mut Bytes) -> Result<(), RowFault> {
     match checked.grant().copy(alloc) {
-        Ok(grant) => value_end(write_reply(alloc, out, &Reply::Checked(grant)))?,
+        Ok(grant) => value_end(write_reply(alloc, out, &LineReply::Checked(grant)))?,
         Err(_) => return Err(RowFault::NoMemory),
     }
     add_verified(
@@ -218,50 +216,6 @@ fn add_judged(alloc: Global, text: &str, out: &mut Bytes) -> Result<(), RowFault
     }
 }
 
-// The refusal of a file of this name, if the tree also has the file `notes` in its root and this next number.
-fn refusal_in(
-    alloc: Global,
-    world: &TreeRows,
-    next: u64,
-    directory: u64,
-    name: &str,
-) -> Result<Option<u32>, RowFault> {
-    let alice = Principal::new(b"alice").ok_or(RowFault::BadRow)?;
-    let mut rows = Vec::from_slice(alloc, world.rows())?;
-    rows.push(created_row(alice, NodeId(1), b"notes", 2))?;
-    Ok(create_refusal(rows.as_slice(), next, NodeId(directory), name.as_bytes()))
-}
-
-// The same for a copy of the tree with the root alone.
-fn refusal(alloc: Global, next: u64, directory: u64, name: &str) -> Result<Option<u32>, RowFault> {
-    match TreeRows::new(alloc) {
-        Ok(world) => match world.copy(alloc) {
-            Ok(copied) => refusal_in(alloc, &copied, next, directory, name),
-            Err(_) => Err(RowFault::NoMemory),
-        },
-        Err(_) => Err(RowFault::NoMemory),
-    }
-}
-
-// Adds the number of the refusal, or `none`.
-fn add_refusal(alloc: Global, text: &str, out: &mut Bytes) -> Result<(), RowFault> {
-    let (next, others) = parts_at(text, ' ')?;
-    let (directory, name) = parts_at(others, ' ')?;
-    let next = match next.parse::<u64>() {
-        Ok(number) => number,
-        Err(_) => return Err(RowFault::BadRow),
-    };
-    let directory = number_of(directory)? as u64;
-    match refusal(alloc, next, directory, name)? {
-        Some(number) => {
-            let line = format!(in alloc; "{number}\n")?;
-            out.extend(line.as_bytes())?;
-        }
-        None => out.extend(b"none\n")?,
-    }
-    Ok(())
-}
-
 /// Adds what the calls of this kind of row say of the text, of which the short forms are also written out.
 pub fn add_value(
     alloc: Global,
@@ -277,8 +231,7 @@ pub fn add_value(
         "time" => add_time(alloc, written_out, out),
         "written" => add_written(alloc, text, out),
         "judged" => add_judged(alloc, text, out),
-        "refusal" => add_refusal(alloc, text, out),
-        "nomemory" => value_end(write_reply(alloc, out, &Reply::NoMemory)),
+        "nomemory" => value_end(write_reply(alloc, out, &LineReply::NoMemory)),
         _ => Err(RowFault::BadRow),
     }
 }

@@ -5,15 +5,15 @@ use Rattle.procap.specs.declared.procap.Procap.{Procap as Sealed}
 use Rattle.access_history.specs.declared.event.Issue.{Issue}
 use Rattle.access_history.specs.Authority.{procap_of}
 use Rattle.access_history.specs.Numbered.{IsNumbered}
-use Rattle.line_wire.specs.declared.command.ProcapWord.{ProcapWord}
-use Rattle.line_wire.specs.declared.command.ProcapWord.TheVariants as words
+use Rattle.line_words.specs.declared.procap_word.ProcapWord.{ProcapWord}
+use Rattle.line_words.specs.declared.procap_word.ProcapWord.TheVariants as words
 use Rattle.op_gate.specs.Issued.{IsProcapOf}
 use Rattle.pcfs_top.specs.declared.brought.Brought.{Brought}
 use Rattle.pcfs_top.specs.declared.brought.Brought.TheVariants as found
 use Rattle.pcfs_top.specs.Brought.{IsBroughtBy, AreProcapsAdded}
 use Rattle.access_history.specs.Replay.{replay}
-use Rattle.pcfs_top.specs.Interpreter.{InterpreterView}
-use Rattle.pcfs_top.specs.Script.{BringsProcap, held, issued, NamesIssue, AreBrought, IsFirstUnissued}
+use Rattle.pcfs_top.specs.Procaps.{BringsProcap, held, issued, NamesIssue, AreBrought, IsFirstUnissued}
+use Rattle.pcfs_top.specs.ScriptRun.{Standing}
 
 -- a word brings its own procap
 pub brings_own : (key : List ℕ) (issues : List Issue) (word : ProcapWord) (p copied : Sealed) → word ≡ words.Held p → copied ≡ p → BringsProcap key issues word copied
@@ -89,17 +89,17 @@ pub first_and_others : (words : List ProcapWord) (word : ProcapWord) → 1 ≤ l
 first_and_others [] word some is = absurd (omega (arith, some))
 first_and_others (w ∷ ws) word some is = ap (λ (x : ProcapWord). x ∷ ws) (sym is) ∙ ap (λ (t : List ProcapWord). word ∷ t) (sym (take_all (length (w ∷ ws) - 1) ws (omega arith)))
 
--- what an interpreter was told of the words, in its own state
-pub unissued_seated : (inside seated : InterpreterView) (shown words : List ProcapWord) (none added : List Sealed) (told : Option ℕ) (number : ℕ) → inside ≡ seated → shown ≡ words → told ≡ Some number →
-    AreProcapsAdded inside.secrets.seal_key (replay inside.base inside.standing.events).issues shown none added told → IsFirstUnissued (replay seated.base seated.standing.events).issues words number
+-- what the words of a line bring where an interpreter stands
+pub unissued_seated : (inside seated : Standing) (shown words : List ProcapWord) (none added : List Sealed) (told : Option ℕ) (number : ℕ) → inside ≡ seated → shown ≡ words → told ≡ Some number →
+    AreProcapsAdded inside.secrets.seal_key (replay inside.base inside.events).issues shown none added told → IsFirstUnissued (replay seated.base seated.events).issues words number
 unissued_seated inside seated shown words none added told number same words_are is all =
-    let first : IsFirstUnissued (replay inside.base inside.standing.events).issues shown number = subst (AreProcapsAdded inside.secrets.seal_key (replay inside.base inside.standing.events).issues shown none added) is all in
-    subst (λ (s : InterpreterView). IsFirstUnissued (replay s.base s.standing.events).issues words number) same
-    (subst (λ (ws : List ProcapWord). IsFirstUnissued (replay inside.base inside.standing.events).issues ws number) words_are first)
+    let first : IsFirstUnissued (replay inside.base inside.events).issues shown number = subst (AreProcapsAdded inside.secrets.seal_key (replay inside.base inside.events).issues shown none added) is all in
+    subst (λ (s : Standing). IsFirstUnissued (replay s.base s.events).issues words number) same
+    (subst (λ (ws : List ProcapWord). IsFirstUnissued (replay inside.base inside.events).issues ws number) words_are first)
 
-pub brought_seated : (inside seated : InterpreterView) (shown words : List ProcapWord) (none added : List Sealed) (told : Option ℕ) → inside ≡ seated → shown ≡ words → told ≡ None → none ≡ [] →
-    AreProcapsAdded inside.secrets.seal_key (replay inside.base inside.standing.events).issues shown none added told → AreBrought seated.secrets.seal_key (replay seated.base seated.standing.events).issues words added
+pub brought_seated : (inside seated : Standing) (shown words : List ProcapWord) (none added : List Sealed) (told : Option ℕ) → inside ≡ seated → shown ≡ words → told ≡ None → none ≡ [] →
+    AreProcapsAdded inside.secrets.seal_key (replay inside.base inside.events).issues shown none added told → AreBrought seated.secrets.seal_key (replay seated.base seated.events).issues words added
 brought_seated inside seated shown words none added told same words_are is empty all =
-    subst (λ (s : InterpreterView). AreBrought s.secrets.seal_key (replay s.base s.standing.events).issues words added) same
-    (subst (λ (ws : List ProcapWord). AreBrought inside.secrets.seal_key (replay inside.base inside.standing.events).issues ws added) words_are
-    (AreBrought-added inside.secrets.seal_key (replay inside.base inside.standing.events).issues shown none added told is empty all))
+    subst (λ (s : Standing). AreBrought s.secrets.seal_key (replay s.base s.events).issues words added) same
+    (subst (λ (ws : List ProcapWord). AreBrought inside.secrets.seal_key (replay inside.base inside.events).issues ws added) words_are
+    (AreBrought-added inside.secrets.seal_key (replay inside.base inside.events).issues shown none added told is empty all))

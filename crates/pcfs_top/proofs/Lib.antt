@@ -1,5 +1,11 @@
+pub mod AllowedLemmas
 pub mod BroughtLemmas
 pub mod EndsWithLemmas
-pub mod AnswersLineLemmas
-pub mod RunLemmas
+pub mod FormedLemmas
+pub mod InterpreterLemmas
+pub mod LawfulRunLemmas
+pub mod OneAnswerLemmas
+pub mod OneOutcomeLemmas
+pub mod OutboxLemmas
 pub mod ScriptLemmas
+pub mod TotalLemmas

@@ -1,170 +1,165 @@
 -- A script that was run as far as some rest of its input.
-use Rattle.std.proofs.Common.{◌≡◌, ℕ, ℤ, suc, ◌+◌, ◌-◌, ◌^◌, ◌≤◌, ◌<◌, Bool, true, false, cond, List, [], ◌∷◌, ◌++◌, length, take, Option, Some, None, Err, ⊎_elim, refl, sym, ap, subst, ◌∙◌, arith, append_assoc, append-nil, length-append}
-use Rattle.std.specs.Prelude.{◌==◌, IfSome}
+use Rattle.std.proofs.Common.{◌≡◌, ℕ, suc, ◌+◌, ◌-◌, ◌^◌, ◌≤◌, ◌<◌, Bool, true, false, cond, List, [], ◌∷◌, ◌++◌, length, Option, Some, None, refl, sym, ap, subst, ◌∙◌, arith, append_assoc, append-nil, length-append}
+use Rattle.std.specs.Prelude.{◌==◌}
+use Rattle.std.specs.Option.{option_to_list}
 use Rattle.std.proofs.lemmas.Grind.{flat_map-append}
-use Rattle.std.proofs.lemmas.Option.{none-some}
-use Rattle.std.proofs.Math.Seq.{take-append-add}
-use Rattle.bl_syntax.specs.declared.grant.Goal.{Goal}
-use Rattle.bl_syntax.specs.Statement.{StatementView}
-use Rattle.bl_syntax.specs.Grant.{GrantView}
-use Rattle.pcfs_ports.proofs.TakesLemmas.{with_back-with_back}
 use Rattle.pcfs_ports.specs.Told.{with_back, HoldsSome}
-use Rattle.access_history.specs.declared.event.Event.{Event}
-use Rattle.access_history.specs.declared.event.Base.{Base}
-use Rattle.access_history.specs.declared.event.FileOp.{FileOp}
-use Rattle.access_history.specs.declared.request.StepRequest.{StepRequest}
-use Rattle.access_history.specs.declared.request.StepRequest.TheVariants as requests
-use Rattle.access_history.specs.declared.reply.Reply.{Reply}
-use Rattle.access_history.specs.declared.reply.Reply.TheVariants as replies
-use Rattle.line_wire.specs.declared.command.Command.{Command}
-use Rattle.line_wire.specs.declared.command.Command.TheVariants as commands
-use Rattle.line_wire.specs.declared.command.Line.{Line}
-use Rattle.line_wire.specs.declared.command.Line.TheVariants.{Asks, Faulty}
-use Rattle.proof_term.specs.Proof.{ProofView}
-use Rattle.proof_verifier.specs.declared.cites.Cite.{Cite}
-use Rattle.proof_verifier.specs.declared.fault.CheckFault.{CheckFault}
-use Rattle.proof_verifier.specs.declared.fault.CheckFault.TheVariants.{NoMemory}
-use Rattle.proof_verifier.specs.Cited.{statements_of}
-use Rattle.proof_verifier.specs.CheckedView.{CheckedView, checked_view, IsChecked, IsGranted}
-use Rattle.proof_verifier.specs.Run.{IsFault}
-use Rattle.proof_verifier.specs.Verdict.{verdict}
-use Rattle.op_gate.specs.declared.cite.Citation.{Citation}
-use Rattle.op_gate.specs.declared.cite.Citation.TheVariants as citations
-use Rattle.access_history.specs.Citing.{AreFound}
-use Rattle.op_gate.specs.Citations.{GivesCitation}
-use Rattle.line_wire.specs.Faults.{proof_fault_reply}
-use Rattle.access_history.specs.Answer.{Answers}
-use Rattle.access_history.specs.Authority.{sayings}
-use Rattle.line_wire.specs.declared.command.ProcapWord.{ProcapWord}
-use Rattle.pcfs_secrets.specs.declared.secrets.Secrets.{Secrets}
-use Rattle.procap.specs.declared.procap.Procap.{Procap}
-use Rattle.op_gate.specs.Decision.{GateView}
-use Rattle.access_history.specs.Replay.{replay, fresh}
 use Rattle.line_text.specs.Lines.{lines_of, with_byte}
-use Rattle.line_wire.specs.Lines.{IsLine}
-use Rattle.line_wire.specs.ReplyText.{reply_text, output_of}
-use Rattle.line_wire.specs.Forms.{ReadsLine}
-use Rattle.pcfs_top.specs.Script.{ScriptState, beginning, authority_under, signature_under, AreBrought, IsUnproved, IsProved, AnswersLine, script_pass, IsRun}
-use Rattle.pcfs_top.specs.Script as script
-use Rattle.pcfs_top.specs.Interpreter.{InterpreterView, IsAsked, IsReplied, IsAllowed}
-use Rattle.pcfs_top.specs.Interpreter as interpreter
-use Rattle.pcfs_top.specs.Run.{RunsWhole, RunsPart}
-use Rattle.access_history.specs.Headline.{Headline}
-use Rattle.access_history.proofs.ReplayLemmas.{count-replay}
-use Rattle.access_history.proofs.FreshLemmas.{IsLawful-fresh}
+use Rattle.access_history.specs.declared.event.Event.{Event}
+use Rattle.access_history.specs.Replay.{fresh}
 use Rattle.access_history.proofs.HeadlineLemmas.{Headline-lawful}
-use Rattle.pcfs_top.proofs.RunLemmas.{run_events, IsLawful-run}
+use Rattle.access_history.proofs.ReplayLemmas.{count-replay}
+use Rattle.line_wire.specs.declared.reply.LineReply.{LineReply}
+use Rattle.line_wire.specs.ReplyText.{reply_text, output_of}
+use Rattle.pcfs_secrets.specs.declared.secrets.Secrets.{Secrets}
+use Rattle.pcfs_top.specs.LineAnswer.{authority_under}
+use Rattle.pcfs_top.specs.ScriptRun.{Standing, state_of_standing, IsLawfulStanding, CanNumber, IsReplied, ScriptRun, fresh_start}
+use Rattle.pcfs_top.specs.ScriptRun as script
+use Rattle.pcfs_top.specs.Outbox.{GoesOut}
+use Rattle.pcfs_top.specs.Run.{RunsOver, RunsPart}
+use Rattle.pcfs_top.proofs.LawfulRunLemmas.{CanNumber-replied, IsLawful-run, IsLawfulStanding-fresh}
+use Rattle.pcfs_top.proofs.OutboxLemmas.{with_back-nil, GoesOut-none, GoesOut-more, GoesOut-whole, GoesOut-some, GoesOut-part}
 
--- no byte after what is held is no change
-pub with_back-nil : (told : Option (List ℕ)) → told ≡ with_back told []
-with_back-nil None = refl
-with_back-nil (Some first) = ap Some (sym (append-nil first))
+-- ---- a run that goes on
 
--- what is decided and kept is answered
-pub IsAsked-keep : (seated : InterpreterView) (secrets : Secrets) (base : Base) (clock shown : ℤ) (caller : List ℕ) (events : List Event) (decided kept : GateView) (request : StepRequest) (reply : Reply) →
-    seated ≡ record { secrets = secrets; base = base; standing = record { clock = clock; caller = caller; events = events } } → decided.events ≡ events → shown ≡ clock →
-    ((event : Event) × Answers (authority_under secrets) (replay base events) script_pass shown request reply (Some event) × (decided.pending ≡ Some event)) →
-    IfSome decided.pending (λ event. kept ≡ record decided { events = decided.events ++ event ∷ []; pending = None }) →
-    IsAsked seated.secrets seated.base seated.standing request reply (record { clock = clock; caller = caller; events = kept.events })
-IsAsked-keep seated secrets base clock shown caller events decided kept request reply is same clock_is answer keep =
-    let k = subst (λ (p : Option Event). IfSome p (λ event. kept ≡ record decided { events = decided.events ++ event ∷ []; pending = None })) answer.2 keep in
-    let more : kept.events ≡ events ++ answer.0 ∷ [] = ap (λ (g : GateView). g.events) k ∙ ap (λ (es : List Event). es ++ answer.0 ∷ []) same in
-    subst (λ (s : InterpreterView). IsAsked s.secrets s.base s.standing request reply (record { clock = clock; caller = caller; events = kept.events })) (sym is)
-    (record { event = Some answer.0; answer = subst (λ (z : ℤ). Answers (authority_under secrets) (replay base events) script_pass z request reply (Some answer.0)) clock_is answer.1; after_is = ap (λ (es : List Event). record { clock = clock; caller = caller; events = es }) more })
+ScriptRun-same : (start : Standing) (lines lines' : List (List ℕ)) (replies replies' : List LineReply) (added added' : List Event) → lines ≡ lines' → replies ≡ replies' → added ≡ added' → ScriptRun start lines replies added → ScriptRun start lines' replies' added'
+ScriptRun-same start lines lines' replies replies' added added' lines_are replies_are added_are run =
+    subst (λ (es : List Event). ScriptRun start lines' replies' es) added_are
+    (subst (λ (rs : List LineReply). ScriptRun start lines' rs added) replies_are
+    (subst (λ (ls : List (List ℕ)). ScriptRun start ls replies added) lines_are run))
 
--- the line sets the clock
-pub AnswersLine-at : (seated : InterpreterView) (secrets : Secrets) (base : Base) (clock : ℤ) (caller : List ℕ) (events : List Event) (line : List ℕ) (command : Command) (second shown : ℤ) →
-    seated ≡ record { secrets = secrets; base = base; standing = record { clock = clock; caller = caller; events = events } } → command ≡ commands.At second → shown ≡ second → IsLine line command →
-    AnswersLine seated.secrets seated.base seated.standing line replies.Done (record { clock = shown; caller = caller; events = events })
-AnswersLine-at seated secrets base clock caller events line command second shown is asks same line_is =
-    subst (λ (s : InterpreterView). AnswersLine s.secrets s.base s.standing line replies.Done (record { clock = shown; caller = caller; events = events })) (sym is)
-    (subst (λ (z : ℤ). AnswersLine secrets base (record { clock = clock; caller = caller; events = events }) line replies.Done (record { clock = z; caller = caller; events = events })) (sym same)
-    (script.sets_clock second (subst (IsLine line) asks line_is)))
+-- after these lines, with these replies and events, a run goes on from where it stands
+abbrev GoesOn : Standing → Standing → List (List ℕ) → List LineReply → List Event → Type 0
+GoesOn start now done told added =
+    (lines : List (List ℕ)) (replies : List LineReply) (events : List Event) → ScriptRun now lines replies events → ScriptRun start (done ++ lines) (told ++ replies) (added ++ events)
 
--- the line sets the caller
-pub AnswersLine-as : (seated : InterpreterView) (secrets : Secrets) (base : Base) (clock : ℤ) (caller : List ℕ) (events : List Event) (line : List ℕ) (command : Command) (who : List ℕ) →
-    seated ≡ record { secrets = secrets; base = base; standing = record { clock = clock; caller = caller; events = events } } → command ≡ commands.As who → IsLine line command →
-    AnswersLine seated.secrets seated.base seated.standing line replies.Done (record { clock = clock; caller = who; events = events })
-AnswersLine-as seated secrets base clock caller events line command who is asks line_is =
-    subst (λ (s : InterpreterView). AnswersLine s.secrets s.base s.standing line replies.Done (record { clock = clock; caller = who; events = events })) (sym is)
-    (script.sets_caller who (subst (IsLine line) asks line_is))
+-- a run that went on after one line more
+went_on : (start now next : Standing) (done : List (List ℕ)) (told : List LineReply) (added : List Event) (line : List ℕ) (reply : LineReply) (event : Option Event) → GoesOn start now done told added → IsReplied now line reply event next →
+    GoesOn start next (done ++ line ∷ []) (told ++ reply ∷ []) (added ++ option_to_list event)
+went_on start now next done told added line reply event so_far replied lines replies events run =
+    ScriptRun-same start (done ++ line ∷ lines) ((done ++ line ∷ []) ++ lines) (told ++ reply ∷ replies) ((told ++ reply ∷ []) ++ replies) (added ++ (option_to_list event ++ events)) ((added ++ option_to_list event) ++ events)
+    (sym (append_assoc done (line ∷ []) lines)) (sym (append_assoc told (reply ∷ []) replies)) (sym (append_assoc added (option_to_list event) events))
+    (so_far (line ∷ lines) (reply ∷ replies) (option_to_list event ++ events) (script.one_more now line lines reply replies event next events replied run))
 
--- what was read of a line
-pub IsLine-read : (line : List ℕ) (read : Line) (command : Command) → read ≡ Asks command → ReadsLine line read → IsLine line command
-IsLine-read line read command is found = subst (ReadsLine line) is found
+-- the lines before the rest were run, and their replies are on their way
+pub record HasRun (start now : Standing) (bytes rest : List ℕ) (held mid : Option (List ℕ)) (collected : List ℕ) : Type 0 where
+  pub done : List (List ℕ)
+  pub told : List LineReply
+  pub added : List Event
+  pub goes_on : GoesOn start now done told added
+  pub parts : lines_of bytes ≡ done ++ lines_of rest
+  pub few : CanNumber now (lines_of rest)
+  pub output : GoesOut held (output_of told) mid collected
 
-pub AnswersLine-faulty : (secrets : Secrets) (base : Base) (before : ScriptState) (line : List ℕ) (read : Line) (reply : Reply) → read ≡ Faulty reply → ReadsLine line read → AnswersLine secrets base before line reply before
-AnswersLine-faulty secrets base before line read reply is found = script.asks_for_nothing reply (subst (ReadsLine line) is found)
+pub HasRun-start : (start now : Standing) (bytes : List ℕ) (held : Option (List ℕ)) (collected : List ℕ) → now ≡ start → CanNumber start (lines_of bytes) → collected ≡ [] → HasRun start now bytes bytes held held collected
+HasRun-start start now bytes held collected same few empty =
+    subst (λ (s : Standing). HasRun start s bytes bytes held held collected) (sym same)
+    (record {
+      done = [];
+      told = [];
+      added = [];
+      goes_on = λ lines replies events run. run;
+      parts = refl;
+      few = few;
+      output = subst (GoesOut held [] held) (sym empty) (GoesOut-none held []);
+    })
 
-pub AnswersLine-register : (secrets : Secrets) (base : Base) (before after : ScriptState) (line : List ℕ) (signature : Option (List ℕ)) (statement : StatementView) (given : List ℕ) (reply : Reply) → IsLine line (commands.Register signature statement) →
-    given ≡ signature_under secrets.ring statement signature → IsAsked secrets base before (requests.Register statement given) reply after → AnswersLine secrets base before line reply after
-AnswersLine-register secrets base before after line signature statement given reply line_is given_is asked =
-    subst (λ (s : ScriptState). AnswersLine secrets base before line reply s) (sym asked.after_is)
-    (script.registers signature statement reply asked.event line_is
-    (subst (λ (bytes : List ℕ). Answers (authority_under secrets) (replay base before.events) script_pass before.clock (requests.Register statement bytes) reply asked.event) given_is asked.answer))
+-- the next event has a number
+pub HasRun-counted : (start now : Standing) (bytes rest others line : List ℕ) (held mid : Option (List ℕ)) (collected : List ℕ) → HasRun start now bytes rest held mid collected → lines_of rest ≡ line ∷ lines_of others → (state_of_standing now).count < 2 ^ 48 - 1
+HasRun-counted start now bytes rest others line held mid collected h first =
+    let lines_are : length (lines_of rest) ≡ length (line ∷ lines_of others) = ap length first in
+    omega (arith, h.few, lines_are, count-replay now.base now.events)
 
--- the statements that an interpreter cites
-pub Cites-seated : (inside seated : InterpreterView) (shown numbers : List ℕ) (citation : Citation) → inside ≡ seated → shown ≡ numbers → GivesCitation (sayings (replay inside.base inside.standing.events).statements) shown citation →
-    GivesCitation (sayings (replay seated.base seated.standing.events).statements) numbers citation
-Cites-seated inside seated shown numbers citation same numbers_are found =
-    subst (λ (s : InterpreterView). GivesCitation (sayings (replay s.base s.standing.events).statements) numbers citation) same (subst (λ (ns : List ℕ). GivesCitation (sayings (replay inside.base inside.standing.events).statements) ns citation) numbers_are found)
+output-more : (told : List LineReply) (reply : LineReply) → output_of (told ++ reply ∷ []) ≡ output_of told ++ (reply_text reply ++ 10 ∷ [])
+output-more told reply = flat_map-append (λ (r : LineReply). reply_text r ++ 10 ∷ []) told (reply ∷ []) ∙ ap (λ (l : List ℕ). output_of told ++ l) (append-nil (reply_text reply ++ 10 ∷ []))
 
--- no statement stands under one of the numbers
-pub IsUnproved-absent : (statements : List StatementView) (goal : Goal) (numbers : List ℕ) (proof : ProofView) (citation : Citation) (number : ℕ) → citation ≡ citations.Absent number →
-    GivesCitation statements numbers citation → IsUnproved statements goal numbers proof (replies.Absent number)
-IsUnproved-absent statements goal numbers proof citation number is found = script.cites_none number (subst (GivesCitation statements numbers) is found)
+parts-more : (bytes rest others line : List ℕ) (done : List (List ℕ)) → lines_of bytes ≡ done ++ lines_of rest → lines_of rest ≡ line ∷ lines_of others → lines_of bytes ≡ (done ++ line ∷ []) ++ lines_of others
+parts-more bytes rest others line done parts first = parts ∙ ap (λ (l : List (List ℕ)). done ++ l) first ∙ sym (append_assoc done (line ∷ []) (lines_of others))
 
--- the statements that were found
-AreFound-cited : (statements : List StatementView) (numbers : List ℕ) (citation : Citation) (cites : List Cite) → citation ≡ citations.Cited cites → GivesCitation statements numbers citation → AreFound statements numbers cites
-AreFound-cited statements numbers citation cites is found = subst (GivesCitation statements numbers) is found
+few-more : (now next : Standing) (rest others line : List ℕ) (reply : LineReply) (event : Option Event) → CanNumber now (lines_of rest) → lines_of rest ≡ line ∷ lines_of others → IsReplied now line reply event next → CanNumber next (lines_of others)
+few-more now next rest others line reply event few first replied = CanNumber-replied now next line (lines_of others) reply event (subst (CanNumber now) first few) replied
 
--- the proof is refused
-pub IsUnproved-refused : (statements : List StatementView) (goal : Goal) (numbers : List ℕ) (proof : ProofView) (citation : Citation) (cites : List Cite) (fault : CheckFault) (reply : Reply) →
-    citation ≡ citations.Cited cites → GivesCitation statements numbers citation → proof_fault_reply fault ≡ Some reply → IsFault fault (verdict (statements_of cites) goal proof) →
-    IsUnproved statements goal numbers proof reply
-IsUnproved-refused statements goal numbers proof citation cites fault reply is found told refused =
-    ⊎_elim (λ (none : fault ≡ NoMemory). absurd (none-some reply (ap proof_fault_reply (sym none) ∙ told)))
-    (λ (same : verdict (statements_of cites) goal proof ≡ Err fault). script.proves_none cites fault reply (AreFound-cited statements numbers citation cites is found) same told) refused
+-- one more line was answered, and its reply is on its way
+pub HasRun-more : (start now next : Standing) (bytes rest others line : List ℕ) (reply : LineReply) (held mid new : Option (List ℕ)) (collected after : List ℕ) → HasRun start now bytes rest held mid collected → lines_of rest ≡ line ∷ lines_of others → ((event : Option Event) × IsReplied now line reply event next) →
+    GoesOut mid (collected ++ (reply_text reply ++ 10 ∷ [])) new after → HasRun start next bytes others held new after
+HasRun-more start now next bytes rest others line reply held mid new collected after h first replied out = record {
+  done = h.done ++ line ∷ [];
+  told = h.told ++ reply ∷ [];
+  added = h.added ++ option_to_list replied.0;
+  goes_on = went_on start now next h.done h.told h.added line reply replied.0 h.goes_on replied.1;
+  parts = parts-more bytes rest others line h.done h.parts first;
+  few = few-more now next rest others line reply replied.0 h.few first replied.1;
+  output = subst (λ (bs : List ℕ). GoesOut held bs new after) (sym (output-more h.told reply)) (GoesOut-more held mid new (output_of h.told) collected (reply_text reply ++ 10 ∷ []) after h.output out);
+}
 
--- the proof is accepted
-pub IsProved-granted : (statements : List StatementView) (goal : Goal) (numbers : List ℕ) (proof : ProofView) (citation : Citation) (cites : List Cite) (g : GrantView) →
-    citation ≡ citations.Cited cites → GivesCitation statements numbers citation → IsGranted (statements_of cites) goal proof g → IsProved statements goal numbers proof cites g
-IsProved-granted statements goal numbers proof citation cites g is found granted =
-    record { found = AreFound-cited statements numbers citation cites is found; verdict_is = granted.verdict_is }
+-- ---- what was run
 
-pub AnswersLine-verify : (secrets : Secrets) (base : Base) (before after : ScriptState) (line : List ℕ) (goal : Goal) (numbers : List ℕ) (proof : ProofView) (citation : Citation) (cites : List Cite) (checked : CheckedView) (reply : Reply) →
-    citation ≡ citations.Cited cites → GivesCitation (sayings (replay base before.events).statements) numbers citation → checked ≡ checked_view cites goal proof checked.grant → IsChecked checked → IsLine line (commands.Verify goal numbers proof) →
-    IsAsked secrets base before (requests.Issue checked) reply after → AnswersLine secrets base before line reply after
-AnswersLine-verify secrets base before after line goal numbers proof citation cites checked reply is found same granted line_is asked =
-    subst (λ (s : ScriptState). AnswersLine secrets base before line reply s) (sym asked.after_is)
-    (script.verifies goal numbers proof cites checked.grant reply asked.event line_is
-    (IsProved-granted (sayings (replay base before.events).statements) goal numbers proof citation cites checked.grant is found (subst IsChecked same granted))
-    (subst (λ (c : CheckedView). Answers (authority_under secrets) (replay base before.events) script_pass before.clock (requests.Issue c) reply asked.event) same asked.answer))
+fewer : (start : Standing) (all done others : List (List ℕ)) → CanNumber start all → all ≡ done ++ others → CanNumber start done
+fewer start all done others few parts = let lines_are : length all ≡ length (done ++ others) = ap length parts in omega (arith, few, lines_are, length-append done others)
 
--- the line asks for what the command asks for
-pub IsLine-same : (line : List ℕ) (command other : Command) → command ≡ other → IsLine line command → IsLine line other
-IsLine-same line command other same = subst (IsLine line) same
+RunsOver-done : (start now : Standing) (done : List (List ℕ)) (told : List LineReply) (added : List Event) → IsLawfulStanding start → CanNumber start done → GoesOn start now done told added → RunsOver start done (output_of told)
+RunsOver-done start now done told added stands few goes_on =
+    let run : ScriptRun start done told added =
+    ScriptRun-same start (done ++ []) done (told ++ []) told (added ++ []) added (append-nil done) (append-nil told) (append-nil added) (goes_on [] [] [] (script.ended now)) in
+    record {
+      replies = told;
+      added = added;
+      run = run;
+      headline = Headline-lawful (authority_under start.secrets) start.base (start.events ++ added) (IsLawful-run start done told added stands few run);
+      written_is = refl;
+    }
 
--- the line shows a procap
-pub AnswersLine-show : (secrets : Secrets) (base : Base) (before after : ScriptState) (line : List ℕ) (command : Command) (number : ℕ) (reply : Reply) → command ≡ commands.Procap number → IsLine line command →
-    IsAsked secrets base before (requests.ShowProcap number None) reply after → AnswersLine secrets base before line reply after
-AnswersLine-show secrets base before after line command number reply asks line_is asked =
-    subst (λ (s : ScriptState). AnswersLine secrets base before line reply s) (sym asked.after_is) (script.shows number reply asked.event (subst (IsLine line) asks line_is) asked.answer)
+-- each line was answered, and all replies are out
+pub HasRun-whole : (start now : Standing) (bytes rest : List ℕ) (held mid new : Option (List ℕ)) (collected : List ℕ) → IsLawfulStanding start → CanNumber start (lines_of bytes) → HasRun start now bytes rest held mid collected → rest ≡ [] → new ≡ with_back mid collected →
+    (written : List ℕ) × RunsOver start (lines_of bytes) written × (new ≡ with_back held written)
+HasRun-whole start now bytes rest held mid new collected stands few h end out =
+    let all : h.done ≡ lines_of bytes = sym (h.parts ∙ ap (λ (r : List ℕ). h.done ++ lines_of r) end ∙ append-nil h.done) in (
+      output_of h.told,
+      subst (λ (ls : List (List ℕ)). RunsOver start ls (output_of h.told)) all (RunsOver-done start now h.done h.told h.added stands (fewer start (lines_of bytes) h.done (lines_of rest) few h.parts) h.goes_on),
+      GoesOut-whole held mid new (output_of h.told) collected h.output out,
+    )
 
--- the line does what it asks for under the procaps that its words bring
-pub AnswersLine-do : (seated : InterpreterView) (secrets : Secrets) (base : Base) (clock : ℤ) (caller : List ℕ) (events : List Event) (after : ScriptState) (line : List ℕ) (op : FileOp) (words : List ProcapWord) (procaps : List Procap) (reply : Reply) →
-    seated ≡ record { secrets = secrets; base = base; standing = record { clock = clock; caller = caller; events = events } } → IsLine line (commands.Do op words) → AreBrought seated.secrets.seal_key (replay seated.base seated.standing.events).issues words procaps →
-    IsAsked seated.secrets seated.base seated.standing (requests.Act caller op procaps) reply after → AnswersLine seated.secrets seated.base seated.standing line reply after
-AnswersLine-do seated secrets base clock caller events after line op words procaps reply is line_is brought asked =
-    subst (λ (s : ScriptState). AnswersLine seated.secrets seated.base seated.standing line reply s) (sym asked.after_is)
-    (script.acts op words procaps reply asked.event line_is brought
-    (subst (λ (who : List ℕ). Answers (authority_under seated.secrets) (replay seated.base seated.standing.events) script_pass seated.standing.clock (requests.Act who op procaps) reply asked.event) (sym (ap (λ (s : InterpreterView). s.standing.caller) is)) asked.answer))
+-- each line before the rest was answered, and some first part of the replies is out
+pub HasRun-part : (start now : Standing) (bytes rest : List ℕ) (held mid new : Option (List ℕ)) (collected : List ℕ) → IsLawfulStanding start → CanNumber start (lines_of bytes) → HasRun start now bytes rest held mid collected → HoldsSome mid new collected →
+    (written : List ℕ) × RunsPart start bytes written × HoldsSome held new written
+HasRun-part start now bytes rest held mid new collected stands few h some = (
+  output_of h.told,
+  record {
+    front = h.done;
+    others = lines_of rest;
+    parts = h.parts;
+    run = RunsOver-done start now h.done h.told h.added stands (fewer start (lines_of bytes) h.done (lines_of rest) few h.parts) h.goes_on;
+  },
+  GoesOut-part held mid new (output_of h.told) collected h.output some,
+)
 
--- where nothing changed memory ran out
-pub IsReplied-without_memory : (before after : InterpreterView) (line : List ℕ) → after ≡ before → IsReplied before.secrets before.base before.standing line replies.NoMemory after.standing
-IsReplied-without_memory before after line same = subst (λ (s : InterpreterView). IsReplied before.secrets before.base before.standing line replies.NoMemory s.standing) (sym same) interpreter.without_memory
+-- one more line was answered, and some first part of the replies is out
+pub HasRun-cut : (start now next : Standing) (bytes rest others line : List ℕ) (reply : LineReply) (held mid new : Option (List ℕ)) (collected : List ℕ) → IsLawfulStanding start → CanNumber start (lines_of bytes) → HasRun start now bytes rest held mid collected →
+    lines_of rest ≡ line ∷ lines_of others → ((event : Option Event) × IsReplied now line reply event next) → HoldsSome mid new (collected ++ (reply_text reply ++ 10 ∷ [])) → (written : List ℕ) × RunsPart start bytes written × HoldsSome held new written
+HasRun-cut start now next bytes rest others line reply held mid new collected stands few h first replied some =
+    let parts = parts-more bytes rest others line h.done h.parts first in (
+      output_of (h.told ++ reply ∷ []),
+      record {
+        front = h.done ++ line ∷ [];
+        others = lines_of others;
+        parts = parts;
+        run = RunsOver-done start next (h.done ++ line ∷ []) (h.told ++ reply ∷ []) (h.added ++ option_to_list replied.0) stands (fewer start (lines_of bytes) (h.done ++ line ∷ []) (lines_of others) few parts)
+            (went_on start now next h.done h.told h.added line reply replied.0 h.goes_on replied.1);
+      },
+      subst (HoldsSome held new) (sym (output-more h.told reply)) (GoesOut-some held mid new (output_of h.told) collected (reply_text reply ++ 10 ∷ []) h.output some),
+    )
 
--- and no more lines than bytes
+-- ---- a script over a store before its first event
+
+-- no line was answered
+pub RunsOver-none : (secrets : Secrets) → RunsOver (fresh_start secrets) [] []
+RunsOver-none secrets = RunsOver-done (fresh_start secrets) (fresh_start secrets) [] [] [] (IsLawfulStanding-fresh secrets) (omega arith) (λ lines replies events run. run)
+
+-- nothing was run, and nothing written
+pub nothing_run : (secrets : Secrets) (bytes : List ℕ) (held : Option (List ℕ)) → (written : List ℕ) × RunsPart (fresh_start secrets) bytes written × HoldsSome held held written
+nothing_run secrets bytes held = ([], record { front = []; others = lines_of bytes; parts = refl; run = RunsOver-none secrets }, record { count = 0; within = omega arith; held = with_back-nil held })
+
+-- there are no more lines than bytes
 length-with_byte : (byte : ℕ) (ls : List (List ℕ)) → length (with_byte byte ls) ≤ length ls + 1
 length-with_byte byte [] = omega arith
 length-with_byte byte (line ∷ ls) = omega arith
@@ -173,125 +168,10 @@ few_lines_step : (is_end : Bool) (byte : ℕ) (ls : List (List ℕ)) (n : ℕ) �
 few_lines_step true byte ls n few = omega arith
 few_lines_step false byte ls n few = omega (arith, length-with_byte byte ls)
 
-pub few_lines : (bytes : List ℕ) → length (lines_of bytes) ≤ length bytes
+few_lines : (bytes : List ℕ) → length (lines_of bytes) ≤ length bytes
 few_lines [] = omega arith
 few_lines (byte ∷ bytes) = few_lines_step (byte == 10) byte (lines_of bytes) (length bytes) (few_lines bytes)
 
--- the headline holds of the history after the lines so far
-Headline-run : (secrets : Secrets) (bytes : List ℕ) (done others : List (List ℕ)) (answers : List Reply) (standing : ScriptState) → length bytes < 2 ^ 30 → lines_of bytes ≡ done ++ others → IsRun secrets fresh done answers standing →
-    Headline (authority_under secrets) fresh standing.events (replay fresh standing.events).world
-Headline-run secrets bytes done others answers standing short parts run =
-    let lines_are : length (lines_of bytes) ≡ length (done ++ others) = ap length parts in
-    let few : fresh.count + length done ≤ 2 ^ 48 - 1 = omega (arith, short, lines_are, length-append done others, few_lines bytes) in
-    Headline-lawful (authority_under secrets) fresh standing.events (IsLawful-run secrets fresh done answers standing (IsLawful-fresh (authority_under secrets)).lawful_base few run)
-
--- the lines before the rest were run, their replies stand after what was held, and the script stands there
-pub record HasRun (secrets : Secrets) (bytes rest : List ℕ) (standing : ScriptState) (held held_now : Option (List ℕ)) : Type 0 where
-  pub done : List (List ℕ)
-  pub answers : List Reply
-  pub run : IsRun secrets fresh done answers standing
-  pub parts : lines_of bytes ≡ done ++ lines_of rest
-  pub output : held_now ≡ with_back held (output_of answers)
-
-pub HasRun-start : (secrets : Secrets) (bytes : List ℕ) (standing : ScriptState) (held : Option (List ℕ)) → standing ≡ beginning → HasRun secrets bytes bytes standing held held
-HasRun-start secrets bytes standing held start = record {
-  done = [];
-  answers = [];
-  run = subst (λ (s : ScriptState). IsRun secrets fresh [] [] s) (sym start) script.begun;
-  parts = refl;
-  output = with_back-nil held;
-}
-
-pub HasRun-counted : (secrets : Secrets) (bytes rest : List ℕ) (base : Base) (standing : ScriptState) (held held_now : Option (List ℕ)) → base ≡ fresh → HasRun secrets bytes rest standing held held_now → length bytes < 2 ^ 30 → (replay base standing.events).count < 2 ^ 48 - 1
-HasRun-counted secrets bytes rest base standing held held_now same h short =
-    subst (λ (b : Base). (replay b standing.events).count < 2 ^ 48 - 1) (sym same)
-    (let lines_are : length (lines_of bytes) ≡ length (h.done ++ lines_of rest) = ap length h.parts in
-    omega (arith, short, lines_are, length-append h.done (lines_of rest), few_lines bytes, run_events secrets fresh h.done h.answers standing h.run, count-replay fresh standing.events))
-
-one_more : (secrets : Secrets) (done : List (List ℕ)) (answers : List Reply) (before after : ScriptState) (line : List ℕ) (reply : Reply) → IsRun secrets fresh done answers before → IsReplied secrets fresh before line reply after →
-    IsRun secrets fresh (done ++ line ∷ []) (answers ++ reply ∷ []) after
-one_more secrets done answers before after line reply run (interpreter.answered r a answer) = script.answered done answers line reply before after run answer
-one_more secrets done answers before after line reply run interpreter.without_memory = script.without_memory done answers line before run
-
-run-more : (secrets given : Secrets) (base : Base) (done : List (List ℕ)) (answers : List Reply) (before after : ScriptState) (line : List ℕ) (reply : Reply) → given ≡ secrets → base ≡ fresh → IsRun secrets fresh done answers before → IsReplied given base before line reply after →
-    IsRun secrets fresh (done ++ line ∷ []) (answers ++ reply ∷ []) after
-run-more secrets given base done answers before after line reply given_is same run replied =
-    one_more secrets done answers before after line reply run
-    (subst (λ (b : Base). IsReplied secrets b before line reply after) same (subst (λ (s : Secrets). IsReplied s base before line reply after) given_is replied))
-
-output-more : (answers : List Reply) (reply : Reply) → output_of (answers ++ reply ∷ []) ≡ output_of answers ++ (reply_text reply ++ 10 ∷ [])
-output-more answers reply = flat_map-append (λ (r : Reply). reply_text r ++ 10 ∷ []) answers (reply ∷ []) ∙ ap (λ (l : List ℕ). output_of answers ++ l) (append-nil (reply_text reply ++ 10 ∷ []))
-
-parts-more : (bytes rest others line : List ℕ) (done : List (List ℕ)) → lines_of bytes ≡ done ++ lines_of rest → lines_of rest ≡ line ∷ lines_of others → lines_of bytes ≡ (done ++ line ∷ []) ++ lines_of others
-parts-more bytes rest others line done parts first = parts ∙ ap (λ (l : List (List ℕ)). done ++ l) first ∙ sym (append_assoc done (line ∷ []) (lines_of others))
-
-pub HasRun-more : (secrets given : Secrets) (bytes rest others line : List ℕ) (base : Base) (before after : ScriptState) (reply : Reply) (held mid new : Option (List ℕ)) → given ≡ secrets → base ≡ fresh → HasRun secrets bytes rest before held mid → lines_of rest ≡ line ∷ lines_of others →
-    IsReplied given base before line reply after → new ≡ with_back mid (reply_text reply ++ 10 ∷ []) → HasRun secrets bytes others after held new
-HasRun-more secrets given bytes rest others line base before after reply held mid new given_is same h first replied written = record {
-  done = h.done ++ line ∷ [];
-  answers = h.answers ++ reply ∷ [];
-  run = run-more secrets given base h.done h.answers before after line reply given_is same h.run replied;
-  parts = parts-more bytes rest others line h.done h.parts first;
-  output = written ∙ ap (λ t. with_back t (reply_text reply ++ 10 ∷ [])) h.output ∙ with_back-with_back held (output_of h.answers) (reply_text reply ++ 10 ∷ []) ∙ ap (with_back held) (sym (output-more h.answers reply));
-}
-
-pub HasRun-whole : (secrets : Secrets) (bytes rest : List ℕ) (standing : ScriptState) (held held_now : Option (List ℕ)) → length bytes < 2 ^ 30 → HasRun secrets bytes rest standing held held_now → rest ≡ [] →
-    (written : List ℕ) × RunsWhole secrets bytes written × (held_now ≡ with_back held written)
-HasRun-whole secrets bytes rest standing held held_now short h end =
-    let all : lines_of bytes ≡ h.done = h.parts ∙ ap (λ (r : List ℕ). h.done ++ lines_of r) end ∙ append-nil h.done in
-    let run : IsRun secrets fresh (lines_of bytes) h.answers standing = subst (λ (ls : List (List ℕ)). IsRun secrets fresh ls h.answers standing) (sym all) h.run in (
-      output_of h.answers,
-      record {
-        answers = h.answers;
-        after = standing;
-        run = run;
-        tree = (replay fresh standing.events).world;
-        headline = Headline-run secrets bytes h.done (lines_of rest) h.answers standing short h.parts h.run;
-        written_is = refl;
-      },
-      h.output,
-    )
-
-pub HasRun-part : (secrets given : Secrets) (bytes rest others line : List ℕ) (base : Base) (before after : ScriptState) (reply : Reply) (held mid new : Option (List ℕ)) → length bytes < 2 ^ 30 → given ≡ secrets → base ≡ fresh → HasRun secrets bytes rest before held mid → lines_of rest ≡ line ∷ lines_of others →
-    IsReplied given base before line reply after → HoldsSome mid new (reply_text reply ++ 10 ∷ []) → (written : List ℕ) × RunsPart secrets bytes written × HoldsSome held new written
-HasRun-part secrets given bytes rest others line base before after reply held mid new short given_is same h first replied some =
-    let parts = parts-more bytes rest others line h.done h.parts first in
-    let run = run-more secrets given base h.done h.answers before after line reply given_is same h.run replied in
-    let out = output_of h.answers in
-    let text = reply_text reply ++ 10 ∷ [] in (
-      out ++ text,
-      record {
-        front = h.done ++ line ∷ [];
-        others = lines_of others;
-        parts = parts;
-        answers = h.answers ++ reply ∷ [];
-        after = after;
-        run = run;
-        tree = (replay fresh after.events).world;
-        headline = Headline-run secrets bytes (h.done ++ line ∷ []) (lines_of others) (h.answers ++ reply ∷ []) after short parts run;
-        written_is = sym (output-more h.answers reply);
-      },
-      record {
-        count = length out + some.count;
-        within = omega (arith, some.within, length-append out text);
-        held = some.held ∙ ap (λ t. with_back t (take some.count text)) h.output ∙ with_back-with_back held out (take some.count text) ∙ ap (with_back held) (sym (take-append-add out text some.count));
-      },
-    )
-
--- nothing was run, and nothing written
-pub nothing_run : (secrets : Secrets) (bytes : List ℕ) (held : Option (List ℕ)) → (written : List ℕ) × RunsPart secrets bytes written × HoldsSome held held written
-nothing_run secrets bytes held = (
-  [],
-  record {
-    front = [];
-    others = lines_of bytes;
-    parts = refl;
-    answers = [];
-    after = beginning;
-    run = script.begun;
-    tree = fresh.world;
-    headline = Headline-lawful (authority_under secrets) fresh [] (IsLawful-fresh (authority_under secrets));
-    written_is = refl;
-  },
-  record { count = 0; within = omega arith; held = with_back-nil held },
-)
+-- there are numbers for the lines of an input
+pub CanNumber-fresh : (secrets : Secrets) (bytes : List ℕ) → length bytes < 2 ^ 30 → CanNumber (fresh_start secrets) (lines_of bytes)
+CanNumber-fresh secrets bytes short = omega (arith, short, few_lines bytes)

@@ -1,13 +1,13 @@
--- What the procap words of a line bring, one after the other (this project's own).
+-- What is known of the procaps while they are added, one word after the other.
 use Rattle.std.specs.Prelude.{◌≡◌, ◌++◌, ℕ, List, Option, Some, None}
+use Rattle.procap.specs.declared.procap.Procap.{Procap as Sealed}
 use Rattle.access_history.specs.declared.event.Issue.{Issue}
 use Rattle.access_history.specs.Numbered.{IsNumbered}
-use Rattle.line_wire.specs.declared.command.ProcapWord.{ProcapWord}
-use Rattle.line_wire.specs.declared.command.ProcapWord.TheVariants as words
+use Rattle.line_words.specs.declared.procap_word.ProcapWord.{ProcapWord}
+use Rattle.line_words.specs.declared.procap_word.ProcapWord.TheVariants as words
 use Rattle.pcfs_top.specs.declared.brought.Brought.{Brought}
 use Rattle.pcfs_top.specs.declared.brought.Brought.TheVariants.{Procap, Unissued}
-use Rattle.pcfs_top.specs.Script.{BringsProcap, AreBrought, IsFirstUnissued}
-use Rattle.procap.specs.declared.procap.Procap.{Procap as Sealed}
+use Rattle.pcfs_top.specs.Procaps.{BringsProcap, AreBrought, IsFirstUnissued}
 
 -- a word brings this procap, or names an issue which is not there
 abbrev pub IsBroughtBy : List ℕ → List Issue → ProcapWord → Brought → Type 0

@@ -1,19 +1,33 @@
--- Laws of runs and lines: what runs keep is lawful, and a line has one answer.
-use Rattle.std.specs.Prelude.{◌≡◌, ◌≤◌, ◌+◌, ◌-◌, ◌^◌, ℕ, List, length}
-use Rattle.access_history.specs.declared.event.Base.{Base}
-use Rattle.access_history.specs.declared.reply.Reply.{Reply}
-use Rattle.access_history.specs.Authority.{sayings}
-use Rattle.access_history.specs.Replay.{replay}
-use Rattle.bl_syntax.specs.Grant.{AreDistinct}
-use Rattle.access_history.specs.Lawful.{IsLawfulBase, IsLawful}
-use Rattle.pcfs_top.specs.Script.{ScriptState, authority_under, AnswersLine, IsRun}
-use Rattle.pcfs_secrets.specs.declared.secrets.Secrets.{Secrets}
+-- Laws of runs and lines: what runs keep is lawful, and lines and runs have one answer each.
+use Rattle.std.specs.Prelude.{◌≡◌, ℕ, List, ◌++◌, Option}
+use Rattle.access_history.specs.declared.event.Event.{Event}
+use Rattle.access_history.specs.Lawful.{IsLawful}
+use Rattle.line_wire.specs.declared.reply.LineReply.{LineReply}
+use Rattle.pcfs_top.specs.Asker.{Asker}
+use Rattle.pcfs_top.specs.LineAnswer.{authority_under, AnswersLine}
+use Rattle.pcfs_top.specs.ScriptRun.{Standing, state_of_standing, IsLawfulStanding, CanNumber, ScriptRun, HadMemory}
 
--- the events of a run of a script are lawful, where there are numbers for as many events as it has lines
+-- the events of a run from a lawful start are lawful
 abbrev pub RunsAreLawful : Type 0
-RunsAreLawful = (secrets : Secrets) (base : Base) (lines : List (List ℕ)) (answers : List Reply) (after : ScriptState) → IsLawfulBase (authority_under secrets) base → base.count + length lines ≤ 2 ^ 48 - 1 → IsRun secrets base lines answers after → IsLawful (authority_under secrets) base after.events
+RunsAreLawful = (start : Standing) (lines : List (List ℕ)) (replies : List LineReply) (added : List Event) → IsLawfulStanding start → CanNumber start lines → ScriptRun start lines replies added →
+    IsLawful (authority_under start.secrets) start.base (start.events ++ added)
 
--- a line has one answer where the script stands, and the script goes on in one way; that memory may run out instead is aside
+-- over the state of a lawful history a line has one answer at most
 abbrev pub LinesHaveOneAnswer : Type 0
-LinesHaveOneAnswer = (secrets : Secrets) (base : Base) (before after other : ScriptState) (line : List ℕ) (first second : Reply) → AreDistinct (sayings (replay base before.events).statements) →
-    AnswersLine secrets base before line first after → AnswersLine secrets base before line second other → (first ≡ second) × (after ≡ other)
+LinesHaveOneAnswer = (s : Standing) (line : List ℕ) (first second : LineReply) (one other : Option Event) (after later : Asker) → IsLawful (authority_under s.secrets) s.base s.events →
+    AnswersLine s.secrets (state_of_standing s) s.asker line first one after → AnswersLine s.secrets (state_of_standing s) s.asker line second other later → (first ≡ second) × (one ≡ other) × (after ≡ later)
+
+-- and it has one
+abbrev pub LinesHaveAnAnswer : Type 0
+LinesHaveAnAnswer = (s : Standing) (line : List ℕ) → IsLawfulStanding s →
+    (reply : LineReply) × (event : Option Event) × (after : Asker) × AnswersLine s.secrets (state_of_standing s) s.asker line reply event after
+
+-- two runs of the same lines from a lawful start that do not run out of memory have the same outcome
+abbrev pub RunsHaveOneOutcome : Type 0
+RunsHaveOneOutcome = (start : Standing) (lines : List (List ℕ)) (first second : List LineReply) (one other : List Event) → IsLawfulStanding start → CanNumber start lines →
+    ScriptRun start lines first one → HadMemory first → ScriptRun start lines second other → HadMemory second → (first ≡ second) × (one ≡ other)
+
+-- and there is such a run
+abbrev pub RunsHaveAnOutcome : Type 0
+RunsHaveAnOutcome = (start : Standing) (lines : List (List ℕ)) → IsLawfulStanding start → CanNumber start lines →
+    (replies : List LineReply) × (added : List Event) × ScriptRun start lines replies added × HadMemory replies

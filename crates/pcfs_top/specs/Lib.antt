@@ -1,7 +1,13 @@
 pub mod Admin
+pub mod Asker
 pub mod Brought
 pub mod Interpreter
-pub mod InterpreterCode
 pub mod Laws
+pub mod LineAnswer
+pub mod Outbox
+pub mod Ports
+pub mod Procaps
+pub mod Proved
 pub mod Run
-pub mod Script
+pub mod ScriptRun
+pub mod StandingCode

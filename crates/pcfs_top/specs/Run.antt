@@ -1,18 +1,21 @@
--- How a run of the program ends: its status, and what it took and wrote. Where the input does not tell what it has, or the output what it holds, nothing is said of that
+-- How a run of the program ends: its status, what it took and what it wrote. If the input does not tell what it has, or the output what it holds, nothing is said of that
 -- (this project's own).
-use Rattle.std.specs.Prelude.{◌≡◌, ℕ, List, [], ◌∷◌, ◌++◌, Option, String, map, codes}
+use Rattle.std.specs.Prelude.{◌≡◌, ℕ, List, [], ◌∷◌, ◌++◌, String, map, codes}
+use Rattle.std.specs.List.{flat_map}
 use Rattle.std.specs.String.{string_bytes}
 use Rattle.std.specs.declared.alloc.Global.{Global}
 use Rattle.pcfs_ports.specs.Faults.{HasRisen}
-use Rattle.pcfs_ports.specs.Told.{with_back, ReadsToEnd, TakesFirst, TakesSome, HoldsSome}
-use Rattle.access_history.specs.declared.reply.Reply.{Reply}
-use Rattle.access_history.specs.Replay.{fresh}
+use Rattle.pcfs_ports.specs.Told.{with_front, with_back, ReadsToEnd, TakesFirst, HoldsSome}
 use Rattle.line_text.specs.Lines.{lines_of}
-use Rattle.line_wire.specs.ReplyText.{output_of}
-use Rattle.pcfs_top.specs.Script.{ScriptState, authority_under, IsRun}
-use Rattle.pcfs_secrets.specs.declared.secrets.Secrets.{Secrets}
-use Rattle.access_history.specs.World.{WorldView}
+use Rattle.access_history.specs.declared.event.Event.{Event}
 use Rattle.access_history.specs.Headline.{Headline}
+use Rattle.access_history.specs.Replay.{replay}
+use Rattle.line_wire.specs.declared.reply.LineReply.{LineReply}
+use Rattle.line_wire.specs.ReplyText.{output_of}
+use Rattle.pcfs_secrets.specs.declared.secrets.Secrets.{Secrets}
+use Rattle.pcfs_top.specs.LineAnswer.{authority_under}
+use Rattle.pcfs_top.specs.ScriptRun.{Standing, ScriptRun, fresh_start}
+use Rattle.pcfs_top.specs.Ports.{Ports}
 
 -- the words are the one word `script`
 abbrev pub IsScript : List (String Global) → Type 0
@@ -22,68 +25,48 @@ IsScript words = map string_bytes words ≡ codes "script" ∷ []
 abbrev pub with_line_end : List ℕ → List ℕ
 with_line_end line = line ++ 10 ∷ []
 
--- the script was run over these bytes: each line of them was answered, and the headline holds of the history and the tree at the end
-pub record RunsWhole (secrets : Secrets) (bytes written : List ℕ) : Type 0 where
-  pub answers : List Reply
-  pub after : ScriptState
-  pub run : IsRun secrets fresh (lines_of bytes) answers after
-  pub tree : WorldView
-  pub headline : Headline (authority_under secrets) fresh after.events tree
-  pub written_is : written ≡ output_of answers
+-- a script was run over these lines from a start: the output has a line for each of its replies, and the headline holds of the history at the end
+pub record RunsOver (start : Standing) (lines : List (List ℕ)) (written : List ℕ) : Type 0 where
+  pub replies : List LineReply
+  pub added : List Event
+  pub run : ScriptRun start lines replies added
+  pub headline : Headline (authority_under start.secrets) start.base (start.events ++ added) (replay start.base (start.events ++ added)).world
+  pub written_is : written ≡ output_of replies
 
--- the script was run over the first lines of these bytes, and the headline holds of the history and the tree then
-pub record RunsPart (secrets : Secrets) (bytes written : List ℕ) : Type 0 where
+-- a script was run over the first lines of these bytes
+pub record RunsPart (start : Standing) (bytes written : List ℕ) : Type 0 where
   pub front : List (List ℕ)
   pub others : List (List ℕ)
   pub parts : lines_of bytes ≡ front ++ others
-  pub answers : List Reply
-  pub after : ScriptState
-  pub run : IsRun secrets fresh front answers after
-  pub tree : WorldView
-  pub headline : Headline (authority_under secrets) fresh after.events tree
-  pub written_is : written ≡ output_of answers
+  pub run : RunsOver start front written
 
--- status 0: the input was read to its end, and the output has one line more for each reply of the run over it
-pub record IsDone (secrets : Secrets) (left left_after held held_after : Option (List ℕ)) : Type 0 where
-  pub bytes : List ℕ
-  pub written : List ℕ
-  pub read : ReadsToEnd left left_after bytes
-  pub run : RunsWhole secrets bytes written
-  pub output : held_after ≡ with_back held written
+-- these lines were taken of the input, each with its end, and then some rest
+pub record AreTaken (before after : Ports) (lines : List (List ℕ)) : Type 0 where
+  pub rest : List ℕ
+  pub are_lines : lines_of (flat_map with_line_end lines) ≡ lines
+  pub taken : before.left ≡ with_front (flat_map with_line_end lines ++ rest) after.left
 
--- one line was written in the place of replies
-abbrev pub Tells : List ℕ → Option (List ℕ) → Option (List ℕ) → Type 0
-Tells line held held_after = held_after ≡ with_back held (with_line_end line)
+-- the script was run over the first lines that were taken; or over the first lines of the whole input, of which the last may lack its end
+pub data IsUnderWay (secrets : Secrets) (before after : Ports) (written : List ℕ) : Type 0 where
+  while_reading : (lines : List (List ℕ)) → AreTaken before after lines → RunsOver (fresh_start secrets) lines written → IsUnderWay secrets before after written
+  all_read : (bytes : List ℕ) → ReadsToEnd before.left after.left bytes → RunsPart (fresh_start secrets) bytes written → IsUnderWay secrets before after written
 
--- what was to be written: a last line with its cause, or the replies to the first lines of the input
-pub data IsToWrite (secrets : Secrets) (words : List (String Global)) (left left_after : Option (List ℕ)) (read_faults read_faults_after : ℕ) : List ℕ → Type 0 where
-  usage : (IsScript words → ⊥) → left_after ≡ left → IsToWrite secrets words left left_after read_faults read_faults_after (with_line_end (codes "usage"))
-  read_fault : IsScript words → HasRisen read_faults read_faults_after → TakesSome left left_after → IsToWrite secrets words left left_after read_faults read_faults_after (with_line_end (codes "readfault"))
-  too_long : IsScript words → TakesFirst 1073741824 left left_after → IsToWrite secrets words left left_after read_faults read_faults_after (with_line_end (codes "toolong"))
-  replies : (bytes written : List ℕ) → IsScript words → ReadsToEnd left left_after bytes → RunsPart secrets bytes written → IsToWrite secrets words left left_after read_faults read_faults_after written
+-- what a run has to write if it ends with this status: the replies to all lines of the input; or a last line with the cause, which may come after the replies to the first lines that were taken
+pub data HasToWrite (secrets : Secrets) (words : List (String Global)) (before after : Ports) : ℕ → List ℕ → Type 0 where
+  done : (bytes written : List ℕ) → IsScript words → ReadsToEnd before.left after.left bytes → RunsOver (fresh_start secrets) (lines_of bytes) written →
+      HasToWrite secrets words before after 0 written
+  usage : (IsScript words → ⊥) → after.left ≡ before.left → HasToWrite secrets words before after 1 (with_line_end (codes "usage"))
+  read_fault : (lines : List (List ℕ)) (written : List ℕ) → IsScript words → HasRisen before.read_faults after.read_faults → AreTaken before after lines → RunsOver (fresh_start secrets) lines written →
+      HasToWrite secrets words before after 6 (written ++ with_line_end (codes "readfault"))
+  too_long : (lines : List (List ℕ)) (written : List ℕ) → IsScript words → TakesFirst 1073741824 before.left after.left → AreTaken before after lines → RunsOver (fresh_start secrets) lines written →
+      HasToWrite secrets words before after 13 (written ++ with_line_end (codes "toolong"))
 
--- a first part of what was to be written was written
-pub record IsCutShort (secrets : Secrets) (words : List (String Global)) (left left_after : Option (List ℕ)) (read_faults read_faults_after : ℕ) (held held_after : Option (List ℕ)) : Type 0 where
-  pub whole : List ℕ
-  pub to_write : IsToWrite secrets words left left_after read_faults read_faults_after whole
-  pub output : HoldsSome held held_after whole
-
--- status 9: before the input was read to its end, and nothing was written; or a first part of the replies was written
-pub data IsOutOfMemory (secrets : Secrets) (words : List (String Global)) (left left_after : Option (List ℕ)) (held held_after : Option (List ℕ)) : Type 0 where
-  while_reading : IsScript words → TakesSome left left_after → held_after ≡ held → IsOutOfMemory secrets words left left_after held held_after
-  while_answering : (bytes written : List ℕ) → IsScript words → ReadsToEnd left left_after bytes → RunsPart secrets bytes written → HoldsSome held held_after written → IsOutOfMemory secrets words left left_after held held_after
-
--- the status that a run ends with, and its cause
-pub data EndsWith (secrets : Secrets) (words : List (String Global)) (left left_after : Option (List ℕ)) (read_faults read_faults_after : ℕ) (held held_after : Option (List ℕ)) (write_faults write_faults_after : ℕ) : ℕ → Type 0 where
-  done : IsScript words → IsDone secrets left left_after held held_after →
-      EndsWith secrets words left left_after read_faults read_faults_after held held_after write_faults write_faults_after 0
-  usage : (IsScript words → ⊥) → left_after ≡ left → Tells (codes "usage") held held_after →
-      EndsWith secrets words left left_after read_faults read_faults_after held held_after write_faults write_faults_after 1
-  read_fault : IsScript words → HasRisen read_faults read_faults_after → TakesSome left left_after → Tells (codes "readfault") held held_after →
-      EndsWith secrets words left left_after read_faults read_faults_after held held_after write_faults write_faults_after 6
-  write_fault : HasRisen write_faults write_faults_after → IsCutShort secrets words left left_after read_faults read_faults_after held held_after →
-      EndsWith secrets words left left_after read_faults read_faults_after held held_after write_faults write_faults_after 7
-  out_of_memory : IsOutOfMemory secrets words left left_after held held_after →
-      EndsWith secrets words left left_after read_faults read_faults_after held held_after write_faults write_faults_after 9
-  too_long : IsScript words → TakesFirst 1073741824 left left_after → Tells (codes "toolong") held held_after →
-      EndsWith secrets words left left_after read_faults read_faults_after held held_after write_faults write_faults_after 13
+-- the status that a run ends with, and its cause: all was written; or the output failed, and holds some first part of it or of the replies to the first lines; or memory ran out, and
+-- the output holds some first part of those replies
+pub data EndsWith (secrets : Secrets) (words : List (String Global)) (before after : Ports) : ℕ → Type 0 where
+  written : (status : ℕ) (whole : List ℕ) → HasToWrite secrets words before after status whole → after.held ≡ with_back before.held whole → EndsWith secrets words before after status
+  cut_short : (status : ℕ) (whole : List ℕ) → HasRisen before.write_faults after.write_faults → HasToWrite secrets words before after status whole →
+      HoldsSome before.held after.held whole → EndsWith secrets words before after 7
+  write_fault : (whole : List ℕ) → IsScript words → HasRisen before.write_faults after.write_faults → IsUnderWay secrets before after whole → HoldsSome before.held after.held whole →
+      EndsWith secrets words before after 7
+  out_of_memory : (whole : List ℕ) → IsScript words → IsUnderWay secrets before after whole → HoldsSome before.held after.held whole → EndsWith secrets words before after 9

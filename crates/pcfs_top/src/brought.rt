@@ -6,7 +6,7 @@ ghost use Rattle.pcfs_top.specs.Brought.{IsBroughtBy, AreProcapsAdded};
 
 use access_history::Procaps;
 use bl_syntax::NoMemory;
-use line_wire::ProcapWord;
+use line_words::ProcapWord;
 use op_gate::Gate;
 use procap::Procap;
 use std::alloc::Global;
@@ -33,7 +33,7 @@ fn bring(alloc: Global, gate: &Gate, word: &ProcapWord) -> Result<Brought, NoMem
     }
 }
 
-/// Adds the procaps that the words bring, in order; or tells the number of the first issue that is not there.
+/// Adds the procaps that the words bring, in order; or returns the number of the first issue that is not there.
 pub fn add_procaps(
     alloc: Global,
     gate: &Gate,

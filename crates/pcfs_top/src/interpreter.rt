@@ -1,81 +1,98 @@
-//! The interpreter: where the lines of a script are answered.
+//! The interpreter, which answers the lines of an operator's script.
 
-ghost use Rattle.std.specs.Prelude.{◌≡◌, ◌<◌, ◌-◌, ◌^◌, List, ℕ, length, IfOk, OnErr};
+ghost use Rattle.std.specs.Prelude.{◌≡◌, ◌≢◌, ◌≤◌, ◌<◌, ◌-◌, ◌^◌, length, IfOk, OnErr};
 
 use crate::brought::add_procaps;
 use crate::signing::signature_of;
-use access_history::{FileOp, Procaps, Reply, StepRequest};
+use access_history::{Procaps, StepReply, StepRequest};
 use bl_syntax::{Bytes, Goal, NoMemory, Numbers, Principal, Statement};
-use line_wire::{Command, Line, ProcapWords, proof_fault_reply, read_line};
+use file_world::Op;
+use line_forms::{Command, LineFault, read_line};
+use line_wire::LineReply;
+use line_words::ProcapWords;
 use op_gate::{Citation, Decision, Gate};
 use pcfs_secrets::Secrets;
 use proof_term::ProofTree;
-use proof_verifier::{verdict, verify};
+use proof_verifier::{CheckFault, verdict, verify};
 use std::alloc::Global;
 use std::marker::Model;
 
-/// The events of a script carry this number.
+/// The events of an operator's script carry this number.
 const SCRIPT_PASS: u64 = 1;
 
-/// A gate, what the clock shows in whole seconds from 1970-01-01T00:00:00Z, and who calls.
+/// A gate, the number that its events carry, what the clock shows in whole seconds from 1970-01-01T00:00:00Z, and who
+/// calls.
 #[derive(Drop)]
 pub struct Interpreter {
     gate: Gate,
+    pass: u64,
     clock: i64,
     caller: Principal,
 }
 
 impl Model for Interpreter {
-    ghost use Rattle.std.specs.Prelude.{◌≡◌, None};
+    ghost use Rattle.std.specs.Prelude.{◌≡◌, None, IsTrue};
+    ghost use Rattle.bl_syntax.specs.Names.{is_principal_name};
     ghost use Rattle.bl_syntax.specs.TimeOrder.{IsMoment};
-    ghost use Rattle.pcfs_top.specs.Interpreter.{InterpreterView};
-    ghost use Rattle.pcfs_top.specs.InterpreterCode.{interpreter_code};
+    ghost use Rattle.pcfs_top.specs.ScriptRun.{Standing};
+    ghost use Rattle.pcfs_top.specs.StandingCode.{standing_code};
 
-    ghost Value = { InterpreterView };
+    ghost Value = { Standing };
 
-    ghost coded = { interpreter_code };
+    ghost coded = { standing_code };
 
-    ghost view = { λ d. record { secrets = record { seal_key = d.gate.key; ring = d.gate.ring }; base = d.gate.base; standing = record { clock = d.clock; caller = d.caller; events = d.gate.events } } };
+    ghost view = { λ d. record { secrets = record { seal_key = d.gate.key; ring = d.gate.ring }; base = d.gate.base; events = d.gate.events; asker = record { pass = d.pass; clock = d.clock; caller = d.caller; sees = None } } };
 
-    ghost invariant = { λ d. IsMoment d.clock × (d.gate.pending ≡ None) };
+    ghost invariant = { λ d. IsMoment d.clock × IsTrue (is_principal_name d.caller) × (d.gate.pending ≡ None) };
+}
+
+// What is returned if a proof is refused. An error exactly if memory ran out, which is no fault of the proof.
+fn unproved(fault: CheckFault) -> Result<LineReply, NoMemory>
+    ensures ok { IfOk result (λ reply. (reply ≡ LineReply.Unproved fault) × (fault ≢ CheckFault.NoMemory)) }
+{
+    match fault {
+        CheckFault::NoMemory => Err(NoMemory),
+        _ => Ok(LineReply::Unproved(fault)),
+    }
 }
 
 impl Interpreter {
+    ghost use Rattle.std.specs.Prelude.{Option};
+    ghost use Rattle.access_history.specs.declared.event.Event.{Event};
     ghost use Rattle.access_history.specs.WellFormed.{IsWellFormed};
-    ghost use Rattle.line_wire.specs.Lines.{IsLine};
     ghost use Rattle.access_history.specs.Citing.{AreCitable};
-    ghost use Rattle.line_wire.specs.declared.command.Command.TheVariants.{Register, Verify, Check, Do};
-    ghost use Rattle.access_history.specs.Needs.{slots};
-    ghost use Rattle.access_history.specs.Replay.{replay, fresh};
-    ghost use Rattle.pcfs_top.specs.Script.{beginning, AnswersLine};
-    ghost use Rattle.pcfs_top.specs.Interpreter.{IsAsked, IsReplied, IsAllowed};
+    ghost use Rattle.bl_syntax.specs.Statement.{IsStatement};
+    ghost use Rattle.file_world.specs.Effect.{IsOperation};
+    ghost use Rattle.file_world.specs.Needs.{slots, bytes_to_write};
+    ghost use Rattle.line_forms.specs.declared.command.Command.TheVariants.{Register, Verify, Check, Do};
+    ghost use Rattle.pcfs_top.specs.ScriptRun.{state_of_standing, IsReplied, fresh_start};
+    ghost use Rattle.pcfs_top.specs.Interpreter.{IsDecidedAs, IsFollowed, IsAllowed};
 
-    /// An interpreter where a script begins, over a store before its first event, under these secrets.
+    /// An interpreter over a store before its first event, where an operator's script begins under these secrets.
     pub fn fresh(alloc: Global, secrets: &Secrets) -> Result<Interpreter, NoMemory>
-        ensures { IfOk result (λ interpreter. interpreter ≡ record { secrets = secrets.now; base = fresh; standing = beginning }) }
+        ensures { IfOk result (λ interpreter. interpreter ≡ fresh_start secrets.now) }
     {
         let ring = secrets.ring.copy(alloc)?;
         Ok(Interpreter {
             gate: Gate::fresh(alloc, secrets.seal_key.as_slice(), ring)?,
+            pass: SCRIPT_PASS,
             clock: 0,
             caller: Principal::new(b"admin").unwrap(),
         })
     }
 
-    // Asks the gate, and keeps the event where there is one.
-    fn ask(&mut self, alloc: Global, request: &StepRequest) -> Result<Reply, NoMemory>
-        requires counted { (replay self.old.base self.old.standing.events).count < 2 ^ 48 - 1 }
-        requires well_formed { IsWellFormed request.now }
-        ensures ok { IfOk result (λ reply. IsAsked self.old.secrets self.old.base self.old.standing request.now reply self.new.standing) }
+    // Asks the gate, and keeps the event if there is one.
+    fn ask(&mut self, alloc: Global, request: StepRequest) -> Result<LineReply, NoMemory>
+        requires counted { (state_of_standing self.old).count < 2 ^ 48 - 1 }
+        requires well_formed { IsWellFormed request }
+        ensures ok { IfOk result (λ reply. IsDecidedAs self.old request reply self.new) }
         ensures err { OnErr result (self.new ≡ self.old) }
-        ensures secrets { self.new.secrets ≡ self.old.secrets }
-        ensures base { self.new.base ≡ self.old.base }
     {
-        match self.gate.decide(alloc, SCRIPT_PASS, request, self.clock) {
-            Decision::Answer(reply) => Ok(reply),
+        match self.gate.decide(alloc, self.pass, request, self.clock) {
+            Decision::Answer(reply) => Ok(LineReply::Step(reply)),
             Decision::Keep(reply) => {
                 self.gate.commit();
-                Ok(reply)
+                Ok(LineReply::Step(reply))
             }
             Decision::NoMemory => Err(NoMemory),
         }
@@ -88,19 +105,17 @@ impl Interpreter {
         goal: Goal,
         numbers: &Numbers,
         proof: ProofTree,
-    ) -> Result<Reply, NoMemory>
-        requires counted { (replay self.old.base self.old.standing.events).count < 2 ^ 48 - 1 }
+    ) -> Result<LineReply, NoMemory>
+        requires counted { (state_of_standing self.old).count < 2 ^ 48 - 1 }
         requires citable { AreCitable numbers.now }
-        ensures ok { IfOk result (λ reply. (line : List ℕ) → IsLine line (Verify goal numbers.now proof) → AnswersLine self.old.secrets self.old.base self.old.standing line reply self.new.standing) }
+        ensures ok { IfOk result (λ reply. IsFollowed self.old (Verify goal numbers.now proof) reply self.new) }
         ensures err { OnErr result (self.new ≡ self.old) }
-        ensures secrets { self.new.secrets ≡ self.old.secrets }
-        ensures base { self.new.base ≡ self.old.base }
     {
         match self.gate.cite(alloc, numbers.as_slice())? {
-            Citation::Absent(number) => Ok(Reply::Absent(number as u64)),
+            Citation::Absent(number) => Ok(LineReply::Step(StepReply::Absent(u64::from(number)))),
             Citation::Cited(cites) => match verify(alloc, cites, goal, proof) {
-                Ok(checked) => self.ask(alloc, &StepRequest::Issue(checked)),
-                Err(fault) => proof_fault_reply(fault),
+                Ok(checked) => self.ask(alloc, StepRequest::Issue(checked)),
+                Err(fault) => unproved(fault),
             },
         }
     }
@@ -112,15 +127,15 @@ impl Interpreter {
         goal: &Goal,
         numbers: &Numbers,
         proof: &ProofTree,
-    ) -> Result<Reply, NoMemory>
+    ) -> Result<LineReply, NoMemory>
         requires { AreCitable numbers.now }
-        ensures { IfOk result (λ reply. (line : List ℕ) → IsLine line (Check goal.now numbers.now proof.now) → AnswersLine self.now.secrets self.now.base self.now.standing line reply self.now.standing) }
+        ensures { IfOk result (λ reply. IsFollowed self.now (Check goal.now numbers.now proof.now) reply self.now) }
     {
         match self.gate.cite(alloc, numbers.as_slice())? {
-            Citation::Absent(number) => Ok(Reply::Absent(number as u64)),
+            Citation::Absent(number) => Ok(LineReply::Step(StepReply::Absent(u64::from(number)))),
             Citation::Cited(cites) => match verdict(alloc, &cites, goal, proof) {
-                Ok(grant) => Ok(Reply::Checked(grant)),
-                Err(fault) => proof_fault_reply(fault),
+                Ok(grant) => Ok(LineReply::Checked(grant)),
+                Err(fault) => unproved(fault),
             },
         }
     }
@@ -131,85 +146,71 @@ impl Interpreter {
         alloc: Global,
         signature: Option<Bytes>,
         statement: Statement,
-    ) -> Result<Reply, NoMemory>
-        requires { (replay self.old.base self.old.standing.events).count < 2 ^ 48 - 1 }
-        ensures ok { IfOk result (λ reply. (line : List ℕ) → IsLine line (Register signature statement) → AnswersLine self.old.secrets self.old.base self.old.standing line reply self.new.standing) }
+    ) -> Result<LineReply, NoMemory>
+        requires counted { (state_of_standing self.old).count < 2 ^ 48 - 1 }
+        requires statement { IsStatement statement }
+        ensures ok { IfOk result (λ reply. IsFollowed self.old (Register signature statement) reply self.new) }
         ensures err { OnErr result (self.new ≡ self.old) }
-        ensures secrets { self.new.secrets ≡ self.old.secrets }
-        ensures base { self.new.base ≡ self.old.base }
     {
         let signature = signature_of(alloc, self.gate.ring(), &statement, signature)?;
-        self.ask(alloc, &StepRequest::Register(statement, signature))
+        self.ask(alloc, StepRequest::Register(statement, signature))
     }
 
     // Does the operation under the procaps that the words bring.
-    fn act(&mut self, alloc: Global, op: FileOp, words: &ProcapWords) -> Result<Reply, NoMemory>
-        requires counted { (replay self.old.base self.old.standing.events).count < 2 ^ 48 - 1 }
+    fn act(&mut self, alloc: Global, op: Op, words: &ProcapWords) -> Result<LineReply, NoMemory>
+        requires counted { (state_of_standing self.old).count < 2 ^ 48 - 1 }
+        requires operation { IsOperation op }
         requires one_each { length words.now ≡ slots op }
-        ensures ok { IfOk result (λ reply. (line : List ℕ) → IsLine line (Do op words.now) → AnswersLine self.old.secrets self.old.base self.old.standing line reply self.new.standing) }
+        requires few_bytes { bytes_to_write op ≤ 65536 }
+        ensures ok { IfOk result (λ reply. IsFollowed self.old (Do op words.now) reply self.new) }
         ensures err { OnErr result (self.new ≡ self.old) }
-        ensures secrets { self.new.secrets ≡ self.old.secrets }
-        ensures base { self.new.base ≡ self.old.base }
     {
         let mut procaps = Procaps::new(alloc);
         if let Some(number) = add_procaps(alloc, &self.gate, words.as_slice(), &mut procaps)? {
-            return Ok(Reply::Absent(number));
+            return Ok(LineReply::Step(StepReply::Absent(number)));
         }
-        self.ask(alloc, &StepRequest::Act(self.caller, op, procaps))
+        self.ask(alloc, StepRequest::Act(self.caller, op, procaps))
     }
 
     // Does what a line of a script asks for.
-    fn follow(&mut self, alloc: Global, command: Command) -> Result<Reply, NoMemory>
-        requires counted { (replay self.old.base self.old.standing.events).count < 2 ^ 48 - 1 }
+    fn follow(&mut self, alloc: Global, command: Command) -> Result<LineReply, NoMemory>
+        requires counted { (state_of_standing self.old).count < 2 ^ 48 - 1 }
         requires allowed { IsAllowed command }
-        ensures ok { IfOk result (λ reply. (line : List ℕ) → IsLine line command → AnswersLine self.old.secrets self.old.base self.old.standing line reply self.new.standing) }
+        ensures ok { IfOk result (λ reply. IsFollowed self.old command reply self.new) }
         ensures err { OnErr result (self.new ≡ self.old) }
-        ensures secrets { self.new.secrets ≡ self.old.secrets }
-        ensures base { self.new.base ≡ self.old.base }
     {
         match command {
             Command::At(second) => {
                 self.clock = second;
-                Ok(Reply::Done)
+                Ok(LineReply::Done)
             }
             Command::As(who) => {
                 self.caller = who;
-                Ok(Reply::Done)
+                Ok(LineReply::Done)
             }
             Command::Register(signature, statement) => {
                 self.register(alloc, signature, statement)
             }
             Command::Verify(goal, numbers, proof) => self.verify(alloc, goal, &numbers, proof),
             Command::Check(goal, numbers, proof) => self.check(alloc, &goal, &numbers, &proof),
-            Command::Procap(number) => self.ask(alloc, &StepRequest::ShowProcap(number, None)),
+            Command::Procap(number) => self.ask(alloc, StepRequest::ShowProcap(number, None)),
             Command::Do(op, words) => self.act(alloc, op, &words),
         }
     }
 
-    /// Answers a line of a script, which is given without its end. Nothing changes where there is no memory.
-    pub fn answer_line(&mut self, alloc: Global, line: &[u8]) -> Result<Reply, NoMemory>
-        requires counted { (replay self.old.base self.old.standing.events).count < 2 ^ 48 - 1 }
-        ensures ok { IfOk result (λ reply. AnswersLine self.old.secrets self.old.base self.old.standing line.now reply self.new.standing) }
-        ensures err { OnErr result (self.new ≡ self.old) }
-        ensures secrets { self.new.secrets ≡ self.old.secrets }
-        ensures base { self.new.base ≡ self.old.base }
+    /// The reply to a line of a script, which is given without its end; out of memory, and then nothing changes, if
+    /// there is none for it.
+    pub fn reply_to(&mut self, alloc: Global, line: &[u8]) -> LineReply
+        requires { (state_of_standing self.old).count < 2 ^ 48 - 1 }
+        ensures { (event : Option Event) × IsReplied self.old line.now result event self.new }
     {
-        match read_line(alloc, line)? {
-            Line::Asks(command) => self.follow(alloc, command),
-            Line::Faulty(reply) => Ok(reply),
-        }
-    }
-
-    /// The reply to a line of a script, and out of memory where there is none for it.
-    pub fn reply_to(&mut self, alloc: Global, line: &[u8]) -> Reply
-        requires counted { (replay self.old.base self.old.standing.events).count < 2 ^ 48 - 1 }
-        ensures reply { IsReplied self.old.secrets self.old.base self.old.standing line.now result self.new.standing }
-        ensures secrets { self.new.secrets ≡ self.old.secrets }
-        ensures base { self.new.base ≡ self.old.base }
-    {
-        match self.answer_line(alloc, line) {
-            Ok(reply) => reply,
-            Err(_) => Reply::NoMemory,
+        match read_line(alloc, line) {
+            Ok(command) => match self.follow(alloc, command) {
+                Ok(reply) => reply,
+                Err(_) => LineReply::NoMemory,
+            },
+            Err(LineFault::NoMemory) => LineReply::NoMemory,
+            Err(fault) => LineReply::Faulty(fault),
         }
     }
 }

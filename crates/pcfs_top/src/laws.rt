@@ -1,13 +1,28 @@
 //! Laws of the definitions. The functions do nothing: each contract is a law.
 
-ghost use Rattle.pcfs_top.specs.Laws.{LinesHaveOneAnswer, RunsAreLawful};
+ghost use Rattle.pcfs_top.specs.Laws.{RunsAreLawful, LinesHaveOneAnswer, LinesHaveAnAnswer, RunsHaveOneOutcome, RunsHaveAnOutcome};
 
 /// The events of a run of a script are lawful.
 pub fn runs_are_lawful()
     ensures { RunsAreLawful }
 {}
 
-/// A line has one answer where the script stands, out of memory aside.
+/// Over the state of a lawful history a line has at most one answer.
 pub fn lines_have_one_answer()
     ensures { LinesHaveOneAnswer }
+{}
+
+/// Over the state of a lawful history each line has an answer.
+pub fn lines_have_an_answer()
+    ensures { LinesHaveAnAnswer }
+{}
+
+/// The lines of a script have at most one outcome, unless memory runs out.
+pub fn runs_have_one_outcome()
+    ensures { RunsHaveOneOutcome }
+{}
+
+/// The lines of a script have an outcome for which memory does not run out.
+pub fn runs_have_an_outcome()
+    ensures { RunsHaveAnOutcome }
 {}

@@ -24,7 +24,7 @@ const READ_FAULT: u8 = 6;
 /// The output failed, and may lack any of its end.
 const WRITE_FAULT: u8 = 7;
 
-/// There was no memory.
+/// Memory ran out.
 const OUT_OF_MEMORY: u8 = 9;
 
 /// The input was too long.
@@ -51,12 +51,12 @@ fn tell<O: Sink>(output: &mut O, line: &[u8], status: u8) -> u8
     }
 }
 
-/// Runs the program: where its words are the one word `script`, the lines of the input are answered. Procaps are
+/// Runs the program: if its words are the one word `script`, the lines of the input are answered. Procaps are
 /// sealed under the key of the secrets, and statements are accepted whose signature their ring accepts.
 ///
-/// Answers the status to end with: 0, all is done; 1, the words are others, and the last line is `usage`; 6, the
-/// input failed, and the last line is `readfault`; 7, the output failed, and may lack any of its end; 9, there was no
-/// memory, without a last line; 13, the input has 1 GiB or more, and the last line is `toolong`.
+/// Returns the status to end with: 0, all is done; 1, the words are others, and the last line is `usage`; 6, the
+/// input failed, and the last line is `readfault`; 7, the output failed, and may lack any of its end; 9, memory ran
+/// out, without a last line; 13, the input has 1 GiB or more, and the last line is `toolong`.
 pub fn run<R: Threads + Wait + Sync, I: Source, O: Sink>(
     _rt: &R,
     alloc: Global,
@@ -65,7 +65,9 @@ pub fn run<R: Threads + Wait + Sync, I: Source, O: Sink>(
     input: &mut I,
     output: &mut O,
 ) -> u8
-    ensures { EndsWith secrets.now words.now.items (I.left input.old) (I.left input.new) (I.faults input.old) (I.faults input.new) (O.held output.old) (O.held output.new) (O.faults output.old) (O.faults output.new) result }
+    ensures { EndsWith secrets.now words.now.items
+        (record { left = I.left input.old; read_faults = I.faults input.old; held = O.held output.old; write_faults = O.faults output.old })
+        (record { left = I.left input.new; read_faults = I.faults input.new; held = O.held output.new; write_faults = O.faults output.new }) result }
 {
     if !is_script(words) {
         return tell(output, b"usage\n", USAGE);

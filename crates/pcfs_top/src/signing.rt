@@ -1,13 +1,13 @@
 //! The signature under which a line registers a statement.
 
 ghost use Rattle.std.specs.Prelude.{◌≡◌, None, IfOk};
-ghost use Rattle.pcfs_top.specs.Script.{signature_under};
+ghost use Rattle.pcfs_top.specs.LineAnswer.{signature_under};
 
 use bl_syntax::{Bytes, NoMemory, Statement};
 use policy_statement::{Keyring, statement_message};
 use std::alloc::Global;
 
-// The signature that the ring makes for who says the statement; no bytes where that name has no key.
+// The signature that the ring makes for who says the statement; no bytes if that name has no key.
 fn signature_by(alloc: Global, ring: &Keyring, statement: &Statement) -> Result<Bytes, NoMemory>
     ensures { IfOk result (λ signature. signature ≡ signature_under ring.now statement.now None) }
 {
@@ -19,7 +19,7 @@ fn signature_by(alloc: Global, ring: &Keyring, statement: &Statement) -> Result<
     Ok(signature)
 }
 
-/// The signature that a line gives, or the one that the ring makes for who says the statement; no bytes where that name
+/// The signature that a line gives, or the one that the ring makes for who says the statement; no bytes if that name
 /// has no key.
 pub fn signature_of(
     alloc: Global,

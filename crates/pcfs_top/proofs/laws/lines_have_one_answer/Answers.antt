@@ -1,5 +1,5 @@
-use Rattle.pcfs_top.proofs.AnswersLineLemmas.{one_answer_of_a_line}
+use Rattle.pcfs_top.proofs.OneAnswerLemmas.{line_once}
 use Rattle.pcfs_top.proofs.laws.lines_have_one_answer.Goals as goal
 
 pub returns : goal.returns
-returns c = one_answer_of_a_line
+returns c s line first second one other after later lawful = line_once s lawful line first second one other after later

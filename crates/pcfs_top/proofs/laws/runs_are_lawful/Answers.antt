@@ -1,4 +1,4 @@
-use Rattle.pcfs_top.proofs.RunLemmas.{IsLawful-run}
+use Rattle.pcfs_top.proofs.LawfulRunLemmas.{IsLawful-run}
 use Rattle.pcfs_top.proofs.laws.runs_are_lawful.Goals as goal
 
 pub returns : goal.returns

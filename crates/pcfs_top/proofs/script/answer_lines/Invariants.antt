@@ -1,13 +1,10 @@
-use Rattle.std.proofs.Common.{◌≡◌, ◌≤◌, length}
-use Rattle.access_history.specs.Replay.{fresh}
+use Rattle.std.proofs.Common.{◌≤◌, length}
 use Rattle.pcfs_top.proofs.ScriptLemmas.{HasRun}
 use Rattle.pcfs_top.proofs.script.answer_lines.Given as goal
 
 abbrev pub invariant-loop-line : goal.invariant-loop-line
 invariant-loop-line g l = record {
-  secrets : l.interpreter.secrets ≡ l.fn.secrets;
-  base : l.interpreter.base ≡ fresh;
-  run : HasRun l.fn.secrets l.fn.input l.rest l.interpreter.standing (g.O.Sink.held l.fn.output) (g.O.Sink.held l.output);
+  run : HasRun l.fn.interpreter l.interpreter l.fn.input l.rest (g.O.Sink.held l.fn.output) (g.O.Sink.held l.output) l.collected;
   never_falls : g.O.Sink.faults l.fn.output ≤ g.O.Sink.faults l.output;
 }
 

@@ -1,4 +1,7 @@
+use Rattle.std.proofs.Common.{sym, subst}
 use Rattle.pcfs_ports.proofs.TakesLemmas.{on_err}
+use Rattle.pcfs_top.specs.ScriptRun.{IsLawfulStanding}
+use Rattle.pcfs_top.proofs.LawfulRunLemmas.{IsLawfulStanding-fresh}
 use Rattle.pcfs_top.proofs.ScriptLemmas.{nothing_run}
 use Rattle.pcfs_top.proofs.script.run_script.Goals as goal
 

@@ -1,9 +1,13 @@
-use Rattle.pcfs_top.specs.Interpreter.{answered}
-use Rattle.pcfs_top.proofs.ScriptLemmas.{IsReplied-without_memory}
+-- What a line asks for is done, and a line that asks for nothing has a fault.
+use Rattle.pcfs_top.proofs.AllowedLemmas.{IsAllowed-line}
+use Rattle.pcfs_top.proofs.InterpreterLemmas.{IsReplied-followed, IsReplied-without_memory, IsReplied-faulty, IsLineFault-unread}
 use Rattle.pcfs_top.proofs.interpreter.Interpreter.reply_to.Goals as goal
 
-pub returns-in-Ok-clause-reply : goal.returns-in-Ok-clause-reply
-returns-in-Ok-clause-reply c = answered c.in-Ok.reply _ c.in-Ok.ensures.ok
+pub follow-requires-clause-allowed : goal.follow-requires-clause-allowed
+follow-requires-clause-allowed c = IsAllowed-line c.args.line.now c.in-Ok.command c.in-Ok.ensures
 
-pub returns-in-Err-clause-reply : goal.returns-in-Err-clause-reply
-returns-in-Err-clause-reply c = IsReplied-without_memory c.args.self.now c.answer_line.new.self _ c.in-Err.ensures.err
+pub returns-in-Ok-follow : goal.returns-in-Ok-follow
+returns-in-Ok-follow c = IsReplied-followed c.args.self.now c.follow.new.self c.args.line.now c.in-Ok.command c.in-Ok-follow.reply c.in-Ok.ensures c.in-Ok-follow.ensures.ok
+
+pub returns-in-Err-follow : goal.returns-in-Err-follow
+returns-in-Err-follow c = IsReplied-without_memory c.args.self.now c.follow.new.self c.args.line.now c.in-Err-follow.ensures.err
