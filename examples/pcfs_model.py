@@ -265,7 +265,10 @@ class ProofText:
         if token[0] == "?":
             return ("parameter", int(token[1:]))
         need(not token[0].isupper(), Undecided)
-        return CTIME if token == "ctime" else Bytes(Text(token).term()).term()
+        try:
+            return CTIME if token == "ctime" else Bytes(Text(token).term()).term()
+        except Bad as fault:
+            raise Undecided() from fault
 
     def proof(self):
         rule = self.take()
@@ -569,6 +572,17 @@ def read_line(line):
 Statement = namedtuple("Statement", "who body begin end bytes")
 
 
+def statement_of(text):
+    data = Text(text).statement()
+    reading = Bytes(data)
+    try:
+        statement = Statement(reading.name(), reading.formula(), reading.point(), reading.point(), data)
+    except Bad as fault:
+        raise Undecided() from fault
+    need(is_stated(statement.body) and nodes_of(statement.body) <= 512, Undecided)
+    return statement
+
+
 class Node:
     def __init__(self, kind, owner, parent, name):
         self.kind, self.owner, self.parent, self.name = kind, owner, parent, name
@@ -590,7 +604,7 @@ class Server:
             return self.do(form, words) if form in OPERATIONS else getattr(self, form)(*words, *([text] if form in ("register", "verify", "check") else []))
         except Bad:
             return "bad 9"
-        except Undecided:
+        except (Undecided, ValueError, IndexError):
             return "?"
         except Reply as reply:
             return str(reply)
@@ -604,21 +618,12 @@ class Server:
         return "ok"
 
     def register(self, given, text):
-        try:
-            data = Text(text).statement()
-        except (ValueError, IndexError) as fault:
-            raise Undecided() from fault
-        reading = Bytes(data)
-        try:
-            statement = Statement(reading.name(), reading.formula(), reading.point(), reading.point(), data)
-        except (Bad, IndexError) as fault:
-            raise Undecided() from fault
-        need(is_stated(statement.body) and nodes_of(statement.body) <= 512, Undecided)
+        statement = statement_of(text)
         key = self.keys.get(statement.who)
-        if key is None or given not in (None, tag_of(key, b"S" + data)):
+        if key is None or given not in (None, tag_of(key, b"S" + statement.bytes)):
             return "rejected 1"
         for place, other in enumerate(self.statements):
-            if other.bytes == data:
+            if other.bytes == statement.bytes:
                 return f"rejected 3 {place + 1}"
         if len(self.statements) == 4096:
             return "rejected 2"
@@ -906,8 +911,8 @@ def compare_rows(path):
             print(f"not of lines alone: {name}")
             continue
         pairs = list(zip(found, wanted))
-        faults = sum(reply == "?" for reply in found)
-        differ = [(place, a, b) for place, (a, b) in enumerate(pairs) if a != b and not (a == "?" and b.startswith("bad 4"))]
+        faults = sum(row.startswith("bad 4") for row in wanted)
+        differ = [(place, mine, row) for place, (mine, row) in enumerate(pairs) if mine != row and not row.startswith("bad 4")]
         if differ or len(found) != len(wanted):
             agrees = False
             print(f"differs: {name}: {len(found)} replies, {len(wanted)} wanted")
