@@ -3,7 +3,7 @@
 
     pcfs_model.py script SECRETS < SCRIPT       prints the reply to each line
     pcfs_model.py rows FILE..                   compares the replies that files of rows want (crates/pcfs_rows) with its own
-    pcfs_model.py random SEED COUNT             prints a random script of about COUNT lines, under policies that allow much
+    pcfs_model.py random SEED COUNT             prints a script with COUNT random lines, most of them operations
 
 It reads right texts alone: a line whose statement or proof has a fault is answered `?`.
 """
@@ -926,66 +926,78 @@ def compare_rows(path):
 # ---- random scripts ------------------------------------------------------------------------------------------------
 
 
-def random_script(seed, count):
-    """Policies that let alice and bob do much, some only under conditions, and operations drawn at random."""
-    draw = random.Random(seed)
-    yield "at 100"
-    issues = {}
-    statements = 0
-    for who in "alice", "bob":
-        for file in range(1, 9):
-            for perm in PERMISSIONS:
-                statements += 1
-                end = draw.choice(["+inf", "+inf", "+inf", "300"])
-                condition = draw.choice(["", "", "", f"owner(#{file},{who}) => ", f'has_xattr(#{file},"pcfs.class","open") => ', f"in_dir(#{file},#1) => "])
-                yield f"register - admin says {condition}may({who},#{file},{perm}) from 0 to {end}"
-                proof = "impL(1,ctime,ctime,interR,init(2))" if condition else "init(1)"
-                yield f"verify {who} #{file} {perm} {statements} saysR(claim(0,{proof}))"
-                issues[who, file, perm] = statements
-    caller = "alice"
-    yield "as alice"
-    names = ["a", "b", "c", "d.e", "F-1", "..", "x" * 64, "y" * 65, "q/r"]
-    attributes = ["pcfs.class", "pcfs.ti", "color", "b.c", "A", "pcfs.X", "z" * 64, "z" * 65]
-    for _ in range(count):
-        operation = draw.choice([*OPERATIONS, "create", "create", "mkdir", "mkdir", "rename", "setattr", "as", "at"])
-        if operation == "as":
-            caller = draw.choice(["alice", "bob"])
-            yield f"as {caller}"
-        elif operation == "at":
-            yield f"at {draw.choice([0, 100, 150, 290, 310])}"
-        else:
-            yield random_operation(draw, operation, caller, issues, names, attributes)
+MOST_DRAWN = 20
+NAMES = ["a", "b", "c", "d.e", "F-1", "..", "x" * 64, "y" * 65, "q/r"]
+ATTRIBUTES = ["pcfs.class", "pcfs.ti", "color", "b.c", "A", "pcfs.X", "z" * 64, "z" * 65]
 
 
-def random_operation(draw, operation, caller, issues, names, attributes):
-    file, target = draw.choice([1, 1, draw.randint(1, 8)]), draw.choice([1, draw.randint(1, 8)])
-    perm = {"read": "read", "list": "read", "getattr": "read", "lookup": "execute", "chown": "govern"}.get(operation, "write")
-    kinds, slots = OPERATIONS[operation]
-    attribute, is_attribute = draw.choice(attributes), "attr" in operation
-    if operation in ("setattr", "delattr") and attribute.startswith("pcfs."):
-        perm = "govern"
-    words, files = [], 0
-    for kind in kinds:
-        files += kind is node
-        words.append(
-            {
-                node: f"#{file if files == 1 else target}",
-                name: attribute if is_attribute else draw.choice(names),
-                offset: str(draw.choice([0, 1, 3, 10, 1048575, 1048576, 1048577, 2**64 - 1])) if draw.random() < 0.3 else str(draw.randint(0, 20)),
-                most: str(draw.choice([0, 1, 10, 65536])),
-                data: draw.choice(["-", "00", "6869", "ff" * 20]),
-                value: draw.choice(['"open"', '"closed"', '""', '"a b"']),
-                principal: draw.choice(["alice", "bob", "carol"]),
-            }[kind]
-        )
-    procaps = [issues[caller, file, perm]]
-    if operation == "rename":
-        procaps.append(issues[caller, target, "write"])
-    if len(procaps) < slots:
-        procaps.append(issues[caller, draw.randint(1, 8), "identity"])
-    if draw.random() < 0.05:
-        procaps[draw.randrange(slots)] = draw.randint(0, len(issues) + 1)
-    return " ".join(["do", operation, *words, *(f"@{one}" for one in procaps)])
+class Drawn:
+    """Draws lines, and has the model answer them, so that most name nodes that are there."""
+
+    def __init__(self, seed):
+        self.draw = random.Random(seed)
+        self.server = Server("seal 00\nkey admin 01")
+        self.issues = {}
+
+    def tell(self, line):
+        self.server.answer(line)
+        return line
+
+    def policies(self):
+        """Alice and bob may do everything with the first nodes, some of it for a time or under a condition on the state."""
+        number = 0
+        for who, file, perm in ((who, file, perm) for who in ("alice", "bob") for file in range(1, MOST_DRAWN + 1) for perm in PERMISSIONS):
+            number += 1
+            end = self.draw.choice(["+inf", "+inf", "+inf", "+inf", "300"])
+            facts = [f"owner(#{file},{who})", f'has_xattr(#{file},"pcfs.class","open")', f"in_dir(#{file},#1)"]
+            condition = self.draw.choice(["", "", "", "", "", "", *(fact + " => " for fact in facts)])
+            yield f"register - admin says {condition}may({who},#{file},{perm}) from 0 to {end}"
+            yield f"verify {who} #{file} {perm} {number} saysR(claim(0,{'impL(1,ctime,ctime,interR,init(2))' if condition else 'init(1)'}))"
+            self.issues[who, file, perm] = number
+
+    def node(self):
+        there = [number for number in self.server.nodes if number <= MOST_DRAWN]
+        return self.draw.choice(there) if self.draw.random() < 0.9 else self.draw.randint(1, MOST_DRAWN)
+
+    def word(self, kind, operation):
+        draw = self.draw
+        if kind is name:
+            there = [child.name for child in self.server.nodes.values() if child.name]
+            return draw.choice(ATTRIBUTES if "attr" in operation else there + NAMES if draw.random() < 0.5 else NAMES)
+        return {
+            node: lambda: f"#{self.node()}",
+            offset: lambda: str(draw.choice([draw.randint(0, 20)] * 8 + [1048575, 1048576, 1048577, 2**64 - 1])),
+            most: lambda: str(draw.choice([0, 1, 10, 65536])),
+            data: lambda: draw.choice(["-", "00", "6869", "ff" * 20]),
+            value: lambda: draw.choice(['"open"', '"closed"', '""', '"a b"']),
+            principal: lambda: draw.choice(["alice", "bob", "carol"]),
+        }[kind]()
+
+    def operation(self):
+        draw, server = self.draw, self.server
+        operation = draw.choice([*OPERATIONS, "create", "create", "mkdir", "rename", "setattr"])
+        words = [self.word(kind, operation) for kind in OPERATIONS[operation][0]]
+        read = [kind(word) for kind, word in zip(OPERATIONS[operation][0], words)]
+        needs = server.needs(operation, *read)
+        needs += [(0, self.node(), "identity")] * (OPERATIONS[operation][1] - len(needs))
+        procaps = [self.issues.get((server.caller, file, perm), 1) for _, file, perm in needs]
+        if draw.random() < 0.05:
+            procaps[draw.randrange(len(procaps))] = draw.randint(0, len(self.issues) + 1)
+        return " ".join(["do", operation, *words, *(f"@{one}" for one in procaps)])
+
+    def lines(self, count):
+        yield self.tell("at 100")
+        for line in self.policies():
+            yield self.tell(line)
+        yield self.tell("as alice")
+        for _ in range(count):
+            kind = self.draw.choice(["operation"] * 12 + ["as", "at"])
+            if kind == "as":
+                yield self.tell(f"as {self.draw.choice(['alice', 'bob'])}")
+            elif kind == "at":
+                yield self.tell(f"at {self.draw.choice([0, 100, 100, 150, 200, 290, 301] if self.draw.random() < 0.2 else [100, 150, 200])}")
+            else:
+                yield self.tell(self.operation())
 
 
 def main():
@@ -1001,7 +1013,7 @@ def main():
             agree = [compare_rows(path) for path in paths]
             sys.exit(0 if all(agree) else 1)
         case ["random", seed, count]:
-            for line in random_script(int(seed), int(count)):
+            for line in Drawn(int(seed)).lines(int(count)):
                 print(line)
         case _:
             sys.exit(__doc__)
