@@ -4,7 +4,8 @@
 # the same work from Python: a table of nodes, one of attributes, one of events, and an HMAC for each procap. Both have
 # to write the same replies. The program is run over the same lines once more with each spoiled, for the memory that
 # events take beside the input, and once by a caller whom every procap denies, for what a line costs with one tag and no
-# effect. Each time is the least of three. It makes its own input, ends by itself and decides no test.
+# effect. What a tag takes is the difference of lines that are denied by their third procap and by their first. Each time
+# is the least of three. It makes its own input, ends by itself and decides no test.
 set -euo pipefail
 top=$(cd "$(dirname "$0")/.." && pwd)
 work=$(mktemp -d)
@@ -105,6 +106,10 @@ with open(sys.argv[1], "w") as out:
     for number in range(2, NODES + 1):
         out.write(make("mkdir", 1) if number <= 101 else make("create", 2 + number % 100))
         out.write("\n")
+# a line that is denied by its first procap, and one that is by its third: node 102 stands in node 4
+for name, procaps in ("one", [(5, "write"), (5, "write"), (102, "identity")]), ("three", [(4, "write"), (5, "write"), (103, "identity")]):
+    with open(sys.argv[2] + name, "w") as out:
+        out.write(f"do rename #4 n102 #5 x {' '.join(procap(*one) for one in procaps)}\n" * (COUNT // 2))
 with open(sys.argv[2], "w") as out:
     done = 0
     for kind in iter(lambda: draw.choices(list(WEIGHTS), WEIGHTS.values())[0], None):
@@ -249,7 +254,7 @@ python3 - "$program" "$work" << 'PYTHON'
 import os, resource, subprocess, sys, time
 
 program, work = sys.argv[1:]
-nodes, mix = (open(f"{work}/{name}", "rb").read() for name in ("nodes", "mix"))
+nodes, mix, one, three = (open(f"{work}/{name}", "rb").read() for name in ("nodes", "mix", "mixone", "mixthree"))
 lines = mix.splitlines()
 count, tags = len(lines), sum(2 if line.startswith(b"do unlink") else 3 if line.startswith(b"do rename") else 1 for line in lines)
 
@@ -273,6 +278,8 @@ texts = {
     "mixed": nodes + mix,
     "spoiled": nodes + b"\n".join(b"x" + line[1:] for line in lines) + b"\n",
     "denied": nodes + b"as zoe\n" + mix,
+    "one": nodes + one,
+    "three": nodes + three,
 }
 runs = {name: [] for name in texts}
 peers = []
@@ -288,9 +295,11 @@ memory = {name: min(one[1] for one in several) for name, several in runs.items()
 mixed = seconds["mixed"] - seconds["made"]
 peer, peer_event = min(one[1] for one in peers), min(one[2] for one in peers)
 event = (memory["mixed"] - memory["spoiled"]) / count
+tag = (seconds["three"] - seconds["one"]) / 2 / three.count(b"\n")
 print(f"{count:,} operations over 16,000 nodes, {tags / count:.2f} procaps for each; {'the same replies' if same else 'OTHER REPLIES'} by both")
 print(f"pcfs: {count / mixed:,.0f} lines a second, {mixed / count * 1e6:.2f} us a line; {peer / mixed:.1f} times SQLite from Python: {count / peer:,.0f} lines a second, {peer / count * 1e6:.2f} us")
-print(f"  of these us, a line that is denied after its first tag takes {(seconds['denied'] - seconds['made']) / count * 1e6:.2f}, a line of no form {(seconds['spoiled'] - seconds['made']) / count * 1e6:.2f}")
+print(f"  beside its tags of {tag * 1e6:.2f} us: {(mixed - tags * tag) / count * 1e6:.2f} us a line")
+print(f"  a line that is denied after its first tag takes {(seconds['denied'] - seconds['made']) / count * 1e6:.2f}, a line of no form {(seconds['spoiled'] - seconds['made']) / count * 1e6:.2f}")
 print(f"pcfs: {event:,.0f} bytes of memory for an event beside its line; {event / peer_event:.2f} of SQLite's {peer_event:,.0f}")
 print(f"making 16,000 nodes: {seconds['made']:.2f} s; SQLite {min(one[0] for one in peers):.2f} s")
 PYTHON
