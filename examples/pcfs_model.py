@@ -955,17 +955,23 @@ class Drawn:
             yield f"verify {who} #{file} {perm} {number} saysR(claim(0,{'impL(1,ctime,ctime,interR,init(2))' if condition else 'init(1)'}))"
             self.issues[who, file, perm] = number
 
-    def node(self):
-        there = [number for number in self.server.nodes if number <= MOST_DRAWN]
-        return self.draw.choice(there) if self.draw.random() < 0.9 else self.draw.randint(1, MOST_DRAWN)
+    def node(self, operation=""):
+        """Mostly one that is there, and of the kind that the operation asks for."""
+        kind = "file" if operation in ("read", "write", "truncate") else "directory"
+        there = [number for number, one in self.server.nodes.items() if number <= MOST_DRAWN]
+        fitting = [number for number in there if self.server.nodes[number].kind == kind]
+        if not operation or self.draw.random() < 0.1:
+            return self.draw.randint(1, MOST_DRAWN)
+        return self.draw.choice(there if "attr" in operation or operation == "chown" or self.draw.random() < 0.2 else fitting or there)
 
-    def word(self, kind, operation):
+    def word(self, kind, operation, before):
         draw = self.draw
         if kind is name:
-            there = [child.name for child in self.server.nodes.values() if child.name]
-            return draw.choice(ATTRIBUTES if "attr" in operation else there + NAMES if draw.random() < 0.5 else NAMES)
+            directory = self.server.nodes.get(int(before[-1][1:]))
+            there = list(directory.children) if directory and len(before) == 1 else []
+            return draw.choice(ATTRIBUTES if "attr" in operation else there if there and draw.random() < 0.6 else NAMES)
         return {
-            node: lambda: f"#{self.node()}",
+            node: lambda: f"#{self.node(operation)}",
             offset: lambda: str(draw.choice([draw.randint(0, 20)] * 8 + [1048575, 1048576, 1048577, 2**64 - 1])),
             most: lambda: str(draw.choice([0, 1, 10, 65536])),
             data: lambda: draw.choice(["-", "00", "6869", "ff" * 20]),
@@ -976,7 +982,9 @@ class Drawn:
     def operation(self):
         draw, server = self.draw, self.server
         operation = draw.choice([*OPERATIONS, "create", "create", "mkdir", "rename", "setattr"])
-        words = [self.word(kind, operation) for kind in OPERATIONS[operation][0]]
+        words = []
+        for kind in OPERATIONS[operation][0]:
+            words.append(self.word(kind, operation, words))
         read = [kind(word) for kind, word in zip(OPERATIONS[operation][0], words)]
         needs = server.needs(operation, *read)
         needs += [(0, self.node(), "identity")] * (OPERATIONS[operation][1] - len(needs))
