@@ -51,5 +51,14 @@ for seed in 1 2 3 4 5; do
         differ=$((differ + 1))
     fi
 done
+
+# and so are the lines of worked runs, by what they want
+if python3 "$here/pcfs_model.py" rows "$here"/../crates/pcfs_rows/data/*.rows > rows; then
+    echo "agrees rows"
+    agree=$((agree + 1))
+else
+    grep -A 3 differs rows || true
+    differ=$((differ + 1))
+fi
 echo "$agree passed, $differ failed"
 [ "$differ" -eq 0 ]
