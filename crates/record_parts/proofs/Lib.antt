@@ -1,0 +1,7 @@
+pub mod CodecLemmas
+pub mod FieldsLemmas
+pub mod OperationLemmas
+pub mod PartsLemmas
+pub mod ProofLengthLemmas
+pub mod RecordLemmas
+pub mod TermFaultLemmas
