@@ -15,12 +15,12 @@ pub made_codec : {A B : Type 0} (IsSpelled : A → Type 0) (spelling : A → Lis
 made_codec {A} {B} IsSpelled spelling at IsMade made f g c there back same round =
     codec IsMade made (λ input bytes. map_reading f (at input bytes))
     (λ input bytes rest y fits e.
-      let m = made_ok f (at input bytes) y rest e in
-      let it = c.found input bytes rest m.0 fits m.1 in
-      subst (λ (z : B). IsMade z × (bytes ≡ made z ++ rest)) m.2 (there m.0 it.0, it.1 ∙ ap (λ (front : List ℕ). front ++ rest) (sym (same m.0))))
+    let m = made_ok f (at input bytes) y rest e in
+    let it = c.found input bytes rest m.0 fits m.1 in
+    subst (λ (z : B). IsMade z × (bytes ≡ made z ++ rest)) m.2 (there m.0 it.0, it.1 ∙ ap (λ (front : List ℕ). front ++ rest) (sym (same m.0))))
     (λ input y rest h.
-      let spelled : made y ≡ spelling (g y) = ap made (sym (round y)) ∙ same (g y) in
-      ap (λ (front : List ℕ). map_reading f (at input (front ++ rest))) spelled ∙ ap (map_reading f) (c.again input (g y) rest (back y h)) ∙ ap (λ (z : B). done (z, rest)) (round y))
+    let spelled : made y ≡ spelling (g y) = ap made (sym (round y)) ∙ same (g y) in
+    ap (λ (front : List ℕ). map_reading f (at input (front ++ rest))) spelled ∙ ap (map_reading f) (c.again input (g y) rest (back y h)) ∙ ap (λ (z : B). done (z, rest)) (round y))
     (λ input bytes e. made_memoryless f (at input bytes) (c.memoryless input bytes) e)
 
 -- the same under other words
@@ -30,8 +30,8 @@ pub same_codec : {A : Type 0} (IsSpelled : A → Type 0) (spelling : A → List 
 same_codec IsSpelled spelling at IsOther other by c there back same read =
     codec IsOther other by
     (λ input bytes rest x fits e.
-      let it = c.found input bytes rest x fits (sym (read input bytes) ∙ e) in
-      (there x it.0, it.1 ∙ ap (λ (front : List ℕ). front ++ rest) (sym (same x))))
+    let it = c.found input bytes rest x fits (sym (read input bytes) ∙ e) in
+    (there x it.0, it.1 ∙ ap (λ (front : List ℕ). front ++ rest) (sym (same x))))
     (λ input x rest h. ap (λ (front : List ℕ). by input (front ++ rest)) (same x) ∙ read input (spelling x ++ rest) ∙ c.again input x rest (back x h))
     (λ input bytes e. c.memoryless input bytes (sym (read input bytes) ∙ e))
 

@@ -68,11 +68,7 @@ fn renamed_at(alloc: Global, bytes: &[u8]) -> Result<(Bytes, NodeId, Bytes, &[u8
 
 /// A name, and a text.
 #[tactic(auto, using(bl_syntax::proofs::StopsWithLemmas::hands_on, bl_syntax::proofs::StopsWithLemmas::stops), unfolding(crate::specs::OperationReading::valued_at))]
-fn valued_at(
-    alloc: Global,
-    input: usize,
-    bytes: &[u8],
-) -> Result<(Bytes, Text, &[u8]), CodecFault>
+fn valued_at(alloc: Global, input: usize, bytes: &[u8]) -> Result<(Bytes, Text, &[u8]), CodecFault>
     ensures { GivesReadingOrReports (λ x. ((x.0, x.1), x.2.now)) result (valued_at input bytes.now) }
 {
     match short_at(alloc, bytes) {
@@ -280,11 +276,7 @@ fn words_at(
 /// An operation: the reader that formats with operations in them are made of. It reads at the front of `bytes`, the rest
 /// of an input of `input` bytes, and gives the operation and the bytes after it, or the first fault.
 #[tactic(auto, unfolding(crate::specs::OperationReading::operation_at))]
-pub fn operation_at(
-    alloc: Global,
-    input: usize,
-    bytes: &[u8],
-) -> Result<(Op, &[u8]), CodecFault>
+pub fn operation_at(alloc: Global, input: usize, bytes: &[u8]) -> Result<(Op, &[u8]), CodecFault>
     ensures { GivesReadingOrReports (λ x. (x.0, x.1.now)) result (operation_at input bytes.now) }
 {
     match bytes {

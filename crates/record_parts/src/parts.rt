@@ -125,11 +125,7 @@ pub(crate) fn procaps_at(
 }
 
 /// So many numbers.
-fn many_numbers_at(
-    alloc: Global,
-    count: u8,
-    bytes: &[u8],
-) -> Result<(Numbers, &[u8]), CodecFault>
+fn many_numbers_at(alloc: Global, count: u8, bytes: &[u8]) -> Result<(Numbers, &[u8]), CodecFault>
     ensures { GivesReadingOrReports (λ x. (x.0, x.1.now)) result (many_at u32_at count bytes.now) }
 {
     let mut numbers = Sequence::new(alloc);

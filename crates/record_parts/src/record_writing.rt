@@ -39,11 +39,7 @@ pub fn write_registered(
 
 /// Adds a statement and its signature, or a front of them.
 #[tactic(auto, using(procap::proofs::WritingLemmas::kept), unfolding(crate::specs::RecordSpelling::registered_spelling))]
-fn add_registered(
-    statement: &Statement,
-    signature: &[u8],
-    out: &mut Bytes,
-) -> Result<(), NoMemory>
+fn add_registered(statement: &Statement, signature: &[u8], out: &mut Bytes) -> Result<(), NoMemory>
     requires { IsLong signature.now }
     ensures ok { OnOk result (out.new ≡ out.old ++ registered_spelling statement.now signature.now) }
     ensures spelled { OnOk result (IsSpellableRegistered statement.now signature.now) }
