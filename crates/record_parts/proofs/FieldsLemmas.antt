@@ -78,7 +78,7 @@ long_again : (plain rest : List ℕ) → IsLong plain → long_at (long_spelling
 unfolding long_at
 long_again plain rest fit =
     let enough : ltb (length (plain ++ rest)) (length plain) ≡ false = le-ltb _ _ (omega (arith, length-append plain rest)) in
-    rw (append_assoc (to_be_bytes w32 (length plain)) plain rest, number_again w32 (2 ^ 32) wide32 (length plain) (plain ++ rest) fit, enough, take_at plain rest (length plain) refl, drop_at plain rest (length plain) refl) refl
+    rw (number_again w32 (2 ^ 32) wide32 (length plain) (plain ++ rest) fit, enough, take_at plain rest (length plain) refl, drop_at plain rest (length plain) refl) refl
 
 long_memoryless : (bytes : List ℕ) → long_at bytes ≡ Err faults.NoMemory → ⊥
 unfolding long_at
@@ -91,12 +91,20 @@ long_codec = codec IsLong long_spelling (λ input. long_at) (λ input. long_foun
 
 -- ---- moments: as the points in time that are written behind a byte 1
 
+read_time : (input : ℕ) (bytes : List ℕ) (n : ℕ × List ℕ) → number_at w64 bytes ≡ Ok n → is_moment (cast_signed w64 n.0) ≡ true → time_at input (1 ∷ bytes) ≡ Ok (At (cast_signed w64 n.0), n.1)
+unfolding time_at moment_at
+read_time input bytes n e is = rw (e, is) refl
+
+read_second : (input : ℕ) (bytes : List ℕ) (n : ℕ × List ℕ) → number_at w64 bytes ≡ Ok n → is_moment (cast_signed w64 n.0) ≡ true → second_at input bytes ≡ Ok (cast_signed w64 n.0, n.1)
+unfolding second_at
+read_second input bytes n e is = rw (e, is) refl
+
 as_time : (input : ℕ) (bytes rest : List ℕ) (second : ℤ) → second_at input bytes ≡ Ok (second, rest) → time_at input (1 ∷ bytes) ≡ Ok (At second, rest)
 unfolding second_at time_at moment_at
 as_time input bytes rest second e =
     let a = bind_ok (number_at w64 bytes) (λ n. cond (is_moment (cast_signed w64 n.0)) (done (cast_signed w64 n.0, n.1)) (Err (NotCanonical (place input bytes)))) (second, rest) e in
     by_test (is_moment (cast_signed w64 a.0.0)) _ _ _ a.2 (λ is found.
-    let read : time_at input (1 ∷ bytes) ≡ Ok (At (cast_signed w64 a.0.0), a.0.1) = rw (a.1, is) refl in
+    let read = read_time input bytes a.0 a.1 is in
     subst (λ (p : ℤ × List ℕ). time_at input (1 ∷ bytes) ≡ Ok (At p.0, p.1)) (ok_is (cast_signed w64 a.0.0, a.0.1) (second, rest) found) read) (λ _ fault. absurd cc)
 
 abbrev tail : List ℕ → List ℕ
@@ -122,7 +130,7 @@ second_again input second rest h =
     let pair = ok_is (At (cast_signed w64 a.0.0), a.0.1) (At second, rest) found in
     let same : cast_signed w64 a.0.0 ≡ second = at_is _ _ (ap (λ (p : TimePoint × List ℕ). p.0) pair) in
     let behind : a.0.1 ≡ rest = ap (λ (p : TimePoint × List ℕ). p.1) pair in
-    let read : second_at input bytes ≡ Ok (cast_signed w64 a.0.0, a.0.1) = rw (a.1, is) refl in
+    let read = read_second input bytes a.0 a.1 is in
     read ∙ ap (λ (n : ℤ). done (n, a.0.1)) same ∙ ap (λ (end : List ℕ). done (second, end)) behind) (λ _ fault. absurd cc)
 
 second_memoryless : (input : ℕ) (bytes : List ℕ) → second_at input bytes ≡ Err faults.NoMemory → ⊥

@@ -7,7 +7,8 @@ ghost use Rattle.std.specs.Prelude.{◌≡◌, ◌∷◌, ◌++◌, OnOk, OnErr,
 ghost use Rattle.bl_syntax.specs.Spelling.{with_length};
 ghost use Rattle.bl_syntax.specs.Reading.{GivesReading};
 ghost use Rattle.bl_syntax.specs.Codec.{GivesReadingOrReports};
-ghost use Rattle.record_parts.specs.Fields.{node_spelling, node_at, short_at, IsShort, long_spelling, long_at, IsLong, second_at};
+ghost use Rattle.record_parts.specs.Fields.{node_spelling, node_at, IsSpellableNode, short_at, IsShort, long_spelling, long_at, IsLong, second_at};
+ghost use Rattle.record_parts.specs.OperationSpelling.{number_spelling, IsSpellableNumber};
 
 use bl_syntax::fields::{place, put, u32_at, u32_bytes, u64_at, u64_bytes};
 use bl_syntax::{Bytes, CodecFault, NoMemory, NodeId, Sequence, is_moment};
@@ -83,9 +84,19 @@ pub(crate) fn second_at(input: usize, bytes: &[u8]) -> Result<(i64, &[u8]), Code
 /// Adds a byte and the number of a node.
 pub(crate) fn put_node(code: u8, node: NodeId, out: &mut Bytes) -> Result<(), NoMemory>
     ensures ok { OnOk result (out.new ≡ out.old ++ code ∷ node_spelling node) }
+    ensures spelled { IsSpellableNode node }
     ensures err { OnErr result (out.new ≡ out.old) }
 {
     put(&[code], &u64_bytes(node.0), out)
+}
+
+/// Adds an offset or a length.
+pub(crate) fn put_number(number: u64, out: &mut Bytes) -> Result<(), NoMemory>
+    ensures ok { OnOk result (out.new ≡ out.old ++ number_spelling number) }
+    ensures spelled { IsSpellableNumber number }
+    ensures err { OnErr result (out.new ≡ out.old) }
+{
+    out.extend(&u64_bytes(number))
 }
 
 /// Adds a name with its length byte.
