@@ -4,8 +4,8 @@ ghost use Rattle.std.specs.Prelude.{◌≡◌, ◌∷◌, ◌++◌, OnOk, OnErr,
 ghost use Rattle.bl_syntax.specs.Names.{is_principal_name, is_text};
 ghost use Rattle.bl_syntax.specs.Spelling.{with_length};
 ghost use Rattle.procap.specs.Writing.{Begins};
-ghost use Rattle.record_parts.specs.Fields.{node_spelling, IsSpellableNode, IsShort, long_spelling, IsLong};
-ghost use Rattle.record_parts.specs.OperationSpelling.{number_spelling, IsSpellableNumber, operation_spelling, IsSpellableOperation, HasFittingWords};
+ghost use Rattle.record_parts.specs.Fields.{number_spelling, IsSpellableNumber, node_spelling, IsSpellableNode, IsShort, long_spelling, IsLong};
+ghost use Rattle.record_parts.specs.OperationSpelling.{operation_spelling, IsSpellableOperation, HasFittingWords};
 
 use crate::fields::{put_long, put_node, put_number, put_short};
 use bl_syntax::{Bytes, NoMemory, NodeId, Principal, Text, write_name, write_text};

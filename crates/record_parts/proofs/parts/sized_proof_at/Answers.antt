@@ -14,4 +14,4 @@ returns-then-place-len c =
 
 pub returns-else-place-len : goal.returns-else-place-len
 returns-else-place-len c =
-    rw c.place-2.ensures (length_is_another c.args.input c.args.bytes.now c.in-Ok.rest.now c.in-Ok-proof_at.behind.now c.in-Ok.len c.in-Ok-proof_at.proof c.in-Ok.ensures c.in-Ok-proof_at.ensures (λ same. omega (arith, c.place.ensures, c.if-place-len.false, same)))
+    rw c.place-else-place-len.ensures (length_is_another c.args.input c.args.bytes.now c.in-Ok.rest.now c.in-Ok-proof_at.behind.now c.in-Ok.len c.in-Ok-proof_at.proof c.in-Ok.ensures c.in-Ok-proof_at.ensures (λ same. omega (arith, c.place.ensures, c.if-place-len.false, same)))
