@@ -1,0 +1,8 @@
+pub mod CodecLemmas
+pub mod FieldsLemmas
+pub mod OperationLemmas
+pub mod PartsLemmas
+pub mod ProofLengthLemmas
+pub mod ReadingLemmas
+pub mod RecordLemmas
+pub mod TermFaultLemmas

@@ -1,0 +1,129 @@
+//! The fields of records that stand in no term, formula or grant, both ways.
+//!
+//! Each reader reads at the front of `bytes`, the rest of an input, and gives the value and the bytes after it, or the
+//! first fault. Each writer adds its field at the end, or nothing.
+
+ghost use Rattle.std.specs.Prelude.{◌≡◌, ◌∷◌, ◌++◌, OnOk, OnErr, IfOk};
+ghost use Rattle.bl_syntax.specs.Spelling.{with_length};
+ghost use Rattle.bl_syntax.specs.Reading.{GivesReading};
+ghost use Rattle.bl_syntax.specs.Codec.{GivesReadingOrReports};
+ghost use Rattle.record_parts.specs.Fields.{number_spelling, IsSpellableNumber, node_spelling, node_at, IsSpellableNode, short_at, IsShort, long_spelling, long_at, IsLong, second_spelling, second_at};
+
+use bl_syntax::fields::{place, put, second_bytes, u32_at, u32_bytes, u64_at, u64_bytes};
+use bl_syntax::{Bytes, CodecFault, NoMemory, NodeId, Sequence, is_moment};
+use std::alloc::Global;
+
+/// A node by its number.
+pub(crate) fn node_at(bytes: &[u8]) -> Result<(NodeId, &[u8]), CodecFault>
+    ensures { GivesReading (λ x. (x.0, x.1.now)) result (node_at bytes.now) }
+{
+    match u64_at(bytes) {
+        Err(fault) => Err(fault),
+        Ok((number, rest)) => Ok((NodeId(number), rest)),
+    }
+}
+
+/// The bytes in memory of their own.
+fn owned(alloc: Global, bytes: &[u8]) -> Result<Bytes, NoMemory>
+    ensures { IfOk result (λ owned. owned ≡ bytes.now) }
+{
+    Ok(Sequence::from_vec(Vec::from_slice(alloc, bytes)?))
+}
+
+/// A name in no grammar, with its length byte.
+#[tactic(auto, unfolding(crate::specs::Fields::short_at))]
+pub(crate) fn short_at(alloc: Global, bytes: &[u8]) -> Result<(Bytes, &[u8]), CodecFault>
+    ensures { GivesReadingOrReports (λ x. (x.0, x.1.now)) result (short_at bytes.now) }
+{
+    match bytes {
+        [] => Err(CodecFault::Short),
+        [len, rest @ ..] => {
+            let len = *len as usize;
+            if rest.len() < len {
+                return Err(CodecFault::Short);
+            }
+            let (name, behind) = rest.split_at(len);
+            Ok((owned(alloc, name)?, behind))
+        }
+    }
+}
+
+/// Plain bytes, with four bytes of length.
+#[tactic(auto, unfolding(crate::specs::Fields::long_at))]
+pub(crate) fn long_at(alloc: Global, bytes: &[u8]) -> Result<(Bytes, &[u8]), CodecFault>
+    ensures { GivesReadingOrReports (λ x. (x.0, x.1.now)) result (long_at bytes.now) }
+{
+    match u32_at(bytes) {
+        Err(fault) => Err(fault),
+        Ok((len, rest)) => {
+            let len = len as usize;
+            if rest.len() < len {
+                return Err(CodecFault::Short);
+            }
+            let (plain, behind) = rest.split_at(len);
+            Ok((owned(alloc, plain)?, behind))
+        }
+    }
+}
+
+/// A moment. One outside the range has its fault at its first byte, in an input of `input` bytes.
+#[tactic(auto, unfolding(crate::specs::Fields::second_at))]
+pub(crate) fn second_at(input: usize, bytes: &[u8]) -> Result<(i64, &[u8]), CodecFault>
+    ensures { GivesReading (λ x. (x.0, x.1.now)) result (second_at input bytes.now) }
+{
+    let (number, rest) = u64_at(bytes)?;
+    let second = number.cast_signed();
+    if is_moment(second) {
+        Ok((second, rest))
+    } else {
+        Err(CodecFault::NotCanonical(place(input, bytes)))
+    }
+}
+
+/// Adds a byte and the number of a node.
+#[tactic(auto, unfolding(crate::specs::Fields::number_spelling))]
+pub(crate) fn put_node(code: u8, node: NodeId, out: &mut Bytes) -> Result<(), NoMemory>
+    ensures ok { OnOk result (out.new ≡ out.old ++ code ∷ node_spelling node) }
+    ensures spelled { IsSpellableNode node }
+    ensures err { OnErr result (out.new ≡ out.old) }
+{
+    put(&[code], &u64_bytes(node.0), out)
+}
+
+/// Adds an offset, a length or the number of a node.
+#[tactic(auto, unfolding(crate::specs::Fields::number_spelling))]
+pub(crate) fn put_number(number: u64, out: &mut Bytes) -> Result<(), NoMemory>
+    ensures ok { OnOk result (out.new ≡ out.old ++ number_spelling number) }
+    ensures spelled { IsSpellableNumber number }
+    ensures err { OnErr result (out.new ≡ out.old) }
+{
+    out.extend(&u64_bytes(number))
+}
+
+/// Adds a name with its length byte.
+pub(crate) fn put_short(name: &[u8], out: &mut Bytes) -> Result<(), NoMemory>
+    requires { IsShort name.now }
+    ensures ok { OnOk result (out.new ≡ out.old ++ with_length name.now) }
+    ensures err { OnErr result (out.new ≡ out.old) }
+{
+    put(&[name.len() as u8], name, out)
+}
+
+/// Adds plain bytes with four bytes of length.
+#[tactic(auto, unfolding(crate::specs::Fields::long_spelling))]
+pub(crate) fn put_long(plain: &[u8], out: &mut Bytes) -> Result<(), NoMemory>
+    requires { IsLong plain.now }
+    ensures ok { OnOk result (out.new ≡ out.old ++ long_spelling plain.now) }
+    ensures err { OnErr result (out.new ≡ out.old) }
+{
+    put(&u32_bytes(plain.len() as u32), plain, out)
+}
+
+/// Adds a moment.
+#[tactic(auto, unfolding(crate::specs::Fields::second_spelling))]
+pub(crate) fn put_second(moment: i64, out: &mut Bytes) -> Result<(), NoMemory>
+    ensures ok { OnOk result (out.new ≡ out.old ++ second_spelling moment) }
+    ensures err { OnErr result (out.new ≡ out.old) }
+{
+    out.extend(&second_bytes(moment))
+}
