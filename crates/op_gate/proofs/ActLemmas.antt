@@ -1,13 +1,19 @@
 -- The answer to an operation, over plain values.
 use Rattle.std.proofs.Common.{◌≡◌, ℕ, List, refl, sym, ap, subst, ◌∙◌, Some, None}
-use Rattle.std.specs.Prelude.{ℤ, Ok}
+use Rattle.std.specs.Prelude.{ℤ, Result, Ok, Err}
+use Rattle.std.specs.Int.{w64}
+use mir.Val.{SFits, to_z, of_z}
+use Rattle.std.proofs.lemmas.Int.{to_z-of_z}
 use Rattle.policy_statement.specs.Ring.{KeyView}
 use Rattle.procap.specs.declared.procap.Procap.{Procap}
 use Rattle.file_world.specs.declared.operation.Op.{Op}
+use Rattle.file_world.specs.declared.refusal.OpFault.{OpFault}
+use Rattle.file_world.specs.declared.refusal.OpFault.TheVariants as faults
 use Rattle.file_world.specs.declared.refusal.Refusal.{Refusal}
 use Rattle.file_world.specs.declared.reply.OpReply.{OpReply}
 use Rattle.file_world.specs.Effect.{refusal, reply}
-use Rattle.world_state.specs.State.{ReservesWorld}
+use Rattle.file_world.specs.World.{World}
+use Rattle.world_state.specs.State.{WorldState, ReservesWorld}
 use Rattle.access_history.specs.declared.event.Entry.TheVariants as entries
 use Rattle.access_history.specs.declared.event.Event.{Event}
 use Rattle.access_history.specs.declared.event.Event.TheVariants.{Acted}
@@ -56,8 +62,21 @@ pub acted_decided : (before after : HistoryView) (pass : ℕ) (clock : ℤ) (cal
 acted_decided before after pass clock caller op given procaps moment told pending admitted given_is moment_is reserves pending_is =
     kept_decided before after pass clock (Act caller op procaps) (replies.Operation (reply (state_of before).world op)) (Acted pass caller op procaps (moment_of (state_of before) clock)) (Keep (replies.Operation told) pending)
     (acted caller op procaps admitted reserves.0)
-    (named, operation, reserves.2) (
+    reserves.2 (
       ap (λ (r : OpReply). replies.Operation r) reserves.1,
       pending_is ∙ ap (λ (o : Op). record { event = Acted pass caller o procaps moment; entry = entries.Operation }) given_is
           ∙ ap (λ (m : ℤ). record { event = Acted pass caller op procaps m; entry = entries.Operation }) moment_is,
     )
+
+-- the refusal that the world tells
+pub reserved_refused : (caller : List ℕ) (world : World) (op : Op) (told : Result OpReply OpFault) (fault : OpFault) (why : Refusal) (after : WorldState) → told ≡ Err fault → fault ≡ faults.Refused why → ReservesWorld caller world op told after → refusal world op ≡ Some why
+reserved_refused caller world op told fault why after told_is fault_is reserves =
+    subst (λ (f : OpFault). ReservesWorld caller world op (Err f) after) fault_is (subst (λ (r : Result OpReply OpFault). ReservesWorld caller world op r after) told_is reserves)
+
+-- the reply that it tells
+pub reserved_done : (caller : List ℕ) (world : World) (op : Op) (told : Result OpReply OpFault) (reply : OpReply) (after : WorldState) → told ≡ Ok reply → ReservesWorld caller world op told after → ReservesWorld caller world op (Ok reply) after
+reserved_done caller world op told reply after told_is reserves = subst (λ (r : Result OpReply OpFault). ReservesWorld caller world op r after) told_is reserves
+
+-- the moment of the step, as the calls have it
+pub step_moment : (state : BaseView) (clock shown : ℤ) → SFits w64 clock → SFits w64 shown → shown ≡ moment_of state (to_z w64 (of_z w64 clock)) → to_z w64 (of_z w64 shown) ≡ moment_of state clock
+step_moment state clock shown clock_fits shown_fits is = to_z-of_z w64 shown shown_fits ∙ is ∙ ap (moment_of state) (to_z-of_z w64 clock clock_fits)

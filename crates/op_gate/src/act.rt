@@ -2,6 +2,7 @@
 
 ghost use Rattle.std.specs.Prelude.{◌≡◌, length, MatchOption};
 ghost use Rattle.file_world.specs.Needs.{slots};
+ghost use Rattle.access_history.specs.declared.request.StepRequest.TheVariants.{Act};
 ghost use Rattle.access_history.specs.Admission.{IsAdmitted};
 ghost use Rattle.access_history.specs.Answer.{moment_of};
 ghost use Rattle.access_history.specs.History.{state_of};
@@ -99,7 +100,7 @@ fn act(
 ) -> Planned
     requires { IsAdmitted history.old.key (state_of history.old) caller op procaps (moment_of (state_of history.old) clock) }
     ensures same { history.new ≡ record history.old { ready = history.new.ready } }
-    ensures planned { IsPlanned history.old pass clock (StepRequest.Act caller op procaps) result history.new }
+    ensures planned { IsPlanned history.old pass clock (Act caller op procaps) result history.new }
 {
     let moment = step_moment(history, clock);
     let count = history.count();
@@ -126,7 +127,7 @@ pub fn decide_act(
 ) -> Planned
     requires { length procaps ≡ slots op }
     ensures same { history.new ≡ record history.old { ready = history.new.ready } }
-    ensures planned { IsPlanned history.old pass clock (StepRequest.Act caller op procaps) result history.new }
+    ensures planned { IsPlanned history.old pass clock (Act caller op procaps) result history.new }
 {
     match deny(history, &caller, &op, &procaps, clock) {
         Some(denial) => Planned::Answer(StepReply::Denied(denial)),
