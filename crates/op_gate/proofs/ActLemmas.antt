@@ -29,7 +29,7 @@ use Rattle.access_history.specs.History.{HistoryView, authority_of, state_of, wo
 use Rattle.op_gate.specs.declared.planned.Planned.{Planned}
 use Rattle.op_gate.specs.declared.planned.Planned.TheVariants.{Answer, Keep}
 use Rattle.op_gate.specs.declared.planned.Pending.{Pending}
-use Rattle.op_gate.specs.Decision.{IsPlanned, IsDenial}
+use Rattle.op_gate.specs.Decision.{IsPlanned, IsDenial, plan_of_fault}
 use Rattle.op_gate.proofs.DecisionLemmas.{kept_decided}
 
 -- only what the world is ready for is another
@@ -68,10 +68,14 @@ acted_decided before after pass clock caller op given procaps moment told pendin
           ∙ ap (λ (m : ℤ). record { event = Acted pass caller op procaps m; entry = entries.Operation }) moment_is,
     )
 
--- the refusal that the world tells
-pub reserved_refused : (caller : List ℕ) (world : World) (op : Op) (told : Result OpReply OpFault) (fault : OpFault) (why : Refusal) (after : WorldState) → told ≡ Err fault → fault ≡ faults.Refused why → ReservesWorld caller world op told after → refusal world op ≡ Some why
-reserved_refused caller world op told fault why after told_is fault_is reserves =
-    subst (λ (f : OpFault). ReservesWorld caller world op (Err f) after) fault_is (subst (λ (r : Result OpReply OpFault). ReservesWorld caller world op r after) told_is reserves)
+-- it has no effect: it is refused, or out of memory
+pub fault_decided : (before after : HistoryView) (pass : ℕ) (clock : ℤ) (caller : List ℕ) (op : Op) (procaps : List Procap) (fault : OpFault) (count : ℕ) → IsAdmitted before.key (state_of before) caller op procaps (moment_of (state_of before) clock) →
+    ReservesWorld caller (state_of before).world op (Err fault) (world_of after) → count ≡ (state_of before).count → IsPlanned before pass clock (Act caller op procaps) (plan_of_fault count fault) after
+fault_decided before after pass clock caller op procaps (faults.Refused why) count admitted refuses count_is = refused_decided before after pass clock caller op procaps why count admitted refuses count_is
+fault_decided before after pass clock caller op procaps faults.NoMemory count admitted refuses count_is = tt
+
+pub reserved_not : (caller : List ℕ) (world : World) (op : Op) (told : Result OpReply OpFault) (fault : OpFault) (after : WorldState) → told ≡ Err fault → ReservesWorld caller world op told after → ReservesWorld caller world op (Err fault) after
+reserved_not caller world op told fault after told_is reserves = subst (λ (r : Result OpReply OpFault). ReservesWorld caller world op r after) told_is reserves
 
 -- the reply that it tells
 pub reserved_done : (caller : List ℕ) (world : World) (op : Op) (told : Result OpReply OpFault) (reply : OpReply) (after : WorldState) → told ≡ Ok reply → ReservesWorld caller world op told after → ReservesWorld caller world op (Ok reply) after

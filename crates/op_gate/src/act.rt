@@ -6,7 +6,7 @@ ghost use Rattle.access_history.specs.declared.request.StepRequest.TheVariants.{
 ghost use Rattle.access_history.specs.Admission.{IsAdmitted};
 ghost use Rattle.access_history.specs.Answer.{moment_of};
 ghost use Rattle.access_history.specs.History.{state_of};
-ghost use Rattle.op_gate.specs.Decision.{IsPlanned, IsDenial};
+ghost use Rattle.op_gate.specs.Decision.{IsPlanned, IsDenial, plan_of_fault};
 
 use crate::cause::denial_cause;
 use crate::planned::{Pending, Planned};
@@ -88,6 +88,16 @@ fn acted(pass: u64, caller: Principal, op: Op, procaps: Procaps, moment: i64) ->
     }
 }
 
+// What is told of an operation without effect, after that many events.
+fn refused(fault: OpFault, count: u64) -> Planned
+    ensures { result ≡ plan_of_fault count fault }
+{
+    match fault {
+        OpFault::Refused(refusal) => Planned::Answer(StepReply::Refused(refusal, count)),
+        OpFault::NoMemory => Planned::NoMemory,
+    }
+}
+
 // What the caller's admitted operation does, with all memory taken for it.
 fn act(
     alloc: Global,
@@ -110,8 +120,7 @@ fn act(
             StepReply::Operation(reply),
             acted(pass, caller, op, procaps, moment),
         ),
-        Err(OpFault::Refused(refusal)) => Planned::Answer(StepReply::Refused(refusal, count)),
-        Err(OpFault::NoMemory) => Planned::NoMemory,
+        Err(fault) => refused(fault, count),
     }
 }
 

@@ -1,9 +1,12 @@
 -- The operation is refused, or done.
-use Rattle.std.proofs.Common.{rules}
+use Rattle.std.proofs.Common.{rules, subst, sym}
+use Rattle.access_history.specs.declared.request.StepRequest.TheVariants.{Act}
+use Rattle.op_gate.specs.declared.planned.Planned.{Planned}
+use Rattle.op_gate.specs.Decision.{IsPlanned}
 use Rattle.std.specs.Int.{w64}
 use mir.Val.{SFits, to_z, of_z}
 use Rattle.access_history.specs.History.{state_of, world_of}
-use Rattle.op_gate.proofs.ActLemmas.{acted_decided, refused_decided, reserved_done, reserved_refused, step_moment}
+use Rattle.op_gate.proofs.ActLemmas.{acted_decided, fault_decided, reserved_done, reserved_not, step_moment}
 use Rattle.op_gate.proofs.act.act.Goals as goal
 
 pub returns-in-Ok-clause-planned : goal.returns-in-Ok-clause-planned
@@ -15,10 +18,10 @@ returns-in-Ok-clause-planned c =
     c.prepare-op.ensures.op (step_moment (state_of h) c.args.clock c.step_moment-moment.result c.ranges.clock shown_fits c.step_moment-moment.ensures)
     (reserved_done c.args.caller (state_of h).world c.args.op c.prepare-op.result.1 c.in-Ok.reply (world_of after) c.in-Ok.is c.prepare-op.ensures.answer) c.acted.ensures
 
-pub returns-in-Err-Refused-clause-planned : goal.returns-in-Err-Refused-clause-planned
-returns-in-Err-Refused-clause-planned c =
+pub returns-in-Err-clause-planned : goal.returns-in-Err-clause-planned
+returns-in-Err-clause-planned c =
     let h = c.args.history.now in
     let after = c.prepare-op.new.self in
-    refused_decided h after c.args.pass c.args.clock c.args.caller c.args.op c.args.procaps c.in-Err-Refused.refusal c.count-count.result c.requires
-    (reserved_refused c.args.caller (state_of h).world c.args.op c.prepare-op.result.1 c.in-Err-Refused.field-0 c.in-Err-Refused.refusal (world_of after) c.in-Err-Refused.is c.in-Err-Refused.field-0-is c.prepare-op.ensures.answer)
-    c.count-count.ensures
+    subst (λ (plan : Planned). IsPlanned h c.args.pass c.args.clock (Act c.args.caller c.args.op c.args.procaps) plan after) (sym c.refused.ensures)
+    (fault_decided h after c.args.pass c.args.clock c.args.caller c.args.op c.args.procaps c.in-Err.fault c.count-count.result c.requires
+    (reserved_not c.args.caller (state_of h).world c.args.op c.prepare-op.result.1 c.in-Err.fault (world_of after) c.in-Err.is c.prepare-op.ensures.answer) c.count-count.ensures)
