@@ -1,5 +1,5 @@
 -- The first need that is not met, or all are.
-use Rattle.std.proofs.Common.{◌≡◌, ◌<◌, ◌∙◌, ap, subst, arith, length, take}
+use Rattle.std.proofs.Common.{◌≡◌, ◌<◌, ◌∙◌, ap, subst, length, take}
 use Rattle.std.specs.Prelude.{ℤ}
 use Rattle.std.specs.Int.{w64}
 use Rattle.std.specs.List.{AllByRecursion}
@@ -7,7 +7,7 @@ use Rattle.std.proofs.lemmas.Int.{to_z-of_z}
 use Rattle.file_world.specs.Needs.{needs}
 use Rattle.world_state.specs.Needed.{placed}
 use Rattle.world_state.specs.State.{WorldState}
-use Rattle.access_history.specs.Admission.{Denies, IsNeedMet}
+use Rattle.access_history.specs.Admission.{IsNeedMet}
 use Rattle.access_history.specs.History.{state_of}
 use Rattle.op_gate.proofs.NeedLemmas.{procap_there, met_read, all_met, denied_read}
 use Rattle.op_gate.proofs.act.first_denial.Goals as goal
