@@ -1,13 +1,12 @@
 -- Each well-formed request has an answer, since each of the tests on which the answer rests holds or does not.
-use Rattle.std.proofs.Common.{◌≡◌, ◌≤◌, ◌<◌, ◌⊎◌, ℕ, inl, inr, List, [], ◌∷◌, length, Option, Some, None, refl, sym, subst, arith}
+use Rattle.std.proofs.Common.{◌≡◌, ◌≤◌, ◌<◌, ◌⊎◌, ℕ, inl, inr, List, length, Option, Some, None, refl, subst, arith}
 use Rattle.std.specs.Prelude.{ℤ, Contains}
 use Rattle.std.specs.List.{AllByRecursion}
-use Rattle.std.proofs.lemmas.List.Elements.{Contains-append_right}
 use Rattle.bl_syntax.specs.declared.terms.StatePred.{StatePred}
 use Rattle.bl_syntax.specs.declared.grant.Goal.{Goal}
 use Rattle.bl_syntax.specs.Equality.{node_eq, perm_eq, state_eq}
 use Rattle.bl_syntax.proofs.EqualityLemmas.{Decides-node_eq, Decides-perm_eq, Decides-state_eq}
-use Rattle.bl_syntax.specs.Statement.{StatementView}
+use Rattle.bl_syntax.specs.Statement.{StatementView, IsStatement}
 use Rattle.bl_syntax.specs.StatementCode.{statement_code}
 use Rattle.bl_syntax.specs.Grant.{GrantView}
 use Rattle.procap.specs.Genuine.{seal_of}
@@ -36,9 +35,9 @@ use Rattle.access_history.specs.Citing.{StandsUnderNumber}
 use Rattle.access_history.specs.Admission.{goal_of, checks, Passes, Admits, IsNeedMet, IsAdmitted}
 use Rattle.access_history.specs.Answer.{moment_of, MaySee, Answers, unsigned, duplicate, registry_full, registered, moved, issued, denied, refused, acted, not_shown, shown}
 use Rattle.access_history.specs.WellFormed.{IsWellFormed}
-use Rattle.access_history.proofs.ListLemmas.{AllByRecursion-contains, Contains-head}
+use Rattle.access_history.proofs.ListLemmas.{AllByRecursion-contains}
 use Rattle.access_history.proofs.NumberedLemmas.{numbered_item, none_fails, Contains-failing}
-use Rattle.access_history.proofs.EitherLemmas.{OrNot, or_not, true_or_not, map_or, few_or_full, same_bytes, same_coded, contains_or, HasFailing, all_or_failing, HasItem, item_or_none, item_of_number, HasPlaceIn, number_of, holds_or}
+use Rattle.access_history.proofs.EitherLemmas.{OrNot, or_not, true_or_not, few_or_full, same_bytes, same_coded, contains_or, HasFailing, all_or_failing, HasItem, item_or_none, item_of_number, number_of, holds_or}
 
 same_state : (a b : StatePred) → OrNot (a ≡ b)
 same_state a b = or_not (state_eq a b) (Decides-state_eq a b)
@@ -105,9 +104,9 @@ pub record HasAnswer (authority : Authority) (state : BaseView) (pass : ℕ) (cl
   pub answers : Answers authority state pass clock request reply event
 
 module _ (authority : Authority) (state : BaseView) (pass : ℕ) (clock : ℤ) where
-  module _ (statement : StatementView) (signature : List ℕ) (signed : IsSignedStatement authority statement signature) where
+  module _ (statement : StatementView) (signature : List ℕ) (formed : IsStatement statement) (signed : IsSignedStatement authority statement signature) where
     new_answer : (Contains (sayings state.statements) statement → ⊥) → (length state.statements < 4096) ⊎ (4096 ≤ length state.statements) → HasAnswer authority state pass clock (Register statement signature)
-    new_answer new (inl room) = record { reply = _; event = _; answers = registered statement signature (record { signed = signed; new = new; room = room }) }
+    new_answer new (inl room) = record { reply = _; event = _; answers = registered statement signature (record { statement = formed; signed = signed; new = new; room = room }) }
     new_answer new (inr full) = record { reply = _; event = _; answers = registry_full statement signature signed new full }
 
     signed_answer : OrNot (Contains (sayings state.statements) statement) → HasAnswer authority state pass clock (Register statement signature)
@@ -115,9 +114,9 @@ module _ (authority : Authority) (state : BaseView) (pass : ℕ) (clock : ℤ) w
         let there = number_of (sayings state.statements) statement known in record { reply = _; event = _; answers = duplicate statement signature there.number signed there.numbered }
     signed_answer (inr new) = new_answer new (few_or_full (length state.statements))
 
-  register_answer : (statement : StatementView) (signature : List ℕ) → OrNot (IsSignedStatement authority statement signature) → HasAnswer authority state pass clock (Register statement signature)
-  register_answer statement signature (inl signed) = signed_answer statement signature signed (contains_or (same_coded statement_code) (sayings state.statements) statement)
-  register_answer statement signature (inr not_signed) = record { reply = _; event = _; answers = unsigned statement signature not_signed }
+  register_answer : (statement : StatementView) (signature : List ℕ) → IsStatement statement → OrNot (IsSignedStatement authority statement signature) → HasAnswer authority state pass clock (Register statement signature)
+  register_answer statement signature formed (inl signed) = signed_answer statement signature formed signed (contains_or (same_coded statement_code) (sayings state.statements) statement)
+  register_answer statement signature formed (inr not_signed) = record { reply = _; event = _; answers = unsigned statement signature not_signed }
 
   same_as : (cite : Cite) (found : HasItem (sayings state.statements) cite.number) → OrNot (found.item ≡ cite.statement) → OrNot (StandsUnderNumber (sayings state.statements) cite)
   same_as cite found (inl same) = inl (subst (IsNumbered (sayings state.statements) cite.number) same found.numbered)
@@ -159,7 +158,7 @@ module _ (authority : Authority) (state : BaseView) (pass : ℕ) (clock : ℤ) w
   act_answer caller op procaps formed (inl admitted) = admitted_answer caller op procaps admitted (refusal state.world op) refl
   act_answer caller op procaps formed (inr lacking) =
       let within : IsWithin (slots op) lacking.item = AllByRecursion-contains (IsWithin (slots op)) (needs state.world op) lacking.item (needs_within state.world op) (Contains-failing _ _ lacking.place lacking.item lacking.first) in
-      let found : HasItem procaps lacking.item.place = item_of_number procaps lacking.item.place within.0 (omega (arith, within.1, formed.0)) in
+      let found : HasItem procaps lacking.item.place = item_of_number procaps lacking.item.place within.0 (omega (arith, within.1, formed.slots)) in
       denied_answer caller op procaps lacking found (admits_or_fails authority.key state caller procaps (moment_of state clock) (goal_of caller lacking.item) found.item)
 
   may_see_or : (who : Option (List ℕ)) (g : GrantView) → OrNot (MaySee who g)
@@ -180,7 +179,7 @@ module _ (authority : Authority) (state : BaseView) (pass : ℕ) (clock : ℤ) w
   show_answer number who (inr none) = record { reply = _; event = _; answers = not_shown number who (λ issue there. none issue there.issued) }
 
   some_answer : (request : StepRequest) → IsWellFormed request → HasAnswer authority state pass clock request
-  some_answer (Register statement signature) formed = register_answer statement signature (true_or_not _)
+  some_answer (Register statement signature) formed = register_answer statement signature formed (true_or_not _)
   some_answer (IssueOf checked) formed = issue_answer checked formed (all_or_failing (StandsUnderNumber (sayings state.statements)) stands_or checked.cited)
   some_answer (Act caller op procaps) formed =
       act_answer caller op procaps formed

@@ -1,5 +1,5 @@
 -- Each of these questions has an answer: it holds, or it does not.
-use Rattle.std.proofs.Common.{◌≡◌, ◌∙◌, ◌+◌, ◌-◌, ◌<◌, ◌≤◌, ◌⊎◌, ℕ, zero, suc, inl, inr, ⊎_elim, Bool, true, false, nat_lt, IsTrue, List, [], ◌∷◌, ◌++◌, length, get_or, Some, None, Option, refl, sym, ap, ap₂, subst, arith}
+use Rattle.std.proofs.Common.{◌≡◌, ◌∙◌, ◌+◌, ◌<◌, ◌≤◌, ◌⊎◌, ℕ, zero, suc, inl, inr, ⊎_elim, Bool, true, false, nat_lt, IsTrue, List, [], ◌∷◌, length, Some, None, Option, refl, sym, ap, ap₂, arith}
 use Rattle.std.specs.Prelude.{ℤ, Contains, ◌==◌}
 use Rattle.std.specs.Bool.{Decides}
 use Rattle.std.specs.Coded.{Coded}
@@ -12,7 +12,7 @@ use Rattle.std.proofs.lemmas.Slice.Eq.{bytes_eq-Decides}
 use Rattle.std.proofs.lemmas.Option.{none-some, slice_get_read}
 use Rattle.std.proofs.lemmas.List.Elements.{Contains-append_right}
 use Rattle.bl_syntax.specs.declared.terms.Term.{Term}
-use Rattle.bl_syntax.specs.declared.terms.Term.TheVariants.{Prin, File, Perm, Time, Text, Ctime, Param, Bound}
+use Rattle.bl_syntax.specs.declared.terms.Term.TheVariants.{Time}
 use Rattle.bl_syntax.specs.declared.terms.Constraint.{Constraint}
 use Rattle.bl_syntax.specs.ConditionTests.{is_up_to}
 use Rattle.bl_syntax.specs.FirstFailing.{IsFirstFailing}
@@ -63,14 +63,14 @@ same_gv gnil gnil = inl refl
 same_gv gnil (gnum n) = inr (λ same. absurd cc)
 same_gv gnil (gcons c d) = inr (λ same. absurd cc)
 same_gv (gnum m) gnil = inr (λ same. absurd cc)
-same_gv (gnum m) (gnum n) = map_or (λ same. ap gnum same) (λ same. cc) (same_number m n)
+same_gv (gnum m) (gnum n) = map_or (λ (same : m ≡ n). ap gnum same) (λ (same : gnum m ≡ gnum n). cc) (same_number m n)
 same_gv (gnum m) (gcons c d) = inr (λ same. absurd cc)
 same_gv (gcons a b) gnil = inr (λ same. absurd cc)
 same_gv (gcons a b) (gnum n) = inr (λ same. absurd cc)
 same_gv (gcons a b) (gcons c d) = same_pair a b c d (same_gv a c) (same_gv b d)
 
 pub same_coded : {A : Type 0} → Coded A → (a b : A) → OrNot (a ≡ b)
-same_coded coded a b = map_or (λ same. coded.inj a b same) (λ same. ap coded.code same) (same_gv (coded.code a) (coded.code b))
+same_coded coded a b = map_or (λ (same : coded.code a ≡ coded.code b). coded.inj a b same) (λ (same : a ≡ b). ap coded.code same) (same_gv (coded.code a) (coded.code b))
 
 -- ---- lists
 

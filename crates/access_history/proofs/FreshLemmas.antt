@@ -1,5 +1,5 @@
 -- The history before the first event.
-use Rattle.std.proofs.Common.{◌≡◌, ℕ, List, [], refl, ap, subst, sym, ◌∙◌, arith}
+use Rattle.std.proofs.Common.{◌≡◌, ℕ, List, [], ap, subst, sym, ◌∙◌, arith}
 use Rattle.std.specs.Prelude.{ℤ}
 use Rattle.std.specs.Int.{w64}
 use mir.Val.{to_z, of_z}
@@ -15,16 +15,20 @@ use Rattle.access_history.specs.Base.{BaseView}
 use Rattle.access_history.specs.Authority.{Authority}
 use Rattle.access_history.specs.History.{authority_of}
 use Rattle.access_history.specs.HistoryParts.{kept_by, shown_state, IsKeeping}
-use Rattle.access_history.specs.Lawful.{IsLawful, no_event}
+use Rattle.access_history.specs.Lawful.{IsLawfulBase, IsLawful, no_event}
 use Rattle.access_history.specs.Replay.{fresh, replay}
 use Rattle.access_history.proofs.HistoryLemmas.{state_with, SFits-moment}
 
 first_moment : IsMoment fresh.moment
 first_moment = record { not_before = omega (arith, ints); not_after = omega (arith, ints) }
 
+-- a history may begin with the store before its first event
+pub IsLawfulBase-fresh : (authority : Authority) → IsLawfulBase authority fresh
+IsLawfulBase-fresh authority = record { tree = IsWorld-fresh; statements_differ = tt; statements_formed = tt; statements_signed = tt; statements_fit = omega arith; moment_in_range = first_moment; good_issues = tt; counted = omega arith }
+
 pub IsLawful-fresh : (authority : Authority) → IsLawful authority fresh []
 IsLawful-fresh authority = record {
-  lawful_base = record { tree = IsWorld-fresh; statements_differ = tt; statements_signed = tt; statements_fit = omega arith; moment_in_range = first_moment; good_issues = tt; counted = omega arith };
+  lawful_base = IsLawfulBase-fresh authority;
   counted = omega arith;
   each = no_event;
 }
@@ -46,5 +50,5 @@ shown_fresh world statements issues moment count world_is none none_too moment_i
     ∙ ap (λ (n : ℕ). state_with fresh.world [] [] fresh.moment n) count_is
 
 -- the first moment, as a word has it
-pub first_moment_kept : (base : BaseView) → base ≡ fresh → to_z w64 (of_z w64 base.moment) ≡ base.moment
-first_moment_kept base is = to_z-of_z w64 base.moment (SFits-moment base.moment (subst (λ (b : BaseView). IsMoment b.moment) (sym is) first_moment))
+pub first_moment_kept : (moment : ℤ) → moment ≡ fresh.moment → to_z w64 (of_z w64 moment) ≡ fresh.moment
+first_moment_kept moment is = to_z-of_z w64 moment (SFits-moment moment (subst IsMoment (sym is) first_moment)) ∙ is

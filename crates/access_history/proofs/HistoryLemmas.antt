@@ -1,5 +1,5 @@
 -- A history that keeps one more event.
-use Rattle.std.proofs.Common.{◌≡◌, ℕ, ◌+◌, ◌-◌, ◌^◌, ◌<◌, ◌≤◌, Bool, cond, List, [], ◌∷◌, ◌++◌, length, refl, sym, ap, subst, ◌∙◌, arith}
+use Rattle.std.proofs.Common.{◌≡◌, ℕ, ◌+◌, ◌-◌, ◌^◌, ◌<◌, Bool, cond, List, [], ◌∷◌, ◌++◌, sym, ap, subst, ◌∙◌, arith}
 use Rattle.std.specs.Prelude.{Result, Ok, is_ok, ℤ}
 use Rattle.std.proofs.lemmas.List.{length-append}
 use Rattle.std.specs.Int.{w64}
@@ -20,11 +20,11 @@ use Rattle.access_history.specs.declared.event.Event.TheVariants.{Registered, Is
 use Rattle.access_history.specs.declared.history.History.TheInside.{Inside}
 use Rattle.access_history.specs.Base.{BaseView}
 use Rattle.access_history.specs.Authority.{Authority}
-use Rattle.access_history.specs.History.{HistoryView, authority_with, authority_of, state_of, world_of, entry_of, IsReadyFor, IsReadyIn}
+use Rattle.access_history.specs.History.{HistoryView, authority_with, authority_of, state_of, world_of, IsReadyFor, IsReadyIn}
 use Rattle.access_history.specs.HistoryParts.{kept_by, shown_state, IsKeeping}
-use Rattle.access_history.specs.Keeping.{world_next, moment_next, statements_with, issues_with, HasMomentInRange, HasPlaceAmong}
+use Rattle.access_history.specs.Keeping.{HasMomentInRange, HasPlaceAmong}
 use Rattle.access_history.specs.Lawful.{IsLawful, one_more, MayFollow}
-use Rattle.access_history.specs.Replay.{replay, next_state}
+use Rattle.access_history.specs.Replay.{world_next, moment_next, statements_with, issues_with, entry_of, replay, next_state}
 use Rattle.access_history.proofs.ReplayLemmas.{replay-more, count-replay}
 
 -- a push that did not fail
@@ -33,13 +33,6 @@ pushed before after x r done e ok = e ∙ ap (λ (b : Bool). cond b (before ++ x
 
 abbrev pub state_with : World → List RegisteredView → List Issue → ℤ → ℕ → BaseView
 state_with world statements issues moment count = record { world = world; statements = statements; issues = issues; moment = moment; count = count }
-
--- the state after an event by its parts
-parts_next : (state : BaseView) (event : Event) →
-    state_with (world_next state.world event) (statements_with state.statements (entry_of event)) (issues_with state.issues (entry_of event)) (moment_next state.moment event) (state.count + 1) ≡ next_state state event
-parts_next state (Registered pass statement signature) = refl
-parts_next state (Issued pass cited proof grant) = refl
-parts_next state (Acted pass caller op procaps moment) = refl
 
 -- the fields after an event show the state after it
 pub shown_next : (h after : Inside) (event : Event) → after.world.world ≡ world_next h.world.world event → after.statements.entries ≡ statements_with h.statements.entries (entry_of event) → after.issues.items ≡ issues_with h.issues.items (entry_of event) →
@@ -50,7 +43,6 @@ shown_next h after event world statements issues moment count =
     ∙ ap (λ (is : List Issue). state_with (world_next h.world.world event) (statements_with h.statements.entries (entry_of event)) is after.moment after.count) issues
     ∙ ap (λ (m : ℤ). state_with (world_next h.world.world event) (statements_with h.statements.entries (entry_of event)) (issues_with h.issues.items (entry_of event)) m after.count) moment
     ∙ ap (λ (n : ℕ). state_with (world_next h.world.world event) (statements_with h.statements.entries (entry_of event)) (issues_with h.issues.items (entry_of event)) (moment_next h.moment event) n) count
-    ∙ parts_next (shown_state h) event
 
 -- the fields show the state after one more event, and the events have one more at their end
 pub IsKeeping-more : (h after : Inside) (event : Event) → IsKeeping h → MayFollow (authority_of (kept_by h)) (state_of (kept_by h)) event → (state_of (kept_by h)).count < 2 ^ 48 - 1 →
@@ -119,3 +111,14 @@ place_shown h k event entry keeping is entry_is may =
     subst (λ (e : Entry). HasPlaceAmong h.statements.entries e) (sym entry_is)
     (subst (λ (s : BaseView). HasPlaceAmong s.statements (entry_of event)) (sym keeping.state_is)
     (subst (λ (v : HistoryView). HasPlaceAmong (state_of v).statements (entry_of event)) (sym is) (HasPlace-follows (authority_of k) (state_of k) event may)))
+
+-- the fields after an event that may come next: each part changed as the event changes it, and the event, which was given back, at the end
+pub IsKeeping-kept : (h after : Inside) (k : HistoryView) (event given : Event) (entry : Entry) → IsKeeping h → kept_by h ≡ k → MayFollow (authority_of k) (state_of k) event → (state_of k).count < 2 ^ 48 - 1 → entry ≡ entry_of event → given ≡ event
+    → after.key ≡ h.key → after.ring ≡ h.ring → after.base ≡ h.base
+    → after.world.world ≡ world_next h.world.world event → after.moment ≡ moment_next h.moment event
+    → after.statements.entries ≡ statements_with h.statements.entries entry → after.issues.items ≡ issues_with h.issues.items entry
+    → after.events.items ≡ h.events.items ++ given ∷ [] → after.count ≡ h.count + 1 → IsKeeping after
+IsKeeping-kept h after k event given entry keeping is follows counted entry_is given_is same_key same_ring same_base world moment statements issues more count =
+    IsKeeping-more h after event keeping (subst (λ (v : HistoryView). MayFollow (authority_of v) (state_of v) event) (sym is) follows) (subst (λ (v : HistoryView). (state_of v).count < 2 ^ 48 - 1) (sym is) counted) same_key same_ring same_base
+    (more ∙ ap (λ (e : Event). h.events.items ++ e ∷ []) given_is)
+    (shown_next h after event world (statements ∙ ap (statements_with h.statements.entries) entry_is) (issues ∙ ap (issues_with h.issues.items) entry_is) moment count)

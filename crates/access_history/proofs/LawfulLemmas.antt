@@ -3,7 +3,7 @@ use Rattle.std.proofs.Common.{◌≡◌, ◌<◌, ◌≤◌, ◌+◌, ◌-◌, �
 use Rattle.std.specs.Prelude.{ℤ}
 use Rattle.std.specs.List.{AllByRecursion}
 use Rattle.std.proofs.lemmas.List.{length-append}
-use Rattle.bl_syntax.specs.Statement.{StatementView}
+use Rattle.bl_syntax.specs.Statement.{StatementView, IsStatement}
 use Rattle.bl_syntax.specs.Grant.{GrantView, AreDistinct}
 use Rattle.policy_statement.specs.Registered.{RegisteredView}
 use Rattle.procap.specs.declared.procap.Procap.{Procap}
@@ -19,7 +19,7 @@ use Rattle.access_history.specs.Citing.{IsGoodIssue}
 use Rattle.access_history.specs.Replay.{next_state, replay}
 use Rattle.access_history.specs.Lawful.{MayAct, MayFollow, AreLawful, no_event, one_more, IsLawfulBase, IsLawful}
 use Rattle.access_history.proofs.ListLemmas.{AllByRecursion-push, AllByRecursion-weaker, AreDistinct-push}
-use Rattle.access_history.proofs.ReplayLemmas.{replay-more, count-replay}
+use Rattle.access_history.proofs.ReplayLemmas.{world_left-after, replay-more, count-replay}
 use Rattle.access_history.proofs.CitingLemmas.{sayings-more, IsGoodIssue-more}
 
 module _ (authority : Authority) (state : BaseView) (base : IsLawfulBase authority state) (below : state.count < 2 ^ 48 - 1) where
@@ -30,6 +30,7 @@ module _ (authority : Authority) (state : BaseView) (base : IsLawfulBase authori
       record {
         tree = base.tree;
         statements_differ = subst (λ (ss : List StatementView). AreDistinct ss) (sym more) (AreDistinct-push (sayings state.statements) statement base.statements_differ may.new);
+        statements_formed = subst (λ (ss : List StatementView). AllByRecursion IsStatement ss) (sym more) (AllByRecursion-push IsStatement (sayings state.statements) statement base.statements_formed may.statement);
         statements_signed = AllByRecursion-push (IsSignedEntry authority) state.statements entry base.statements_signed may.signed;
         statements_fit = omega (arith, may.room, length-append state.statements (entry ∷ []));
         moment_in_range = base.moment_in_range;
@@ -42,6 +43,7 @@ module _ (authority : Authority) (state : BaseView) (base : IsLawfulBase authori
   issued_base pass cited proof g good = record {
     tree = base.tree;
     statements_differ = base.statements_differ;
+    statements_formed = base.statements_formed;
     statements_signed = base.statements_signed;
     statements_fit = base.statements_fit;
     moment_in_range = base.moment_in_range;
@@ -51,8 +53,9 @@ module _ (authority : Authority) (state : BaseView) (base : IsLawfulBase authori
 
   acted_base : (pass : ℕ) (caller : List ℕ) (op : Op) (procaps : List Procap) (moment : ℤ) → MayAct authority state caller op procaps moment → IsLawfulBase authority (next_state state (Acted pass caller op procaps moment))
   acted_base pass caller op procaps moment may = record {
-    tree = IsWorld-after caller op state.world base.tree may.named may.operation may.not_refused;
+    tree = subst IsWorld (sym (world_left-after caller op state.world may.not_refused)) (IsWorld-after caller op state.world base.tree may.formed.named may.formed.operation may.not_refused);
     statements_differ = base.statements_differ;
+    statements_formed = base.statements_formed;
     statements_signed = base.statements_signed;
     statements_fit = base.statements_fit;
     moment_in_range = may.in_range;

@@ -8,5 +8,6 @@ pub mod HeadlineLemmas
 pub mod HistoryLemmas
 pub mod LawfulLemmas
 pub mod ListLemmas
+pub mod MayFollowLemmas
 pub mod NumberedLemmas
 pub mod ReplayLemmas

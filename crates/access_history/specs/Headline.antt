@@ -31,7 +31,7 @@ pub record WasRightful (key : List ℕ) (state : BaseView) (caller : List ℕ) (
   pub states_held : AllByRecursion (Contains (facts state.world)) procap.grant.states
   pub derivable : WasIssued state.issues procap.grant → Allows (sayings state.statements) (facts state.world) moment caller need.file need.permission
 
--- The history of these events replays from its base to the world, which is one. And whichever operation in it is taken: over the state to which the events before it lead, and at its one
+-- The history of these events replays from its base to that world, which keeps its limits. And whichever operation in it is taken: over the state to which the events before it lead, and at its one
 -- moment, each permission that it needs was rightful.
 pub record Headline (authority : Authority) (base : BaseView) (events : List Event) (world : World) : Type 0 where
   pub lawful : IsLawful authority base events

@@ -5,11 +5,10 @@ use Rattle.policy_statement.specs.Ring.{KeyView, is_accepted}
 use Rattle.world_state.specs.State.{Readiness, WorldState, IsWorldReady}
 use Rattle.access_history.specs.declared.event.Event.{Event}
 use Rattle.access_history.specs.declared.event.Event.TheVariants as events
-use Rattle.access_history.specs.declared.event.Entry.{Entry}
-use Rattle.access_history.specs.declared.event.Entry.TheVariants as entries
 use Rattle.access_history.specs.Base.{BaseView}
 use Rattle.access_history.specs.Authority.{Authority}
 use Rattle.access_history.specs.Replay.{replay}
+pub use Rattle.access_history.specs.Replay.{entry_of}
 
 -- the key of the seal, the ring of those whose signatures are accepted, the base, the events since, for how many events there is room, and what the world is ready to change
 pub record HistoryView : Type 0 where
@@ -35,12 +34,6 @@ state_of h = replay h.base h.events
 -- the world of that state, and what it is ready to change
 abbrev pub world_of : HistoryView → WorldState
 world_of h = record { world = (state_of h).world; ready = h.ready }
-
--- what the state keeps of an event beside the event
-abbrev pub entry_of : Event → Entry
-entry_of (events.Registered pass statement signature) = entries.Statement statement signature
-entry_of (events.Issued pass cited proof grant) = entries.Issue (record { cited = cited; proof = proof; grant = grant })
-entry_of (events.Acted pass caller op procaps moment) = entries.Operation
 
 -- the world is ready for the event, if it is an operation
 abbrev pub IsReadyIn : WorldState → Event → Type 0

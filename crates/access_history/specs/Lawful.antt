@@ -1,16 +1,16 @@
 -- Which histories are lawful: each event is one that the state before it allows (this project's own).
-use Rattle.std.specs.Prelude.{◌≡◌, ◌≤◌, ◌+◌, ◌-◌, ◌^◌, ◌≤ℤ◌, ℕ, ℤ, List, [], ◌∷◌, ◌++◌, length, Contains, IsTrue, None}
+use Rattle.std.specs.Prelude.{◌≡◌, ◌≤◌, ◌+◌, ◌-◌, ◌^◌, ◌≤ℤ◌, ℕ, ℤ, List, [], ◌∷◌, ◌++◌, length, Contains, None}
 use Rattle.std.specs.List.{AllByRecursion}
 use Rattle.bl_rules.specs.Allowed.{Allows}
-use Rattle.bl_syntax.specs.Names.{is_principal_name}
 use Rattle.bl_syntax.specs.TimeOrder.{IsMoment}
+use Rattle.bl_syntax.specs.Statement.{IsStatement}
 use Rattle.bl_syntax.specs.Grant.{GrantView, AreDistinct}
 use Rattle.procap.specs.declared.procap.Procap.{Procap}
 use Rattle.file_world.specs.declared.operation.Op.{Op}
 use Rattle.file_world.specs.World.{IsWorld}
-use Rattle.file_world.specs.Effect.{IsOperation, refusal}
+use Rattle.file_world.specs.Effect.{refusal}
 use Rattle.file_world.specs.Facts.{facts}
-use Rattle.file_world.specs.Needs.{Need, needs, slots, bytes_to_write}
+use Rattle.file_world.specs.Needs.{Need, needs}
 use Rattle.access_history.specs.declared.event.Issue.{Issue}
 use Rattle.access_history.specs.declared.event.Event.{Event}
 use Rattle.access_history.specs.declared.event.Event.TheVariants.{Registered, Issued, Acted}
@@ -19,6 +19,7 @@ use Rattle.access_history.specs.Numbered.{IsNumbered}
 use Rattle.access_history.specs.Authority.{Authority, MayBeRegistered, IsSignedEntry, sayings}
 use Rattle.access_history.specs.Citing.{IsGoodIssue}
 use Rattle.access_history.specs.Admission.{IsAdmitted}
+use Rattle.access_history.specs.WellFormed.{IsWellFormedAct}
 use Rattle.access_history.specs.Replay.{replay}
 
 -- the grant is that of an issue
@@ -40,10 +41,7 @@ AreDerived state caller op procaps moment = AllByRecursion (IsDerived state call
 pub record MayAct (authority : Authority) (state : BaseView) (caller : List ℕ) (op : Op) (procaps : List Procap) (moment : ℤ) : Type 0 where
   pub not_before : state.moment ≤ℤ moment
   pub in_range : IsMoment moment
-  pub named : IsTrue (is_principal_name caller)
-  pub operation : IsOperation op
-  pub brought : length procaps ≡ slots op
-  pub few_bytes : bytes_to_write op ≤ 65536
+  pub formed : IsWellFormedAct caller op procaps
   pub admitted : IsAdmitted authority.key state caller op procaps moment
   pub not_refused : refusal state.world op ≡ None
   pub derived : AreDerived state caller op procaps moment
@@ -63,6 +61,7 @@ pub data AreLawful (authority : Authority) (base : BaseView) : List Event → Ty
 pub record IsLawfulBase (authority : Authority) (base : BaseView) : Type 0 where
   pub tree : IsWorld base.world
   pub statements_differ : AreDistinct (sayings base.statements)
+  pub statements_formed : AllByRecursion IsStatement (sayings base.statements)
   pub statements_signed : AllByRecursion (IsSignedEntry authority) base.statements
   pub statements_fit : length base.statements ≤ 4096
   pub moment_in_range : IsMoment base.moment

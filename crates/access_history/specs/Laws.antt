@@ -1,5 +1,6 @@
 -- Laws of the definitions: states of lawful histories are lawful, a request has exactly one answer, what is admitted is kept, and the headline holds of what is lawful.
 use Rattle.std.specs.Prelude.{◌≡◌, ℕ, ℤ, List, Option, Some, None}
+use Rattle.bl_syntax.specs.TimeOrder.{IsMoment}
 use Rattle.procap.specs.declared.procap.Procap.{Procap}
 use Rattle.file_world.specs.declared.operation.Op.{Op}
 use Rattle.file_world.specs.World.{IsWorld}
@@ -11,8 +12,8 @@ use Rattle.access_history.specs.declared.request.StepRequest.TheVariants.{Act}
 use Rattle.access_history.specs.declared.reply.StepReply.{StepReply}
 use Rattle.access_history.specs.declared.reply.StepReply.TheVariants.{Operation}
 use Rattle.access_history.specs.Base.{BaseView}
-use Rattle.access_history.specs.Replay.{replay}
-use Rattle.access_history.specs.Lawful.{IsLawful, IsLawfulBase}
+use Rattle.access_history.specs.Replay.{fresh, replay}
+use Rattle.access_history.specs.Lawful.{IsLawful, IsLawfulBase, MayFollow}
 use Rattle.access_history.specs.Headline.{Headline}
 use Rattle.access_history.specs.Admission.{IsAdmitted}
 use Rattle.access_history.specs.Answer.{Answers, moment_of}
@@ -37,6 +38,15 @@ AnswersAreDetermined = (authority : Authority) (base : BaseView) (events : List 
 abbrev pub RequestsHaveAnswers : Type 0
 RequestsHaveAnswers = (authority : Authority) (state : BaseView) (pass : ℕ) (clock : ℤ) (request : StepRequest)
     → IsWellFormed request → (reply : StepReply) × (event : Option Event) × Answers authority state pass clock request reply event
+
+-- the event of an answer over a state with which a history may begin may come next
+abbrev pub AnswersMayFollow : Type 0
+AnswersMayFollow = (authority : Authority) (state : BaseView) (pass : ℕ) (clock : ℤ) (request : StepRequest) (answer : StepReply) (event : Event)
+    → IsLawfulBase authority state → IsMoment clock → IsWellFormed request → Answers authority state pass clock request answer (Some event) → MayFollow authority state event
+
+-- a history may begin with the store before its first event
+abbrev pub FreshIsLawful : Type 0
+FreshIsLawful = (authority : Authority) → IsLawfulBase authority fresh
 
 -- an operation that is admitted and not refused gets its reply and is kept
 abbrev pub AdmittedAreKept : Type 0

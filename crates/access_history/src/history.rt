@@ -1,6 +1,6 @@
 //! The history: a base, and the events since, each lawful where it came.
 
-ghost use Rattle.std.specs.Prelude.{◌≡◌, ◌≤◌, ◌<◌, ◌-◌, ◌^◌, ◌++◌, ◌∷◌, [], IfOk, OnOk, IsTrue, length};
+ghost use Rattle.std.specs.Prelude.{◌≡◌, ◌≤◌, ◌<◌, ◌-◌, ◌^◌, ◌++◌, ◌∷◌, [], IfOk, OnOk, length};
 
 use crate::base::Base;
 use crate::event::{Entry, Event, Issue};
@@ -44,8 +44,6 @@ impl Model for History {
 }
 
 impl History {
-    ghost use Rattle.bl_syntax.specs.Names.{is_principal_name};
-    ghost use Rattle.file_world.specs.Effect.{IsOperation};
     ghost use Rattle.world_state.specs.State.{ReservesWorld};
     ghost use Rattle.access_history.specs.History.{state_of, world_of, authority_of, entry_of, IsReadyFor};
     ghost use Rattle.access_history.specs.Lawful.{IsLawful, MayFollow};
@@ -138,11 +136,11 @@ impl History {
         let _ = &self.events;
     }
 
-    /// The headline holds of the events and the world.
-    pub fn headline(&self)
-        ensures { Headline (authority_of self.now) self.now.base self.now.events (state_of self.now).world }
+    /// The world, of which the headline holds with the events.
+    pub fn headline(&self) -> &World
+        ensures { Headline (authority_of self.now) self.now.base self.now.events result.now.world }
     {
-        let _ = &self.events;
+        &self.world
     }
 
     /// Makes room for one more event, whatever it is.
@@ -175,8 +173,6 @@ impl History {
         ensures room { self.new.room ≡ self.old.room }
         ensures op { result.0 ≡ op }
         ensures answer { ReservesWorld caller.now (state_of self.old).world op result.1 (world_of self.new) }
-        ensures operation { IsOperation op }
-        ensures named { IsTrue (is_principal_name caller.now) }
     {
         self.world.reserve(alloc, caller, op)
     }

@@ -2,7 +2,8 @@
 
 ghost use Rattle.std.specs.Prelude.{◌≡◌, ◌≤◌};
 ghost use Rattle.access_history.specs.History.{IsReadyIn, spare};
-ghost use Rattle.access_history.specs.Keeping.{world_next, moment_next, statements_with, issues_with, HasMomentInRange, HasPlaceAmong};
+ghost use Rattle.access_history.specs.Keeping.{HasMomentInRange, HasPlaceAmong};
+ghost use Rattle.access_history.specs.Replay.{world_next, moment_next, statements_with, issues_with};
 
 use crate::event::{Entry, Event, Issue};
 use policy_statement::Registry;

@@ -1,6 +1,6 @@
 //! Laws of the definitions. The functions do nothing: each contract is a law.
 
-ghost use Rattle.access_history.specs.Laws.{HistoriesKeepWorlds, StatesAreLawfulBases, AnswersAreDetermined, RequestsHaveAnswers, AdmittedAreKept, LawfulIsRightful};
+ghost use Rattle.access_history.specs.Laws.{HistoriesKeepWorlds, StatesAreLawfulBases, AnswersAreDetermined, RequestsHaveAnswers, AnswersMayFollow, FreshIsLawful, AdmittedAreKept, LawfulIsRightful};
 
 /// The world of the state after a lawful history is within its limits.
 pub fn histories_keep_worlds()
@@ -20,6 +20,16 @@ pub fn answers_are_determined()
 /// Each well-formed request has an answer, over whichever state.
 pub fn requests_have_answers()
     ensures { RequestsHaveAnswers }
+{}
+
+/// The event of an answer to a well-formed request may come next in a lawful history.
+pub fn answers_may_follow()
+    ensures { AnswersMayFollow }
+{}
+
+/// A history may begin with the store before its first event.
+pub fn fresh_is_lawful()
+    ensures { FreshIsLawful }
 {}
 
 /// An operation that is admitted and not refused gets its reply and is kept.

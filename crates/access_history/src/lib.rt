@@ -16,8 +16,9 @@ pub use base::Base;
 pub use event::{Entry, Event, Events, Issue, Issues, Procaps, Statements};
 pub use history::History;
 pub use laws::{
-    admitted_operations_are_kept, answers_are_determined, histories_keep_worlds,
-    lawful_histories_are_rightful, requests_have_answers, states_are_lawful_bases,
+    admitted_operations_are_kept, answers_are_determined, answers_may_follow, fresh_is_lawful,
+    histories_keep_worlds, lawful_histories_are_rightful, requests_have_answers,
+    states_are_lawful_bases,
 };
 pub use reply::{Denial, DenialCause, Rejection, StepReply};
 pub use request::StepRequest;

@@ -1,8 +1,7 @@
 //! The world and its calls.
 
-ghost use Rattle.std.specs.Prelude.{◌≡◌, IfOk, IsTrue};
-ghost use Rattle.bl_syntax.specs.Names.{is_principal_name};
-ghost use Rattle.file_world.specs.Effect.{IsOperation, world_after};
+ghost use Rattle.std.specs.Prelude.{◌≡◌, IfOk};
+ghost use Rattle.file_world.specs.Effect.{world_after};
 ghost use Rattle.file_world.specs.Facts.{facts};
 ghost use Rattle.file_world.specs.World.{IsWorld, fresh_world};
 ghost use Rattle.world_state.specs.State.{IsWorldReady, ReservesWorld, meta_state, tree_state};
@@ -65,8 +64,8 @@ impl World {
     }
 
     /// The reply of the caller's operation, with all memory taken for its change, or its first refusal; and the
-    /// operation, which is given back; its owner is a principal's name and its value a text, as the caller's name is
-    /// one. The world stays. A half that has no part in the operation stays ready for what it was.
+    /// operation, which is given back. The world stays. A half that has no part in the
+    /// operation stays ready for what it was.
     pub fn reserve(
         &mut self,
         alloc: Global,
@@ -76,11 +75,7 @@ impl World {
         ensures same { self.new.world ≡ self.old.world }
         ensures op { result.0 ≡ op }
         ensures answer { ReservesWorld caller.now self.old.world op result.1 self.new }
-        ensures operation { IsOperation op }
-        ensures named { IsTrue (is_principal_name caller.now) }
     {
-        let _ = caller.bytes();
-        is_operation(&op);
         let half = half_of(op);
         let answer = reserve(&mut self.tree, &mut self.meta, alloc, caller, &half);
         (op_of(half), answer)
