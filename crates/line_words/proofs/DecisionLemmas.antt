@@ -1,6 +1,6 @@
 -- Each word writes a value of a grammar, or it writes none.
-use Rattle.std.proofs.Common.{◌≡◌, ◌≢◌, ℕ, zero, suc, ◌+◌, ◌^◌, ◌<◌, ◌≤◌, ℤ, pos, negsuc, ◌-ℤ◌, Bool, true, false, not, List, [], ◌∷◌, ◌++◌, length, slice_index, Result, Ok, Err, Option, Some, None, IsTrue, codes, ◌⊎◌, inl, inr, refl, sym, ap, ◌∙◌, subst, arith, append-nil, append_assoc}
-use Rattle.std.specs.Prelude.{◌==◌, ◌&&◌}
+use Rattle.std.proofs.Common.{◌≡◌, ◌≢◌, ℕ, ◌^◌, ◌<◌, ◌≤◌, ℤ, pos, negsuc, ◌-ℤ◌, Bool, true, false, not, List, [], ◌∷◌, ◌++◌, length, slice_index, Result, Ok, Err, Option, Some, None, IsTrue, codes, ◌⊎◌, inl, inr, refl, sym, ap, ◌∙◌, subst, arith, append-nil, append_assoc}
+use Rattle.std.specs.Prelude.{◌==◌}
 use Rattle.std.specs.Bool.{Decides}
 use Rattle.std.specs.List.{list_all}
 use Rattle.std.specs.List.Sorted.{IsStrictlyIncreasing}
@@ -15,24 +15,21 @@ use Rattle.bl_syntax.specs.ConditionTests.{is_at_most}
 use Rattle.bl_syntax.specs.Names.{is_digit, is_principal_name, is_text}
 use Rattle.bl_syntax.specs.TimeOrder.{IsMoment}
 use Rattle.bl_syntax.specs.declared.codec_fault.CodecFault.{CodecFault}
-use Rattle.bl_syntax.specs.declared.terms.NodeId.{NodeId}
 use Rattle.bl_syntax.specs.declared.terms.Perm.{Perm}
 use Rattle.bl_syntax.specs.declared.terms.Perm.TheVariants.{Read, Write, Execute, Identity, Govern}
 use Rattle.bl_syntax.proofs.ConditionTestLemmas.{Decides-is_at_most}
-use Rattle.bl_text.specs.Printed.{permission_text}
 use Rattle.line_text.specs.HexWord.{IsHex, has_no_upper_case}
 use Rattle.line_text.specs.Words.{is_word_end, HasNo}
 use Rattle.line_text.proofs.HexLemmas.{IsHex-nothing, IsHex-form, IsHex-same, IsHex-decode_of, decode_of-IsHex}
 use Rattle.line_text.proofs.WordLemmas.{same_split}
 use Rattle.procap.specs.declared.procap.Procap.{Procap}
-use Rattle.procap.specs.Procap.{procap_spelling, procap_at, IsSpellableProcap}
+use Rattle.procap.specs.Procap.{procap_spelling, procap_at}
 use Rattle.procap.proofs.ProcapLemmas.{procap_codec}
 use Rattle.line_words.specs.Cited.{AreJoined, one_number, more_numbers, IsCited}
 use Rattle.line_words.specs.Grammar.{IsName, is_name_word, IsPrincipal, IsData, IsQuoted, IsPermission, IsSignature, IsSigned, by_ring, by_bytes}
 use Rattle.line_words.specs.Numbers.{IsDigits, IsInteger, plain, negated, IsSecond, IsNumberBelow, IsNumber, IsFile, IsIssue}
 use Rattle.line_words.specs.Numerals.{IsPlain}
 use Rattle.line_words.specs.Procaps.{IsHeld, IsProcapWord, by_number, held}
-use Rattle.line_words.specs.declared.procap_word.ProcapWord.{ProcapWord}
 use Rattle.line_words.specs.declared.procap_word.ProcapWord.TheVariants.{Held, Issue}
 use Rattle.line_words.proofs.CitedLemmas.{rising-short, rising-more, rising-fewer, IsFirst, alone, followed, first_of, no_first, AreJoined-same}
 use Rattle.line_words.proofs.NumeralLemmas.{number_of, IsWritten-below, IsInteger-from_minus, IsInteger-unique, IsNumber-unique}
