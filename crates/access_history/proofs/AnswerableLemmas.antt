@@ -1,8 +1,7 @@
 -- Each well-formed request has an answer, since each of the tests on which the answer rests holds or does not.
-use Rattle.std.proofs.Common.{◌≡◌, ◌≤◌, ◌<◌, ◌⊎◌, ℕ, inl, inr, List, [], ◌∷◌, length, Option, Some, None, refl, sym, subst, arith}
+use Rattle.std.proofs.Common.{◌≡◌, ◌≤◌, ◌<◌, ◌⊎◌, ℕ, inl, inr, List, length, Option, Some, None, refl, subst, arith}
 use Rattle.std.specs.Prelude.{ℤ, Contains}
 use Rattle.std.specs.List.{AllByRecursion}
-use Rattle.std.proofs.lemmas.List.Elements.{Contains-append_right}
 use Rattle.bl_syntax.specs.declared.terms.StatePred.{StatePred}
 use Rattle.bl_syntax.specs.declared.grant.Goal.{Goal}
 use Rattle.bl_syntax.specs.Equality.{node_eq, perm_eq, state_eq}
@@ -36,9 +35,9 @@ use Rattle.access_history.specs.Citing.{StandsUnderNumber}
 use Rattle.access_history.specs.Admission.{goal_of, checks, Passes, Admits, IsNeedMet, IsAdmitted}
 use Rattle.access_history.specs.Answer.{moment_of, MaySee, Answers, unsigned, duplicate, registry_full, registered, moved, issued, denied, refused, acted, not_shown, shown}
 use Rattle.access_history.specs.WellFormed.{IsWellFormed}
-use Rattle.access_history.proofs.ListLemmas.{AllByRecursion-contains, Contains-head}
+use Rattle.access_history.proofs.ListLemmas.{AllByRecursion-contains}
 use Rattle.access_history.proofs.NumberedLemmas.{numbered_item, none_fails, Contains-failing}
-use Rattle.access_history.proofs.EitherLemmas.{OrNot, or_not, true_or_not, map_or, few_or_full, same_bytes, same_coded, contains_or, HasFailing, all_or_failing, HasItem, item_or_none, item_of_number, HasPlaceIn, number_of, holds_or}
+use Rattle.access_history.proofs.EitherLemmas.{OrNot, or_not, true_or_not, few_or_full, same_bytes, same_coded, contains_or, HasFailing, all_or_failing, HasItem, item_or_none, item_of_number, number_of, holds_or}
 
 same_state : (a b : StatePred) → OrNot (a ≡ b)
 same_state a b = or_not (state_eq a b) (Decides-state_eq a b)

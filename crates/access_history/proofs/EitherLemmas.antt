@@ -1,5 +1,5 @@
 -- Each of these questions has an answer: it holds, or it does not.
-use Rattle.std.proofs.Common.{◌≡◌, ◌∙◌, ◌+◌, ◌-◌, ◌<◌, ◌≤◌, ◌⊎◌, ℕ, zero, suc, inl, inr, ⊎_elim, Bool, true, false, nat_lt, IsTrue, List, [], ◌∷◌, ◌++◌, length, get_or, Some, None, Option, refl, sym, ap, ap₂, subst, arith}
+use Rattle.std.proofs.Common.{◌≡◌, ◌∙◌, ◌+◌, ◌<◌, ◌≤◌, ◌⊎◌, ℕ, zero, suc, inl, inr, ⊎_elim, Bool, true, false, nat_lt, IsTrue, List, [], ◌∷◌, length, Some, None, Option, refl, sym, ap, ap₂, arith}
 use Rattle.std.specs.Prelude.{ℤ, Contains, ◌==◌}
 use Rattle.std.specs.Bool.{Decides}
 use Rattle.std.specs.Coded.{Coded}
@@ -12,7 +12,7 @@ use Rattle.std.proofs.lemmas.Slice.Eq.{bytes_eq-Decides}
 use Rattle.std.proofs.lemmas.Option.{none-some, slice_get_read}
 use Rattle.std.proofs.lemmas.List.Elements.{Contains-append_right}
 use Rattle.bl_syntax.specs.declared.terms.Term.{Term}
-use Rattle.bl_syntax.specs.declared.terms.Term.TheVariants.{Prin, File, Perm, Time, Text, Ctime, Param, Bound}
+use Rattle.bl_syntax.specs.declared.terms.Term.TheVariants.{Time}
 use Rattle.bl_syntax.specs.declared.terms.Constraint.{Constraint}
 use Rattle.bl_syntax.specs.ConditionTests.{is_up_to}
 use Rattle.bl_syntax.specs.FirstFailing.{IsFirstFailing}

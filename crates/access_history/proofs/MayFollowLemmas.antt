@@ -1,5 +1,5 @@
 -- The event of an answer may come next.
-use Rattle.std.proofs.Common.{◌≡◌, ℕ, List, refl, subst, sym, arith, Some}
+use Rattle.std.proofs.Common.{ℕ, List, refl, subst, sym, arith, Some}
 use Rattle.std.specs.Prelude.{ℤ, ◌≤ℤ◌}
 use Rattle.std.specs.Int.{int_max}
 use Rattle.std.proofs.lemmas.Int.{ints, int_max_is}

@@ -13,8 +13,8 @@ use Rattle.line_wire.proofs.UnbrokenLemmas.{reply_unbroken}
 
 -- a byte of a line, by whether it ends one
 by_byte : (is_end : Bool) (byte : ℕ) (line : List ℕ) (lines : List (List ℕ)) (after : List (List ℕ)) → IsTrue (not is_end) → after ≡ line ∷ lines → (if is_end then [] ∷ after else with_byte byte after) ≡ (byte ∷ line) ∷ lines
-by_byte true byte line lines after no same = absurd (false≢true no)
-by_byte false byte line lines after no same = ap (with_byte byte) same
+by_byte true byte line lines after other same = absurd (false≢true other)
+by_byte false byte line lines after other same = ap (with_byte byte) same
 
 pub one_line : (line rest : List ℕ) → IsUnbroken line → lines_of (line ++ 10 ∷ rest) ≡ line ∷ lines_of rest
 one_line [] rest h = refl

@@ -83,7 +83,7 @@ decimal_unbroken n = digits_unbroken 64 n [] refl
 
 signed_unbroken : (z : ℤ) → IsUnbroken (signed_decimal z)
 signed_unbroken (pos n) = decimal_unbroken n
-signed_unbroken (negsuc n) = cons_unbroken 45 (decimal (suc n)) (λ no. absurd (omega (arith, no))) (decimal_unbroken (suc n))
+signed_unbroken (negsuc n) = cons_unbroken 45 (decimal (suc n)) (λ same. absurd (omega (arith, same))) (decimal_unbroken (suc n))
 
 -- a number, and what stands after it
 counted_unbroken : (n : ℕ) (rest : List ℕ) → IsUnbroken rest → IsUnbroken (decimal n ++ rest)

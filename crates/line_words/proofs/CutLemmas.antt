@@ -7,7 +7,7 @@ use Rattle.bl_syntax.specs.Names.{is_text_byte, is_text}
 use Rattle.line_text.specs.Words.{has_first, is_word_end, HasNo}
 use Rattle.line_text.proofs.WordLemmas.{HasNo-all}
 use Rattle.line_words.specs.Cutting.{Position, beginning, quoted, plain, ends, next, Cut, with_byte, cut_from, first_cut}
-use Rattle.line_words.specs.Lengths.{place_of, closing_place, first_len}
+use Rattle.line_words.specs.Lengths.{place_of, first_len}
 
 -- so many bytes, and what stands after them
 abbrev pub cut_at : ℕ → List ℕ → Cut

@@ -1,6 +1,6 @@
 -- Each word writes a value of a grammar, or it writes none.
-use Rattle.std.proofs.Common.{◌≡◌, ◌≢◌, ℕ, zero, suc, ◌+◌, ◌^◌, ◌<◌, ◌≤◌, ℤ, pos, negsuc, ◌-ℤ◌, Bool, true, false, not, List, [], ◌∷◌, ◌++◌, length, slice_index, Result, Ok, Err, Option, Some, None, IsTrue, codes, ◌⊎◌, inl, inr, refl, sym, ap, ◌∙◌, subst, arith, append-nil, append_assoc}
-use Rattle.std.specs.Prelude.{◌==◌, ◌&&◌}
+use Rattle.std.proofs.Common.{◌≡◌, ◌≢◌, ℕ, ◌^◌, ◌<◌, ◌≤◌, ℤ, pos, negsuc, ◌-ℤ◌, Bool, true, false, not, List, [], ◌∷◌, ◌++◌, length, slice_index, Result, Ok, Err, Option, Some, None, IsTrue, codes, ◌⊎◌, inl, inr, refl, sym, ap, ◌∙◌, subst, arith, append-nil, append_assoc}
+use Rattle.std.specs.Prelude.{◌==◌}
 use Rattle.std.specs.Bool.{Decides}
 use Rattle.std.specs.List.{list_all}
 use Rattle.std.specs.List.Sorted.{IsStrictlyIncreasing}
@@ -15,24 +15,21 @@ use Rattle.bl_syntax.specs.ConditionTests.{is_at_most}
 use Rattle.bl_syntax.specs.Names.{is_digit, is_principal_name, is_text}
 use Rattle.bl_syntax.specs.TimeOrder.{IsMoment}
 use Rattle.bl_syntax.specs.declared.codec_fault.CodecFault.{CodecFault}
-use Rattle.bl_syntax.specs.declared.terms.NodeId.{NodeId}
 use Rattle.bl_syntax.specs.declared.terms.Perm.{Perm}
 use Rattle.bl_syntax.specs.declared.terms.Perm.TheVariants.{Read, Write, Execute, Identity, Govern}
 use Rattle.bl_syntax.proofs.ConditionTestLemmas.{Decides-is_at_most}
-use Rattle.bl_text.specs.Printed.{permission_text}
 use Rattle.line_text.specs.HexWord.{IsHex, has_no_upper_case}
 use Rattle.line_text.specs.Words.{is_word_end, HasNo}
 use Rattle.line_text.proofs.HexLemmas.{IsHex-nothing, IsHex-form, IsHex-same, IsHex-decode_of, decode_of-IsHex}
 use Rattle.line_text.proofs.WordLemmas.{same_split}
 use Rattle.procap.specs.declared.procap.Procap.{Procap}
-use Rattle.procap.specs.Procap.{procap_spelling, procap_at, IsSpellableProcap}
+use Rattle.procap.specs.Procap.{procap_spelling, procap_at}
 use Rattle.procap.proofs.ProcapLemmas.{procap_codec}
 use Rattle.line_words.specs.Cited.{AreJoined, one_number, more_numbers, IsCited}
 use Rattle.line_words.specs.Grammar.{IsName, is_name_word, IsPrincipal, IsData, IsQuoted, IsPermission, IsSignature, IsSigned, by_ring, by_bytes}
 use Rattle.line_words.specs.Numbers.{IsDigits, IsInteger, plain, negated, IsSecond, IsNumberBelow, IsNumber, IsFile, IsIssue}
 use Rattle.line_words.specs.Numerals.{IsPlain}
 use Rattle.line_words.specs.Procaps.{IsHeld, IsProcapWord, by_number, held}
-use Rattle.line_words.specs.declared.procap_word.ProcapWord.{ProcapWord}
 use Rattle.line_words.specs.declared.procap_word.ProcapWord.TheVariants.{Held, Issue}
 use Rattle.line_words.proofs.CitedLemmas.{rising-short, rising-more, rising-fewer, IsFirst, alone, followed, first_of, no_first, AreJoined-same}
 use Rattle.line_words.proofs.NumeralLemmas.{number_of, IsWritten-below, IsInteger-from_minus, IsInteger-unique, IsNumber-unique}
@@ -51,7 +48,7 @@ refined : {A : Type 0} (P Q : A → Type 0) → IsDecided P → ((x : A) → P x
 refined P Q h test same back = elim h [
   | inl one ↦ elim (test one.0 one.1) [
     | inl is ↦ inl (one.0, is)
-    | inr no ↦ inr (λ y q. no (subst Q (sym (same one.0 y one.1 (back y q))) q))
+    | inr never ↦ inr (λ y q. never (subst Q (sym (same one.0 y one.1 (back y q))) q))
   ]
   | inr none ↦ inr (λ y q. none y (back y q))
 ]
@@ -82,7 +79,7 @@ run_or_not most word = elim (cases_Bool (list_all is_digit word)) [
 digits_or_not : (word : List ℕ) → IsDigits word ⊎ (IsDigits word → ⊥)
 digits_or_not word = elim (run_or_not 18 word) [
   | inl h ↦ inl (record { digits = h.digits; some = h.some; few = h.few })
-  | inr no ↦ inr (λ h. no (record { digits = h.digits; some = h.some; few = h.few }))
+  | inr never ↦ inr (λ h. never (record { digits = h.digits; some = h.some; few = h.few }))
 ]
 
 zero_or_not : (word : List ℕ) → IsRun 20 word → IsPlain word ⊎ (IsPlain word → ⊥)
@@ -97,7 +94,7 @@ zero_or_not word h = elim (cases_eq (slice_index word 0) 48) [
 plain_or_not : (word : List ℕ) → IsPlain word ⊎ (IsPlain word → ⊥)
 plain_or_not word = elim (run_or_not 20 word) [
   | inl h ↦ zero_or_not word h
-  | inr no ↦ inr (λ p. no (record { digits = p.digits; some = p.some; few = p.few }))
+  | inr never ↦ inr (λ p. never (record { digits = p.digits; some = p.some; few = p.few }))
 ]
 
 pub number_decided : (limit : ℕ) → limit ≤ 2 ^ 64 → (word : List ℕ) → IsDecided (IsNumberBelow limit word)
@@ -106,11 +103,11 @@ number_decided limit few word = elim (plain_or_not word) [
     | inl fits ↦ inl (digits_value 10 word, number_of limit word few is fits)
     | inr large ↦ inr (λ n h. omega (arith, h.fits, large, (IsWritten-below limit few word n h).value))
   ]
-  | inr no ↦ inr (λ n h. no (IsWritten-below limit few word n h).plain)
+  | inr never ↦ inr (λ n h. never (IsWritten-below limit few word n h).plain)
 ]
 
 pub file_decided : (word : List ℕ) → IsDecided (IsFile word)
-file_decided [] = inr (λ node h. let no = h.word_is in absurd (cc))
+file_decided [] = inr (λ node h. let never = h.word_is in absurd (cc))
 file_decided (byte ∷ digits) = elim (cases_eq byte 35) [
   | inl sign ↦ elim (number_decided (2 ^ 64) (omega arith) digits) [
     | inl one ↦ inl (record { 0 = one.0 }, record { digits = digits; word_is = ap (λ b. b ∷ digits) sign; number = one.1 })
@@ -146,7 +143,7 @@ minus_decided byte rest not_plain = elim (cases_eq byte 45) [
 ]
 
 integer_decided : (word : List ℕ) → IsDecided (IsInteger word)
-integer_decided [] = inr (λ n h. no_integer h (λ d. omega (arith, d.some)) (λ digits no d. absurd (cc)))
+integer_decided [] = inr (λ n h. no_integer h (λ d. omega (arith, d.some)) (λ digits never d. absurd (cc)))
 integer_decided (byte ∷ rest) = elim (digits_or_not (byte ∷ rest)) [
   | inl digits ↦ inl (pos (digits_value 10 (byte ∷ rest)), plain (byte ∷ rest) digits)
   | inr not_plain ↦ minus_decided byte rest not_plain
@@ -323,7 +320,7 @@ signed_decided word = elim (same_or_not word (codes "-")) [
 -- ---- numbers of statements
 
 one_way : (front behind : List ℕ) → HasNo 44 front → IsTrue (is_word_end 44 behind) → (w b : List ℕ) → HasNo 44 w → IsTrue (is_word_end 44 b) → front ++ behind ≡ w ++ b → (front ≡ w) × (behind ≡ b)
-one_way front behind no ends w b no_w ends_b same = let split = same_split 44 front w behind b no no_w ends ends_b same in (split.word, split.rest)
+one_way front behind never ends w b no_w ends_b same = let split = same_split 44 front w behind b never no_w ends ends_b same in (split.word, split.rest)
 
 is_no_comma : (byte : ℕ) (test : Bool) → (byte == 44) ≡ test → (byte ≡ 44 → ⊥) → IsTrue (not test)
 is_no_comma byte true is other = absurd (other (eqb-true byte 44 is))
@@ -336,10 +333,10 @@ no_comma_more (first ∷ front) byte h other =
     and_from (not (first == 44)) (list_all (λ b. not (b == 44)) (front ++ byte ∷ [])) parts.0 (no_comma_more front byte parts.1 other)
 
 no_others : {front behind numbers : List ℕ} → IsFirst front behind numbers → (rest : List ℕ) → behind ≡ 44 ∷ rest → ((ns : List ℕ) → AreJoined rest ns → ⊥) → ⊥
-no_others (alone n h none) rest comma no = absurd (let nothing : [] ≡ 44 ∷ rest = sym none ∙ comma in cc)
-no_others (followed n others ns h same more) rest comma no =
+no_others (alone n h none) rest comma never = absurd (let nothing : [] ≡ 44 ∷ rest = sym none ∙ comma in cc)
+no_others (followed n others ns h same more) rest comma never =
     let rests : others ≡ rest = let both : 44 ∷ others ≡ 44 ∷ rest = sym same ∙ comma in cc in
-    no ns (subst (λ r. AreJoined r ns) rests more)
+    never ns (subst (λ r. AreJoined r ns) rests more)
 
 last_decided : (front : List ℕ) → HasNo 44 front → IsDecided (AreJoined (front ++ []))
 last_decided front no_comma = elim (number_decided (2 ^ 32) (omega arith) front) [
@@ -369,7 +366,7 @@ rising_or_not (first ∷ []) = inl (rising-short (first ∷ []) (omega arith))
 rising_or_not (first ∷ second ∷ others) = elim (cases_lt first second) [
   | inl below ↦ elim (rising_or_not (second ∷ others)) [
     | inl h ↦ inl (rising-more first second others below h)
-    | inr no ↦ inr (λ h. no (rising-fewer first second others h).1)
+    | inr never ↦ inr (λ h. never (rising-fewer first second others h).1)
   ]
   | inr high ↦ inr (λ h. omega (arith, high, (rising-fewer first second others h).0))
 ]
@@ -379,7 +376,7 @@ cited_or_not word numbers h = elim (cases_lt 64 (length numbers)) [
   | inl many ↦ inr (λ c. omega (arith, c.few, many))
   | inr few ↦ elim (rising_or_not numbers) [
     | inl rising ↦ inl (record { joined = h; few = few; rising = rising })
-    | inr no ↦ inr (λ c. no c.rising)
+    | inr never ↦ inr (λ c. never c.rising)
   ]
 ]
 
@@ -403,7 +400,7 @@ by_rest : (word bytes : List ℕ) (p : Procap) (rest : List ℕ) → IsHex word 
 by_rest word bytes p [] hex is =
     let found = procap_codec.found (length bytes) bytes [] p hex.in_range is in
     inl (p, record { spelled = found.0; hex = subst (IsHex word) (found.1 ∙ append-nil (procap_spelling p)) hex })
-by_rest word bytes p (byte ∷ rest) hex is = inr (λ q h. let no : [] ≡ byte ∷ rest = ap rest_of (sym (read_again word bytes q hex h) ∙ is) in absurd (cc))
+by_rest word bytes p (byte ∷ rest) hex is = inr (λ q h. let never : [] ≡ byte ∷ rest = ap rest_of (sym (read_again word bytes q hex h) ∙ is) in absurd (cc))
 
 by_reading : (word bytes : List ℕ) → IsHex word bytes → (r : Result (Procap × List ℕ) CodecFault) → procap_at (length bytes) bytes ≡ r → IsDecided (IsHeld word)
 by_reading word bytes hex (Ok pair) is = by_rest word bytes pair.0 pair.1 hex is

@@ -1,12 +1,12 @@
 -- A word is of a kind, or of no such kind; words of given kinds come next, or one of them is the first bad one.
-use Rattle.std.proofs.Common.{◌≡◌, ◌^◌, ◌-◌, ℕ, List, [], ◌∷◌, ◌++◌, length, ◌⊎◌, inl, inr, refl, arith}
+use Rattle.std.proofs.Common.{◌^◌, ◌-◌, ℕ, List, [], ◌∷◌, ◌++◌, length, ◌⊎◌, inl, inr, refl, arith}
 use Rattle.line_words.specs.declared.kinds.WordKind.{WordKind}
 use Rattle.line_words.specs.declared.kinds.WordKind.TheVariants.{Node, Target, Name, NewName, Offset, Len, Most, Data, Value, Who, Permission, Second, Issue, Cited, Signature, Procap}
 use Rattle.line_words.specs.declared.arguments.Arguments.{Arguments}
 use Rattle.line_words.specs.Cutting.{first_cut}
 use Rattle.line_words.specs.Kinds.{Sets, IsOutside}
 use Rattle.line_words.specs.Reading.{AreWords, IsBadWord, missing, outside, later}
-use Rattle.line_words.proofs.DecisionLemmas.{IsDecided, number_decided, file_decided, issue_decided, second_decided, name_decided, principal_decided, quoted_decided, permission_decided, data_decided, signed_decided, cited_decided, procap_decided}
+use Rattle.line_words.proofs.DecisionLemmas.{number_decided, file_decided, issue_decided, second_decided, name_decided, principal_decided, quoted_decided, permission_decided, data_decided, signed_decided, cited_decided, procap_decided}
 
 -- the word sets the field, or it is of no such kind
 abbrev IsTold : WordKind → List ℕ → Arguments → Type 0

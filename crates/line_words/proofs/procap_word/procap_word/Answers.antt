@@ -1,9 +1,7 @@
 -- A word begins with an `@`, or holds a procap.
-use Rattle.std.proofs.Common.{sym, subst, refl, MatchOption}
+use Rattle.std.proofs.Common.{subst, MatchOption}
 use Rattle.procap.specs.declared.procap.Procap.{Procap}
-use Rattle.line_words.specs.declared.procap_word.ProcapWord.TheVariants.{Issue}
-use Rattle.line_words.specs.Numbers.{IsNumber}
-use Rattle.line_words.specs.Procaps.{IsHeld, IsProcapWord, by_number, held}
+use Rattle.line_words.specs.Procaps.{IsHeld, held}
 use Rattle.line_words.proofs.ProcapLemmas.{number_of_word, not_given, IsProcapWord-number}
 use Rattle.line_words.proofs.procap_word.procap_word.Goals as goal
 
