@@ -1,18 +1,23 @@
 -- The answer to an operation, over plain values.
-use Rattle.std.proofs.Common.{◌≡◌, ℕ, List, refl, sym, ap, subst, ◌∙◌, Some, None}
-use Rattle.std.specs.Prelude.{ℤ, Ok}
+use Rattle.std.proofs.Common.{◌≡◌, ℕ, List, sym, ap, subst, ◌∙◌, Some, None}
+use Rattle.std.specs.Prelude.{ℤ, Result, Ok, Err}
+use Rattle.std.specs.Int.{w64}
+use mir.Val.{SFits, to_z, of_z}
+use Rattle.std.proofs.lemmas.Int.{to_z-of_z}
 use Rattle.policy_statement.specs.Ring.{KeyView}
 use Rattle.procap.specs.declared.procap.Procap.{Procap}
 use Rattle.file_world.specs.declared.operation.Op.{Op}
+use Rattle.file_world.specs.declared.refusal.OpFault.{OpFault}
+use Rattle.file_world.specs.declared.refusal.OpFault.TheVariants as faults
 use Rattle.file_world.specs.declared.refusal.Refusal.{Refusal}
 use Rattle.file_world.specs.declared.reply.OpReply.{OpReply}
 use Rattle.file_world.specs.Effect.{refusal, reply}
-use Rattle.world_state.specs.State.{ReservesWorld}
+use Rattle.file_world.specs.World.{World}
+use Rattle.world_state.specs.State.{WorldState, ReservesWorld}
 use Rattle.access_history.specs.declared.event.Entry.TheVariants as entries
 use Rattle.access_history.specs.declared.event.Event.{Event}
 use Rattle.access_history.specs.declared.event.Event.TheVariants.{Acted}
 use Rattle.access_history.specs.declared.reply.Denial.{Denial}
-use Rattle.access_history.specs.declared.reply.StepReply.{StepReply}
 use Rattle.access_history.specs.declared.reply.StepReply.TheVariants as replies
 use Rattle.access_history.specs.declared.request.StepRequest.TheVariants.{Act}
 use Rattle.access_history.specs.Base.{BaseView}
@@ -20,10 +25,9 @@ use Rattle.access_history.specs.Authority.{Authority}
 use Rattle.access_history.specs.Admission.{IsAdmitted}
 use Rattle.access_history.specs.Answer.{Answers, moment_of, denied, refused, acted}
 use Rattle.access_history.specs.History.{HistoryView, authority_of, state_of, world_of}
-use Rattle.op_gate.specs.declared.planned.Planned.{Planned}
 use Rattle.op_gate.specs.declared.planned.Planned.TheVariants.{Answer, Keep}
 use Rattle.op_gate.specs.declared.planned.Pending.{Pending}
-use Rattle.op_gate.specs.Decision.{IsPlanned, IsDenial}
+use Rattle.op_gate.specs.Decision.{IsPlanned, IsDenial, plan_of_fault}
 use Rattle.op_gate.proofs.DecisionLemmas.{kept_decided}
 
 -- only what the world is ready for is another
@@ -56,8 +60,25 @@ pub acted_decided : (before after : HistoryView) (pass : ℕ) (clock : ℤ) (cal
 acted_decided before after pass clock caller op given procaps moment told pending admitted given_is moment_is reserves pending_is =
     kept_decided before after pass clock (Act caller op procaps) (replies.Operation (reply (state_of before).world op)) (Acted pass caller op procaps (moment_of (state_of before) clock)) (Keep (replies.Operation told) pending)
     (acted caller op procaps admitted reserves.0)
-    (named, operation, reserves.2) (
+    reserves.2 (
       ap (λ (r : OpReply). replies.Operation r) reserves.1,
       pending_is ∙ ap (λ (o : Op). record { event = Acted pass caller o procaps moment; entry = entries.Operation }) given_is
           ∙ ap (λ (m : ℤ). record { event = Acted pass caller op procaps m; entry = entries.Operation }) moment_is,
     )
+
+-- it has no effect: it is refused, or out of memory
+pub fault_decided : (before after : HistoryView) (pass : ℕ) (clock : ℤ) (caller : List ℕ) (op : Op) (procaps : List Procap) (fault : OpFault) (count : ℕ) → IsAdmitted before.key (state_of before) caller op procaps (moment_of (state_of before) clock) →
+    ReservesWorld caller (state_of before).world op (Err fault) (world_of after) → count ≡ (state_of before).count → IsPlanned before pass clock (Act caller op procaps) (plan_of_fault count fault) after
+fault_decided before after pass clock caller op procaps (faults.Refused why) count admitted refuses count_is = refused_decided before after pass clock caller op procaps why count admitted refuses count_is
+fault_decided before after pass clock caller op procaps faults.NoMemory count admitted refuses count_is = tt
+
+pub reserved_not : (caller : List ℕ) (world : World) (op : Op) (told : Result OpReply OpFault) (fault : OpFault) (after : WorldState) → told ≡ Err fault → ReservesWorld caller world op told after → ReservesWorld caller world op (Err fault) after
+reserved_not caller world op told fault after told_is reserves = subst (λ (r : Result OpReply OpFault). ReservesWorld caller world op r after) told_is reserves
+
+-- the reply that it tells
+pub reserved_done : (caller : List ℕ) (world : World) (op : Op) (told : Result OpReply OpFault) (reply : OpReply) (after : WorldState) → told ≡ Ok reply → ReservesWorld caller world op told after → ReservesWorld caller world op (Ok reply) after
+reserved_done caller world op told reply after told_is reserves = subst (λ (r : Result OpReply OpFault). ReservesWorld caller world op r after) told_is reserves
+
+-- the moment of the step, as the calls have it
+pub step_moment : (state : BaseView) (clock shown : ℤ) → SFits w64 clock → SFits w64 shown → shown ≡ moment_of state (to_z w64 (of_z w64 clock)) → to_z w64 (of_z w64 shown) ≡ moment_of state clock
+step_moment state clock shown clock_fits shown_fits is = to_z-of_z w64 shown shown_fits ∙ is ∙ ap (moment_of state) (to_z-of_z w64 clock clock_fits)

@@ -1,5 +1,5 @@
 -- What was decided is an answer, over plain values.
-use Rattle.std.proofs.Common.{◌≡◌, ◌≤◌, ◌<◌, ◌+◌, ◌-◌, ℕ, List, length, get_or, refl, ap, subst, sym, arith, Some, None}
+use Rattle.std.proofs.Common.{◌≡◌, ◌≤◌, ◌<◌, ◌+◌, ◌-◌, ℕ, List, length, get_or, refl, ap, subst, sym, arith, Some}
 use Rattle.std.specs.Prelude.{ℤ}
 use Rattle.std.specs.Prelude.{Result, Ok, Err, IfOk}
 use Rattle.std.specs.List.{slice_get, AllByRecursion}
@@ -7,7 +7,6 @@ use Rattle.std.proofs.lemmas.Option.{slice_get_read}
 use Rattle.bl_syntax.specs.Statement.{StatementView}
 use Rattle.proof_verifier.specs.Cited.{AreCited}
 use Rattle.proof_verifier.specs.CheckedView.{CheckedView, IsChecked}
-use Rattle.access_history.specs.declared.event.Entry.{Entry}
 use Rattle.access_history.specs.declared.event.Event.{Event}
 use Rattle.access_history.specs.declared.event.Event.TheVariants.{Registered, Issued}
 use Rattle.access_history.specs.declared.request.StepRequest.{StepRequest}

@@ -1,12 +1,11 @@
 -- Needs in their order, and the procaps in their places, over plain values.
-use Rattle.std.proofs.Common.{◌≡◌, ◌≤◌, ◌<◌, ◌+◌, ℕ, suc, List, [], ◌∷◌, ◌++◌, length, take, drop, get_or, refl, sym, ap, subst, ◌∙◌, arith, Option, Some, None}
+use Rattle.std.proofs.Common.{◌≡◌, ◌≤◌, ◌<◌, ◌+◌, ℕ, zero, suc, List, [], ◌∷◌, ◌++◌, length, take, drop, get_or, refl, sym, ap, subst, ◌∙◌, arith, Option, Some, None}
 use Rattle.std.specs.Prelude.{ℤ}
-use Rattle.std.specs.List.{AllByRecursion, slice_get}
+use Rattle.std.specs.List.{AllByRecursion}
 use Rattle.std.proofs.lemmas.List.{take-append-drop, drop_more, take_more, take_all, length-take-le}
 use Rattle.std.proofs.lemmas.Option.{slice_get_read}
 use Rattle.bl_syntax.specs.declared.terms.NodeId.{NodeId}
 use Rattle.bl_syntax.specs.declared.terms.Perm.{Perm}
-use Rattle.bl_syntax.specs.FirstFailing.{IsFirstFailing}
 use Rattle.procap.specs.declared.procap.Procap.{Procap}
 use Rattle.file_world.specs.declared.operation.Op.{Op}
 use Rattle.file_world.specs.declared.operation.Op.TheVariants.{Read, Write, Truncate, List as ListOf, Lookup, Create, Mkdir, Unlink, Rename, Getattr, Setattr, Delattr, Chown}
@@ -126,3 +125,22 @@ denied_at key state caller op procaps moment pairs place pair p cause same withi
       brought = brought;
       denies = denies;
     }
+
+-- ---- pairs as they are read
+
+get_or-any : {A : Type 0} (xs : List A) (k : ℕ) (d e : A) → k < length xs → get_or xs k d ≡ get_or xs k e
+get_or-any [] k d e within = absurd (omega (arith, within))
+get_or-any (x ∷ xs) zero d e within = refl
+get_or-any (x ∷ xs) (suc k) d e within = get_or-any xs k d e (omega (arith, within))
+
+pub met_read : (key : List ℕ) (state : BaseView) (caller : List ℕ) (procaps : List Procap) (moment : ℤ) (pairs : List Pair) (place : ℕ) (default : Pair) (p : Procap) → place < length pairs → place < length procaps → p ≡ get_or procaps place p →
+    Admits key state moment (record { who = caller; file = (get_or pairs place default).0; perm = (get_or pairs place default).1 }) p → AllByRecursion (IsNeedMet key state caller procaps moment) (placed 1 (take place pairs)) →
+    AllByRecursion (IsNeedMet key state caller procaps moment) (placed 1 (take (place + 1) pairs))
+met_read key state caller procaps moment pairs place default p within there read admits met =
+    met_more key state caller procaps moment pairs place (get_or pairs place default) p within (get_or-any pairs place default (get_or pairs place default) within) there read admits met
+
+pub denied_read : (key : List ℕ) (state : BaseView) (caller : List ℕ) (op : Op) (procaps : List Procap) (moment : ℤ) (pairs : List Pair) (place : ℕ) (default : Pair) (p : Procap) (cause : DenialCause) → placed 1 pairs ≡ needs state.world op →
+    place < length pairs → place < length procaps → p ≡ get_or procaps place p → Denies key state moment (record { who = caller; file = (get_or pairs place default).0; perm = (get_or pairs place default).1 }) p cause →
+    AllByRecursion (IsNeedMet key state caller procaps moment) (placed 1 (take place pairs)) → IsDenied key state caller procaps moment (needs state.world op) (place + 1) cause
+denied_read key state caller op procaps moment pairs place default p cause same within there read denies met =
+    denied_at key state caller op procaps moment pairs place (get_or pairs place default) p cause same within (get_or-any pairs place default (get_or pairs place default) within) there read denies met

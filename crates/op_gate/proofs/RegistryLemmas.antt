@@ -1,5 +1,5 @@
 -- What the registry and the history tell of statements and issues, over plain values.
-use Rattle.std.proofs.Common.{◌≡◌, ◌≤◌, ◌-◌, ℕ, zero, suc, List, length, get_or, refl, sym, ap, subst, ◌∙◌, arith, Some, None, Bool}
+use Rattle.std.proofs.Common.{◌≡◌, ◌≤◌, ◌-◌, ℕ, zero, suc, List, length, get_or, refl, sym, ap, subst, ◌∙◌, arith, Some, Bool}
 use Rattle.std.specs.Prelude.{Contains, ℤ, Result, Ok, Err, IsTrue, MatchOption}
 use Rattle.std.specs.List.{slice_get}
 use Rattle.std.specs.Option.{option_map}

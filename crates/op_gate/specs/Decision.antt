@@ -3,10 +3,13 @@ use Rattle.std.specs.Prelude.{◌≡◌, ◌≤◌, ℕ, ℤ, List, Option, Some
 use Rattle.policy_statement.specs.Ring.{KeyView}
 use Rattle.procap.specs.declared.procap.Procap.{Procap}
 use Rattle.file_world.specs.declared.operation.Op.{Op}
+use Rattle.file_world.specs.declared.refusal.OpFault.{OpFault}
+use Rattle.file_world.specs.declared.refusal.OpFault.TheVariants as faults
 use Rattle.file_world.specs.Needs.{needs}
 use Rattle.access_history.specs.declared.event.Event.{Event}
 use Rattle.access_history.specs.declared.reply.Denial.{Denial}
 use Rattle.access_history.specs.declared.reply.StepReply.{StepReply}
+use Rattle.access_history.specs.declared.reply.StepReply.TheVariants as replies
 use Rattle.access_history.specs.declared.request.StepRequest.{StepRequest}
 use Rattle.access_history.specs.Base.{BaseView}
 use Rattle.access_history.specs.Admission.{IsDenied}
@@ -27,6 +30,11 @@ abbrev pub Keeps : StepReply → Event → Planned → Type 0
 Keeps reply event (Answer told) = ⊥
 Keeps reply event (Keep told pending) = (told ≡ reply) × (pending ≡ record { event = event; entry = entry_of event })
 Keeps reply event NoMemory = Unit {0}
+
+-- what is told of an operation without effect, after that many events
+abbrev pub plan_of_fault : ℕ → OpFault → Planned
+plan_of_fault count (faults.Refused why) = Answer (replies.Refused why count)
+plan_of_fault count faults.NoMemory = NoMemory
 
 -- what is planned over a history is the answer, and the history after it is ready for the event that the answer keeps
 abbrev pub IsPlanned : HistoryView → ℕ → ℤ → StepRequest → Planned → HistoryView → Type 0

@@ -2,10 +2,11 @@
 
 ghost use Rattle.std.specs.Prelude.{◌≡◌, length, MatchOption};
 ghost use Rattle.file_world.specs.Needs.{slots};
+ghost use Rattle.access_history.specs.declared.request.StepRequest.TheVariants.{Act};
 ghost use Rattle.access_history.specs.Admission.{IsAdmitted};
 ghost use Rattle.access_history.specs.Answer.{moment_of};
 ghost use Rattle.access_history.specs.History.{state_of};
-ghost use Rattle.op_gate.specs.Decision.{IsPlanned, IsDenial};
+ghost use Rattle.op_gate.specs.Decision.{IsPlanned, IsDenial, plan_of_fault};
 
 use crate::cause::denial_cause;
 use crate::planned::{Pending, Planned};
@@ -87,6 +88,16 @@ fn acted(pass: u64, caller: Principal, op: Op, procaps: Procaps, moment: i64) ->
     }
 }
 
+// What is told of an operation without effect, after that many events.
+fn refused(fault: OpFault, count: u64) -> Planned
+    ensures { result ≡ plan_of_fault count fault }
+{
+    match fault {
+        OpFault::Refused(refusal) => Planned::Answer(StepReply::Refused(refusal, count)),
+        OpFault::NoMemory => Planned::NoMemory,
+    }
+}
+
 // What the caller's admitted operation does, with all memory taken for it.
 fn act(
     alloc: Global,
@@ -99,7 +110,7 @@ fn act(
 ) -> Planned
     requires { IsAdmitted history.old.key (state_of history.old) caller op procaps (moment_of (state_of history.old) clock) }
     ensures same { history.new ≡ record history.old { ready = history.new.ready } }
-    ensures planned { IsPlanned history.old pass clock (StepRequest.Act caller op procaps) result history.new }
+    ensures planned { IsPlanned history.old pass clock (Act caller op procaps) result history.new }
 {
     let moment = step_moment(history, clock);
     let count = history.count();
@@ -109,8 +120,7 @@ fn act(
             StepReply::Operation(reply),
             acted(pass, caller, op, procaps, moment),
         ),
-        Err(OpFault::Refused(refusal)) => Planned::Answer(StepReply::Refused(refusal, count)),
-        Err(OpFault::NoMemory) => Planned::NoMemory,
+        Err(fault) => refused(fault, count),
     }
 }
 
@@ -126,7 +136,7 @@ pub fn decide_act(
 ) -> Planned
     requires { length procaps ≡ slots op }
     ensures same { history.new ≡ record history.old { ready = history.new.ready } }
-    ensures planned { IsPlanned history.old pass clock (StepRequest.Act caller op procaps) result history.new }
+    ensures planned { IsPlanned history.old pass clock (Act caller op procaps) result history.new }
 {
     match deny(history, &caller, &op, &procaps, clock) {
         Some(denial) => Planned::Answer(StepReply::Denied(denial)),

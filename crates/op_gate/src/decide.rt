@@ -2,6 +2,7 @@
 
 ghost use Rattle.std.specs.Prelude.{◌≡◌, ◌∷◌, ◌↔◌, [], Some, None, IfOk, MatchOption, IsTrue, ℕ, ℤ, length};
 ghost use Rattle.bl_syntax.specs.Statement.{IsStatement};
+ghost use Rattle.access_history.specs.declared.request.StepRequest.TheVariants as requests;
 ghost use Rattle.access_history.specs.Answer.{Answers, MaySee};
 ghost use Rattle.access_history.specs.Citing.{numbers_of};
 ghost use Rattle.access_history.specs.History.{authority_of, state_of};
@@ -81,7 +82,7 @@ pub fn decide_register(
     signature: Bytes,
 ) -> Planned
     requires { IsStatement statement }
-    ensures { (clock : ℤ) → IsPlanned history.now pass clock (StepRequest.Register statement signature) result history.now }
+    ensures { (clock : ℤ) → IsPlanned history.now pass clock (requests.Register statement signature) result history.now }
 {
     let registry = history.registry();
     match registry.test(alloc, history.ring(), &statement, signature.as_slice()) {
@@ -135,7 +136,7 @@ pub fn decide_show(
     number: u64,
     who: &Option<Principal>,
 ) -> Result<StepReply, NoMemory>
-    ensures { IfOk result (λ reply. (pass : ℕ) (clock : ℤ) → Answers (authority_of history.now) (state_of history.now) pass clock (StepRequest.ShowProcap number who.now) reply None) }
+    ensures { IfOk result (λ reply. (pass : ℕ) (clock : ℤ) → Answers (authority_of history.now) (state_of history.now) pass clock (requests.ShowProcap number who.now) reply None) }
 {
     match issued_procap(alloc, history, number)? {
         Some(procap) => {
@@ -213,7 +214,7 @@ fn keep_issue(alloc: Global, pass: u64, number: u64, checked: Checked) -> Planne
 
 /// Whether and as what the grant of a checked proof is issued.
 pub fn decide_issue(alloc: Global, history: &History, pass: u64, checked: Checked) -> Planned
-    ensures { (clock : ℤ) → IsPlanned history.now pass clock (StepRequest.Issue checked) result history.now }
+    ensures { (clock : ℤ) → IsPlanned history.now pass clock (requests.Issue checked) result history.now }
 {
     match first_moved(history.statements(), checked.cited().as_slice()) {
         Some(number) => Planned::Answer(StepReply::Absent(number as u64)),

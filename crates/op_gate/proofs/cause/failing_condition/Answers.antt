@@ -1,5 +1,5 @@
 -- Conditions on time come first, and then those on the state.
-use Rattle.std.proofs.Common.{◌≡◌, ◌∙◌, subst, refl, ap, arith, List, get_or}
+use Rattle.std.proofs.Common.{◌≡◌, subst, refl, arith, List, get_or}
 use Rattle.std.specs.Prelude.{ℤ, Contains}
 use Rattle.std.specs.List.{AllByRecursion}
 use Rattle.std.specs.Int.{w64}

@@ -1,5 +1,5 @@
 -- The cited statements stand, or the first that does not is named.
-use Rattle.std.proofs.Common.{List, length, ap, subst, sym, ◌∙◌}
+use Rattle.std.proofs.Common.{List, length, ap, subst, ◌∙◌}
 use Rattle.std.specs.List.{AllByRecursion}
 use Rattle.policy_statement.specs.Registered.{RegisteredView}
 use Rattle.proof_verifier.specs.declared.cites.Cite.{Cite}
