@@ -1,5 +1,5 @@
 -- A line asks for one command, or has one first fault.
-use Rattle.std.proofs.Common.{◌≡◌, ◌≢◌, ℕ, true, false, List, Result, Ok, Err, IsTrue, ◌⊎◌, inl, inr, refl, sym, ap, ◌∙◌, subst}
+use Rattle.std.proofs.Common.{◌≡◌, ◌≢◌, ℕ, List, Result, Ok, Err, inl, inr, refl, sym, ap, ◌∙◌, subst}
 use Rattle.std.proofs.lemmas.Bool.{false≢true}
 use Rattle.bl_tokens.specs.declared.faults.TextFault.{TextFault}
 use Rattle.bl_tokens.specs.declared.faults.TextFault.TheVariants as texts
@@ -15,7 +15,7 @@ use Rattle.line_forms.specs.declared.command.Command.TheVariants as commands
 use Rattle.line_forms.specs.declared.forms.Form.{Form}
 use Rattle.line_forms.specs.declared.forms.Form.TheVariants.{At, As, Register, Procap, Verify, Check, Do}
 use Rattle.line_forms.specs.declared.fault.LineFault.{LineFault}
-use Rattle.line_forms.specs.declared.fault.LineFault.TheVariants.{BadWord, BadCount, BadText, NoMemory}
+use Rattle.line_forms.specs.declared.fault.LineFault.TheVariants.{BadWord, BadText}
 use Rattle.line_forms.specs.Forms.{kinds_of}
 use Rattle.line_forms.specs.Heads.{Head, head_of, is_counted, text_of}
 use Rattle.line_forms.specs.Lines.{IsAsked, HasTextFault, HasWords, IsLine, IsLineFault, of_head, of_count, of_word, of_text}

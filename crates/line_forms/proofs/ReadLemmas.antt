@@ -13,7 +13,7 @@ use Rattle.line_forms.specs.declared.fault.LineFault.TheVariants.{BadWord, BadCo
 use Rattle.line_forms.specs.Faults.{word_fault}
 use Rattle.line_forms.specs.Forms.{kinds_of}
 use Rattle.line_forms.specs.Heads.{head_of, is_counted, text_of}
-use Rattle.line_forms.specs.Lines.{IsAsked, HasTextFault, HasWords, IsLine, of_head, of_count, of_word, of_text, IsUnread, IsTextUnread}
+use Rattle.line_forms.specs.Lines.{IsAsked, HasTextFault, HasWords, IsLine, of_head, of_word, of_text, IsUnread, IsTextUnread}
 
 pub unread_head : (line : List ℕ) (fault : LineFault) → head_of line ≡ Err fault → IsUnread line fault
 unread_head line (BadWord place) h = of_head (BadWord place) h

@@ -67,15 +67,15 @@ append_unbroken (byte ∷ bytes) rest h k =
 digit_unbroken : (d : ℕ) → d < 10 → digit_glyph false d ≡ 10 → ⊥
 digit_unbroken d small same = grind (arith)
 
-by_end : (done : Bool) {x y : List ℕ} → IsUnbroken x → IsUnbroken y → IsUnbroken (if done then x else y)
-by_end true h k = h
-by_end false h k = k
+by_end : (done : Bool) (x y : List ℕ) → IsUnbroken x → IsUnbroken y → IsUnbroken (if done then x else y)
+by_end true x y h k = h
+by_end false x y h k = k
 
 digits_unbroken : (k n : ℕ) (acc : List ℕ) → IsUnbroken acc → IsUnbroken (digits_onto k 10 false n acc)
 digits_unbroken zero n acc h = h
 digits_unbroken (suc k) n acc h =
     let here : IsUnbroken (digit_glyph false (n % 10) ∷ acc) = cons_unbroken (digit_glyph false (n % 10)) acc (digit_unbroken (n % 10) (omega arith)) h in
-    by_end (n / 10 == 0) here (digits_unbroken k (n / 10) (digit_glyph false (n % 10) ∷ acc) here)
+    by_end (n / 10 == 0) (digit_glyph false (n % 10) ∷ acc) (digits_onto k 10 false (n / 10) (digit_glyph false (n % 10) ∷ acc)) here (digits_unbroken k (n / 10) (digit_glyph false (n % 10) ∷ acc) here)
 
 decimal_unbroken : (n : ℕ) → IsUnbroken (decimal n)
 unfolding digits
