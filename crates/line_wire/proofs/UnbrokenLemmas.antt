@@ -1,10 +1,9 @@
 -- Numbers, words and conditions hold no byte that ends a line, if the names and texts in them do not.
-use Rattle.std.proofs.Common.{◌≡◌, ℕ, ℤ, pos, negsuc, zero, suc, ◌+◌, ◌-◌, ◌/◌, ◌%◌, ◌<◌, List, [], ◌∷◌, ◌++◌, Bool, true, false, not, cond, IsTrue, length, map, codes, slice_index, refl, sym, ap, ◌∙◌, subst, arith, append-nil}
-use Rattle.std.specs.Prelude.{◌==◌, ◌&&◌, if◌then◌else◌}
+use Rattle.std.proofs.Common.{◌≡◌, ℕ, ℤ, pos, negsuc, zero, suc, ◌-◌, ◌/◌, ◌%◌, ◌<◌, List, [], ◌∷◌, ◌++◌, Bool, true, false, not, IsTrue, length, map, codes, slice_index, refl, subst, arith}
+use Rattle.std.specs.Prelude.{◌==◌, if◌then◌else◌}
 use Rattle.std.specs.Fmt.{decimal, signed_decimal, digits, digits_onto, digit_glyph}
-use Rattle.std.specs.List.{list_all, AllByRecursion, flat_map}
-use Rattle.std.proofs.lemmas.Bool.{and_parts, and_from, false≢true, eqb-true, cases_lt}
-use Rattle.std.proofs.lemmas.List.Folds.{list_all-append}
+use Rattle.std.specs.List.{list_all, AllByRecursion}
+use Rattle.std.proofs.lemmas.Bool.{and_parts, and_from, false≢true, eqb-true}
 use Rattle.hex.specs.Hex.{encode_with, encode_lower, lower_digits}
 use Rattle.bl_syntax.specs.declared.terms.Perm.{Perm}
 use Rattle.bl_syntax.specs.declared.terms.Perm.TheVariants as permissions
@@ -20,7 +19,6 @@ use Rattle.bl_tokens.specs.declared.faults.TextFault.{TextFault}
 use Rattle.bl_tokens.specs.declared.faults.TextFault.TheVariants as texts
 use Rattle.bl_text.specs.Printed.{time_text, permission_text, term_text, constraint_text, state_text}
 use Rattle.line_text.specs.HexWord.{hex_word}
-use Rattle.line_text.specs.Words.{HasNo}
 use Rattle.proof_verifier.specs.declared.fault.CheckFault.{CheckFault}
 use Rattle.proof_verifier.specs.declared.fault.CheckFault.TheVariants as faults
 use Rattle.procap.specs.Procap.{procap_spelling}
@@ -42,7 +40,7 @@ use Rattle.access_history.specs.declared.reply.StepReply.TheVariants as steps
 use Rattle.line_wire.specs.declared.reply.LineReply.{LineReply}
 use Rattle.line_wire.specs.declared.reply.LineReply.TheVariants as replies
 use Rattle.line_wire.specs.CheckedText.{listed_text, conditions_of, checked_text}
-use Rattle.line_wire.specs.FaultText.{placed_text, unproved_text, bad_text_text, fault_text}
+use Rattle.line_wire.specs.FaultText.{unproved_text, bad_text_text, fault_text}
 use Rattle.line_wire.specs.GateText.{cause_text, refusal_number, rejection_text}
 use Rattle.line_wire.specs.OperationText.{named_text, names_text, tree_text, attribute_text, operation_text}
 use Rattle.line_wire.specs.ReplyText.{step_text, reply_text}
