@@ -7,7 +7,7 @@ ghost use Rattle.procap.specs.GrantSpelling.{list_spelling};
 ghost use Rattle.procap.specs.Procap.{procap_spelling, IsSpellableProcap};
 ghost use Rattle.procap.specs.Writing.{Begins};
 ghost use Rattle.record_parts.specs.Fields.{IsLong, second_spelling};
-ghost use Rattle.record_parts.specs.OperationSpelling.{HasFittingWords};
+ghost use Rattle.record_parts.specs.OperationSpelling.{operation_spelling, IsSpellableOperation, HasFittingWords};
 ghost use Rattle.record_parts.specs.RecordSpelling.{registered_spelling, IsSpellableRegistered, issued_spelling, IsSpellableIssued, acted_spelling, IsSpellableActed};
 
 use crate::fields::{put_long, put_second};
@@ -132,6 +132,19 @@ fn add_acted(
     ensures err { OnErr result (Begins out.old out.new) }
 {
     write_name(caller, out)?;
+    add_done(op, procaps, moment, out)
+}
+
+/// Adds what was done, under which procaps, and when, or a front of it.
+#[tactic(auto, using(procap::proofs::WritingLemmas::kept))]
+fn add_done(op: &Op, procaps: &[Procap], moment: i64, out: &mut Bytes) -> Result<(), NoMemory>
+    requires words { HasFittingWords op.now }
+    requires procaps { length procaps.now ≤ 255 }
+    ensures ok { OnOk result (out.new ≡ out.old ++ (operation_spelling op.now ++ (list_spelling procap_spelling procaps.now ++ second_spelling moment))) }
+    ensures words { OnOk result (IsSpellableOperation op.now) }
+    ensures procaps { OnOk result (AllByRecursion IsSpellableProcap procaps.now) }
+    ensures err { OnErr result (Begins out.old out.new) }
+{
     write_operation(op, out)?;
     add_admitted(procaps, moment, out)
 }
