@@ -457,12 +457,13 @@ fn predicate(alloc: Global, shape: Shape, fact: Fact, i: u64) -> Option<StatePre
     }
 }
 
-fn predicates(alloc: Global, shape: Shape, fact: Fact) -> Option<Vec<StatePred>> {
-    let mut all = Vec::new(alloc);
-    for i in 0..COUNT {
-        all.push(predicate(alloc, shape, fact, i)?).ok()?;
-    }
-    Some(all)
+// Of four nodes that are spread over all.
+fn predicates(alloc: Global, shape: Shape, fact: Fact) -> Option<[StatePred; 4]> {
+    let first = predicate(alloc, shape, fact, 3)?;
+    let second = predicate(alloc, shape, fact, 11)?;
+    let third = predicate(alloc, shape, fact, 19)?;
+    let fourth = predicate(alloc, shape, fact, 27)?;
+    Some([first, second, third, fourth])
 }
 
 fn hold(meta: &Meta, all: &[StatePred]) -> bool {
@@ -475,12 +476,23 @@ fn hold(meta: &Meta, all: &[StatePred]) -> bool {
     held
 }
 
-// The least time of all of them; the longest if one does not hold.
+// Each eight times.
+fn hold_often(meta: &Meta, all: &[StatePred]) -> bool {
+    let mut held = true;
+    for _ in 0..8 {
+        if !hold(meta, all) {
+            held = false;
+        }
+    }
+    held
+}
+
+// The least time of all of them, each eight times; the longest if one does not hold.
 fn least_look_ups(rt: &impl Clock, meta: &Meta, all: &[StatePred]) -> io::Result<u128> {
     let mut least = u128::MAX;
     for _ in 0..ROUNDS {
         let start = Instant::now(rt)?;
-        let held = hold(meta, all);
+        let held = hold_often(meta, all);
         let time = start.elapsed(rt)?.as_nanos();
         least = least.min(if held { time } else { u128::MAX });
     }
@@ -497,7 +509,7 @@ fn fact_time(
     let Some(all) = predicates(alloc, shape, fact) else {
         return Err(io::Error::from(AllocError));
     };
-    least_look_ups(rt, meta, all.as_slice())
+    least_look_ups(rt, meta, &all)
 }
 
 // ---- the program
