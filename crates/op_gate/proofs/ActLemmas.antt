@@ -4,7 +4,6 @@ use Rattle.std.specs.Prelude.{ℤ, Result, Ok, Err}
 use Rattle.std.specs.Int.{w64}
 use mir.Val.{SFits, to_z, of_z}
 use Rattle.std.proofs.lemmas.Int.{to_z-of_z}
-use Rattle.policy_statement.specs.Ring.{KeyView}
 use Rattle.procap.specs.declared.procap.Procap.{Procap}
 use Rattle.file_world.specs.declared.operation.Op.{Op}
 use Rattle.file_world.specs.declared.refusal.OpFault.{OpFault}
@@ -15,7 +14,6 @@ use Rattle.file_world.specs.Effect.{refusal, reply}
 use Rattle.file_world.specs.World.{World}
 use Rattle.world_state.specs.State.{WorldState, ReservesWorld}
 use Rattle.access_history.specs.declared.event.Entry.TheVariants as entries
-use Rattle.access_history.specs.declared.event.Event.{Event}
 use Rattle.access_history.specs.declared.event.Event.TheVariants.{Acted}
 use Rattle.access_history.specs.declared.reply.Denial.{Denial}
 use Rattle.access_history.specs.declared.reply.StepReply.TheVariants as replies
@@ -29,15 +27,6 @@ use Rattle.op_gate.specs.declared.planned.Planned.TheVariants.{Answer, Keep}
 use Rattle.op_gate.specs.declared.planned.Pending.{Pending}
 use Rattle.op_gate.specs.Decision.{IsPlanned, IsDenial, plan_of_fault}
 use Rattle.op_gate.proofs.DecisionLemmas.{kept_decided}
-
--- only what the world is ready for is another
-pub only_readied : (before after : HistoryView) → after.key ≡ before.key → after.ring ≡ before.ring → after.base ≡ before.base → after.events ≡ before.events → after.room ≡ before.room → after ≡ record before { ready = after.ready }
-only_readied before after key ring base events room =
-    ap (λ (k : List ℕ). record after { key = k }) key
-    ∙ ap (λ (r : List KeyView). record after { key = before.key; ring = r }) ring
-    ∙ ap (λ (b : BaseView). record after { key = before.key; ring = before.ring; base = b }) base
-    ∙ ap (λ (es : List Event). record after { key = before.key; ring = before.ring; base = before.base; events = es }) events
-    ∙ ap (λ (n : ℕ). record after { key = before.key; ring = before.ring; base = before.base; events = before.events; room = n }) room
 
 -- it is denied
 pub denied_decided : (authority : Authority) (state : BaseView) (pass : ℕ) (clock : ℤ) (caller : List ℕ) (op : Op) (procaps : List Procap) (denial : Denial) → IsDenial authority.key state caller op procaps (moment_of state clock) denial →

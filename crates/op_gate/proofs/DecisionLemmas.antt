@@ -1,7 +1,6 @@
 -- What was decided is an answer, over plain values.
 use Rattle.std.proofs.Common.{◌≡◌, ◌≤◌, ◌<◌, ◌+◌, ◌-◌, ℕ, List, length, get_or, refl, ap, subst, sym, arith, Some}
 use Rattle.std.specs.Prelude.{ℤ}
-use Rattle.std.specs.Prelude.{Result, Ok, Err, IfOk}
 use Rattle.std.specs.List.{slice_get, AllByRecursion}
 use Rattle.std.proofs.lemmas.Option.{slice_get_read}
 use Rattle.bl_syntax.specs.Statement.{StatementView}
@@ -58,11 +57,6 @@ issued_decided h pass clock checked issues planned rising granted stand issues_i
     (issued checked rising granted stand))
     tt keeps
 
--- what holds of an Ok, from what holds of it
-pub ok_so : {A E : Type 0} {P Q : A → Type 0} (r : Result A E) → ((x : A) → P x → Q x) → IfOk r P → IfOk r Q
-ok_so (Ok x) so holds = so x holds
-ok_so (Err e) so holds = holds
-
 -- no item has the number 0
 pub no_zero : {A : Type 0} (items : List A) (number : ℕ) → number ≡ 0 → HasNumber items number → ⊥
 no_zero items number none has = omega (arith, none, has.0)
@@ -70,10 +64,6 @@ no_zero items number none has = omega (arith, none, has.0)
 -- no item has a number beyond the last
 pub none_beyond : {A : Type 0} (items shown : List A) (number : ℕ) → shown ≡ items → length shown < number → HasNumber items number → ⊥
 none_beyond items shown number same more has = omega (arith, more, has.1, ap length same)
-
--- an item has a number up to the last
-pub has_at : {A : Type 0} (items shown : List A) (number : ℕ) → shown ≡ items → (number ≡ 0 → ⊥) → number ≤ length shown → HasNumber items number
-has_at items shown number same some within = (omega (arith, some), omega (arith, within, ap length same))
 
 -- the item that was read
 pub numbered_in : {A : Type 0} (items shown : List A) (number : ℕ) (item : A) → shown ≡ items → (number ≡ 0 → ⊥) → number ≤ length shown → item ≡ get_or shown (number - 1) item → IsNumbered items number item

@@ -1,10 +1,8 @@
 -- An event that an answer keeps can be kept.
-use Rattle.std.proofs.Common.{◌≡◌, ◌≤◌, ℕ, subst, sym, None, Some, Option}
-use Rattle.std.specs.Prelude.{Result, Ok, Err, OnOk, false, ℤ, ⊤, MatchOption}
-use Rattle.std.specs.Option.{option_map}
+use Rattle.std.proofs.Common.{◌≡◌, ◌≤◌, ℕ, subst, sym}
+use Rattle.std.specs.Prelude.{Result, Ok, Err, OnOk, false, ℤ}
 use Rattle.std.specs.Result.{is_err}
 use Rattle.bl_syntax.specs.TimeOrder.{IsMoment}
-use Rattle.access_history.specs.declared.event.Event.{Event}
 use Rattle.access_history.specs.declared.request.StepRequest.{StepRequest}
 use Rattle.access_history.specs.declared.reply.StepReply.{StepReply}
 use Rattle.access_history.specs.WellFormed.{IsWellFormed}
@@ -26,11 +24,6 @@ CanKeep-planned before after pass clock request reply pending same room base at 
       entry = planned.1;
       ready = planned.2;
     }
-
--- nothing is pending
-pub nothing : (p : Option Pending) (f : Pending → Event) (P : Pending → Type 0) → option_map f p ≡ None → MatchOption p ⊤ P
-nothing None f P e = tt
-nothing (Some s) f P e = absurd cc
 
 -- what holds where there is no error
 pub on_no_err : {A E : Type 0} (P : Type 0) (r : Result A E) → is_err r ≡ false → OnOk r P → P

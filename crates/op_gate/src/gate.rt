@@ -159,8 +159,8 @@ impl Gate {
         deny(&self.history, caller, op, procaps, clock)
     }
 
-    /// Decides the request at the moment that the clock shows, in whole seconds from 1970-01-01T00:00:00Z. An event
-    /// that is to be kept is pending then; nothing else is changed.
+    /// Decides the request at the moment that the clock shows, in whole seconds from 1970-01-01T00:00:00Z. What was
+    /// pending is dropped, and an event that is to be kept is pending then; nothing that is kept changes.
     pub fn decide(&mut self, alloc: Global, pass: u64, request: StepRequest, clock: i64) -> Decision
         requires in_range { IsMoment clock }
         requires well_formed { IsWellFormed request }
