@@ -14,6 +14,7 @@ use Rattle.proof_verifier.specs.Cited.{statements_of}
 use Rattle.proof_verifier.specs.CheckedView.{CheckedView, checked_view, IsChecked, IsGranted}
 use Rattle.proof_verifier.specs.Run.{IsFault}
 use Rattle.proof_verifier.specs.Verdict.{verdict}
+use Rattle.policy_statement.specs.Ring.{KeyView}
 use Rattle.pcfs_secrets.specs.declared.secrets.Secrets.{Secrets}
 use Rattle.file_world.specs.declared.operation.Op.{Op}
 use Rattle.access_history.specs.declared.event.Event.{Event}
@@ -25,6 +26,7 @@ use Rattle.access_history.specs.Base.{BaseView}
 use Rattle.access_history.specs.Answer.{Answers}
 use Rattle.access_history.specs.Authority.{sayings}
 use Rattle.access_history.specs.Citing.{AreFound}
+use Rattle.access_history.specs.Replay.{replay}
 use Rattle.op_gate.specs.declared.cite.Citation.{Citation}
 use Rattle.op_gate.specs.declared.cite.Citation.TheVariants as citations
 use Rattle.op_gate.specs.Citations.{GivesCitation}
@@ -50,37 +52,56 @@ standing secrets base events pass clock caller sees = record { secrets = secrets
 
 -- ---- requests
 
+abbrev under : List ℕ → List KeyView → Secrets
+under key ring = record { seal_key = key; ring = ring }
+
+same_standing : (key key' : List ℕ) (ring ring' : List KeyView) (base base' : BaseView) (events events' : List Event) (pass : ℕ) (clock : ℤ) (caller : List ℕ) (sees : Option (List ℕ)) → key ≡ key' → ring ≡ ring' → base ≡ base' → events ≡ events' →
+    standing (under key ring) base events pass clock caller sees ≡ standing (under key' ring') base' events' pass clock caller sees
+same_standing key key' ring ring' base base' events events' pass clock caller sees keys rings bases all =
+    ap (λ (k : List ℕ). standing (under k ring) base events pass clock caller sees) keys
+    ∙ ap (λ (r : List KeyView). standing (under key' r) base events pass clock caller sees) rings
+    ∙ ap (λ (b : BaseView). standing (under key' ring') b events pass clock caller sees) bases
+    ∙ ap (λ (es : List Event). standing (under key' ring') base' es pass clock caller sees) all
+
+-- the gate stands under the same key and ring, over the same base
+pub record IsSameGate (gate : GateView) (key : List ℕ) (ring : List KeyView) (base : BaseView) (events : List Event) : Type 0 where
+  pub key_is : gate.key ≡ key
+  pub ring_is : gate.ring ≡ ring
+  pub base_is : gate.base ≡ base
+  pub events_are : gate.events ≡ events
+
 -- what is decided and kept is answered
-pub IsDecidedAs-keep : (seated : Standing) (secrets : Secrets) (base : BaseView) (events : List Event) (pass : ℕ) (clock shown : ℤ) (caller : List ℕ) (sees : Option (List ℕ)) (gate kept : GateView) (request : StepRequest) (reply : StepReply) →
-    seated ≡ standing secrets base events pass clock caller sees → gate.events ≡ events → shown ≡ clock →
-    ((event : Event) × Answers (authority_under secrets) (state_of_standing (standing secrets base events pass clock caller sees)) pass shown request reply (Some event) × (gate.pending ≡ Some event)) →
+pub IsDecidedAs-keep : (seated : Standing) (key : List ℕ) (ring : List KeyView) (base : BaseView) (events : List Event) (pass : ℕ) (clock shown : ℤ) (caller : List ℕ) (sees : Option (List ℕ)) (gate kept : GateView) (request : StepRequest) (reply : StepReply) →
+    seated ≡ standing (under key ring) base events pass clock caller sees → IsSameGate gate key ring base events → shown ≡ clock →
+    ((event : Event) × Answers (authority_under (under key ring)) (replay base events) pass shown request reply (Some event) × (gate.pending ≡ Some event)) →
     IfSome gate.pending (λ event. kept ≡ record gate { events = gate.events ++ event ∷ []; pending = None }) →
-    IsDecidedAs seated request (replies.Step reply) (standing secrets base kept.events pass clock caller sees)
-IsDecidedAs-keep seated secrets base events pass clock shown caller sees gate kept request reply is same clock_is answer keep =
+    IsDecidedAs seated request (replies.Step reply) (standing (under kept.key kept.ring) kept.base kept.events pass clock caller sees)
+IsDecidedAs-keep seated key ring base events pass clock shown caller sees gate kept request reply is same clock_is answer keep =
     let k = subst (λ (p : Option Event). IfSome p (λ event. kept ≡ record gate { events = gate.events ++ event ∷ []; pending = None })) answer.2 keep in
-    let more : kept.events ≡ events ++ answer.0 ∷ [] = ap (λ (g : GateView). g.events) k ∙ ap (λ (es : List Event). es ++ answer.0 ∷ []) same in
-    subst (λ (s : Standing). IsDecidedAs s request (replies.Step reply) (standing secrets base kept.events pass clock caller sees)) (sym is)
+    let more : kept.events ≡ events ++ answer.0 ∷ [] = ap (λ (g : GateView). g.events) k ∙ ap (λ (es : List Event). es ++ answer.0 ∷ []) same.events_are in
+    subst (λ (s : Standing). IsDecidedAs s request (replies.Step reply) (standing (under kept.key kept.ring) kept.base kept.events pass clock caller sees)) (sym is)
     (record {
       told = reply;
       event = Some answer.0;
-      answer = subst (λ (z : ℤ). Answers (authority_under secrets) (state_of_standing (standing secrets base events pass clock caller sees)) pass z request reply (Some answer.0)) clock_is answer.1;
+      answer = subst (λ (z : ℤ). Answers (authority_under (under key ring)) (replay base events) pass z request reply (Some answer.0)) clock_is answer.1;
       reply_is = refl;
-      after_is = ap (λ (es : List Event). standing secrets base es pass clock caller sees) more;
+      after_is = same_standing kept.key key kept.ring ring kept.base base kept.events (events ++ answer.0 ∷ []) pass clock caller sees
+          (ap (λ (g : GateView). g.key) k ∙ same.key_is) (ap (λ (g : GateView). g.ring) k ∙ same.ring_is) (ap (λ (g : GateView). g.base) k ∙ same.base_is) more;
     })
 
 -- what is decided without an event is answered
-pub IsDecidedAs-answer : (seated : Standing) (secrets : Secrets) (base : BaseView) (events : List Event) (pass : ℕ) (clock shown : ℤ) (caller : List ℕ) (sees : Option (List ℕ)) (gate : GateView) (request : StepRequest) (reply : StepReply) →
-    seated ≡ standing secrets base events pass clock caller sees → gate.events ≡ events → shown ≡ clock →
-    Answers (authority_under secrets) (state_of_standing (standing secrets base events pass clock caller sees)) pass shown request reply None × (gate.pending ≡ None) →
-    IsDecidedAs seated request (replies.Step reply) (standing secrets base gate.events pass clock caller sees)
-IsDecidedAs-answer seated secrets base events pass clock shown caller sees gate request reply is same clock_is answer =
-    subst (λ (s : Standing). IsDecidedAs s request (replies.Step reply) (standing secrets base gate.events pass clock caller sees)) (sym is)
+pub IsDecidedAs-answer : (seated : Standing) (key : List ℕ) (ring : List KeyView) (base : BaseView) (events : List Event) (pass : ℕ) (clock shown : ℤ) (caller : List ℕ) (sees : Option (List ℕ)) (gate : GateView) (request : StepRequest) (reply : StepReply) →
+    seated ≡ standing (under key ring) base events pass clock caller sees → IsSameGate gate key ring base events → shown ≡ clock →
+    Answers (authority_under (under key ring)) (replay base events) pass shown request reply None × (gate.pending ≡ None) →
+    IsDecidedAs seated request (replies.Step reply) (standing (under gate.key gate.ring) gate.base gate.events pass clock caller sees)
+IsDecidedAs-answer seated key ring base events pass clock shown caller sees gate request reply is same clock_is answer =
+    subst (λ (s : Standing). IsDecidedAs s request (replies.Step reply) (standing (under gate.key gate.ring) gate.base gate.events pass clock caller sees)) (sym is)
     (record {
       told = reply;
       event = None;
-      answer = subst (λ (z : ℤ). Answers (authority_under secrets) (state_of_standing (standing secrets base events pass clock caller sees)) pass z request reply None) clock_is answer.0;
+      answer = subst (λ (z : ℤ). Answers (authority_under (under key ring)) (replay base events) pass z request reply None) clock_is answer.0;
       reply_is = refl;
-      after_is = ap (λ (es : List Event). standing secrets base es pass clock caller sees) (same ∙ sym (append-nil events));
+      after_is = same_standing gate.key key gate.ring ring gate.base base gate.events (events ++ []) pass clock caller sees same.key_is same.ring_is same.base_is (same.events_are ∙ sym (append-nil events));
     })
 
 -- ---- commands

@@ -12,5 +12,5 @@ returns-in-Ok-follow c = IsReplied-followed c.args.self.now c.follow.new.self c.
 pub returns-in-Err-follow : goal.returns-in-Err-follow
 returns-in-Err-follow c = IsReplied-without_memory c.args.self.now c.follow.new.self c.args.line.now c.in-Err-follow.ensures.err
 
-pub returns : goal.returns
-returns c = IsReplied-unread c.args.self.now c.args.line.now c.in-Err.fault c.unread.result c.unread.ensures c.in-Err.ensures
+pub returns-in-Err : goal.returns-in-Err
+returns-in-Err c = IsReplied-unread c.args.self.now c.args.line.now c.in-Err.fault c.unread.result c.unread.ensures c.in-Err.ensures
