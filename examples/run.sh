@@ -1,6 +1,7 @@
 #!/usr/bin/env bash
 # Runs each example by the built program, in a folder with the secrets of the examples beside it, and compares the replies
-# with those that are kept. Exits 1 if some differ.
+# with those that are kept; then random scripts, whose replies are compared with those of the model. Exits 1 if some
+# differ.
 # usage: examples/run.sh [PROGRAM], by default crates/pcfs/out/pcfs
 set -euo pipefail
 here=$(cd "$(dirname "$0")" && pwd)
@@ -35,6 +36,28 @@ if "$program" script < signed.pcfs | cmp -s - <(printf 'ok statement 1\nok state
     agree=$((agree + 1))
 else
     echo "differs signed statements"
+    differ=$((differ + 1))
+fi
+
+# random scripts are answered as by the model
+for seed in 1 2 3 4 5; do
+    python3 "$here/pcfs_model.py" random "$seed" 2000 > random.pcfs
+    python3 "$here/pcfs_model.py" script pcfs.secrets < random.pcfs > random.replies
+    if "$program" script < random.pcfs | cmp -s - random.replies; then
+        echo "agrees random script $seed"
+        agree=$((agree + 1))
+    else
+        echo "differs random script $seed"
+        differ=$((differ + 1))
+    fi
+done
+
+# and so are the lines of worked runs, by what they want
+if python3 "$here/pcfs_model.py" rows "$here"/../crates/pcfs_rows/data/*.rows > rows; then
+    echo "agrees rows"
+    agree=$((agree + 1))
+else
+    grep -A 3 differs rows || true
     differ=$((differ + 1))
 fi
 echo "$agree passed, $differ failed"
