@@ -14,6 +14,7 @@ use Rattle.proof_verifier.specs.Cited.{statements_of}
 use Rattle.proof_verifier.specs.CheckedView.{CheckedView, checked_view, IsChecked, IsGranted}
 use Rattle.proof_verifier.specs.Run.{IsFault}
 use Rattle.proof_verifier.specs.Verdict.{verdict}
+use Rattle.policy_statement.specs.Ring.{KeyView}
 use Rattle.pcfs_secrets.specs.declared.secrets.Secrets.{Secrets}
 use Rattle.file_world.specs.declared.operation.Op.{Op}
 use Rattle.access_history.specs.declared.event.Event.{Event}
@@ -25,6 +26,7 @@ use Rattle.access_history.specs.Base.{BaseView}
 use Rattle.access_history.specs.Answer.{Answers}
 use Rattle.access_history.specs.Authority.{sayings}
 use Rattle.access_history.specs.Citing.{AreFound}
+use Rattle.access_history.specs.Replay.{replay}
 use Rattle.op_gate.specs.declared.cite.Citation.{Citation}
 use Rattle.op_gate.specs.declared.cite.Citation.TheVariants as citations
 use Rattle.op_gate.specs.Citations.{GivesCitation}
@@ -43,44 +45,63 @@ use Rattle.pcfs_top.specs.Proved.{IsUnproved, cites_none, proves_none, IsProved}
 use Rattle.pcfs_top.specs.LineAnswer.{authority_under, signature_under, replied, requested, ComesTo, AnswersCommand, at_once, decided, faulty, asks}
 use Rattle.pcfs_top.specs.LineAnswer as line_answer
 use Rattle.pcfs_top.specs.ScriptRun.{Standing, state_of_standing, standing_after, IsReplied, answered, without_memory}
-use Rattle.pcfs_top.specs.Interpreter.{IsDecidedAs, IsFollowed}
+use Rattle.pcfs_top.specs.Interpreter.{IsDecidedAs, IsFollowed, unread_reply}
 
-abbrev standing : Secrets → BaseView → List Event → ℕ → ℤ → List ℕ → Standing
-standing secrets base events pass clock caller = record { secrets = secrets; base = base; events = events; asker = record { pass = pass; clock = clock; caller = caller; sees = None } }
+abbrev standing : Secrets → BaseView → List Event → ℕ → ℤ → List ℕ → Option (List ℕ) → Standing
+standing secrets base events pass clock caller sees = record { secrets = secrets; base = base; events = events; asker = record { pass = pass; clock = clock; caller = caller; sees = sees } }
 
 -- ---- requests
 
+abbrev under : List ℕ → List KeyView → Secrets
+under key ring = record { seal_key = key; ring = ring }
+
+same_standing : (key key' : List ℕ) (ring ring' : List KeyView) (base base' : BaseView) (events events' : List Event) (pass : ℕ) (clock : ℤ) (caller : List ℕ) (sees : Option (List ℕ)) → key ≡ key' → ring ≡ ring' → base ≡ base' → events ≡ events' →
+    standing (under key ring) base events pass clock caller sees ≡ standing (under key' ring') base' events' pass clock caller sees
+same_standing key key' ring ring' base base' events events' pass clock caller sees keys rings bases all =
+    ap (λ (k : List ℕ). standing (under k ring) base events pass clock caller sees) keys
+    ∙ ap (λ (r : List KeyView). standing (under key' r) base events pass clock caller sees) rings
+    ∙ ap (λ (b : BaseView). standing (under key' ring') b events pass clock caller sees) bases
+    ∙ ap (λ (es : List Event). standing (under key' ring') base' es pass clock caller sees) all
+
+-- the gate stands under the same key and ring, over the same base
+pub record IsSameGate (gate : GateView) (key : List ℕ) (ring : List KeyView) (base : BaseView) (events : List Event) : Type 0 where
+  pub key_is : gate.key ≡ key
+  pub ring_is : gate.ring ≡ ring
+  pub base_is : gate.base ≡ base
+  pub events_are : gate.events ≡ events
+
 -- what is decided and kept is answered
-pub IsDecidedAs-keep : (seated : Standing) (secrets : Secrets) (base : BaseView) (events : List Event) (pass : ℕ) (clock shown : ℤ) (caller : List ℕ) (gate kept : GateView) (request : StepRequest) (reply : StepReply) →
-    seated ≡ standing secrets base events pass clock caller → gate.events ≡ events → shown ≡ clock →
-    ((event : Event) × Answers (authority_under secrets) (state_of_standing (standing secrets base events pass clock caller)) pass shown request reply (Some event) × (gate.pending ≡ Some event)) →
+pub IsDecidedAs-keep : (seated : Standing) (key : List ℕ) (ring : List KeyView) (base : BaseView) (events : List Event) (pass : ℕ) (clock shown : ℤ) (caller : List ℕ) (sees : Option (List ℕ)) (gate kept : GateView) (request : StepRequest) (reply : StepReply) →
+    seated ≡ standing (under key ring) base events pass clock caller sees → IsSameGate gate key ring base events → shown ≡ clock →
+    ((event : Event) × Answers (authority_under (under key ring)) (replay base events) pass shown request reply (Some event) × (gate.pending ≡ Some event)) →
     IfSome gate.pending (λ event. kept ≡ record gate { events = gate.events ++ event ∷ []; pending = None }) →
-    IsDecidedAs seated request (replies.Step reply) (standing secrets base kept.events pass clock caller)
-IsDecidedAs-keep seated secrets base events pass clock shown caller gate kept request reply is same clock_is answer keep =
+    IsDecidedAs seated request (replies.Step reply) (standing (under kept.key kept.ring) kept.base kept.events pass clock caller sees)
+IsDecidedAs-keep seated key ring base events pass clock shown caller sees gate kept request reply is same clock_is answer keep =
     let k = subst (λ (p : Option Event). IfSome p (λ event. kept ≡ record gate { events = gate.events ++ event ∷ []; pending = None })) answer.2 keep in
-    let more : kept.events ≡ events ++ answer.0 ∷ [] = ap (λ (g : GateView). g.events) k ∙ ap (λ (es : List Event). es ++ answer.0 ∷ []) same in
-    subst (λ (s : Standing). IsDecidedAs s request (replies.Step reply) (standing secrets base kept.events pass clock caller)) (sym is)
+    let more : kept.events ≡ events ++ answer.0 ∷ [] = ap (λ (g : GateView). g.events) k ∙ ap (λ (es : List Event). es ++ answer.0 ∷ []) same.events_are in
+    subst (λ (s : Standing). IsDecidedAs s request (replies.Step reply) (standing (under kept.key kept.ring) kept.base kept.events pass clock caller sees)) (sym is)
     (record {
       told = reply;
       event = Some answer.0;
-      answer = subst (λ (z : ℤ). Answers (authority_under secrets) (state_of_standing (standing secrets base events pass clock caller)) pass z request reply (Some answer.0)) clock_is answer.1;
+      answer = subst (λ (z : ℤ). Answers (authority_under (under key ring)) (replay base events) pass z request reply (Some answer.0)) clock_is answer.1;
       reply_is = refl;
-      after_is = ap (λ (es : List Event). standing secrets base es pass clock caller) more;
+      after_is = same_standing kept.key key kept.ring ring kept.base base kept.events (events ++ answer.0 ∷ []) pass clock caller sees
+          (ap (λ (g : GateView). g.key) k ∙ same.key_is) (ap (λ (g : GateView). g.ring) k ∙ same.ring_is) (ap (λ (g : GateView). g.base) k ∙ same.base_is) more;
     })
 
 -- what is decided without an event is answered
-pub IsDecidedAs-answer : (seated : Standing) (secrets : Secrets) (base : BaseView) (events : List Event) (pass : ℕ) (clock shown : ℤ) (caller : List ℕ) (gate : GateView) (request : StepRequest) (reply : StepReply) →
-    seated ≡ standing secrets base events pass clock caller → gate.events ≡ events → shown ≡ clock →
-    Answers (authority_under secrets) (state_of_standing (standing secrets base events pass clock caller)) pass shown request reply None × (gate.pending ≡ None) →
-    IsDecidedAs seated request (replies.Step reply) (standing secrets base gate.events pass clock caller)
-IsDecidedAs-answer seated secrets base events pass clock shown caller gate request reply is same clock_is answer =
-    subst (λ (s : Standing). IsDecidedAs s request (replies.Step reply) (standing secrets base gate.events pass clock caller)) (sym is)
+pub IsDecidedAs-answer : (seated : Standing) (key : List ℕ) (ring : List KeyView) (base : BaseView) (events : List Event) (pass : ℕ) (clock shown : ℤ) (caller : List ℕ) (sees : Option (List ℕ)) (gate : GateView) (request : StepRequest) (reply : StepReply) →
+    seated ≡ standing (under key ring) base events pass clock caller sees → IsSameGate gate key ring base events → shown ≡ clock →
+    Answers (authority_under (under key ring)) (replay base events) pass shown request reply None × (gate.pending ≡ None) →
+    IsDecidedAs seated request (replies.Step reply) (standing (under gate.key gate.ring) gate.base gate.events pass clock caller sees)
+IsDecidedAs-answer seated key ring base events pass clock shown caller sees gate request reply is same clock_is answer =
+    subst (λ (s : Standing). IsDecidedAs s request (replies.Step reply) (standing (under gate.key gate.ring) gate.base gate.events pass clock caller sees)) (sym is)
     (record {
       told = reply;
       event = None;
-      answer = subst (λ (z : ℤ). Answers (authority_under secrets) (state_of_standing (standing secrets base events pass clock caller)) pass z request reply None) clock_is answer.0;
+      answer = subst (λ (z : ℤ). Answers (authority_under (under key ring)) (replay base events) pass z request reply None) clock_is answer.0;
       reply_is = refl;
-      after_is = ap (λ (es : List Event). standing secrets base es pass clock caller) (same ∙ sym (append-nil events));
+      after_is = same_standing gate.key key gate.ring ring gate.base base gate.events (events ++ []) pass clock caller sees same.key_is same.ring_is same.base_is (same.events_are ∙ sym (append-nil events));
     })
 
 -- ---- commands
@@ -105,27 +126,27 @@ pub IsFollowed-same : (before after : Standing) (command other : Command) (reply
 IsFollowed-same before after command other reply same followed = subst (λ (c : Command). IsFollowed before c reply after) (sym same) followed
 
 -- the clock is set
-pub IsFollowed-at : (seated : Standing) (secrets : Secrets) (base : BaseView) (events : List Event) (pass : ℕ) (clock : ℤ) (caller : List ℕ) (command : Command) (second shown : ℤ) → seated ≡ standing secrets base events pass clock caller → command ≡ commands.At second →
-    shown ≡ second → IsFollowed seated command replies.Done (standing secrets base events pass shown caller)
-IsFollowed-at seated secrets base events pass clock caller command second shown is asked same =
-    subst (λ (s : Standing). IsFollowed s command replies.Done (standing secrets base events pass shown caller)) (sym is)
-    (subst (λ (c : Command). IsFollowed (standing secrets base events pass clock caller) c replies.Done (standing secrets base events pass shown caller)) (sym asked)
+pub IsFollowed-at : (seated : Standing) (secrets : Secrets) (base : BaseView) (events : List Event) (pass : ℕ) (clock : ℤ) (caller : List ℕ) (sees : Option (List ℕ)) (command : Command) (second shown : ℤ) → seated ≡ standing secrets base events pass clock caller sees → command ≡ commands.At second →
+    shown ≡ second → IsFollowed seated command replies.Done (standing secrets base events pass shown caller sees)
+IsFollowed-at seated secrets base events pass clock caller sees command second shown is asked same =
+    subst (λ (s : Standing). IsFollowed s command replies.Done (standing secrets base events pass shown caller sees)) (sym is)
+    (subst (λ (c : Command). IsFollowed (standing secrets base events pass clock caller sees) c replies.Done (standing secrets base events pass shown caller sees)) (sym asked)
     (record {
       event = None;
       answer = at_once replies.Done (line_answer.sets_clock second);
-      after_is = ap (λ (z : ℤ). standing secrets base events pass z caller) same ∙ ap (λ (es : List Event). standing secrets base es pass second caller) (sym (append-nil events));
+      after_is = ap (λ (z : ℤ). standing secrets base events pass z caller sees) same ∙ ap (λ (es : List Event). standing secrets base es pass second caller sees) (sym (append-nil events));
     }))
 
 -- the caller is set
-pub IsFollowed-as : (seated : Standing) (secrets : Secrets) (base : BaseView) (events : List Event) (pass : ℕ) (clock : ℤ) (caller : List ℕ) (command : Command) (who : List ℕ) → seated ≡ standing secrets base events pass clock caller → command ≡ commands.As who →
-    IsFollowed seated command replies.Done (standing secrets base events pass clock who)
-IsFollowed-as seated secrets base events pass clock caller command who is asked =
-    subst (λ (s : Standing). IsFollowed s command replies.Done (standing secrets base events pass clock who)) (sym is)
-    (subst (λ (c : Command). IsFollowed (standing secrets base events pass clock caller) c replies.Done (standing secrets base events pass clock who)) (sym asked)
+pub IsFollowed-as : (seated : Standing) (secrets : Secrets) (base : BaseView) (events : List Event) (pass : ℕ) (clock : ℤ) (caller : List ℕ) (sees : Option (List ℕ)) (command : Command) (who : List ℕ) → seated ≡ standing secrets base events pass clock caller sees → command ≡ commands.As who →
+    IsFollowed seated command replies.Done (standing secrets base events pass clock who sees)
+IsFollowed-as seated secrets base events pass clock caller sees command who is asked =
+    subst (λ (s : Standing). IsFollowed s command replies.Done (standing secrets base events pass clock who sees)) (sym is)
+    (subst (λ (c : Command). IsFollowed (standing secrets base events pass clock caller sees) c replies.Done (standing secrets base events pass clock who sees)) (sym asked)
     (record {
       event = None;
       answer = at_once replies.Done (line_answer.sets_caller who);
-      after_is = ap (λ (es : List Event). standing secrets base es pass clock who) (sym (append-nil events));
+      after_is = ap (λ (es : List Event). standing secrets base es pass clock who sees) (sym (append-nil events));
     }))
 
 pub IsFollowed-register : (before after : Standing) (signature : Option (List ℕ)) (statement : StatementView) (given : List ℕ) (reply : LineReply) → given ≡ signature_under before.secrets.ring statement signature →
@@ -134,10 +155,9 @@ IsFollowed-register before after signature statement given reply given_is asked 
     followed_by before after (commands.Register signature statement) (requests.Register statement (signature_under before.secrets.ring statement signature)) reply refl (line_answer.registers signature statement)
     (subst (λ (bytes : List ℕ). IsDecidedAs before (requests.Register statement bytes) reply after) given_is asked)
 
-pub IsFollowed-show : (before after : Standing) (command : Command) (number : ℕ) (reply : LineReply) → None ≡ before.asker.sees → command ≡ commands.Procap number → IsDecidedAs before (requests.ShowProcap number None) reply after → IsFollowed before command reply after
-IsFollowed-show before after command number reply sees is asked =
-    IsFollowed-same before after command (commands.Procap number) reply is
-    (followed_by before after (commands.Procap number) (requests.ShowProcap number before.asker.sees) reply refl (line_answer.shows number) (subst (λ (who : Option (List ℕ)). IsDecidedAs before (requests.ShowProcap number who) reply after) sees asked))
+pub IsFollowed-show : (before after : Standing) (number : ℕ) (sees : Option (List ℕ)) (reply : LineReply) → sees ≡ before.asker.sees → IsDecidedAs before (requests.ShowProcap number sees) reply after → IsFollowed before (commands.Procap number) reply after
+IsFollowed-show before after number sees reply sees_is asked =
+    followed_by before after (commands.Procap number) (requests.ShowProcap number before.asker.sees) reply refl (line_answer.shows number) (subst (λ (who : Option (List ℕ)). IsDecidedAs before (requests.ShowProcap number who) reply after) sees_is asked)
 
 -- ---- proofs
 
@@ -218,12 +238,15 @@ pub IsReplied-without_memory : (before after : Standing) (line : List ℕ) → a
 IsReplied-without_memory before after line same = (None, subst (IsReplied before line replies.NoMemory None) (sym same) without_memory)
 
 -- a line with a fault
-pub IsReplied-faulty : (s : Standing) (line : List ℕ) (fault : LineFault) → IsLineFault line fault → (event : Option Event) × IsReplied s line (replies.Faulty fault) event s
-IsReplied-faulty s line fault bad = (None, subst (IsReplied s line (replies.Faulty fault) None) (sym (same_after s)) (answered (replies.Faulty fault) None s.asker (faulty fault bad)))
+faulty_line : (s : Standing) (line : List ℕ) (fault : LineFault) → IsLineFault line fault → (event : Option Event) × IsReplied s line (replies.Faulty fault) event s
+faulty_line s line fault bad = (None, subst (IsReplied s line (replies.Faulty fault) None) (sym (same_after s)) (answered (replies.Faulty fault) None s.asker (faulty fault bad)))
 
--- what was not read while memory did not run out is a fault
-pub IsLineFault-unread : (line : List ℕ) (fault : LineFault) → fault ≢ line_faults.NoMemory → IsUnread line fault → IsLineFault line fault
-IsLineFault-unread line (line_faults.BadWord place) some bad = bad
-IsLineFault-unread line line_faults.BadCount some bad = bad
-IsLineFault-unread line (line_faults.BadText fault) some bad = bad
-IsLineFault-unread line line_faults.NoMemory some bad = absurd (some refl)
+unread_line : (s : Standing) (line : List ℕ) (fault : LineFault) → IsUnread line fault → (event : Option Event) × IsReplied s line (unread_reply fault) event s
+unread_line s line (line_faults.BadWord place) bad = faulty_line s line (line_faults.BadWord place) bad
+unread_line s line line_faults.BadCount bad = faulty_line s line line_faults.BadCount bad
+unread_line s line (line_faults.BadText fault) bad = faulty_line s line (line_faults.BadText fault) bad
+unread_line s line line_faults.NoMemory bad = (None, without_memory)
+
+-- what is returned to a line that was not read
+pub IsReplied-unread : (s : Standing) (line : List ℕ) (fault : LineFault) (reply : LineReply) → reply ≡ unread_reply fault → IsUnread line fault → (event : Option Event) × IsReplied s line reply event s
+IsReplied-unread s line fault reply is bad = subst (λ (r : LineReply). (event : Option Event) × IsReplied s line r event s) (sym is) (unread_line s line fault bad)

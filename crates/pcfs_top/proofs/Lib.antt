@@ -1,6 +1,7 @@
 pub mod AllowedLemmas
 pub mod BroughtLemmas
 pub mod EndsWithLemmas
+pub mod ExactLemmas
 pub mod FormedLemmas
 pub mod InterpreterLemmas
 pub mod LawfulRunLemmas

@@ -12,6 +12,8 @@ use Rattle.access_history.specs.Answer.{Answers}
 use Rattle.access_history.specs.Citing.{AreCitable}
 use Rattle.line_forms.specs.declared.command.Command.{Command}
 use Rattle.line_forms.specs.declared.command.Command.TheVariants.{At, As, Register, Procap, Verify, Check, Do}
+use Rattle.line_forms.specs.declared.fault.LineFault.{LineFault}
+use Rattle.line_forms.specs.declared.fault.LineFault.TheVariants as line_faults
 use Rattle.line_wire.specs.declared.reply.LineReply.{LineReply}
 use Rattle.line_wire.specs.declared.reply.LineReply.TheVariants as replies
 use Rattle.pcfs_top.specs.Asker.{asker_after}
@@ -31,6 +33,13 @@ pub record IsFollowed (before : Standing) (command : Command) (reply : LineReply
   pub event : Option Event
   pub answer : AnswersCommand before.secrets (state_of_standing before) before.asker command reply event
   pub after_is : after ≡ standing_after before event (asker_after before.asker command)
+
+-- what is returned to a line that was not read: its fault, or that memory ran out
+abbrev pub unread_reply : LineFault → LineReply
+unread_reply line_faults.NoMemory = replies.NoMemory
+unread_reply (line_faults.BadWord place) = replies.Faulty (line_faults.BadWord place)
+unread_reply line_faults.BadCount = replies.Faulty line_faults.BadCount
+unread_reply (line_faults.BadText fault) = replies.Faulty (line_faults.BadText fault)
 
 -- what a line can ask for: a moment for the clock, a principal for the caller, a statement within its rules, numbers that can be cited, and an operation with a procap for each place of its needs and not too many
 -- bytes

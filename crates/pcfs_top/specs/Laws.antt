@@ -1,11 +1,13 @@
 -- Laws of runs and lines: what runs keep is lawful, and lines and runs have one answer each.
-use Rattle.std.specs.Prelude.{◌≡◌, ℕ, List, ◌++◌, Option}
+use Rattle.std.specs.Prelude.{◌≡◌, ◌<◌, ◌^◌, ℕ, List, ◌++◌, length, Option}
 use Rattle.access_history.specs.declared.event.Event.{Event}
 use Rattle.access_history.specs.Lawful.{IsLawful}
+use Rattle.line_text.specs.Lines.{lines_of}
 use Rattle.line_wire.specs.declared.reply.LineReply.{LineReply}
+use Rattle.pcfs_secrets.specs.declared.secrets.Secrets.{Secrets}
 use Rattle.pcfs_top.specs.Asker.{Asker}
 use Rattle.pcfs_top.specs.LineAnswer.{authority_under, AnswersLine}
-use Rattle.pcfs_top.specs.ScriptRun.{Standing, state_of_standing, IsLawfulStanding, CanNumber, ScriptRun, HadMemory}
+use Rattle.pcfs_top.specs.ScriptRun.{Standing, state_of_standing, IsLawfulStanding, CanNumber, ScriptRun, HadMemory, fresh_start}
 
 -- the events of a run from a lawful start are lawful
 abbrev pub RunsAreLawful : Type 0
@@ -31,3 +33,17 @@ RunsHaveOneOutcome = (start : Standing) (lines : List (List ℕ)) (first second 
 abbrev pub RunsHaveAnOutcome : Type 0
 RunsHaveAnOutcome = (start : Standing) (lines : List (List ℕ)) → IsLawfulStanding start → CanNumber start lines →
     (replies : List LineReply) × (added : List Event) × ScriptRun start lines replies added × HadMemory replies
+
+-- a script over a store before its first event begins lawfully
+abbrev pub FreshStartsAreLawful : Type 0
+FreshStartsAreLawful = (secrets : Secrets) → IsLawfulStanding (fresh_start secrets)
+
+-- the outcome of a run that does not run out of memory, and no other run has another
+pub record IsOutcome (start : Standing) (lines : List (List ℕ)) (replies : List LineReply) (added : List Event) : Type 0 where
+  pub run : ScriptRun start lines replies added
+  pub had_memory : HadMemory replies
+  pub only : (others : List LineReply) (events : List Event) → ScriptRun start lines others events → HadMemory others → (others ≡ replies) × (events ≡ added)
+
+-- each input of a script over a store before its first event has exactly one outcome, unless memory runs out
+abbrev pub ScriptsHaveOneOutcome : Type 0
+ScriptsHaveOneOutcome = (secrets : Secrets) (input : List ℕ) → length input < 2 ^ 30 → (replies : List LineReply) × (added : List Event) × IsOutcome (fresh_start secrets) (lines_of input) replies added

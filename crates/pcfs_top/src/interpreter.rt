@@ -1,6 +1,7 @@
 //! The interpreter, which answers the lines of an operator's script.
 
 ghost use Rattle.std.specs.Prelude.{◌≡◌, ◌≢◌, ◌≤◌, ◌<◌, ◌-◌, ◌^◌, length, IfOk, OnErr};
+ghost use Rattle.pcfs_top.specs.Interpreter.{unread_reply};
 
 use crate::brought::add_procaps;
 use crate::signing::signature_of;
@@ -20,14 +21,15 @@ use std::marker::Model;
 /// The events of an operator's script carry this number.
 const SCRIPT_PASS: u64 = 1;
 
-/// A gate, the number that its events carry, what the clock shows in whole seconds from 1970-01-01T00:00:00Z, and who
-/// calls.
+/// A gate, the number that its events carry, what the clock shows in whole seconds from 1970-01-01T00:00:00Z, who
+/// calls, and whose procaps are shown: each if nobody is named.
 #[derive(Drop)]
 pub struct Interpreter {
     gate: Gate,
     pass: u64,
     clock: i64,
     caller: Principal,
+    sees: Option<Principal>,
 }
 
 impl Model for Interpreter {
@@ -41,7 +43,7 @@ impl Model for Interpreter {
 
     ghost coded = { standing_code };
 
-    ghost view = { λ d. record { secrets = record { seal_key = d.gate.key; ring = d.gate.ring }; base = d.gate.base; events = d.gate.events; asker = record { pass = d.pass; clock = d.clock; caller = d.caller; sees = None } } };
+    ghost view = { λ d. record { secrets = record { seal_key = d.gate.key; ring = d.gate.ring }; base = d.gate.base; events = d.gate.events; asker = record { pass = d.pass; clock = d.clock; caller = d.caller; sees = d.sees } } };
 
     ghost invariant = { λ d. IsMoment d.clock × IsTrue (is_principal_name d.caller) × (d.gate.pending ≡ None) };
 }
@@ -56,6 +58,16 @@ fn unproved(fault: CheckFault) -> Result<LineReply, NoMemory>
     }
 }
 
+// What is returned to a line with this fault.
+fn unread(fault: LineFault) -> LineReply
+    ensures { result ≡ unread_reply fault }
+{
+    match fault {
+        LineFault::NoMemory => LineReply::NoMemory,
+        _ => LineReply::Faulty(fault),
+    }
+}
+
 impl Interpreter {
     ghost use Rattle.std.specs.Prelude.{Option};
     ghost use Rattle.access_history.specs.declared.event.Event.{Event};
@@ -64,7 +76,7 @@ impl Interpreter {
     ghost use Rattle.bl_syntax.specs.Statement.{IsStatement};
     ghost use Rattle.file_world.specs.Effect.{IsOperation};
     ghost use Rattle.file_world.specs.Needs.{slots, bytes_to_write};
-    ghost use Rattle.line_forms.specs.declared.command.Command.TheVariants.{Register, Verify, Check, Do};
+    ghost use Rattle.line_forms.specs.declared.command.Command.TheVariants.{Register, Procap as ShowProcap, Verify, Check, Do};
     ghost use Rattle.pcfs_top.specs.ScriptRun.{state_of_standing, IsReplied, fresh_start};
     ghost use Rattle.pcfs_top.specs.Interpreter.{IsDecidedAs, IsFollowed, IsAllowed};
 
@@ -78,6 +90,7 @@ impl Interpreter {
             pass: SCRIPT_PASS,
             clock: 0,
             caller: Principal::new(b"admin").unwrap(),
+            sees: None,
         })
     }
 
@@ -112,7 +125,7 @@ impl Interpreter {
         ensures err { OnErr result (self.new ≡ self.old) }
     {
         match self.gate.cite(alloc, numbers.as_slice())? {
-            Citation::Absent(number) => Ok(LineReply::Step(StepReply::Absent(u64::from(number)))),
+            Citation::Absent(number) => Ok(LineReply::Step(StepReply::Absent(number as u64))),
             Citation::Cited(cites) => match verify(alloc, cites, goal, proof) {
                 Ok(checked) => self.ask(alloc, StepRequest::Issue(checked)),
                 Err(fault) => unproved(fault),
@@ -132,7 +145,7 @@ impl Interpreter {
         ensures { IfOk result (λ reply. IsFollowed self.now (Check goal.now numbers.now proof.now) reply self.now) }
     {
         match self.gate.cite(alloc, numbers.as_slice())? {
-            Citation::Absent(number) => Ok(LineReply::Step(StepReply::Absent(u64::from(number)))),
+            Citation::Absent(number) => Ok(LineReply::Step(StepReply::Absent(number as u64))),
             Citation::Cited(cites) => match verdict(alloc, &cites, goal, proof) {
                 Ok(grant) => Ok(LineReply::Checked(grant)),
                 Err(fault) => unproved(fault),
@@ -154,6 +167,15 @@ impl Interpreter {
     {
         let signature = signature_of(alloc, self.gate.ring(), &statement, signature)?;
         self.ask(alloc, StepRequest::Register(statement, signature))
+    }
+
+    // Shows the procap of the issue of this number.
+    fn show(&mut self, alloc: Global, number: u64) -> Result<LineReply, NoMemory>
+        requires { (state_of_standing self.old).count < 2 ^ 48 - 1 }
+        ensures ok { IfOk result (λ reply. IsFollowed self.old (ShowProcap number) reply self.new) }
+        ensures err { OnErr result (self.new ≡ self.old) }
+    {
+        self.ask(alloc, StepRequest::ShowProcap(number, self.sees))
     }
 
     // Does the operation under the procaps that the words bring.
@@ -193,7 +215,7 @@ impl Interpreter {
             }
             Command::Verify(goal, numbers, proof) => self.verify(alloc, goal, &numbers, proof),
             Command::Check(goal, numbers, proof) => self.check(alloc, &goal, &numbers, &proof),
-            Command::Procap(number) => self.ask(alloc, StepRequest::ShowProcap(number, None)),
+            Command::Procap(number) => self.show(alloc, number),
             Command::Do(op, words) => self.act(alloc, op, &words),
         }
     }
@@ -209,8 +231,7 @@ impl Interpreter {
                 Ok(reply) => reply,
                 Err(_) => LineReply::NoMemory,
             },
-            Err(LineFault::NoMemory) => LineReply::NoMemory,
-            Err(fault) => LineReply::Faulty(fault),
+            Err(fault) => unread(fault),
         }
     }
 }

@@ -1,6 +1,6 @@
 //! Laws of the definitions. The functions do nothing: each contract is a law.
 
-ghost use Rattle.pcfs_top.specs.Laws.{RunsAreLawful, LinesHaveOneAnswer, LinesHaveAnAnswer, RunsHaveOneOutcome, RunsHaveAnOutcome};
+ghost use Rattle.pcfs_top.specs.Laws.{RunsAreLawful, LinesHaveOneAnswer, LinesHaveAnAnswer, RunsHaveOneOutcome, RunsHaveAnOutcome, FreshStartsAreLawful, ScriptsHaveOneOutcome};
 
 /// The events of a run of a script are lawful.
 pub fn runs_are_lawful()
@@ -25,4 +25,14 @@ pub fn runs_have_one_outcome()
 /// The lines of a script have an outcome for which memory does not run out.
 pub fn runs_have_an_outcome()
     ensures { RunsHaveAnOutcome }
+{}
+
+/// A script over a store before its first event begins lawfully.
+pub fn fresh_starts_are_lawful()
+    ensures { FreshStartsAreLawful }
+{}
+
+/// Each input of a script over a store before its first event has exactly one outcome, unless memory runs out.
+pub fn scripts_have_one_outcome()
+    ensures { ScriptsHaveOneOutcome }
 {}

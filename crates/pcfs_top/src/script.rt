@@ -59,7 +59,9 @@ fn answer_lines<O: Sink>(
     let mut rest = input;
     while let Some((line, others)) = first_line(rest) {
         let reply = interpreter.reply_to(alloc, line);
-        send(alloc, &mut collected, &reply, output)?;
+        let sent = send(alloc, &mut collected, &reply, output);
+        drop(reply);
+        sent?;
         rest = others;
     }
     Ok(flush(&mut collected, output)?)

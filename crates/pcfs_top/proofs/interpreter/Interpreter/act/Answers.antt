@@ -3,7 +3,7 @@ use Rattle.std.proofs.Common.{sym, ap, ◌∙◌}
 use Rattle.std.proofs.lemmas.Result.{IfOk-weaker}
 use Rattle.pcfs_top.specs.ScriptRun.{Standing}
 use Rattle.pcfs_top.proofs.BroughtLemmas.{unissued_seated, brought_seated}
-use Rattle.pcfs_top.proofs.LawfulRunLemmas.{same_length}
+use Rattle.pcfs_top.proofs.FormedLemmas.{same_length}
 use Rattle.pcfs_top.proofs.InterpreterLemmas.{IsFollowed-do, IsFollowed-do_absent}
 use Rattle.pcfs_top.proofs.interpreter.Interpreter.act.Goals as goal
 
@@ -15,7 +15,12 @@ returns-in-Some-clause-ok c =
 pub ask-requires-clause-well_formed : goal.ask-requires-clause-well_formed
 ask-requires-clause-well_formed c =
     let brought = brought_seated _ c.args.self.now c.as_slice.result.now c.args.words.now _ c.add_procaps.new.procaps c.in_ok-number.field-0 c.self.view_is c.as_slice.ensures c.in_default.is c.new-procaps.ensures c.in_ok-number.ensures in
-    (sym (same_length _ _ c.args.words.now c.add_procaps.new.procaps brought) ∙ c.requires.one_each, c.requires.few_bytes)
+    record {
+      named = c.ask.invariant.1;
+      operation = c.requires.operation;
+      slots = sym (same_length _ _ c.args.words.now c.add_procaps.new.procaps brought) ∙ c.requires.one_each;
+      few_bytes = c.requires.few_bytes;
+    }
 
 pub returns-clause-ok : goal.returns-clause-ok
 returns-clause-ok c =
