@@ -9,8 +9,7 @@ use Rattle.bl_syntax.specs.declared.terms.TimePoint.{TimePoint}
 use Rattle.bl_syntax.specs.declared.terms.TimePoint.TheVariants.{At}
 use Rattle.bl_syntax.specs.TimeOrder.{IsMoment}
 use Rattle.bl_syntax.specs.Spelling.{with_length, time_spelling}
-use Rattle.bl_syntax.specs.Reading as reading
-use Rattle.bl_syntax.specs.Reading.{place, number_at, is_moment, time_at}
+use Rattle.bl_syntax.specs.Reading.{place, number_at, is_moment, moment_at, time_at}
 use Rattle.bl_syntax.specs.Codec.{AreBytes, IsCodec}
 use Rattle.bl_syntax.proofs.CodecLemmas.{bind_ok, by_test, ok_is, bind_memoryless, codec}
 use Rattle.bl_syntax.proofs.FieldLemmas.{wide32, wide64, number_found, number_again, number_memoryless, time_found, time_again}
@@ -93,7 +92,7 @@ long_codec = codec IsLong long_spelling (λ input. long_at) (λ input. long_foun
 -- ---- moments: as the points in time that are written behind a byte 1
 
 as_time : (input : ℕ) (bytes rest : List ℕ) (second : ℤ) → second_at input bytes ≡ Ok (second, rest) → time_at input (1 ∷ bytes) ≡ Ok (At second, rest)
-unfolding second_at reading.time_at reading.moment_at
+unfolding second_at time_at moment_at
 as_time input bytes rest second e =
     let a = bind_ok (number_at w64 bytes) (λ n. cond (is_moment (cast_signed w64 n.0)) (done (cast_signed w64 n.0, n.1)) (Err (NotCanonical (place input bytes)))) (second, rest) e in
     by_test (is_moment (cast_signed w64 a.0.0)) _ _ _ a.2 (λ is found.
@@ -105,7 +104,7 @@ tail [] = []
 tail (byte ∷ bytes) = bytes
 
 second_found : (input : ℕ) (bytes rest : List ℕ) (second : ℤ) → AreBytes bytes → second_at input bytes ≡ Ok (second, rest) → IsMoment second × (bytes ≡ second_spelling second ++ rest)
-unfolding reading.time_at time_spelling
+unfolding time_at time_spelling
 second_found input bytes rest second fits e =
     let it = time_found input (1 ∷ bytes) rest (At second) (AreBytes-more 1 bytes (omega arith) fits) (as_time input bytes rest second e) in
     (it.0, ap tail it.1)
@@ -114,7 +113,7 @@ at_is : (a b : ℤ) → At a ≡ At b → a ≡ b
 at_is a b e = cc
 
 second_again : (input : ℕ) (second : ℤ) (rest : List ℕ) → IsMoment second → second_at input (second_spelling second ++ rest) ≡ Ok (second, rest)
-unfolding second_at reading.time_at reading.moment_at time_spelling
+unfolding second_at time_at moment_at time_spelling
 second_again input second rest h =
     let bytes : List ℕ = second_spelling second ++ rest in
     let e : time_at input (time_spelling (At second) ++ rest) ≡ Ok (At second, rest) = time_again input (At second) rest h in

@@ -17,7 +17,7 @@ use Rattle.procap.proofs.PartLemmas.{both_spelling, AreBoth, both_codec}
 use Rattle.file_world.specs.declared.operation.Op.{Op}
 use Rattle.file_world.specs.declared.operation.Op.TheVariants.{Read, Write, Truncate, List as ListOf, Lookup, Create, Mkdir, Unlink, Rename, Getattr, Setattr, Delattr, Chown}
 use Rattle.record_parts.specs.Fields.{u64_at, node_spelling, node_at, IsSpellableNode, short_at, IsShort, long_spelling, long_at, IsLong}
-use Rattle.record_parts.specs.OperationSpelling.{number_spelling, IsSpellableNumber, operation_spelling, IsSpellableOperation}
+use Rattle.record_parts.specs.OperationSpelling.{number_spelling, IsSpellableNumber, operation_spelling, IsSpellableOperation, HasFittingWords}
 use Rattle.record_parts.specs.OperationReading.{named_node_at, range_at, piece_at, renamed_at, valued_at, read_words_at, write_words_at, truncate_words_at, rename_words_at, setattr_words_at, chown_words_at, attribute_words_at, name_words_at, words_at, operation_at}
 use Rattle.record_parts.proofs.FieldsLemmas.{u64_codec, node_codec, short_codec, long_codec}
 
@@ -213,3 +213,22 @@ operation_memoryless input (tag ∷ more) e = words_memoryless input (place inpu
 
 pub operation_codec : IsCodec IsSpellableOperation operation_spelling operation_at
 operation_codec = codec IsSpellableOperation operation_spelling operation_at operation_found operation_again operation_memoryless
+
+-- an operation that has a spelling may be written
+pub spelled_fits : (op : Op) → IsSpellableOperation op → HasFittingWords op
+spelled_fits (Read file offset len) h = tt
+spelled_fits (Write file offset bytes) h = h.1.1
+spelled_fits (Truncate file len) h = tt
+spelled_fits (ListOf directory) h = tt
+spelled_fits (Lookup directory name) h = h.1
+spelled_fits (Create directory name) h = h.1
+spelled_fits (Mkdir directory name) h = h.1
+spelled_fits (Unlink directory name) h = h.1
+spelled_fits (Rename directory name target new) h = (h.1.0, h.1.1.1)
+spelled_fits (Getattr node name) h = h.1
+spelled_fits (Setattr node name value) h = h.1.0
+spelled_fits (Delattr node name) h = h.1
+spelled_fits (Chown node owner) h = tt
+
+pub read_fits : (input : ℕ) (bytes rest : List ℕ) (op : Op) → AreBytes bytes → operation_at input bytes ≡ Ok (op, rest) → HasFittingWords op
+read_fits input bytes rest op fits e = spelled_fits op (operation_found input bytes rest op fits e).0
