@@ -14,8 +14,9 @@ use Rattle.access_history.specs.declared.event.Event.{Event}
 use Rattle.access_history.specs.declared.event.Event.TheVariants.{Registered, Issued, Acted}
 use Rattle.record_parts.specs.RecordSpelling.{Registration, IsRegistration, registration_spelling, Issuing, IsIssuing, issuing_spelling, Action, IsAction, action_spelling}
 use Rattle.record_parts.specs.RecordReading.{registered_at, issued_at, acted_at}
+use Rattle.record_parts.proofs.OperationLemmas.{spelled_fits}
 use Rattle.record_parts.proofs.RecordLemmas.{registered_codec, issued_codec, acted_codec}
-use Rattle.journal_records.specs.EventSpelling.{erase, event_spelling, IsSpellableEvent, IsReadEvent}
+use Rattle.journal_records.specs.EventSpelling.{erase, event_spelling, IsSpellableEvent, HasFittingFields, IsReadEvent}
 use Rattle.journal_records.specs.EventReading.{event_at, whole_event, ReadsWholeEvent}
 
 abbrev registered : Registration → Event
@@ -137,3 +138,9 @@ is_left_over bytes (byte ∷ rest) e read some = rw read refl
 
 pub reads_stop : (bytes : List ℕ) (fault : CodecFault) → ReportsFault fault (whole_event bytes) → ReadsWholeEvent bytes (Err fault)
 reads_stop bytes fault h = reads_err bytes fault (λ memory. stops_with fault (whole_event bytes) h memory)
+
+-- an event that is read may be written
+pub read_fits : (e : Event) → IsReadEvent e → HasFittingFields e
+read_fits (Registered pass statement signature) h = h.spelled.signature
+read_fits (Issued pass cited proof grant) h = h.spelled.cited.few
+read_fits (Acted pass caller op procaps moment) h = (spelled_fits op h.spelled.op, (h.spelled.procaps.few, h.spelled.moment))
