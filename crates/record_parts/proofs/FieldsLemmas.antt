@@ -14,7 +14,7 @@ use Rattle.bl_syntax.specs.Codec.{AreBytes, IsCodec}
 use Rattle.bl_syntax.proofs.CodecLemmas.{bind_ok, by_test, ok_is, bind_memoryless, codec}
 use Rattle.bl_syntax.proofs.FieldLemmas.{wide32, wide64, number_found, number_again, number_memoryless, time_found, time_again}
 use Rattle.procap.proofs.ItemsLemmas.{test_memoryless}
-use Rattle.record_parts.specs.Fields.{u32_at, u64_at, node, node_spelling, node_at, IsSpellableNode, short_at, IsShort, long_spelling, long_at, IsLong, second_spelling, second_at}
+use Rattle.record_parts.specs.Fields.{u32_at, u64_at, number_spelling, IsSpellableNumber, node, node_spelling, node_at, IsSpellableNode, short_at, IsShort, long_spelling, long_at, IsLong, second_spelling, second_at}
 use Rattle.record_parts.proofs.CodecLemmas.{done, made_codec, AreBytes-more}
 
 -- ---- numbers and nodes
@@ -23,12 +23,13 @@ pub u32_codec : IsCodec (λ (n : ℕ). n < 2 ^ 32) (to_be_bytes w32) (λ input. 
 u32_codec = codec (λ n. n < 2 ^ 32) (to_be_bytes w32) (λ input. u32_at)
     (λ input bytes rest n fits e. number_found w32 (2 ^ 32) wide32 bytes n rest fits e) (λ input n rest low. number_again w32 (2 ^ 32) wide32 n rest low) (λ input bytes e. number_memoryless w32 bytes e)
 
-pub u64_codec : IsCodec (λ (n : ℕ). n < 2 ^ 64) (to_be_bytes w64) (λ input. u64_at)
-u64_codec = codec (λ n. n < 2 ^ 64) (to_be_bytes w64) (λ input. u64_at)
+pub u64_codec : IsCodec IsSpellableNumber number_spelling (λ input. u64_at)
+unfolding number_spelling
+u64_codec = codec IsSpellableNumber number_spelling (λ input. u64_at)
     (λ input bytes rest n fits e. number_found w64 (2 ^ 64) wide64 bytes n rest fits e) (λ input n rest low. number_again w64 (2 ^ 64) wide64 n rest low) (λ input bytes e. number_memoryless w64 bytes e)
 
 pub node_codec : IsCodec IsSpellableNode node_spelling (λ input. node_at)
-node_codec = made_codec (λ n. n < 2 ^ 64) (to_be_bytes w64) (λ input. u64_at) IsSpellableNode node_spelling node (λ file. file.0) u64_codec (λ n h. h) (λ file h. h) (λ n. refl) (λ file. refl)
+node_codec = made_codec IsSpellableNumber number_spelling (λ input. u64_at) IsSpellableNode node_spelling node (λ file. file.0) u64_codec (λ n h. h) (λ file h. h) (λ n. refl) (λ file. refl)
 
 -- ---- names in no grammar
 
@@ -61,7 +62,7 @@ short_codec = codec IsShort with_length (λ input. short_at) (λ input. short_fo
 -- ---- plain bytes
 
 long_found : (bytes rest plain : List ℕ) → AreBytes bytes → long_at bytes ≡ Ok (plain, rest) → IsLong plain × (bytes ≡ long_spelling plain ++ rest)
-unfolding long_at
+unfolding long_at long_spelling
 long_found bytes rest plain fits e =
     let a = bind_ok (number_at w32 bytes) (λ len. cond (ltb (length len.1) len.0) (Err Short) (done (take len.0 len.1, drop len.0 len.1))) (plain, rest) e in
     let number = number_found w32 (2 ^ 32) wide32 bytes a.0.0 a.0.1 fits a.1 in
@@ -75,10 +76,10 @@ long_found bytes rest plain fits e =
     subst (λ (p : List ℕ × List ℕ). IsLong p.0 × (bytes ≡ long_spelling p.0 ++ p.1)) (ok_is (take a.0.0 a.0.1, drop a.0.0 a.0.1) (plain, rest) found) (fit, sized))
 
 long_again : (plain rest : List ℕ) → IsLong plain → long_at (long_spelling plain ++ rest) ≡ Ok (plain, rest)
-unfolding long_at
+unfolding long_at long_spelling
 long_again plain rest fit =
     let enough : ltb (length (plain ++ rest)) (length plain) ≡ false = le-ltb _ _ (omega (arith, length-append plain rest)) in
-    rw (append_assoc (to_be_bytes w32 (length plain)) plain rest, number_again w32 (2 ^ 32) wide32 (length plain) (plain ++ rest) fit, enough, take_at plain rest (length plain) refl, drop_at plain rest (length plain) refl) refl
+    rw (number_again w32 (2 ^ 32) wide32 (length plain) (plain ++ rest) fit, enough, take_at plain rest (length plain) refl, drop_at plain rest (length plain) refl) refl
 
 long_memoryless : (bytes : List ℕ) → long_at bytes ≡ Err faults.NoMemory → ⊥
 unfolding long_at
@@ -91,12 +92,20 @@ long_codec = codec IsLong long_spelling (λ input. long_at) (λ input. long_foun
 
 -- ---- moments: as the points in time that are written behind a byte 1
 
+read_time : (input : ℕ) (bytes : List ℕ) (n : ℕ × List ℕ) → number_at w64 bytes ≡ Ok n → is_moment (cast_signed w64 n.0) ≡ true → time_at input (1 ∷ bytes) ≡ Ok (At (cast_signed w64 n.0), n.1)
+unfolding time_at moment_at
+read_time input bytes n e is = rw (e, is) refl
+
+read_second : (input : ℕ) (bytes : List ℕ) (n : ℕ × List ℕ) → number_at w64 bytes ≡ Ok n → is_moment (cast_signed w64 n.0) ≡ true → second_at input bytes ≡ Ok (cast_signed w64 n.0, n.1)
+unfolding second_at
+read_second input bytes n e is = rw (e, is) refl
+
 as_time : (input : ℕ) (bytes rest : List ℕ) (second : ℤ) → second_at input bytes ≡ Ok (second, rest) → time_at input (1 ∷ bytes) ≡ Ok (At second, rest)
 unfolding second_at time_at moment_at
 as_time input bytes rest second e =
     let a = bind_ok (number_at w64 bytes) (λ n. cond (is_moment (cast_signed w64 n.0)) (done (cast_signed w64 n.0, n.1)) (Err (NotCanonical (place input bytes)))) (second, rest) e in
     by_test (is_moment (cast_signed w64 a.0.0)) _ _ _ a.2 (λ is found.
-    let read : time_at input (1 ∷ bytes) ≡ Ok (At (cast_signed w64 a.0.0), a.0.1) = rw (a.1, is) refl in
+    let read = read_time input bytes a.0 a.1 is in
     subst (λ (p : ℤ × List ℕ). time_at input (1 ∷ bytes) ≡ Ok (At p.0, p.1)) (ok_is (cast_signed w64 a.0.0, a.0.1) (second, rest) found) read) (λ _ fault. absurd cc)
 
 abbrev tail : List ℕ → List ℕ
@@ -104,7 +113,7 @@ tail [] = []
 tail (byte ∷ bytes) = bytes
 
 second_found : (input : ℕ) (bytes rest : List ℕ) (second : ℤ) → AreBytes bytes → second_at input bytes ≡ Ok (second, rest) → IsMoment second × (bytes ≡ second_spelling second ++ rest)
-unfolding time_at time_spelling
+unfolding time_at time_spelling second_spelling
 second_found input bytes rest second fits e =
     let it = time_found input (1 ∷ bytes) rest (At second) (AreBytes-more 1 bytes (omega arith) fits) (as_time input bytes rest second e) in
     (it.0, ap tail it.1)
@@ -113,7 +122,7 @@ at_is : (a b : ℤ) → At a ≡ At b → a ≡ b
 at_is a b e = cc
 
 second_again : (input : ℕ) (second : ℤ) (rest : List ℕ) → IsMoment second → second_at input (second_spelling second ++ rest) ≡ Ok (second, rest)
-unfolding second_at time_at moment_at time_spelling
+unfolding second_at time_at moment_at time_spelling second_spelling
 second_again input second rest h =
     let bytes : List ℕ = second_spelling second ++ rest in
     let e : time_at input (time_spelling (At second) ++ rest) ≡ Ok (At second, rest) = time_again input (At second) rest h in
@@ -122,7 +131,7 @@ second_again input second rest h =
     let pair = ok_is (At (cast_signed w64 a.0.0), a.0.1) (At second, rest) found in
     let same : cast_signed w64 a.0.0 ≡ second = at_is _ _ (ap (λ (p : TimePoint × List ℕ). p.0) pair) in
     let behind : a.0.1 ≡ rest = ap (λ (p : TimePoint × List ℕ). p.1) pair in
-    let read : second_at input bytes ≡ Ok (cast_signed w64 a.0.0, a.0.1) = rw (a.1, is) refl in
+    let read = read_second input bytes a.0 a.1 is in
     read ∙ ap (λ (n : ℤ). done (n, a.0.1)) same ∙ ap (λ (end : List ℕ). done (second, end)) behind) (λ _ fault. absurd cc)
 
 second_memoryless : (input : ℕ) (bytes : List ℕ) → second_at input bytes ≡ Err faults.NoMemory → ⊥

@@ -16,8 +16,8 @@ use Rattle.procap.proofs.ItemsLemmas.{test_memoryless}
 use Rattle.procap.proofs.PartLemmas.{both_spelling, AreBoth, both_codec}
 use Rattle.file_world.specs.declared.operation.Op.{Op}
 use Rattle.file_world.specs.declared.operation.Op.TheVariants.{Read, Write, Truncate, List as ListOf, Lookup, Create, Mkdir, Unlink, Rename, Getattr, Setattr, Delattr, Chown}
-use Rattle.record_parts.specs.Fields.{u64_at, node_spelling, node_at, IsSpellableNode, short_at, IsShort, long_spelling, long_at, IsLong}
-use Rattle.record_parts.specs.OperationSpelling.{number_spelling, IsSpellableNumber, operation_spelling, IsSpellableOperation, HasFittingWords}
+use Rattle.record_parts.specs.Fields.{u64_at, number_spelling, IsSpellableNumber, node_spelling, node_at, IsSpellableNode, short_at, IsShort, long_spelling, long_at, IsLong}
+use Rattle.record_parts.specs.OperationSpelling.{operation_spelling, IsSpellableOperation, HasFittingWords}
 use Rattle.record_parts.specs.OperationReading.{named_node_at, range_at, piece_at, renamed_at, valued_at, read_words_at, write_words_at, truncate_words_at, rename_words_at, setattr_words_at, chown_words_at, attribute_words_at, name_words_at, words_at, operation_at}
 use Rattle.record_parts.proofs.FieldsLemmas.{u64_codec, node_codec, short_codec, long_codec}
 

@@ -146,7 +146,7 @@ abbrev pub of_length : ℕ → ℕ → List ℕ → ProofView × List ℕ → Re
 of_length start len bytes proof = cond (eqb (length bytes - length proof.1) len) (done proof) (Err (faults.NotCanonical start))
 
 sized_found : (input : ℕ) (bytes rest : List ℕ) (d : ProofView) → AreBytes bytes → sized_proof_at input bytes ≡ Ok (d, rest) → IsSpellableProof d × (bytes ≡ sized_proof_spelling d ++ rest)
-unfolding sized_proof_at
+unfolding sized_proof_at sized_proof_spelling
 sized_found input bytes rest d fits e =
     let a = bind_ok (number_at w32 bytes) (λ len. as_part (kept_proof_at input len.1) >>= of_length (place input bytes) len.0 len.1) (d, rest) e in
     let number = number_found w32 (2 ^ 32) wide32 bytes a.0.0 a.0.1 fits a.1 in
@@ -163,7 +163,7 @@ sized_found input bytes rest d fits e =
     subst (λ (p : ProofView × List ℕ). IsSpellableProof p.0 × (bytes ≡ sized_proof_spelling p.0 ++ p.1)) (ok_is b.0 (d, rest) found) (it.0, sized)) (λ _ fault. absurd cc)
 
 sized_again : (input : ℕ) (d : ProofView) (rest : List ℕ) → IsSpellableProof d → sized_proof_at input (sized_proof_spelling d ++ rest) ≡ Ok (d, rest)
-unfolding sized_proof_at
+unfolding sized_proof_at sized_proof_spelling
 sized_again input d rest h =
     let same : eqb (length (proof_spelling d ++ rest) - length rest) (length (proof_spelling d)) ≡ true = eq-eqb _ _ (omega (arith, length-append (proof_spelling d) rest)) in
     rw (append_assoc (to_be_bytes w32 (length (proof_spelling d))) (proof_spelling d) rest, number_again w32 (2 ^ 32) wide32 (length (proof_spelling d)) (proof_spelling d ++ rest) (proof_is_short d h), proofs_codec.again input d rest h, same) refl

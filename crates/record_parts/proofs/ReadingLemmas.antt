@@ -1,5 +1,6 @@
 -- What the calls read is what the definitions read: parts that are read as if the input began with them, proofs with their length, and lists.
 use Rattle.std.proofs.Common.{◌≡◌, ℕ, suc, ◌-◌, ◌+◌, ◌≤◌, ◌<◌, true, false, eqb, List, [], ◌∷◌, ◌++◌, length, take, drop, Result, Ok, Err, refl, sym, ap, subst, ◌∙◌, append_assoc, arith}
+use Rattle.std.proofs.lemmas.Bool.{eqb-true, eq-eqb, false_from_ne_true}
 use Rattle.std.proofs.lemmas.List.{append-nil, drop_at, length-append}
 use Rattle.bl_syntax.specs.declared.codec_fault.CodecFault.{CodecFault}
 use Rattle.bl_syntax.specs.declared.codec_fault.CodecFault.TheVariants as faults
@@ -25,7 +26,10 @@ use Rattle.record_parts.proofs.PartsLemmas.{of_length}
 
 -- ---- a call that reads at the front of bytes, as a part of an input
 
-counted_fault : {A : Type 0} (r : Reading A) (total : ℕ) (fault : CodecFault) → (r >>= λ x. Ok (x.0, total - length x.1)) ≡ Err fault → r ≡ Err fault
+abbrev counted : {A : Type 0} → ℕ → A × List ℕ → Result (A × ℕ) CodecFault
+counted total x = Ok (x.0, total - length x.1)
+
+counted_fault : {A : Type 0} (r : Reading A) (total : ℕ) (fault : CodecFault) → (r >>= counted total) ≡ Err fault → r ≡ Err fault
 counted_fault (Ok x) total fault e = absurd cc
 counted_fault (Err d) total fault e = cc
 
@@ -111,13 +115,15 @@ proof_is : (input : ℕ) (bytes rest behind : List ℕ) (len : ℕ) (d : ProofVi
 unfolding behind_length
 proof_is input bytes rest behind len d e h = sized_is input bytes rest len e ∙ ap (λ (r : Result (ProofView × List ℕ) ProofFault). as_part r >>= of_length (place input bytes) len rest) h
 
-pub length_is_the_proofs : (input : ℕ) (bytes rest behind : List ℕ) (len : ℕ) (d : ProofView) → u32_at bytes ≡ Ok (len, rest) → kept_proof_at input rest ≡ Ok (d, behind) → eqb (length rest - length behind) len ≡ true
+pub length_is_the_proofs : (input : ℕ) (bytes rest behind : List ℕ) (len : ℕ) (d : ProofView) → u32_at bytes ≡ Ok (len, rest) → kept_proof_at input rest ≡ Ok (d, behind) → length rest - length behind ≡ len
     → sized_proof_at input bytes ≡ Ok (d, behind)
-length_is_the_proofs input bytes rest behind len d e h is = proof_is input bytes rest behind len d e h ∙ (rw is refl)
+length_is_the_proofs input bytes rest behind len d e h is = proof_is input bytes rest behind len d e h ∙ (rw (eq-eqb _ _ is) refl)
 
-pub length_is_another : (input : ℕ) (bytes rest behind : List ℕ) (len : ℕ) (d : ProofView) → u32_at bytes ≡ Ok (len, rest) → kept_proof_at input rest ≡ Ok (d, behind) → eqb (length rest - length behind) len ≡ false
+pub length_is_another : (input : ℕ) (bytes rest behind : List ℕ) (len : ℕ) (d : ProofView) → u32_at bytes ≡ Ok (len, rest) → kept_proof_at input rest ≡ Ok (d, behind) → (length rest - length behind ≡ len → ⊥)
     → sized_proof_at input bytes ≡ Err (faults.NotCanonical (place input bytes))
-length_is_another input bytes rest behind len d e h is = proof_is input bytes rest behind len d e h ∙ (rw is refl)
+length_is_another input bytes rest behind len d e h differ =
+    let is : eqb (length rest - length behind) len ≡ false = false_from_ne_true (eqb (length rest - length behind) len) (λ same. differ (eqb-true _ _ same)) in
+    proof_is input bytes rest behind len d e h ∙ (rw is refl)
 
 -- ---- lists, as a loop reads them
 

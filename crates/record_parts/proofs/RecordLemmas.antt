@@ -40,7 +40,7 @@ unfolding both_at registered_at registered_spelling
 registered_codec =
     same_codec (AreBoth IsSpellableStatement IsLong) (both_spelling statement_spelling long_spelling) (both_at statement_at (λ input. long_at)) IsRegistration registration_spelling registered_at
     (both_codec IsSpellableStatement statement_spelling statement_at IsLong long_spelling (λ input. long_at) statement_codec long_codec)
-    (λ r h. record { statement = h.0; signature = h.1 }) (λ r h. (h.statement, h.signature)) (λ r. refl) (λ input bytes. refl)
+    (λ r h. record { said = h.0; signed = h.1 }) (λ r h. (h.said, h.signed)) (λ r. refl) (λ input bytes. refl)
 
 -- ---- what was issued
 
@@ -62,7 +62,7 @@ unfolding both_at issued_at issued_spelling
 issued_codec =
     same_codec (AreBoth (AreSpellable IsSpellableCited) IsProved) (both_spelling (list_spelling cited_spelling) proved_spelling) (both_at (λ input. list_at u32_at) proved_at) IsIssuing issuing_spelling issued_at
     (both_codec (AreSpellable IsSpellableCited) (list_spelling cited_spelling) (λ input. list_at u32_at) IsProved proved_spelling proved_at cited_codec proved_codec)
-    (λ i h. record { cited = h.0; proof = h.1.0; grant = h.1.1 }) (λ i h. (h.cited, (h.proof, h.grant))) (λ i. refl) (λ input bytes. refl)
+    (λ i h. record { numbers = h.0; proved = h.1.0; granted = h.1.1 }) (λ i h. (h.numbers, (h.proved, h.granted))) (λ i. refl) (λ input bytes. refl)
 
 -- ---- what was done
 
@@ -91,4 +91,4 @@ unfolding both_at acted_at acted_spelling
 acted_codec =
     same_codec (AreBoth IsName (AreBoth IsSpellableOperation IsAdmission)) (both_spelling with_length (both_spelling operation_spelling admission_spelling)) (both_at name_at done_at) IsAction action_spelling acted_at
     (both_codec IsName with_length name_at (AreBoth IsSpellableOperation IsAdmission) (both_spelling operation_spelling admission_spelling) done_at name_codec done_codec)
-    (λ a h. record { caller = h.0; op = h.1.0; procaps = h.1.1.0; moment = h.1.1.1 }) (λ a h. (h.caller, (h.op, (h.procaps, h.moment)))) (λ a. refl) (λ input bytes. refl)
+    (λ a h. record { named = h.0; words = h.1.0; sealed = h.1.1.0; timed = h.1.1.1 }) (λ a h. (h.named, (h.words, (h.sealed, h.timed)))) (λ a. refl) (λ input bytes. refl)

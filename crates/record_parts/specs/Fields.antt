@@ -14,18 +14,25 @@ u32_at bytes = number_at w32 bytes
 abbrev pub u64_at : List ℕ → Reading ℕ
 u64_at bytes = number_at w64 bytes
 
+-- an offset, a length, or the number of a node
+unfoldable pub number_spelling : ℕ → List ℕ
+number_spelling number = to_be_bytes w64 number
+
+abbrev pub IsSpellableNumber : ℕ → Type 0
+IsSpellableNumber number = number < 2 ^ 64
+
 -- a node by its number
 abbrev pub node : ℕ → NodeId
 node number = record { 0 = number }
 
 abbrev pub node_spelling : NodeId → List ℕ
-node_spelling file = to_be_bytes w64 file.0
+node_spelling file = number_spelling file.0
 
 abbrev pub node_at : List ℕ → Reading NodeId
 node_at bytes = map_reading node (u64_at bytes)
 
 abbrev pub IsSpellableNode : NodeId → Type 0
-IsSpellableNode file = file.0 < 2 ^ 64
+IsSpellableNode file = IsSpellableNumber file.0
 
 -- a name in no grammar: one byte of length, and that many bytes
 unfoldable pub short_at : List ℕ → Reading (List ℕ)
@@ -37,7 +44,7 @@ abbrev pub IsShort : List ℕ → Type 0
 IsShort name = length name ≤ 255
 
 -- plain bytes: four bytes of length, and that many bytes
-abbrev pub long_spelling : List ℕ → List ℕ
+unfoldable pub long_spelling : List ℕ → List ℕ
 long_spelling bytes = to_be_bytes w32 (length bytes) ++ bytes
 
 unfoldable pub long_at : List ℕ → Reading (List ℕ)
@@ -50,7 +57,7 @@ abbrev pub IsLong : List ℕ → Type 0
 IsLong bytes = length bytes < 2 ^ 32
 
 -- a moment: a whole second in two's complement
-abbrev pub second_spelling : ℤ → List ℕ
+unfoldable pub second_spelling : ℤ → List ℕ
 second_spelling moment = to_be_bytes w64 (cast_unsigned w64 moment)
 
 -- one outside the range has its fault at its first byte

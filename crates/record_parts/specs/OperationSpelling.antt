@@ -1,18 +1,10 @@
 -- Canonical bytes of operations: the one spelling of each, its code and its words in order. The format is this project's own. Its numbers are big-endian.
-use Rattle.std.specs.Prelude.{ℕ, List, ◌∷◌, ◌++◌, ◌<◌, ◌^◌, IsTrue}
-use Rattle.std.specs.Int.{w64, to_be_bytes}
+use Rattle.std.specs.Prelude.{ℕ, List, ◌∷◌, ◌++◌, IsTrue}
 use Rattle.bl_syntax.specs.Names.{is_principal_name, is_text}
 use Rattle.bl_syntax.specs.Spelling.{with_length}
 use Rattle.file_world.specs.declared.operation.Op.{Op}
 use Rattle.file_world.specs.declared.operation.Op.TheVariants.{Read, Write, Truncate, List as ListOf, Lookup, Create, Mkdir, Unlink, Rename, Getattr, Setattr, Delattr, Chown}
-use Rattle.record_parts.specs.Fields.{node_spelling, IsSpellableNode, IsShort, long_spelling, IsLong}
-
--- an offset or a length
-abbrev pub number_spelling : ℕ → List ℕ
-number_spelling number = to_be_bytes w64 number
-
-abbrev pub IsSpellableNumber : ℕ → Type 0
-IsSpellableNumber number = number < 2 ^ 64
+use Rattle.record_parts.specs.Fields.{number_spelling, IsSpellableNumber, node_spelling, IsSpellableNode, IsShort, long_spelling, IsLong}
 
 unfoldable pub operation_spelling : Op → List ℕ
 operation_spelling (Read file offset len) = 1 ∷ (node_spelling file ++ (number_spelling offset ++ number_spelling len))

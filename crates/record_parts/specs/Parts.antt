@@ -64,7 +64,7 @@ as_part (Ok x) = Ok x
 as_part (Err fault) = Err (of_proof fault)
 
 -- four bytes of length, and a proof
-abbrev pub sized_proof_spelling : ProofView → List ℕ
+unfoldable pub sized_proof_spelling : ProofView → List ℕ
 sized_proof_spelling proof = to_be_bytes w32 (length (proof_spelling proof)) ++ proof_spelling proof
 
 -- a proof, once read, may have no other length than the one before it

@@ -22,8 +22,8 @@ unfoldable pub registered_spelling : StatementView → List ℕ → List ℕ
 registered_spelling statement signature = statement_spelling statement ++ long_spelling signature
 
 pub record IsSpellableRegistered (statement : StatementView) (signature : List ℕ) : Type 0 where
-  pub statement : IsSpellableStatement statement
-  pub signature : IsLong signature
+  pub said : IsSpellableStatement statement
+  pub signed : IsLong signature
 
 -- the number of a statement
 abbrev pub cited_spelling : ℕ → List ℕ
@@ -37,19 +37,19 @@ unfoldable pub issued_spelling : List ℕ → ProofView → GrantView → List �
 issued_spelling cited proof grant = list_spelling cited_spelling cited ++ (sized_proof_spelling proof ++ grant_spelling grant)
 
 pub record IsSpellableIssued (cited : List ℕ) (proof : ProofView) (grant : GrantView) : Type 0 where
-  pub cited : AreSpellable IsSpellableCited cited
-  pub proof : IsSpellableProof proof
-  pub grant : IsSpellableGrant grant
+  pub numbers : AreSpellable IsSpellableCited cited
+  pub proved : IsSpellableProof proof
+  pub granted : IsSpellableGrant grant
 
 -- who did what, under which procaps, and when
 unfoldable pub acted_spelling : List ℕ → Op → List Procap → ℤ → List ℕ
 acted_spelling caller op procaps moment = with_length caller ++ (operation_spelling op ++ (list_spelling procap_spelling procaps ++ second_spelling moment))
 
 pub record IsSpellableActed (caller : List ℕ) (op : Op) (procaps : List Procap) (moment : ℤ) : Type 0 where
-  pub caller : IsTrue (is_principal_name caller)
-  pub op : IsSpellableOperation op
-  pub procaps : AreSpellable IsSpellableProcap procaps
-  pub moment : IsMoment moment
+  pub named : IsTrue (is_principal_name caller)
+  pub words : IsSpellableOperation op
+  pub sealed : AreSpellable IsSpellableProcap procaps
+  pub timed : IsMoment moment
 
 -- each as one value
 abbrev pub Registration : Type 0

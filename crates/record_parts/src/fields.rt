@@ -7,9 +7,9 @@ ghost use Rattle.std.specs.Prelude.{◌≡◌, ◌∷◌, ◌++◌, OnOk, OnErr,
 ghost use Rattle.bl_syntax.specs.Spelling.{with_length};
 ghost use Rattle.bl_syntax.specs.Reading.{GivesReading};
 ghost use Rattle.bl_syntax.specs.Codec.{GivesReadingOrReports};
-ghost use Rattle.record_parts.specs.Fields.{node_spelling, node_at, short_at, IsShort, long_spelling, long_at, IsLong, second_at};
+ghost use Rattle.record_parts.specs.Fields.{number_spelling, IsSpellableNumber, node_spelling, node_at, IsSpellableNode, short_at, IsShort, long_spelling, long_at, IsLong, second_spelling, second_at};
 
-use bl_syntax::fields::{place, put, u32_at, u32_bytes, u64_at, u64_bytes};
+use bl_syntax::fields::{place, put, second_bytes, u32_at, u32_bytes, u64_at, u64_bytes};
 use bl_syntax::{Bytes, CodecFault, NoMemory, NodeId, Sequence, is_moment};
 use std::alloc::Global;
 
@@ -81,11 +81,23 @@ pub(crate) fn second_at(input: usize, bytes: &[u8]) -> Result<(i64, &[u8]), Code
 }
 
 /// Adds a byte and the number of a node.
+#[tactic(auto, unfolding(crate::specs::Fields::number_spelling))]
 pub(crate) fn put_node(code: u8, node: NodeId, out: &mut Bytes) -> Result<(), NoMemory>
     ensures ok { OnOk result (out.new ≡ out.old ++ code ∷ node_spelling node) }
+    ensures spelled { IsSpellableNode node }
     ensures err { OnErr result (out.new ≡ out.old) }
 {
     put(&[code], &u64_bytes(node.0), out)
+}
+
+/// Adds an offset, a length or the number of a node.
+#[tactic(auto, unfolding(crate::specs::Fields::number_spelling))]
+pub(crate) fn put_number(number: u64, out: &mut Bytes) -> Result<(), NoMemory>
+    ensures ok { OnOk result (out.new ≡ out.old ++ number_spelling number) }
+    ensures spelled { IsSpellableNumber number }
+    ensures err { OnErr result (out.new ≡ out.old) }
+{
+    out.extend(&u64_bytes(number))
 }
 
 /// Adds a name with its length byte.
@@ -98,10 +110,20 @@ pub(crate) fn put_short(name: &[u8], out: &mut Bytes) -> Result<(), NoMemory>
 }
 
 /// Adds plain bytes with four bytes of length.
+#[tactic(auto, unfolding(crate::specs::Fields::long_spelling))]
 pub(crate) fn put_long(plain: &[u8], out: &mut Bytes) -> Result<(), NoMemory>
     requires { IsLong plain.now }
     ensures ok { OnOk result (out.new ≡ out.old ++ long_spelling plain.now) }
     ensures err { OnErr result (out.new ≡ out.old) }
 {
     put(&u32_bytes(plain.len() as u32), plain, out)
+}
+
+/// Adds a moment.
+#[tactic(auto, unfolding(crate::specs::Fields::second_spelling))]
+pub(crate) fn put_second(moment: i64, out: &mut Bytes) -> Result<(), NoMemory>
+    ensures ok { OnOk result (out.new ≡ out.old ++ second_spelling moment) }
+    ensures err { OnErr result (out.new ≡ out.old) }
+{
+    out.extend(&second_bytes(moment))
 }

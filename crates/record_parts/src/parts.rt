@@ -44,6 +44,14 @@ fn fault_in(input: usize, bytes: &[u8], fault: CodecFault) -> CodecFault
     }
 }
 
+/// What stands after so many bytes.
+fn behind(bytes: &[u8], count: usize) -> &[u8]
+    requires { count ≤ length bytes.now }
+    ensures { result.now ≡ drop count bytes.now }
+{
+    bytes.split_at(count).1
+}
+
 /// A grant.
 pub(crate) fn grant_at(
     alloc: Global,
@@ -54,7 +62,7 @@ pub(crate) fn grant_at(
 {
     match read_grant(alloc, bytes) {
         Err(fault) => Err(fault_in(input, bytes, fault)),
-        Ok((grant, count)) => Ok((grant, &bytes[count..])),
+        Ok((grant, count)) => Ok((grant, behind(bytes, count))),
     }
 }
 
@@ -75,13 +83,13 @@ fn procap_at(alloc: Global, input: usize, bytes: &[u8]) -> Result<(Procap, &[u8]
     match read_grant(alloc, bytes) {
         Err(fault) => Err(fault_in(input, bytes, fault)),
         Ok((grant, count)) => {
-            let rest = &bytes[count..];
+            let rest = behind(bytes, count);
             if rest.len() < TAG_LENGTH {
                 return Err(CodecFault::Short);
             }
-            let (front, behind) = rest.split_at(TAG_LENGTH);
+            let (front, rest) = rest.split_at(TAG_LENGTH);
             let tag = tag_of(front);
-            Ok((Procap { grant, tag }, behind))
+            Ok((Procap { grant, tag }, rest))
         }
     }
 }
@@ -209,6 +217,7 @@ fn overwrite_in(alloc: Global, out: &mut Bytes, at: usize, piece: &[u8])
 }
 
 /// Adds a proof with four bytes of length, or a front of them. The length is put in when it is known.
+#[tactic(auto, unfolding(crate::specs::Parts::sized_proof_spelling))]
 pub(crate) fn add_sized_proof(
     alloc: Global,
     proof: &ProofTree,

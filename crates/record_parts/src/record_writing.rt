@@ -1,17 +1,19 @@
 //! Writing what was registered, issued and done. Each writer adds the one spelling of its value at the end, or nothing.
 
 ghost use Rattle.std.specs.Prelude.{◌≡◌, ◌≤◌, ◌++◌, OnOk, OnErr, length};
+ghost use Rattle.std.specs.List.{AllByRecursion};
 ghost use Rattle.bl_syntax.specs.TimeOrder.{IsMoment};
+ghost use Rattle.procap.specs.GrantSpelling.{list_spelling};
+ghost use Rattle.procap.specs.Procap.{procap_spelling, IsSpellableProcap};
 ghost use Rattle.procap.specs.Writing.{Begins};
-ghost use Rattle.record_parts.specs.Fields.{IsLong};
-ghost use Rattle.record_parts.specs.OperationSpelling.{HasFittingWords};
+ghost use Rattle.record_parts.specs.Fields.{IsLong, second_spelling};
+ghost use Rattle.record_parts.specs.OperationSpelling.{operation_spelling, IsSpellableOperation, HasFittingWords};
 ghost use Rattle.record_parts.specs.RecordSpelling.{registered_spelling, IsSpellableRegistered, issued_spelling, IsSpellableIssued, acted_spelling, IsSpellableActed};
 
-use crate::fields::put_long;
+use crate::fields::{put_long, put_second};
 use crate::operation_writing::write_operation;
 use crate::parts::{add_numbers, add_procaps, add_sized_proof};
 use bl_codec::write_statement;
-use bl_syntax::fields::second_bytes;
 use bl_syntax::{Bytes, Grant, NoMemory, Principal, Statement, write_name};
 use file_world::Op;
 use procap::{Procap, write_grant};
@@ -130,7 +132,31 @@ fn add_acted(
     ensures err { OnErr result (Begins out.old out.new) }
 {
     write_name(caller, out)?;
+    add_done(op, procaps, moment, out)
+}
+
+/// Adds what was done, under which procaps, and when, or a front of it.
+#[tactic(auto, using(procap::proofs::WritingLemmas::kept))]
+fn add_done(op: &Op, procaps: &[Procap], moment: i64, out: &mut Bytes) -> Result<(), NoMemory>
+    requires words { HasFittingWords op.now }
+    requires procaps { length procaps.now ≤ 255 }
+    ensures ok { OnOk result (out.new ≡ out.old ++ (operation_spelling op.now ++ (list_spelling procap_spelling procaps.now ++ second_spelling moment))) }
+    ensures words { OnOk result (IsSpellableOperation op.now) }
+    ensures procaps { OnOk result (AllByRecursion IsSpellableProcap procaps.now) }
+    ensures err { OnErr result (Begins out.old out.new) }
+{
     write_operation(op, out)?;
+    add_admitted(procaps, moment, out)
+}
+
+/// Adds under which procaps something was done, and when, or a front of it.
+#[tactic(auto, using(procap::proofs::WritingLemmas::kept))]
+fn add_admitted(procaps: &[Procap], moment: i64, out: &mut Bytes) -> Result<(), NoMemory>
+    requires { length procaps.now ≤ 255 }
+    ensures ok { OnOk result (out.new ≡ out.old ++ (list_spelling procap_spelling procaps.now ++ second_spelling moment)) }
+    ensures spelled { OnOk result (AllByRecursion IsSpellableProcap procaps.now) }
+    ensures err { OnErr result (Begins out.old out.new) }
+{
     add_procaps(procaps, out)?;
-    out.extend(&second_bytes(moment))
+    put_second(moment, out)
 }
