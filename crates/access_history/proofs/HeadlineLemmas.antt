@@ -1,68 +1,70 @@
 -- Each operation of a lawful history was rightful.
-use Rattle.std.proofs.Common.{ℕ, ℤ, List, [], ◌∷◌, ◌++◌, refl, subst}
+use Rattle.std.proofs.Common.{ℕ, List, [], ◌∷◌, ◌++◌, refl, subst}
+use Rattle.std.specs.Prelude.{ℤ}
 use Rattle.std.specs.List.{AllByRecursion}
+use Rattle.procap.specs.declared.procap.Procap.{Procap}
+use Rattle.file_world.specs.declared.operation.Op.{Op}
+use Rattle.file_world.specs.Needs.{Need, needs}
 use Rattle.access_history.specs.declared.event.Event.{Event}
 use Rattle.access_history.specs.declared.event.Event.TheVariants.{Acted}
-use Rattle.access_history.specs.declared.event.Base.{Base}
-use Rattle.access_history.specs.declared.event.FileOp.{FileOp}
+use Rattle.access_history.specs.Base.{BaseView}
 use Rattle.access_history.specs.Authority.{Authority}
-use Rattle.procap.specs.declared.procap.Procap.{Procap}
-use Rattle.access_history.specs.Needs.{OpNeed, needs}
-use Rattle.access_history.specs.Answer.{IsNeedMet}
+use Rattle.access_history.specs.Admission.{goal_of, IsNeedMet}
 use Rattle.access_history.specs.Replay.{replay, next_state}
-use Rattle.access_history.specs.Lawful.{IsDerived, IsLawful, AreLawful, no_event, one_more, MayFollow, may_act}
+use Rattle.access_history.specs.Lawful.{IsDerived, IsLawful, AreLawful, no_event, one_more, MayAct, MayFollow}
 use Rattle.access_history.specs.Headline.{WasRightful, Headline}
-use Rattle.access_history.proofs.LawfulLemmas.{IsTree-lawful}
+use Rattle.access_history.proofs.AdmissionLemmas.{Holds-admits}
+use Rattle.access_history.proofs.LawfulLemmas.{IsWorld-lawful}
 
 -- each event, over the state that the events before it left
-AreFollowing : Authority → Base → List Event → Type 0
+AreFollowing : Authority → BaseView → List Event → Type 0
 AreFollowing authority state [] = Unit {0}
 AreFollowing authority state (event ∷ events) = MayFollow authority state event × AreFollowing authority (next_state state event) events
 
-AreFollowing-push : (authority : Authority) (state : Base) (events : List Event) (event : Event) → AreFollowing authority state events → MayFollow authority (replay state events) event → AreFollowing authority state (events ++ event ∷ [])
+AreFollowing-push : (authority : Authority) (state : BaseView) (events : List Event) (event : Event) → AreFollowing authority state events → MayFollow authority (replay state events) event → AreFollowing authority state (events ++ event ∷ [])
 unfolding AreFollowing
 AreFollowing-push authority state [] event all here = (here, tt)
 AreFollowing-push authority state (first ∷ events) event all here = (all.0, AreFollowing-push authority (next_state state first) events event all.1 here)
 
-AreFollowing-lawful : (authority : Authority) (base : Base) (events : List Event) → AreLawful authority base events → AreFollowing authority base events
+AreFollowing-lawful : (authority : Authority) (base : BaseView) (events : List Event) → AreLawful authority base events → AreFollowing authority base events
 unfolding AreFollowing
 AreFollowing-lawful authority base events no_event = tt
 AreFollowing-lawful authority base events (one_more before event lawful follows) = AreFollowing-push authority base before event (AreFollowing-lawful authority base before lawful) follows
 
-AreFollowing-at : (authority : Authority) (state : Base) (earlier later : List Event) (event : Event) → AreFollowing authority state (earlier ++ event ∷ later) → MayFollow authority (replay state earlier) event
+AreFollowing-at : (authority : Authority) (state : BaseView) (earlier later : List Event) (event : Event) → AreFollowing authority state (earlier ++ event ∷ later) → MayFollow authority (replay state earlier) event
 unfolding AreFollowing
 AreFollowing-at authority state [] later event all = all.0
 AreFollowing-at authority state (first ∷ earlier) later event all = AreFollowing-at authority (next_state state first) earlier later event all.1
 
-WasRightful-each : (key : List ℕ) (state : Base) (caller : List ℕ) (procaps : List Procap) (moment : ℤ) (wants : List OpNeed) → AllByRecursion (IsNeedMet key state caller procaps moment) wants → AllByRecursion (IsDerived state caller procaps moment) wants →
+WasRightful-each : (key : List ℕ) (state : BaseView) (caller : List ℕ) (procaps : List Procap) (moment : ℤ) (wants : List Need) → AllByRecursion (IsNeedMet key state caller procaps moment) wants → AllByRecursion (IsDerived state caller procaps moment) wants →
     AllByRecursion (WasRightful key state caller procaps moment) wants
 WasRightful-each key state caller procaps moment [] met derived = tt
-WasRightful-each key state caller procaps moment (need ∷ wants) met derived = (
-  record {
-    procap = met.0.procap;
-    brought = met.0.brought;
-    sealed = met.0.sealed;
-    names_caller = met.0.gives.names.who;
-    names_file = met.0.gives.names.file;
-    names_permission = met.0.gives.names.permission;
-    times_held = met.0.gives.conditions.times;
-    states_held = met.0.gives.conditions.states;
-    derivable = derived.0 met.0.procap met.0.brought;
-  },
-  WasRightful-each key state caller procaps moment wants met.1 derived.1,
-)
+WasRightful-each key state caller procaps moment (need ∷ wants) met derived =
+    let holds = Holds-admits key state moment (goal_of caller need) met.0.procap met.0.admits in (
+      record {
+        procap = met.0.procap;
+        brought = met.0.brought;
+        sealed = met.0.admits.0;
+        names_caller = met.0.admits.1.0;
+        names_file = met.0.admits.1.1.0;
+        names_permission = met.0.admits.1.1.1.0;
+        times_held = holds.times;
+        states_held = holds.states;
+        derivable = derived.0 met.0.procap met.0.brought;
+      },
+      WasRightful-each key state caller procaps moment wants met.1 derived.1,
+    )
 
 -- the needs of an operation that may come next
-WasRightful-acted : (authority : Authority) (state : Base) (pass : ℕ) (caller : List ℕ) (op : FileOp) (procaps : List Procap) (moment : ℤ) → MayFollow authority state (Acted pass caller op procaps moment) → AllByRecursion (WasRightful authority.key state caller procaps moment) (needs op state.world)
-WasRightful-acted authority state _ _ _ _ _ (may_act pass caller op procaps moment reply after later in_range slots bytes admitted does derived) =
-    WasRightful-each authority.key state caller procaps moment (needs op state.world) admitted derived
+WasRightful-acted : (authority : Authority) (state : BaseView) (caller : List ℕ) (op : Op) (procaps : List Procap) (moment : ℤ) → MayAct authority state caller op procaps moment → AllByRecursion (WasRightful authority.key state caller procaps moment) (needs state.world op)
+WasRightful-acted authority state caller op procaps moment may = WasRightful-each authority.key state caller procaps moment (needs state.world op) may.admitted may.derived
 
-pub Headline-lawful : (authority : Authority) (base : Base) (events : List Event) → IsLawful authority base events → Headline authority base events (replay base events).world
+pub Headline-lawful : (authority : Authority) (base : BaseView) (events : List Event) → IsLawful authority base events → Headline authority base events (replay base events).world
 Headline-lawful authority base events lawful = record {
   lawful = lawful;
   replays = refl;
-  tree = IsTree-lawful authority base events lawful;
+  tree = IsWorld-lawful authority base events lawful;
   rightful = λ earlier later pass caller op procaps moment parts.
-      WasRightful-acted authority (replay base earlier) pass caller op procaps moment
+      WasRightful-acted authority (replay base earlier) caller op procaps moment
       (AreFollowing-at authority base earlier later (Acted pass caller op procaps moment) (subst (AreFollowing authority base) parts (AreFollowing-lawful authority base events lawful.each)));
 }

@@ -1,107 +1,124 @@
 -- A history that keeps one more event.
-use Rattle.std.proofs.Common.{◌≡◌, ℕ, ◌+◌, ◌-◌, ◌^◌, ◌<◌, Bool, false, cond, List, [], ◌∷◌, ◌++◌, length, Some, None, refl, sym, ap, subst, ◌∙◌, arith}
-use Rattle.std.specs.Prelude.{Vec, Result, Ok, is_ok, ℤ}
+use Rattle.std.proofs.Common.{◌≡◌, ℕ, ◌+◌, ◌-◌, ◌^◌, ◌<◌, Bool, cond, List, [], ◌∷◌, ◌++◌, sym, ap, subst, ◌∙◌, arith}
+use Rattle.std.specs.Prelude.{Result, Ok, is_ok, ℤ}
 use Rattle.std.proofs.lemmas.List.{length-append}
-use Rattle.std.proofs.lemmas.Bool.Decides.{nat_tests}
-use Rattle.std.specs.declared.alloc.Global.{Global}
 use Rattle.std.specs.Int.{w64}
 use Rattle.std.proofs.lemmas.Int.{ints}
 use mir.Val.{SFits}
 use Rattle.bl_syntax.specs.TimeOrder.{IsMoment}
-use Rattle.bl_syntax.specs.Statement.{StatementView}
 use Rattle.policy_statement.specs.Ring.{KeyView}
-use Rattle.policy_statement.specs.Registered.{RegistryView}
-use Rattle.access_history.specs.declared.world.Row.{Row}
+use Rattle.policy_statement.specs.Registered.{RegisteredView}
+use Rattle.file_world.specs.declared.operation.Op.{Op}
+use Rattle.file_world.specs.declared.refusal.OpFault.{OpFault}
+use Rattle.file_world.specs.declared.reply.OpReply.{OpReply}
+use Rattle.file_world.specs.World.{World}
+use Rattle.world_state.specs.State.{WorldState, ReservesWorld}
+use Rattle.access_history.specs.declared.event.Entry.{Entry}
 use Rattle.access_history.specs.declared.event.Issue.{Issue}
 use Rattle.access_history.specs.declared.event.Event.{Event}
-use Rattle.access_history.specs.declared.event.FileOp.TheVariants.{Create}
-use Rattle.access_history.specs.declared.event.Base.{Base}
-use Rattle.access_history.specs.declared.step.StateChange.{StateChange}
-use Rattle.access_history.specs.declared.step.StateChange.TheVariants as changes
-use Rattle.access_history.specs.declared.step.AddedNode.{AddedNode}
+use Rattle.access_history.specs.declared.event.Event.TheVariants.{Registered, Issued, Acted}
 use Rattle.access_history.specs.declared.history.History.TheInside.{Inside}
-use Rattle.access_history.specs.World.{WorldView}
-use Rattle.access_history.specs.Effect.{replied, is_full, create_refusal, create_outcome}
-use Rattle.access_history.specs.Lawful.{IsLawful, one_more, MayFollow, may_register, may_issue, may_act}
-use Rattle.access_history.specs.Replay.{replay}
+use Rattle.access_history.specs.Base.{BaseView}
 use Rattle.access_history.specs.Authority.{Authority}
-use Rattle.access_history.specs.History.{authority_with, authority_of, state_of, apply_change, Brings}
+use Rattle.access_history.specs.History.{HistoryView, authority_with, authority_of, state_of, world_of, IsReadyFor, IsReadyIn}
 use Rattle.access_history.specs.HistoryParts.{kept_by, shown_state, IsKeeping}
-use Rattle.access_history.proofs.ReplayLemmas.{replay-more, count-replay, IsFree-create}
+use Rattle.access_history.specs.Keeping.{HasMomentInRange, HasPlaceAmong}
+use Rattle.access_history.specs.Lawful.{IsLawful, one_more, MayFollow}
+use Rattle.access_history.specs.Replay.{world_next, moment_next, statements_with, issues_with, entry_of, replay, next_state}
+use Rattle.access_history.proofs.ReplayLemmas.{replay-more, count-replay}
 
--- the fields show the state after the change, and the events have one more at their end
-pub IsKeeping-more : (h after : Inside) (event : Event) (change : StateChange) → IsKeeping h → MayFollow (authority_of (kept_by h)) (state_of (kept_by h)) event → Brings (state_of (kept_by h)) event change → (state_of (kept_by h)).count < 2 ^ 48 - 1 →
-    after.key ≡ h.key → after.ring ≡ h.ring → after.base ≡ h.base → after.events.items ≡ h.events.items ++ event ∷ [] → shown_state after ≡ apply_change (shown_state h) change → IsKeeping after
-IsKeeping-more h after event change keeping follows brings counted same_key same_ring same_base more shown =
+-- a push that did not fail
+pub pushed : {A T E : Type 0} (before after : List A) (x : A) (r : Result T E) (done : T) → after ≡ cond (is_ok r) (before ++ x ∷ []) before → r ≡ Ok done → after ≡ before ++ x ∷ []
+pushed before after x r done e ok = e ∙ ap (λ (b : Bool). cond b (before ++ x ∷ []) before) (ap is_ok ok)
+
+abbrev pub state_with : World → List RegisteredView → List Issue → ℤ → ℕ → BaseView
+state_with world statements issues moment count = record { world = world; statements = statements; issues = issues; moment = moment; count = count }
+
+-- the fields after an event show the state after it
+pub shown_next : (h after : Inside) (event : Event) → after.world.world ≡ world_next h.world.world event → after.statements.entries ≡ statements_with h.statements.entries (entry_of event) → after.issues.items ≡ issues_with h.issues.items (entry_of event) →
+    after.moment ≡ moment_next h.moment event → after.count ≡ h.count + 1 → shown_state after ≡ next_state (shown_state h) event
+shown_next h after event world statements issues moment count =
+    ap (λ (w : World). state_with w after.statements.entries after.issues.items after.moment after.count) world
+    ∙ ap (λ (ss : List RegisteredView). state_with (world_next h.world.world event) ss after.issues.items after.moment after.count) statements
+    ∙ ap (λ (is : List Issue). state_with (world_next h.world.world event) (statements_with h.statements.entries (entry_of event)) is after.moment after.count) issues
+    ∙ ap (λ (m : ℤ). state_with (world_next h.world.world event) (statements_with h.statements.entries (entry_of event)) (issues_with h.issues.items (entry_of event)) m after.count) moment
+    ∙ ap (λ (n : ℕ). state_with (world_next h.world.world event) (statements_with h.statements.entries (entry_of event)) (issues_with h.issues.items (entry_of event)) (moment_next h.moment event) n) count
+
+-- the fields show the state after one more event, and the events have one more at their end
+pub IsKeeping-more : (h after : Inside) (event : Event) → IsKeeping h → MayFollow (authority_of (kept_by h)) (state_of (kept_by h)) event → (state_of (kept_by h)).count < 2 ^ 48 - 1 →
+    after.key ≡ h.key → after.ring ≡ h.ring → after.base ≡ h.base → after.events.items ≡ h.events.items ++ event ∷ [] → shown_state after ≡ next_state (shown_state h) event → IsKeeping after
+IsKeeping-more h after event keeping follows counted same_key same_ring same_base more shown =
     let events = h.events.items ++ event ∷ [] in
     let lawful : IsLawful (authority_with h.key h.ring) h.base events = record {
       lawful_base = keeping.lawful.lawful_base;
       counted = omega (arith, counted, count-replay h.base h.events.items, length-append h.events.items (event ∷ []));
       each = one_more h.events.items event keeping.lawful.each follows;
     } in
-    let state : shown_state after ≡ replay h.base events =
-    shown ∙ ap (λ (s : Base). apply_change s change) keeping.state_is ∙ brings ∙ sym (replay-more h.base h.events.items event) in
+    let state : shown_state after ≡ replay h.base events = shown ∙ ap (λ (s : BaseView). next_state s event) keeping.state_is ∙ sym (replay-more h.base h.events.items event) in
     record {
       lawful = subst (λ (k : List ℕ). IsLawful (authority_with k after.ring) after.base after.events.items) (sym same_key)
           (subst (λ (r : List KeyView). IsLawful (authority_with h.key r) after.base after.events.items) (sym same_ring)
-          (subst (λ (b : Base). IsLawful (authority_with h.key h.ring) b after.events.items) (sym same_base)
+          (subst (λ (b : BaseView). IsLawful (authority_with h.key h.ring) b after.events.items) (sym same_base)
           (subst (λ (es : List Event). IsLawful (authority_with h.key h.ring) h.base es) (sym more) lawful)));
-      state_is = state ∙ ap (λ (es : List Event). replay h.base es) (sym more) ∙ ap (λ (b : Base). replay b after.events.items) (sym same_base);
+      state_is = state ∙ ap (λ (es : List Event). replay h.base es) (sym more) ∙ ap (λ (b : BaseView). replay b after.events.items) (sym same_base);
     }
-
--- a push that did not fail
-pub pushed : {A T E : Type 0} (before after : List A) (x : A) (r : Result T E) (done : T) → after ≡ cond (is_ok r) (before ++ x ∷ []) before → r ≡ Ok done → after ≡ before ++ x ∷ []
-pushed before after x r done e ok = e ∙ ap (λ (b : Bool). cond b (before ++ x ∷ []) before) (ap is_ok ok)
-
--- the fields, after a change of which all but the count and the events is done
-pub IsKeeping-kept : (h changing : Inside) (events : Vec Event Global) (event : Event) (change : StateChange) → IsKeeping h → MayFollow (authority_of (kept_by h)) (state_of (kept_by h)) event → Brings (state_of (kept_by h)) event change → (state_of (kept_by h)).count < 2 ^ 48 - 1 →
-    changing.key ≡ h.key → changing.ring ≡ h.ring → changing.base ≡ h.base → changing.events ≡ h.events → events.items ≡ changing.events.items ++ event ∷ [] → shown_state (record changing { count = changing.count + 1 }) ≡ apply_change (shown_state h) change → IsKeeping (record changing { events = events; count = changing.count + 1 })
-IsKeeping-kept h changing events event change keeping follows brings counted same_key same_ring same_base same_events more shown =
-    IsKeeping-more h (record changing { events = events; count = changing.count + 1 }) event change keeping follows brings counted same_key same_ring same_base
-    (more ∙ ap (λ (v : Vec Event Global). v.items ++ event ∷ []) same_events) shown
-
-pub statement_shown : (h : Inside) (register : RegistryView) (change : StateChange) (statement : StatementView) (signature : List ℕ) → change ≡ changes.Statement statement signature → register.entries ≡ h.statements.entries ++ record { statement = statement; signature = signature } ∷ [] →
-    shown_state (record h { statements = register; count = h.count + 1 }) ≡ apply_change (shown_state h) change
-statement_shown h register change statement signature is more = cc
-
-pub issue_shown : (h : Inside) (v : Vec Issue Global) (change : StateChange) (issue : Issue) → change ≡ changes.Issue issue → v.items ≡ h.issues.items ++ issue ∷ [] → shown_state (record h { issues = v; count = h.count + 1 }) ≡ apply_change (shown_state h) change
-issue_shown h v change issue is more = cc
-
-pub node_shown : (h : Inside) (v : Vec Row Global) (change : StateChange) (added : AddedNode) (moment : ℤ) → moment ≡ added.moment → change ≡ changes.Node added → v.items ≡ h.rows.items ++ added.row ∷ [] → shown_state (record h { rows = v; next = h.next + 1; moment = moment; count = h.count + 1 }) ≡ apply_change (shown_state h) change
-node_shown h v change added moment same is more = cc
-
-below_last : (world : WorldView) → world.next < 2 ^ 64 → is_full world ≡ false → world.next + 1 < 2 ^ 64
-below_last world fits e = grind (arith, nat_tests, e)
-
--- where a node is added, a further number is left
-pub next_fits : (authority : Authority) (state : Base) (event : Event) (added : AddedNode) → MayFollow authority state event → Brings state event (changes.Node added) → state.world.next < 2 ^ 64 → state.world.next + 1 < 2 ^ 64
-next_fits authority state event added (may_register pass statement signature signed new room) brings fits =
-    let e : state.world.next + 1 ≡ state.world.next = ap (λ (s : Base). s.world.next) brings in omega (arith, e)
-next_fits authority state event added (may_issue pass cited proof g good) brings fits =
-    let e : state.world.next + 1 ≡ state.world.next = ap (λ (s : Base). s.world.next) brings in omega (arith, e)
-next_fits authority state event added (may_act pass caller (Create directory name) procaps moment reply after later in_range slots bytes admitted does derived) brings fits =
-    elim (create_refusal directory.0 name state.world) as (λ r. create_refusal directory.0 name state.world ≡ r → create_outcome r caller directory.0 name state.world ≡ replied reply after → state.world.next + 1 < 2 ^ 64) [
-      | Some number ↦ λ e d. absurd cc
-      | None ↦ λ e d. below_last state.world fits (IsFree-create directory.0 name state.world e).not_full
-    ] refl does
-
-no_more : {A : Type 0} (xs : List A) (x : A) → xs ≡ xs ++ x ∷ [] → ⊥
-no_more xs x same = omega (arith, ap length same, length-append xs (x ∷ []))
-
--- where a statement is added, fewer than 4,096 are there
-pub few_before : (authority : Authority) (state : Base) (event : Event) (statement : StatementView) (signature : List ℕ) → MayFollow authority state event → Brings state event (changes.Statement statement signature) → length state.statements < 4096
-few_before authority state event statement signature (may_register pass said sign signed new room) brings = room
-few_before authority state event statement signature (may_issue pass cited proof g good) brings = absurd (no_more state.statements _ (sym (ap (λ (s : Base). s.statements) brings)))
-few_before authority state event statement signature (may_act pass caller op procaps moment reply after later in_range slots bytes admitted does derived) brings =
-    absurd (no_more state.statements _ (sym (ap (λ (s : Base). s.statements) brings)))
 
 -- a moment fits a signed word
 pub SFits-moment : (moment : ℤ) → IsMoment moment → SFits w64 moment
 SFits-moment moment m = omega (arith, ints, m.not_before, m.not_after)
 
--- a node is added at a moment of the range
-pub IsMoment-added : (authority : Authority) (state : Base) (event : Event) (added : AddedNode) → MayFollow authority state event → Brings state event (changes.Node added) → IsMoment added.moment
-IsMoment-added authority state event added (may_register pass statement signature signed new room) brings = absurd (let e : state.world.next + 1 ≡ state.world.next = ap (λ (s : Base). s.world.next) brings in omega (arith, e))
-IsMoment-added authority state event added (may_issue pass cited proof g good) brings = absurd (let e : state.world.next + 1 ≡ state.world.next = ap (λ (s : Base). s.world.next) brings in omega (arith, e))
-IsMoment-added authority state event added (may_act pass caller op procaps moment reply after later in_range slots bytes admitted does derived) brings =
-    subst IsMoment (sym (ap (λ (s : Base). s.moment) brings)) in_range
+-- an event that may come next has a moment of the range, if it has one
+pub HasMoment-follows : (authority : Authority) (state : BaseView) (event : Event) → MayFollow authority state event → HasMomentInRange event
+HasMoment-follows authority state (Registered pass statement signature) may = tt
+HasMoment-follows authority state (Issued pass cited proof grant) may = tt
+HasMoment-follows authority state (Acted pass caller op procaps moment) may = may.in_range
+
+-- and there is a place for its statement, if it has one
+pub HasPlace-follows : (authority : Authority) (state : BaseView) (event : Event) → MayFollow authority state event → HasPlaceAmong state.statements (entry_of event)
+HasPlace-follows authority state (Registered pass statement signature) may = may.room
+HasPlace-follows authority state (Issued pass cited proof grant) may = tt
+HasPlace-follows authority state (Acted pass caller op procaps moment) may = tt
+
+-- ---- the world
+
+-- the world that the fields show is that of the state
+pub world_shown : (h : Inside) → IsKeeping h → h.world ≡ world_of (kept_by h)
+world_shown h keeping = ap (λ (w : World). let state : WorldState = record { world = w; ready = h.world.ready } in state) (ap (λ (s : BaseView). s.world) keeping.state_is)
+
+-- a world of which only what it is ready for differs
+pub IsKeeping-world : (h : Inside) (w : WorldState) → w.world ≡ h.world.world → IsKeeping h → IsKeeping (record h { world = w })
+IsKeeping-world h w same keeping = record {
+  lawful = keeping.lawful;
+  state_is = ap (λ (v : World). state_with v h.statements.entries h.issues.items h.moment h.count) same ∙ keeping.state_is;
+}
+
+-- what the world returned is what the state's world returns
+pub reserved_shown : (h : Inside) (w : WorldState) (k : HistoryView) (caller : List ℕ) (op : Op) (answer : Result OpReply OpFault) → IsKeeping h → kept_by h ≡ k → w.world ≡ h.world.world →
+    ReservesWorld caller h.world.world op answer w → ReservesWorld caller (state_of k).world op answer (world_of (kept_by (record h { world = w })))
+reserved_shown h w k caller op answer keeping is same reserves =
+    subst (λ (v : HistoryView). ReservesWorld caller (state_of v).world op answer (world_of (kept_by (record h { world = w })))) is
+    (subst (λ (s : BaseView). ReservesWorld caller s.world op answer (world_of (kept_by (record h { world = w })))) keeping.state_is
+    (subst (λ (v : WorldState). ReservesWorld caller h.world.world op answer v) (world_shown (record h { world = w }) (IsKeeping-world h w same keeping)) reserves))
+
+-- what the history is ready for, its world is ready for
+pub ready_shown : (h : Inside) (k : HistoryView) (event : Event) → IsKeeping h → kept_by h ≡ k → IsReadyFor k event → IsReadyIn h.world event
+ready_shown h k event keeping is ready =
+    subst (λ (w : WorldState). IsReadyIn w event) (sym (world_shown h keeping)) (subst (λ (v : HistoryView). IsReadyFor v event) (sym is) ready)
+
+-- there is a place for what the state keeps of an event that may come next
+pub place_shown : (h : Inside) (k : HistoryView) (event : Event) (entry : Entry) → IsKeeping h → kept_by h ≡ k → entry ≡ entry_of event → MayFollow (authority_of k) (state_of k) event → HasPlaceAmong h.statements.entries entry
+place_shown h k event entry keeping is entry_is may =
+    subst (λ (e : Entry). HasPlaceAmong h.statements.entries e) (sym entry_is)
+    (subst (λ (s : BaseView). HasPlaceAmong s.statements (entry_of event)) (sym keeping.state_is)
+    (subst (λ (v : HistoryView). HasPlaceAmong (state_of v).statements (entry_of event)) (sym is) (HasPlace-follows (authority_of k) (state_of k) event may)))
+
+-- the fields after an event that may come next: each part changed as the event changes it, and the event, which was given back, at the end
+pub IsKeeping-kept : (h after : Inside) (k : HistoryView) (event given : Event) (entry : Entry) → IsKeeping h → kept_by h ≡ k → MayFollow (authority_of k) (state_of k) event → (state_of k).count < 2 ^ 48 - 1 → entry ≡ entry_of event → given ≡ event
+    → after.key ≡ h.key → after.ring ≡ h.ring → after.base ≡ h.base
+    → after.world.world ≡ world_next h.world.world event → after.moment ≡ moment_next h.moment event
+    → after.statements.entries ≡ statements_with h.statements.entries entry → after.issues.items ≡ issues_with h.issues.items entry
+    → after.events.items ≡ h.events.items ++ given ∷ [] → after.count ≡ h.count + 1 → IsKeeping after
+IsKeeping-kept h after k event given entry keeping is follows counted entry_is given_is same_key same_ring same_base world moment statements issues more count =
+    IsKeeping-more h after event keeping (subst (λ (v : HistoryView). MayFollow (authority_of v) (state_of v) event) (sym is) follows) (subst (λ (v : HistoryView). (state_of v).count < 2 ^ 48 - 1) (sym is) counted) same_key same_ring same_base
+    (more ∙ ap (λ (e : Event). h.events.items ++ e ∷ []) given_is)
+    (shown_next h after event world (statements ∙ ap (statements_with h.statements.entries) entry_is) (issues ∙ ap (issues_with h.issues.items) entry_is) moment count)

@@ -1,32 +1,85 @@
--- The state after one more event, and the trees of lawful histories.
-use Rattle.std.proofs.Common.{◌≡◌, List, [], ◌∷◌, ◌++◌, refl, sym, ap, subst}
+-- A history may begin with the state of a lawful history: its world, its statements and its issues are as lawful as the base's.
+use Rattle.std.proofs.Common.{◌≡◌, ◌<◌, ◌≤◌, ◌+◌, ◌-◌, ◌^◌, ℕ, List, [], ◌∷◌, ◌++◌, length, sym, subst, arith}
+use Rattle.std.specs.Prelude.{ℤ}
+use Rattle.std.specs.List.{AllByRecursion}
+use Rattle.std.proofs.lemmas.List.{length-append}
+use Rattle.bl_syntax.specs.Statement.{StatementView, IsStatement}
+use Rattle.bl_syntax.specs.Grant.{GrantView, AreDistinct}
+use Rattle.policy_statement.specs.Registered.{RegisteredView}
+use Rattle.procap.specs.declared.procap.Procap.{Procap}
+use Rattle.proof_term.specs.Proof.{ProofView}
+use Rattle.file_world.specs.declared.operation.Op.{Op}
+use Rattle.file_world.specs.World.{IsWorld}
+use Rattle.file_world.proofs.HalvesLemmas.{IsWorld-after}
 use Rattle.access_history.specs.declared.event.Event.{Event}
-use Rattle.access_history.specs.declared.event.Base.{Base}
-use Rattle.access_history.specs.Authority.{Authority}
-use Rattle.access_history.specs.World.{IsRowTree}
-use Rattle.access_history.specs.Effect.{effect}
-use Rattle.access_history.specs.Replay.{tree_after, next_state, replay}
-use Rattle.access_history.specs.Lawful.{MayFollow, may_register, may_issue, may_act, AreLawful, no_event, one_more, IsLawful}
-use Rattle.access_history.proofs.TreeLemmas.{IsTree-effect}
+use Rattle.access_history.specs.declared.event.Event.TheVariants.{Registered, Issued, Acted}
+use Rattle.access_history.specs.Base.{BaseView}
+use Rattle.access_history.specs.Authority.{Authority, MayBeRegistered, IsSignedEntry, sayings}
+use Rattle.access_history.specs.Citing.{IsGoodIssue}
+use Rattle.access_history.specs.Replay.{next_state, replay}
+use Rattle.access_history.specs.Lawful.{MayAct, MayFollow, AreLawful, no_event, one_more, IsLawfulBase, IsLawful}
+use Rattle.access_history.proofs.ListLemmas.{AllByRecursion-push, AllByRecursion-weaker, AreDistinct-push}
+use Rattle.access_history.proofs.ReplayLemmas.{world_left-after, replay-more, count-replay}
+use Rattle.access_history.proofs.CitingLemmas.{sayings-more, IsGoodIssue-more}
 
-pub replay-push : (base : Base) (events : List Event) (event : Event) → replay base (events ++ event ∷ []) ≡ next_state (replay base events) event
-replay-push base [] event = refl
-replay-push base (first ∷ events) event = replay-push (next_state base first) events event
+module _ (authority : Authority) (state : BaseView) (base : IsLawfulBase authority state) (below : state.count < 2 ^ 48 - 1) where
+  registered_base : (pass : ℕ) (statement : StatementView) (signature : List ℕ) → MayBeRegistered authority state.statements statement signature → IsLawfulBase authority (next_state state (Registered pass statement signature))
+  registered_base pass statement signature may =
+      let entry : RegisteredView = record { statement = statement; signature = signature } in
+      let more : sayings (state.statements ++ entry ∷ []) ≡ sayings state.statements ++ statement ∷ [] = sayings-more state.statements statement signature in
+      record {
+        tree = base.tree;
+        statements_differ = subst (λ (ss : List StatementView). AreDistinct ss) (sym more) (AreDistinct-push (sayings state.statements) statement base.statements_differ may.new);
+        statements_formed = subst (λ (ss : List StatementView). AllByRecursion IsStatement ss) (sym more) (AllByRecursion-push IsStatement (sayings state.statements) statement base.statements_formed may.statement);
+        statements_signed = AllByRecursion-push (IsSignedEntry authority) state.statements entry base.statements_signed may.signed;
+        statements_fit = omega (arith, may.room, length-append state.statements (entry ∷ []));
+        moment_in_range = base.moment_in_range;
+        good_issues = subst (λ (ss : List StatementView). AllByRecursion (IsGoodIssue ss) state.issues) (sym more)
+            (AllByRecursion-weaker (IsGoodIssue (sayings state.statements)) (IsGoodIssue (sayings state.statements ++ statement ∷ [])) state.issues (IsGoodIssue-more (sayings state.statements) (statement ∷ [])) base.good_issues);
+        counted = omega (arith, below);
+      }
 
--- an event that may come next keeps the tree a tree
-IsTree-next : (authority : Authority) (state : Base) (event : Event) → MayFollow authority state event → IsRowTree state.world → IsRowTree (next_state state event).world
-IsTree-next authority state event (may_register pass statement signature signed new room) tree = tree
-IsTree-next authority state event (may_issue pass cited proof g good) tree = tree
-IsTree-next authority state event (may_act pass caller op procaps moment reply after later range slots bytes admitted done derived) tree =
-    let world : tree_after (effect caller op state.world) state.world ≡ after = ap (λ outcome. tree_after outcome state.world) done in
-    subst IsRowTree (sym world) (IsTree-effect caller op state.world after reply tree done)
+  issued_base : (pass : ℕ) (cited : List ℕ) (proof : ProofView) (g : GrantView) → IsGoodIssue (sayings state.statements) (record { cited = cited; proof = proof; grant = g }) → IsLawfulBase authority (next_state state (Issued pass cited proof g))
+  issued_base pass cited proof g good = record {
+    tree = base.tree;
+    statements_differ = base.statements_differ;
+    statements_formed = base.statements_formed;
+    statements_signed = base.statements_signed;
+    statements_fit = base.statements_fit;
+    moment_in_range = base.moment_in_range;
+    good_issues = AllByRecursion-push (IsGoodIssue (sayings state.statements)) state.issues (record { cited = cited; proof = proof; grant = g }) base.good_issues good;
+    counted = omega (arith, below);
+  }
 
-IsTree-replay : (authority : Authority) (base : Base) (events : List Event) → IsRowTree base.world → AreLawful authority base events → IsRowTree (replay base events).world
-IsTree-replay authority base events tree no_event = tree
-IsTree-replay authority base events tree (one_more before event lawful may) =
-    let next : next_state (replay base before) event ≡ replay base (before ++ event ∷ []) = sym (replay-push base before event) in
-    subst (λ (state : Base). IsRowTree state.world) next (IsTree-next authority (replay base before) event may (IsTree-replay authority base before tree lawful))
+  acted_base : (pass : ℕ) (caller : List ℕ) (op : Op) (procaps : List Procap) (moment : ℤ) → MayAct authority state caller op procaps moment → IsLawfulBase authority (next_state state (Acted pass caller op procaps moment))
+  acted_base pass caller op procaps moment may = record {
+    tree = subst IsWorld (sym (world_left-after caller op state.world may.not_refused)) (IsWorld-after caller op state.world base.tree may.formed.named may.formed.operation may.not_refused);
+    statements_differ = base.statements_differ;
+    statements_formed = base.statements_formed;
+    statements_signed = base.statements_signed;
+    statements_fit = base.statements_fit;
+    moment_in_range = may.in_range;
+    good_issues = base.good_issues;
+    counted = omega (arith, below);
+  }
 
--- the world of the state after a lawful history is a tree
-pub IsTree-lawful : (authority : Authority) (base : Base) (events : List Event) → IsLawful authority base events → IsRowTree (replay base events).world
-IsTree-lawful authority base events lawful = IsTree-replay authority base events lawful.lawful_base.tree lawful.each
+  -- after an event that may come next
+  IsLawfulBase-next : (event : Event) → MayFollow authority state event → IsLawfulBase authority (next_state state event)
+  IsLawfulBase-next (Registered pass statement signature) may = registered_base pass statement signature may
+  IsLawfulBase-next (Issued pass cited proof g) may = issued_base pass cited proof g may
+  IsLawfulBase-next (Acted pass caller op procaps moment) may = acted_base pass caller op procaps moment may
+
+IsLawfulBase-replay : (authority : Authority) (base : BaseView) (events : List Event) → IsLawfulBase authority base → base.count + length events ≤ 2 ^ 48 - 1 → AreLawful authority base events → IsLawfulBase authority (replay base events)
+IsLawfulBase-replay authority base events start counted no_event = start
+IsLawfulBase-replay authority base events start counted (one_more before event lawful follows) =
+    let more = length-append before (event ∷ []) in
+    let earlier : IsLawfulBase authority (replay base before) = IsLawfulBase-replay authority base before start (omega (arith, counted, more)) lawful in
+    rw (replay-more base before event) (IsLawfulBase-next authority (replay base before) earlier (omega (arith, counted, more, count-replay base before)) event follows)
+
+-- a history may begin with the state after a lawful history
+pub IsLawfulBase-lawful : (authority : Authority) (base : BaseView) (events : List Event) → IsLawful authority base events → IsLawfulBase authority (replay base events)
+IsLawfulBase-lawful authority base events lawful = IsLawfulBase-replay authority base events lawful.lawful_base lawful.counted lawful.each
+
+-- the world of the state after a lawful history is within its limits
+pub IsWorld-lawful : (authority : Authority) (base : BaseView) (events : List Event) → IsLawful authority base events → IsWorld (replay base events).world
+IsWorld-lawful authority base events lawful = (IsLawfulBase-lawful authority base events lawful).tree

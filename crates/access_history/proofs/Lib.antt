@@ -1,10 +1,13 @@
+pub mod AdmissionLemmas
 pub mod AnswerLemmas
-pub mod GoodIssueLemmas
+pub mod AnswerableLemmas
+pub mod CitingLemmas
+pub mod EitherLemmas
 pub mod FreshLemmas
 pub mod HeadlineLemmas
 pub mod HistoryLemmas
 pub mod LawfulLemmas
 pub mod ListLemmas
+pub mod MayFollowLemmas
 pub mod NumberedLemmas
 pub mod ReplayLemmas
-pub mod TreeLemmas

@@ -1,10 +1,8 @@
 -- What holds of each item, and items that differ, where a list grows at its end.
-use Rattle.std.proofs.Common.{◌≡◌, Bool, true, false, List, [], ◌∷◌, ◌++◌, refl, sym, ◌⊎◌, inl, inr, ⊎_elim, map, arith}
+use Rattle.std.proofs.Common.{◌≡◌, List, [], ◌∷◌, ◌++◌, refl, sym, ◌⊎◌, inl, inr, ⊎_elim, map, arith}
 use Rattle.std.specs.Prelude.{Contains}
-use Rattle.std.specs.List.{AllByRecursion, list_any}
-use Rattle.std.proofs.lemmas.Bool.{both_ways}
+use Rattle.std.specs.List.{AllByRecursion}
 use Rattle.std.proofs.lemmas.List.Elements.{All-from_recursion, All-contains, Contains-append_cases, Contains-append_right, Contains-push_cases}
-use Rattle.std.proofs.lemmas.List.Folds.{Any-from_list_any, list_any-from_Any}
 use Rattle.bl_syntax.specs.Grant.{AreDistinct}
 
 pub AllByRecursion-push : {X : Type 0} (P : X → Type 0) (xs : List X) (x : X) → AllByRecursion P xs → P x → AllByRecursion P (xs ++ x ∷ [])
@@ -26,6 +24,11 @@ pub Contains-cons_cases : {X : Type 0} (x : X) (xs : List X) (y : X) → Contain
 Contains-cons_cases x xs y here =
     ⊎_elim (λ front. ⊎_elim (λ none. absurd (omega (arith, none.1))) (λ same. inl same) (Contains-push_cases [] x y front)) (λ behind. inr behind) (Contains-append_cases (x ∷ []) xs y here)
 
+-- what holds of each item of two lists holds of the items of either
+pub AllByRecursion-parts : {X : Type 0} (P : X → Type 0) (xs ys : List X) → AllByRecursion P (xs ++ ys) → AllByRecursion P xs × AllByRecursion P ys
+AllByRecursion-parts P [] ys all = (tt, all)
+AllByRecursion-parts P (x ∷ xs) ys all = let rest = AllByRecursion-parts P xs ys all.1 in ((all.0, rest.0), rest.1)
+
 -- what is new may stand at the end
 pub AreDistinct-push : {X : Type 0} (xs : List X) (x : X) → AreDistinct xs → (Contains xs x → ⊥) → AreDistinct (xs ++ x ∷ [])
 AreDistinct-push [] x distinct new = (λ h. absurd (omega (arith, h.1)), tt)
@@ -46,17 +49,3 @@ IsImage-from_map f (x ∷ xs) y here =
     ⊎_elim (λ same. record { item = x; contained = Contains-head x x xs refl; same = same })
     (λ behind. let image = IsImage-from_map f xs y behind in record { item = image.item; contained = Contains-append_right (x ∷ []) xs image.item image.contained; same = image.same })
     (Contains-cons_cases (f x) (map f xs) y here)
-
--- an item of a list that passes the test
-pub record IsPassing {X : Type 0} (test : X → Bool) (xs : List X) (item : X) : Type 0 where
-  pub contained : Contains xs item
-  pub passes : test item ≡ true
-
-pub passing_item : {X : Type 0} (test : X → Bool) (xs : List X) → list_any test xs ≡ true → (item : X) × IsPassing test xs item
-passing_item test xs some =
-    let found = Any-from_list_any test xs some in
-    (found.1, record { contained = (found.0, found.2, found.3); passes = found.4 })
-
-pub none_passes : {X : Type 0} (test : X → Bool) (xs : List X) (item : X) → list_any test xs ≡ false → Contains xs item → test item ≡ true → ⊥
-none_passes test xs item none here passes =
-    both_ways (list_any test xs) none (list_any-from_Any test xs (here.0, item, here.1, here.2, passes))

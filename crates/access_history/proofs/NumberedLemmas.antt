@@ -37,17 +37,19 @@ distinct_place (x ∷ xs) (suc i) zero item distinct one other =
     let same : item ≡ x = cc in absurd (distinct.0 (subst (Contains xs) same (Contains-from_get xs i item one)))
 distinct_place (x ∷ xs) (suc i) (suc j) item distinct one other = ap suc (distinct_place xs i j item distinct.1 one other)
 
--- where no two items are the same, an item has one number
+-- if no two items are the same, an item has one number
 pub distinct_number : {A : Type 0} (items : List A) (first second : ℕ) (item : A) → AreDistinct items → IsNumbered items first item → IsNumbered items second item → first ≡ second
 distinct_number items first second item distinct one other =
     let place : one.place ≡ other.place = distinct_place items one.place other.place item distinct one.found other.found in
     omega (arith, one.from_one, other.from_one)
 
--- where each item has the property, there is no first one that lacks it
+-- the first item that lacks the property is one of the list
+pub Contains-failing : {A : Type 0} (P : A → Type 0) (items : List A) (place : ℕ) (item : A) → IsFirstFailing P items place item → Contains items item
+Contains-failing P items place item first = rw first.parts (Contains-append_right first.before (item ∷ first.behind) item (Contains-head item item first.behind refl))
+
+-- if each item has the property, there is no first one that lacks it
 pub none_fails : {A : Type 0} (P : A → Type 0) (items : List A) (place : ℕ) (item : A) → AllByRecursion P items → IsFirstFailing P items place item → ⊥
-none_fails P items place item all first =
-    let contained : Contains items item = rw first.parts (Contains-append_right first.before (item ∷ first.behind) item (Contains-head item item first.behind refl)) in
-    first.fails (AllByRecursion-contains P items item all contained)
+none_fails P items place item all first = first.fails (AllByRecursion-contains P items item all (Contains-failing P items place item first))
 
 same_split : {A : Type 0} (P : A → Type 0) (before before' : List A) (x y : A) (behind behind' : List A)
     → before ++ x ∷ behind ≡ before' ++ y ∷ behind' → AllByRecursion P before → AllByRecursion P before' → (P x → ⊥) → (P y → ⊥)

@@ -1,6 +1,6 @@
 -- Whose signatures are accepted, and under which key procaps are sealed; statements with their signatures (this project's own).
-use Rattle.std.specs.Prelude.{ℕ, List, Bool, IsTrue, map}
-use Rattle.bl_syntax.specs.Statement.{StatementView}
+use Rattle.std.specs.Prelude.{◌<◌, ℕ, List, length, Bool, IsTrue, map, Contains}
+use Rattle.bl_syntax.specs.Statement.{StatementView, IsStatement}
 use Rattle.bl_syntax.specs.Grant.{GrantView}
 use Rattle.policy_statement.specs.Messages.{statement_message}
 use Rattle.policy_statement.specs.Registered.{RegisteredView}
@@ -23,6 +23,13 @@ IsSignedEntry authority entry = IsSignedStatement authority entry.statement entr
 -- the statements without their signatures, in order
 abbrev pub sayings : List RegisteredView → List StatementView
 sayings entries = map (λ (entry : RegisteredView). entry.statement) entries
+
+-- the statement may be registered beside these: it may be said, its signature is accepted, no equal one is there, and there is room
+pub record MayBeRegistered (authority : Authority) (entries : List RegisteredView) (said : StatementView) (signature : List ℕ) : Type 0 where
+  pub statement : IsStatement said
+  pub signed : IsSignedStatement authority said signature
+  pub new : Contains (sayings entries) said → ⊥
+  pub room : length entries < 4096
 
 -- the procap of a grant under a key: the grant with its seal
 abbrev pub procap_of : List ℕ → GrantView → Procap

@@ -4,23 +4,23 @@ use Rattle.std.specs.Prelude.{◌≡◌, ℕ, ℤ, List, ◌∷◌, ◌++◌, Co
 use Rattle.std.specs.List.{AllByRecursion}
 use Rattle.bl_syntax.specs.Grant.{HoldsAt}
 use Rattle.bl_rules.specs.Allowed.{Allows}
-use Rattle.access_history.specs.declared.event.FileOp.{FileOp}
-use Rattle.access_history.specs.declared.event.Event.{Event}
-use Rattle.access_history.specs.declared.event.Event.TheVariants.{Acted}
-use Rattle.access_history.specs.declared.event.Base.{Base}
-use Rattle.access_history.specs.World.{WorldView, IsRowTree}
-use Rattle.access_history.specs.Facts.{facts}
-use Rattle.access_history.specs.Needs.{OpNeed, needs}
-use Rattle.access_history.specs.Authority.{Authority, sayings}
-use Rattle.access_history.specs.Numbered.{IsNumbered}
 use Rattle.procap.specs.Genuine.{IsGenuine}
 use Rattle.procap.specs.declared.procap.Procap.{Procap}
+use Rattle.file_world.specs.declared.operation.Op.{Op}
+use Rattle.file_world.specs.World.{World, IsWorld}
+use Rattle.file_world.specs.Facts.{facts}
+use Rattle.file_world.specs.Needs.{Need, needs}
+use Rattle.access_history.specs.declared.event.Event.{Event}
+use Rattle.access_history.specs.declared.event.Event.TheVariants.{Acted}
+use Rattle.access_history.specs.Base.{BaseView}
+use Rattle.access_history.specs.Numbered.{IsNumbered}
+use Rattle.access_history.specs.Authority.{Authority, sayings}
 use Rattle.access_history.specs.Replay.{replay}
 use Rattle.access_history.specs.Lawful.{IsLawful, WasIssued}
 
 -- for a permission that the caller needs on a file, a procap was brought that is sealed under the key, names caller, file and permission, and whose conditions on time and on the state held in that state at
 -- that moment; and if that procap was issued, the logic derives the permission from the statements registered then, over the facts of that state, at that moment
-pub record WasRightful (key : List ℕ) (state : Base) (caller : List ℕ) (procaps : List Procap) (moment : ℤ) (need : OpNeed) : Type 0 where
+pub record WasRightful (key : List ℕ) (state : BaseView) (caller : List ℕ) (procaps : List Procap) (moment : ℤ) (need : Need) : Type 0 where
   pub procap : Procap
   pub brought : IsNumbered procaps need.place procap
   pub sealed : IsGenuine key procap
@@ -31,11 +31,11 @@ pub record WasRightful (key : List ℕ) (state : Base) (caller : List ℕ) (proc
   pub states_held : AllByRecursion (Contains (facts state.world)) procap.grant.states
   pub derivable : WasIssued state.issues procap.grant → Allows (sayings state.statements) (facts state.world) moment caller need.file need.permission
 
--- The history of these events replays from its base to the tree, which is one. And whichever operation in it is taken: over the state to which the events before it lead, and at its one
+-- The history of these events replays from its base to that world, which keeps its limits. And whichever operation in it is taken: over the state to which the events before it lead, and at its one
 -- moment, each permission that it needs was rightful.
-pub record Headline (authority : Authority) (base : Base) (events : List Event) (world : WorldView) : Type 0 where
+pub record Headline (authority : Authority) (base : BaseView) (events : List Event) (world : World) : Type 0 where
   pub lawful : IsLawful authority base events
   pub replays : (replay base events).world ≡ world
-  pub tree : IsRowTree world
-  pub rightful : (earlier later : List Event) (pass : ℕ) (caller : List ℕ) (op : FileOp) (procaps : List Procap) (moment : ℤ) → events ≡ earlier ++ Acted pass caller op procaps moment ∷ later →
-      let state = replay base earlier in AllByRecursion (WasRightful authority.key state caller procaps moment) (needs op state.world)
+  pub tree : IsWorld world
+  pub rightful : (earlier later : List Event) (pass : ℕ) (caller : List ℕ) (op : Op) (procaps : List Procap) (moment : ℤ) → events ≡ earlier ++ Acted pass caller op procaps moment ∷ later →
+      let state = replay base earlier in AllByRecursion (WasRightful authority.key state caller procaps moment) (needs state.world op)

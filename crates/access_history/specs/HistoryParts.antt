@@ -1,18 +1,18 @@
 -- What the fields of a history stand for.
 use Rattle.std.specs.Prelude.{◌≡◌, min}
-use Rattle.access_history.specs.declared.event.Base.{Base}
 use Rattle.access_history.specs.declared.history.History.TheInside.{Inside}
+use Rattle.access_history.specs.Base.{BaseView}
 use Rattle.access_history.specs.History.{HistoryView, authority_of, spare}
 use Rattle.access_history.specs.Lawful.{IsLawful}
 use Rattle.access_history.specs.Replay.{replay}
 
 -- the history that the fields stand for
 abbrev pub kept_by : Inside → HistoryView
-kept_by h = record { key = h.key; ring = h.ring; base = h.base; events = h.events.items; room = min (min (spare h.events) (spare h.rows)) (min h.statements.spare (spare h.issues)) }
+kept_by h = record { key = h.key; ring = h.ring; base = h.base; events = h.events.items; room = min (spare h.events) (min h.statements.spare (spare h.issues)); ready = h.world.ready }
 
 -- the state that the fields show
-abbrev pub shown_state : Inside → Base
-shown_state h = record { world = record { rows = h.rows.items; next = h.next }; statements = h.statements.entries; issues = h.issues.items; moment = h.moment; count = h.count }
+abbrev pub shown_state : Inside → BaseView
+shown_state h = record { world = h.world.world; statements = h.statements.entries; issues = h.issues.items; moment = h.moment; count = h.count }
 
 -- the events are lawful, and the fields show the state to which they lead
 pub record IsKeeping (h : Inside) : Type 0 where

@@ -1,42 +1,59 @@
--- Laws of the definitions: a tree stays a tree, also along a whole history; an answer is determined; the headline holds of what is lawful.
-use Rattle.std.specs.Prelude.{◌≡◌, ℕ, ℤ, List, Option, Some}
-use Rattle.bl_syntax.specs.Grant.{AreDistinct}
-use Rattle.access_history.specs.declared.event.FileOp.{FileOp}
-use Rattle.access_history.specs.declared.event.Event.{Event}
-use Rattle.access_history.specs.declared.event.Base.{Base}
-use Rattle.access_history.specs.declared.request.StepRequest.{StepRequest}
-use Rattle.access_history.specs.declared.reply.Reply.{Reply}
-use Rattle.access_history.specs.World.{WorldView, IsRowTree}
-use Rattle.access_history.specs.Effect.{EffectReply, replied, effect}
-use Rattle.access_history.specs.Replay.{replay}
-use Rattle.access_history.specs.Lawful.{IsLawful}
-use Rattle.access_history.specs.Headline.{Headline}
-use Rattle.access_history.specs.declared.event.Event.TheVariants.{Acted}
-use Rattle.access_history.specs.declared.request.StepRequest.TheVariants.{Act}
-use Rattle.access_history.specs.Answer.{Answers, IsAdmitted, moment_of, reply_of}
-use Rattle.access_history.specs.Authority.{Authority, sayings}
+-- Laws of the definitions: states of lawful histories are lawful, a request has exactly one answer, what is admitted is kept, and the headline holds of what is lawful.
+use Rattle.std.specs.Prelude.{◌≡◌, ℕ, ℤ, List, Option, Some, None}
+use Rattle.bl_syntax.specs.TimeOrder.{IsMoment}
 use Rattle.procap.specs.declared.procap.Procap.{Procap}
+use Rattle.file_world.specs.declared.operation.Op.{Op}
+use Rattle.file_world.specs.World.{IsWorld}
+use Rattle.file_world.specs.Effect.{refusal, reply}
+use Rattle.access_history.specs.declared.event.Event.{Event}
+use Rattle.access_history.specs.declared.event.Event.TheVariants.{Acted}
+use Rattle.access_history.specs.declared.request.StepRequest.{StepRequest}
+use Rattle.access_history.specs.declared.request.StepRequest.TheVariants.{Act}
+use Rattle.access_history.specs.declared.reply.StepReply.{StepReply}
+use Rattle.access_history.specs.declared.reply.StepReply.TheVariants.{Operation}
+use Rattle.access_history.specs.Base.{BaseView}
+use Rattle.access_history.specs.Replay.{fresh, replay}
+use Rattle.access_history.specs.Lawful.{IsLawful, IsLawfulBase, MayFollow}
+use Rattle.access_history.specs.Headline.{Headline}
+use Rattle.access_history.specs.Admission.{IsAdmitted}
+use Rattle.access_history.specs.Answer.{Answers, moment_of}
+use Rattle.access_history.specs.WellFormed.{IsWellFormed}
+use Rattle.access_history.specs.Authority.{Authority}
 
--- whoever calls, an operation that is not refused leaves a tree a tree
-abbrev pub EffectKeepsTrees : Type 0
-EffectKeepsTrees = (caller : List ℕ) (op : FileOp) (world after : WorldView) (reply : EffectReply) → IsRowTree world → effect caller op world ≡ replied reply after → IsRowTree after
+-- the world of the state after a lawful history is within its limits
+abbrev pub HistoriesKeepWorlds : Type 0
+HistoriesKeepWorlds = (authority : Authority) (base : BaseView) (events : List Event) → IsLawful authority base events → IsWorld (replay base events).world
 
--- the world of the state after a lawful history is a tree
-abbrev pub HistoriesKeepTrees : Type 0
-HistoriesKeepTrees = (authority : Authority) (base : Base) (events : List Event) → IsLawful authority base events → IsRowTree (replay base events).world
+-- a history may begin with the state after a lawful history
+abbrev pub StatesAreLawfulBases : Type 0
+StatesAreLawfulBases = (authority : Authority) (base : BaseView) (events : List Event) → IsLawful authority base events → IsLawfulBase authority (replay base events)
 
--- a request has one answer over a state, and one event to keep
+-- a request has at most one answer over the state of a lawful history, and one event to keep
 abbrev pub AnswersAreDetermined : Type 0
-AnswersAreDetermined = (authority : Authority) (state : Base) (pass : ℕ) (clock : ℤ) (request : StepRequest) (first second : Reply) (kept other : Option Event)
-    → AreDistinct (sayings state.statements) → Answers authority state pass clock request first kept → Answers authority state pass clock request second other
+AnswersAreDetermined = (authority : Authority) (base : BaseView) (events : List Event) (pass : ℕ) (clock : ℤ) (request : StepRequest) (first second : StepReply) (kept other : Option Event)
+    → IsLawful authority base events → Answers authority (replay base events) pass clock request first kept → Answers authority (replay base events) pass clock request second other
     → (first ≡ second) × (kept ≡ other)
 
--- an operation that is admitted and that the effect does not refuse gets the effect's reply and is kept
-abbrev pub AdmittedAreKept : Type 0
-AdmittedAreKept = (authority : Authority) (state : Base) (pass : ℕ) (clock : ℤ) (caller : List ℕ) (op : FileOp) (procaps : List Procap) (made : EffectReply) (after : WorldView) (reply : Reply) (event : Option Event)
-    → IsAdmitted authority.key state caller op procaps (moment_of state clock) → effect caller op state.world ≡ replied made after
-    → Answers authority state pass clock (Act caller op procaps) reply event → (reply_of made ≡ reply) × (Some (Acted pass caller op procaps (moment_of state clock)) ≡ event)
+-- each well-formed request has an answer, over whichever state
+abbrev pub RequestsHaveAnswers : Type 0
+RequestsHaveAnswers = (authority : Authority) (state : BaseView) (pass : ℕ) (clock : ℤ) (request : StepRequest)
+    → IsWellFormed request → (reply : StepReply) × (event : Option Event) × Answers authority state pass clock request reply event
 
--- the headline holds of each lawful history and the tree to which it leads
+-- the event of an answer over a state with which a history may begin may come next
+abbrev pub AnswersMayFollow : Type 0
+AnswersMayFollow = (authority : Authority) (state : BaseView) (pass : ℕ) (clock : ℤ) (request : StepRequest) (answer : StepReply) (event : Event)
+    → IsLawfulBase authority state → IsMoment clock → IsWellFormed request → Answers authority state pass clock request answer (Some event) → MayFollow authority state event
+
+-- a history may begin with the store before its first event
+abbrev pub FreshIsLawful : Type 0
+FreshIsLawful = (authority : Authority) → IsLawfulBase authority fresh
+
+-- an operation that is admitted and not refused gets its reply and is kept
+abbrev pub AdmittedAreKept : Type 0
+AdmittedAreKept = (authority : Authority) (state : BaseView) (pass : ℕ) (clock : ℤ) (caller : List ℕ) (op : Op) (procaps : List Procap) (answer : StepReply) (event : Option Event)
+    → IsAdmitted authority.key state caller op procaps (moment_of state clock) → refusal state.world op ≡ None
+    → Answers authority state pass clock (Act caller op procaps) answer event → (Operation (reply state.world op) ≡ answer) × (Some (Acted pass caller op procaps (moment_of state clock)) ≡ event)
+
+-- the headline holds of each lawful history and the world to which it leads
 abbrev pub LawfulIsRightful : Type 0
-LawfulIsRightful = (authority : Authority) (base : Base) (events : List Event) → IsLawful authority base events → Headline authority base events (replay base events).world
+LawfulIsRightful = (authority : Authority) (base : BaseView) (events : List Event) → IsLawful authority base events → Headline authority base events (replay base events).world

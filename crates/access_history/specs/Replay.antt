@@ -1,35 +1,71 @@
 -- The state after an event, and after a list of events (this project's own).
-use Rattle.std.specs.Prelude.{◌+◌, List, [], ◌∷◌, ◌++◌, negsuc, codes}
-use Rattle.access_history.specs.declared.world.RowKind.TheVariants.{Directory}
+use Rattle.std.specs.Prelude.{◌+◌, ℤ, List, [], ◌∷◌, ◌++◌, negsuc}
+use Rattle.policy_statement.specs.Registered.{RegisteredView}
+use Rattle.file_world.specs.declared.reply.OpReply.{OpReply}
+use Rattle.file_world.specs.Outcome.{Outcome, refused, replied}
+use Rattle.file_world.specs.World.{World, fresh_world}
+use Rattle.file_world.specs.Effect.{effect}
+use Rattle.access_history.specs.declared.event.Issue.{Issue}
 use Rattle.access_history.specs.declared.event.Event.{Event}
 use Rattle.access_history.specs.declared.event.Event.TheVariants.{Registered, Issued, Acted}
-use Rattle.access_history.specs.declared.event.Base.{Base}
-use Rattle.access_history.specs.World.{WorldView}
-use Rattle.access_history.specs.Effect.{EffectOutcome, refusal, replied, effect}
+use Rattle.access_history.specs.declared.event.Entry.{Entry}
+use Rattle.access_history.specs.declared.event.Entry.TheVariants as entries
+use Rattle.access_history.specs.Base.{BaseView}
 
 -- a store before its first event: the root, which `admin` owns, and the first moment of the range
-abbrev pub fresh : Base
-fresh = record {
-  world = record { rows = record { number = record { 0 = 1 }; kind = Directory; owner = codes "admin"; parent = 0; name = [] } ∷ []; next = 2 };
-  statements = [];
-  issues = [];
-  moment = negsuc 62135596799;
-  count = 0;
-}
+abbrev pub fresh : BaseView
+fresh = record { world = fresh_world; statements = []; issues = []; moment = negsuc 62135596799; count = 0 }
 
--- the tree after an outcome: as it was where the operation was refused
-abbrev pub tree_after : EffectOutcome → WorldView → WorldView
-tree_after (refusal number) world = world
-tree_after (replied reply after) world = after
+-- ---- what an event changes in each part of the state
+
+-- the world after what became of an operation: the old one if it was refused
+abbrev pub world_left : World → Outcome OpReply World → World
+world_left world (refused why) = world
+world_left world (replied reply after) = after
+
+-- the world after an event
+abbrev pub world_next : World → Event → World
+world_next world (Registered pass statement signature) = world
+world_next world (Issued pass cited proof grant) = world
+world_next world (Acted pass caller op procaps moment) = world_left world (effect caller op world)
+
+-- what the state keeps of an event beside the event
+abbrev pub entry_of : Event → Entry
+entry_of (Registered pass statement signature) = entries.Statement statement signature
+entry_of (Issued pass cited proof grant) = entries.Issue (record { cited = cited; proof = proof; grant = grant })
+entry_of (Acted pass caller op procaps moment) = entries.Operation
+
+-- the statements with what an entry adds to them
+abbrev pub statements_with : List RegisteredView → Entry → List RegisteredView
+statements_with statements (entries.Statement statement signature) = statements ++ record { statement = statement; signature = signature } ∷ []
+statements_with statements (entries.Issue issue) = statements
+statements_with statements entries.Operation = statements
+
+-- the issues with what an entry adds to them
+abbrev pub issues_with : List Issue → Entry → List Issue
+issues_with issues (entries.Statement statement signature) = issues
+issues_with issues (entries.Issue issue) = issues ++ issue ∷ []
+issues_with issues entries.Operation = issues
+
+-- the greatest moment after an event: an operation's moment
+abbrev pub moment_next : ℤ → Event → ℤ
+moment_next last (Registered pass statement signature) = last
+moment_next last (Issued pass cited proof grant) = last
+moment_next last (Acted pass caller op procaps moment) = moment
+
+-- ---- states
 
 -- the state after an event. The number of a statement or an issue is its place, from 1
-abbrev pub next_state : Base → Event → Base
-next_state state (Registered pass statement signature) = record state { statements = state.statements ++ record { statement = statement; signature = signature } ∷ []; count = state.count + 1 }
-next_state state (Issued pass cited proof grant) = record state { issues = state.issues ++ record { cited = cited; proof = proof; grant = grant } ∷ []; count = state.count + 1 }
-next_state state (Acted pass caller op procaps moment) =
-    record state { world = tree_after (effect caller op state.world) state.world; moment = moment; count = state.count + 1 }
+abbrev pub next_state : BaseView → Event → BaseView
+next_state state event = record {
+  world = world_next state.world event;
+  statements = statements_with state.statements (entry_of event);
+  issues = issues_with state.issues (entry_of event);
+  moment = moment_next state.moment event;
+  count = state.count + 1;
+}
 
 -- the state after the events, from the first to the last
-abbrev pub replay : Base → List Event → Base
+abbrev pub replay : BaseView → List Event → BaseView
 replay state [] = state
 replay state (event ∷ events) = replay (next_state state event) events

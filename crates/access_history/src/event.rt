@@ -1,17 +1,10 @@
 //! What the history keeps.
 
-use crate::world::TreeRows;
-use bl_syntax::{Bytes, Grant, NodeId, Numbers, Principal, Sequence, Statement};
+use bl_syntax::{Bytes, Grant, Numbers, Principal, Sequence, Statement};
+use file_world::Op;
 use policy_statement::Registered;
 use procap::Procap;
 use proof_term::ProofTree;
-
-/// An operation on the file tree.
-#[derive(Debug, Drop)]
-pub enum FileOp {
-    /// Makes a file in a directory under a name.
-    Create(NodeId, Bytes),
-}
 
 /// A grant that was issued, its proof, and the numbers of the statements that the proof cites.
 #[derive(Debug, Drop)]
@@ -38,27 +31,31 @@ pub enum Event {
     Acted {
         pass: u64,
         caller: Principal,
-        op: FileOp,
+        op: Op,
         procaps: Procaps,
         moment: i64,
     },
 }
 
+/// What the state keeps of an event beside the event.
+#[derive(Debug, Drop)]
+pub enum Entry {
+    /// A statement more, with its signature.
+    Statement(Statement, Bytes),
+    /// An issue more.
+    Issue(Issue),
+    /// Nothing more: the world makes the change of an operation.
+    Operation,
+}
+
+/// Events in their order.
 pub type Events = Sequence<Event>;
 
-/// Procaps, one for each place of an operation's needs.
+/// Procaps, one for each slot of an operation.
 pub type Procaps = Sequence<Procap>;
 
+/// Statements with their signatures, by their numbers from 1.
 pub type Statements = Sequence<Registered>;
 
+/// Issues, by their numbers from 1.
 pub type Issues = Sequence<Issue>;
-
-/// A state.
-#[derive(Debug, Drop)]
-pub struct Base {
-    pub world: TreeRows,
-    pub statements: Statements,
-    pub issues: Issues,
-    pub moment: i64,
-    pub count: u64,
-}

@@ -1,15 +1,17 @@
 //! The history: a base, and the events since, each lawful where it came.
 
-ghost use Rattle.std.specs.Prelude.{◌≡◌, ◌≤◌, ◌<◌, ◌+◌, ◌-◌, ◌^◌, ◌++◌, ◌∷◌, [], IfOk, OnOk, OnErr, length};
+ghost use Rattle.std.specs.Prelude.{◌≡◌, ◌≤◌, ◌<◌, ◌-◌, ◌^◌, ◌++◌, ◌∷◌, [], IfOk, OnOk, length};
 
-use crate::event::{Base, Event, Events, Issue};
-use crate::step::{StateChange, Step};
-use crate::world::Row;
-use bl_syntax::{NoMemory, Sequence};
+use crate::base::Base;
+use crate::event::{Entry, Event, Issue};
+use crate::keeping::{add_entry, apply_event};
+use bl_syntax::{NoMemory, Principal};
+use file_world::{Op, OpFault, OpReply};
 use policy_statement::{Keyring, Registered, Registry};
 use procap::SealKey;
 use std::alloc::Global;
 use std::marker::Model;
+use world_state::World;
 
 /// A history, with the key under which procaps are sealed and the ring of those whose signatures are accepted. Its
 /// events are lawful over its base, and its state is the one to which they lead.
@@ -19,8 +21,7 @@ pub struct History {
     ring: Keyring,
     base: Base,
     events: Vec<Event>,
-    rows: Vec<Row>,
-    next: u64,
+    world: World,
     statements: Registry,
     issues: Vec<Issue>,
     moment: i64,
@@ -43,7 +44,8 @@ impl Model for History {
 }
 
 impl History {
-    ghost use Rattle.access_history.specs.History.{state_of, authority_of, Brings};
+    ghost use Rattle.world_state.specs.State.{ReservesWorld};
+    ghost use Rattle.access_history.specs.History.{state_of, world_of, authority_of, entry_of, IsReadyFor};
     ghost use Rattle.access_history.specs.Lawful.{IsLawful, MayFollow};
     ghost use Rattle.access_history.specs.Replay.{fresh};
     ghost use Rattle.access_history.specs.Headline.{Headline};
@@ -56,17 +58,15 @@ impl History {
         ensures events { IfOk result (λ history. history.events ≡ []) }
     {
         let base = Base::fresh(alloc)?;
-        let rows = Vec::from_slice(alloc, base.world.rows())?;
-        let next = base.world.next_number();
+        let world = World::new(alloc)?;
         Ok(History {
             key,
             ring,
-            moment: base.moment,
-            count: base.count,
+            moment: base.moment(),
+            count: base.count(),
             base,
             events: Vec::new(alloc),
-            rows,
-            next,
+            world,
             statements: Registry::new(alloc),
             issues: Vec::new(alloc),
         })
@@ -84,6 +84,13 @@ impl History {
         ensures { result.now ≡ self.now.ring }
     {
         &self.ring
+    }
+
+    /// The world.
+    pub fn world(&self) -> &World
+        ensures { result.now ≡ world_of self.now }
+    {
+        &self.world
     }
 
     /// The registry of statements.
@@ -108,21 +115,6 @@ impl History {
         self.issues.as_slice()
     }
 
-    /// The nodes of the tree.
-    pub fn rows(&self) -> &[Row]
-        ensures same { result.now ≡ (state_of self.now).world.rows }
-        ensures headline { Headline (authority_of self.now) self.now.base self.now.events (state_of self.now).world }
-    {
-        self.rows.as_slice()
-    }
-
-    /// The number of the next node.
-    pub fn next_number(&self) -> u64
-        ensures { result ≡ (state_of self.now).world.next }
-    {
-        self.next
-    }
-
     /// The greatest moment so far.
     pub fn moment(&self) -> i64
         ensures { result ≡ (state_of self.now).moment }
@@ -132,10 +124,23 @@ impl History {
 
     /// The number of the last event.
     pub fn count(&self) -> u64
-        ensures count { result ≡ (state_of self.now).count }
-        ensures lawful { IsLawful (authority_of self.now) self.now.base self.now.events }
+        ensures { result ≡ (state_of self.now).count }
     {
         self.count
+    }
+
+    /// Each event is lawful where it came.
+    pub fn lawful(&self)
+        ensures { IsLawful (authority_of self.now) self.now.base self.now.events }
+    {
+        let _ = &self.events;
+    }
+
+    /// The world, of which the headline holds with the events.
+    pub fn headline(&self) -> &World
+        ensures { Headline (authority_of self.now) self.now.base self.now.events result.now.world }
+    {
+        &self.world
     }
 
     /// Makes room for one more event, whatever it is.
@@ -144,39 +149,48 @@ impl History {
         ensures ring { self.new.ring ≡ self.old.ring }
         ensures base { self.new.base ≡ self.old.base }
         ensures events { self.new.events ≡ self.old.events }
+        ensures ready { self.new.ready ≡ self.old.ready }
         ensures room { OnOk result (1 ≤ self.new.room) }
-        ensures lawful { IsLawful (authority_of self.new) self.new.base self.new.events }
     {
         self.events.reserve(1)?;
-        self.rows.reserve(1)?;
         self.statements.reserve()?;
         self.issues.reserve(1)?;
         Ok(())
     }
 
-    /// Keeps the step, for which there has to be room.
-    pub fn keep(&mut self, step: Step)
+    /// What the caller's operation returns, with all memory taken for its change, or its first refusal; and the
+    /// operation, which is given back. Nothing is kept.
+    pub fn prepare(
+        &mut self,
+        alloc: Global,
+        caller: &Principal,
+        op: Op,
+    ) -> (Op, Result<OpReply, OpFault>)
+        ensures key { self.new.key ≡ self.old.key }
+        ensures ring { self.new.ring ≡ self.old.ring }
+        ensures base { self.new.base ≡ self.old.base }
+        ensures events { self.new.events ≡ self.old.events }
+        ensures room { self.new.room ≡ self.old.room }
+        ensures op { result.0 ≡ op }
+        ensures answer { ReservesWorld caller.now (state_of self.old).world op result.1 (world_of self.new) }
+    {
+        self.world.reserve(alloc, caller, op)
+    }
+
+    /// Keeps the event and what the state keeps of it, for which there has to be room. It takes no memory.
+    pub fn keep(&mut self, event: Event, entry: Entry)
         requires room { 1 ≤ self.old.room }
-        requires lawful { MayFollow (authority_of self.old) (state_of self.old) step.event }
-        requires brings { Brings (state_of self.old) step.event step.change }
+        requires lawful { MayFollow (authority_of self.old) (state_of self.old) event }
+        requires entry { entry ≡ entry_of event }
+        requires ready { IsReadyFor self.old event }
         requires counted { (state_of self.old).count < 2 ^ 48 - 1 }
         ensures key { self.new.key ≡ self.old.key }
         ensures ring { self.new.ring ≡ self.old.ring }
         ensures base { self.new.base ≡ self.old.base }
-        ensures events { self.new.events ≡ self.old.events ++ step.event ∷ [] }
+        ensures events { self.new.events ≡ self.old.events ++ event ∷ [] }
     {
-        let Step { event, change } = step;
-        match change {
-            StateChange::Statement(statement, signature) => {
-                let _ = self.statements.keep(statement, signature);
-            }
-            StateChange::Issue(issue) => self.issues.push(issue).unwrap(),
-            StateChange::Node(added) => {
-                self.rows.push(added.row).unwrap();
-                self.next += 1;
-                self.moment = added.moment;
-            }
-        }
+        let event = apply_event(&mut self.world, &mut self.moment, event);
+        add_entry(&mut self.statements, &mut self.issues, entry);
         self.events.push(event).unwrap();
         self.count += 1;
     }

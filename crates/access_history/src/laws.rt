@@ -1,20 +1,35 @@
 //! Laws of the definitions. The functions do nothing: each contract is a law.
 
-ghost use Rattle.access_history.specs.Laws.{EffectKeepsTrees, HistoriesKeepTrees, AnswersAreDetermined, AdmittedAreKept, LawfulIsRightful};
+ghost use Rattle.access_history.specs.Laws.{HistoriesKeepWorlds, StatesAreLawfulBases, AnswersAreDetermined, RequestsHaveAnswers, AnswersMayFollow, FreshIsLawful, AdmittedAreKept, LawfulIsRightful};
 
-/// Whoever calls, an operation that is not refused leaves a tree a tree.
-pub fn effect_keeps_trees()
-    ensures { EffectKeepsTrees }
+/// The world of the state after a lawful history is within its limits.
+pub fn histories_keep_worlds()
+    ensures { HistoriesKeepWorlds }
 {}
 
-/// The world of the state after a lawful history is a tree.
-pub fn histories_keep_trees()
-    ensures { HistoriesKeepTrees }
+/// A history may begin with the state after a lawful history.
+pub fn states_are_lawful_bases()
+    ensures { StatesAreLawfulBases }
 {}
 
-/// A request has one answer over a state, and one event to keep.
+/// A request has at most one answer over the state of a lawful history, and one event to keep.
 pub fn answers_are_determined()
     ensures { AnswersAreDetermined }
+{}
+
+/// Each well-formed request has an answer, over whichever state.
+pub fn requests_have_answers()
+    ensures { RequestsHaveAnswers }
+{}
+
+/// The event of an answer to a well-formed request may come next in a lawful history.
+pub fn answers_may_follow()
+    ensures { AnswersMayFollow }
+{}
+
+/// A history may begin with the store before its first event.
+pub fn fresh_is_lawful()
+    ensures { FreshIsLawful }
 {}
 
 /// An operation that is admitted and not refused gets its reply and is kept.
@@ -22,7 +37,7 @@ pub fn admitted_operations_are_kept()
     ensures { AdmittedAreKept }
 {}
 
-/// Of each lawful history the headline holds: it replays to a tree, and every operation in it was admitted with a
+/// Of each lawful history the headline holds: it replays to a world, and every operation in it was admitted with a
 /// procap for each permission that it needs, whose grant the logic derives then and there if it was issued.
 pub fn lawful_histories_are_rightful()
     ensures { LawfulIsRightful }

@@ -4,24 +4,21 @@
 //! stands here as a definition, and laws say what lawful histories and answers are worth.
 #![tactic(auto)]
 
+mod base;
 mod event;
-mod fresh;
 mod history;
+mod keeping;
 mod laws;
-mod node_name;
 mod reply;
 mod request;
-mod step;
-mod world;
 
-pub use event::{Base, Event, Events, FileOp, Issue, Procaps};
+pub use base::Base;
+pub use event::{Entry, Event, Events, Issue, Issues, Procaps, Statements};
 pub use history::History;
 pub use laws::{
-    admitted_operations_are_kept, answers_are_determined, effect_keeps_trees, histories_keep_trees,
-    lawful_histories_are_rightful,
+    admitted_operations_are_kept, answers_are_determined, answers_may_follow, fresh_is_lawful,
+    histories_keep_worlds, lawful_histories_are_rightful, requests_have_answers,
+    states_are_lawful_bases,
 };
-pub use node_name::is_node_name;
-pub use reply::{Denial, DenialCause, Rejection, Reply};
+pub use reply::{Denial, DenialCause, Rejection, StepReply};
 pub use request::StepRequest;
-pub use step::{AddedNode, StateChange, Step};
-pub use world::{Row, RowKind, TreeRows, create_refusal, created_row};

@@ -1,6 +1,7 @@
-//! What the server answers.
+//! What is answered to a request.
 
-use bl_syntax::{Constraint, Grant, NodeId, StatePred};
+use bl_syntax::{Constraint, StatePred};
+use file_world::{OpReply, Refusal};
 use procap::Procap;
 
 /// Why a statement was not registered.
@@ -41,33 +42,21 @@ pub struct Denial {
     pub at: u64,
 }
 
-/// An answer to a line.
+/// An answer to a request.
 #[derive(Debug, Drop)]
-pub enum Reply {
-    /// It was done, and there is nothing to tell.
-    Done,
+pub enum StepReply {
     /// The number of the statement that was registered.
     Statement(u32),
     /// The number of the issue, and how many conditions on time and on the state its grant has.
     Issue(u64, u32, u32),
-    /// What the proof grants, which is not issued.
-    Checked(Grant),
     /// The procap of an issue.
     Procap(Procap),
-    /// The node.
-    Node(NodeId),
+    /// What the operation returns.
+    Operation(OpReply),
     Denied(Denial),
-    /// The number of the refusal, and the number of the last event.
-    Refused(u32, u64),
+    /// Why the operation was refused, and the number of the last event.
+    Refused(Refusal, u64),
     Rejected(Rejection),
     /// There is no statement or issue of this number.
     Absent(u64),
-    /// The proof has this fault at this node, counted from 0.
-    Unproved(u32, u64),
-    /// The line has this fault: 9, it is of none of the forms.
-    Bad(u32),
-    /// The text in the line has this fault at this byte of the text, counted from 0.
-    BadText(u32, u64),
-    /// There was no memory for it, and nothing changed.
-    NoMemory,
 }

@@ -1,7 +1,8 @@
 //! What the gate is asked.
 
-use crate::event::{FileOp, Procaps};
+use crate::event::Procaps;
 use bl_syntax::{Bytes, Principal, Statement};
+use file_world::Op;
 use proof_verifier::Checked;
 
 /// A request to the gate.
@@ -9,11 +10,11 @@ use proof_verifier::Checked;
 pub enum StepRequest {
     /// Keep a statement, under this signature of who says it.
     Register(Statement, Bytes),
-    /// Issue what the proof grants, where the statements that it cites stand under their numbers.
+    /// Issue what the proof grants, if the statements that it cites stand under their numbers.
     Issue(Checked),
-    /// Let the caller act, under these procaps, one for each place.
-    Act(Principal, FileOp, Procaps),
-    /// Show the procap of the issue of this number: to the principal that it names, or, where nobody is named, to the
+    /// Let the caller act, under these procaps, one for each slot.
+    Act(Principal, Op, Procaps),
+    /// Show the procap of the issue of this number: to the principal that it names, or, if nobody is named, to the
     /// operator, who may see each.
     ShowProcap(u64, Option<Principal>),
 }

@@ -1,0 +1,87 @@
+-- What a procap that passes all tests gives, and that there is one first test that it does not pass.
+use Rattle.std.proofs.Common.{◌≡◌, ◌∙◌, ◌+◌, ℕ, List, [], ◌∷◌, ap, sym, subst}
+use Rattle.std.specs.Prelude.{ℤ, Contains}
+use Rattle.std.specs.List.{AllByRecursion}
+use Rattle.bl_syntax.specs.declared.terms.Constraint.{Constraint}
+use Rattle.bl_syntax.specs.declared.terms.StatePred.{StatePred}
+use Rattle.bl_syntax.specs.declared.terms.NodeId.{NodeId}
+use Rattle.bl_syntax.specs.declared.terms.Perm.{Perm as Permission}
+use Rattle.bl_syntax.specs.declared.grant.Goal.{Goal}
+use Rattle.bl_syntax.specs.Statement.{StatementView}
+use Rattle.bl_syntax.specs.Grant.{GrantView, HoldsAt, Holds}
+use Rattle.bl_rules.specs.Allowed.{Allows, SoundGrant}
+use Rattle.bl_rules.proofs.SoundGrantLemmas.{SoundGrant-more}
+use Rattle.procap.specs.declared.procap.Procap.{Procap}
+use Rattle.proof_verifier.specs.Cited.{statements_of}
+use Rattle.file_world.specs.declared.operation.Op.{Op}
+use Rattle.file_world.specs.Facts.{facts}
+use Rattle.file_world.specs.Needs.{Need, needs}
+use Rattle.access_history.specs.declared.reply.DenialCause.{DenialCause}
+use Rattle.access_history.specs.declared.reply.DenialCause.TheVariants as causes
+use Rattle.access_history.specs.Base.{BaseView}
+use Rattle.access_history.specs.Numbered.{IsNumbered}
+use Rattle.access_history.specs.Authority.{sayings}
+use Rattle.access_history.specs.Citing.{IsGoodIssue}
+use Rattle.access_history.specs.Admission.{goal_of, causes_from, checks, Passes, Admits, Denies, IsNeedMet, IsAdmitted, IsDenied}
+use Rattle.access_history.specs.Lawful.{IsDerived, AreDerived}
+use Rattle.access_history.proofs.ListLemmas.{AllByRecursion-parts, AllByRecursion-weaker, AllByRecursion-contains}
+use Rattle.access_history.proofs.NumberedLemmas.{numbered_item, none_fails, first_failing}
+use Rattle.access_history.proofs.CitingLemmas.{Includes-cited}
+
+module _ (key : List ℕ) (state : BaseView) (moment : ℤ) (goal : Goal) (p : Procap) where
+  times_hold : (place : ℕ) (times : List Constraint) → AllByRecursion (Passes key state moment goal p) (causes_from causes.Time place times) → AllByRecursion (HoldsAt moment) times
+  times_hold place [] all = tt
+  times_hold place (c ∷ times) all = (all.0, times_hold (place + 1) times all.1)
+
+  states_hold : (place : ℕ) (states : List StatePred) → AllByRecursion (Passes key state moment goal p) (causes_from causes.State place states) → AllByRecursion (Contains (facts state.world)) states
+  states_hold place [] all = tt
+  states_hold place (s ∷ states) all = (all.0, states_hold (place + 1) states all.1)
+
+  -- the conditions of the grant hold
+  pub Holds-admits : Admits key state moment goal p → Holds p.grant moment (facts state.world)
+  Holds-admits admits =
+      let parts = AllByRecursion-parts (Passes key state moment goal p) (causes_from causes.Time 1 p.grant.times) (causes_from causes.State 1 p.grant.states) admits.1.1.1.1 in
+      record { times = times_hold 1 p.grant.times parts.0; states = states_hold 1 p.grant.states parts.1 }
+
+  -- there is one first test that the procap does not pass
+  one_cause : (cause other : DenialCause) → Denies key state moment goal p cause → Denies key state moment goal p other → cause ≡ other
+  one_cause cause other first second = (first_failing (Passes key state moment goal p) (checks p.grant) first.place second.place cause other first.first second.first).1
+
+module _ (key : List ℕ) (state : BaseView) (caller : List ℕ) (procaps : List Procap) (moment : ℤ) where
+  -- what is admitted is not denied
+  pub admitted_or_denied : (wants : List Need) (place : ℕ) (cause : DenialCause) → AllByRecursion (IsNeedMet key state caller procaps moment) wants → IsDenied key state caller procaps moment wants place cause → ⊥
+  admitted_or_denied wants place cause all denial = none_fails (IsNeedMet key state caller procaps moment) wants denial.index denial.need all denial.first
+
+  -- there is one first need that is not met, and one cause
+  pub one_denial : (wants : List Need) (place other : ℕ) (cause because : DenialCause) → IsDenied key state caller procaps moment wants place cause → IsDenied key state caller procaps moment wants other because → (place ≡ other) × (cause ≡ because)
+  one_denial wants place other cause because first second =
+      let need : first.need ≡ second.need = (first_failing (IsNeedMet key state caller procaps moment) wants first.index second.index first.need second.need first.first second.first).1 in
+      let procap : first.procap ≡ second.procap = numbered_item procaps second.need.place first.procap second.procap (subst (λ (n : Need). IsNumbered procaps n.place first.procap) need first.brought) second.brought in
+      let denies : Denies key state moment (goal_of caller second.need) second.procap cause =
+      subst (λ (p : Procap). Denies key state moment (goal_of caller second.need) p cause) procap (subst (λ (n : Need). Denies key state moment (goal_of caller n) first.procap cause) need first.denies) in
+      (first.place_is ∙ ap (λ (n : Need). n.place) need ∙ sym second.place_is, one_cause key state moment (goal_of caller second.need) second.procap cause because denies second.denies)
+
+-- what a sound grant grants, under the names that it has
+Allows-named : (statements : List StatementView) (state : BaseView) (moment : ℤ) (goal : Goal) (g : GrantView) → SoundGrant statements g → g.goal.who ≡ goal.who → g.goal.file ≡ goal.file → g.goal.perm ≡ goal.perm → Holds g moment (facts state.world) →
+    Allows statements (facts state.world) moment goal.who goal.file goal.perm
+Allows-named statements state moment goal g sound who file perm holds =
+    subst (λ (w : List ℕ). Allows statements (facts state.world) moment w goal.file goal.perm) who
+    (subst (λ (f : NodeId). Allows statements (facts state.world) moment g.goal.who f goal.perm) file
+    (subst (λ (permission : Permission). Allows statements (facts state.world) moment g.goal.who g.goal.file permission) perm
+    (sound.allows moment (facts state.world) holds)))
+
+IsDerived-met : (key : List ℕ) (state : BaseView) (caller : List ℕ) (procaps : List Procap) (moment : ℤ) → AllByRecursion (IsGoodIssue (sayings state.statements)) state.issues → (need : Need) → IsNeedMet key state caller procaps moment need → IsDerived state caller procaps moment need
+IsDerived-met key state caller procaps moment good need met p brought was =
+    let statements = sayings state.statements in
+    let same : met.procap ≡ p = numbered_item procaps need.place met.procap p met.brought brought in
+    let admits : Admits key state moment (goal_of caller need) p = subst (Admits key state moment (goal_of caller need)) same met.admits in
+    let issue : IsGoodIssue statements was.issue = AllByRecursion-contains (IsGoodIssue statements) state.issues was.issue good was.among in
+    let sound : SoundGrant statements was.issue.grant =
+    SoundGrant-more (statements_of issue.cites) statements was.issue.grant (Includes-cited statements issue.cites issue.stand) issue.granted.sound in
+    Allows-named statements state moment (goal_of caller need) p.grant (subst (SoundGrant statements) was.grant_is sound) admits.1.0 admits.1.1.0 admits.1.1.1.0 (Holds-admits key state moment (goal_of caller need) p admits)
+
+-- what an admitted operation needs is derivable, if the grants were issued
+pub AreDerived-admitted : (key : List ℕ) (state : BaseView) (caller : List ℕ) (op : Op) (procaps : List Procap) (moment : ℤ) → AllByRecursion (IsGoodIssue (sayings state.statements)) state.issues → IsAdmitted key state caller op procaps moment →
+    AreDerived state caller op procaps moment
+AreDerived-admitted key state caller op procaps moment good admitted =
+    AllByRecursion-weaker (IsNeedMet key state caller procaps moment) (IsDerived state caller procaps moment) (needs state.world op) (IsDerived-met key state caller procaps moment good) admitted

@@ -1,0 +1,20 @@
+-- What has to hold of an event, and of what the state keeps of it, when it is kept (this project's own).
+use Rattle.std.specs.Prelude.{◌<◌, List, length}
+use Rattle.bl_syntax.specs.TimeOrder.{IsMoment}
+use Rattle.policy_statement.specs.Registered.{RegisteredView}
+use Rattle.access_history.specs.declared.event.Event.{Event}
+use Rattle.access_history.specs.declared.event.Event.TheVariants as events
+use Rattle.access_history.specs.declared.event.Entry.{Entry}
+use Rattle.access_history.specs.declared.event.Entry.TheVariants as entries
+
+-- an event that has a moment has one of the range
+abbrev pub HasMomentInRange : Event → Type 0
+HasMomentInRange (events.Registered pass statement signature) = Unit {0}
+HasMomentInRange (events.Issued pass cited proof grant) = Unit {0}
+HasMomentInRange (events.Acted pass caller op procaps moment) = IsMoment moment
+
+-- a statement more is within the limit
+abbrev pub HasPlaceAmong : List RegisteredView → Entry → Type 0
+HasPlaceAmong statements (entries.Statement statement signature) = length statements < 4096
+HasPlaceAmong statements (entries.Issue issue) = Unit {0}
+HasPlaceAmong statements entries.Operation = Unit {0}

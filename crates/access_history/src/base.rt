@@ -1,0 +1,71 @@
+//! The state with which a history begins.
+
+ghost use Rattle.std.specs.Prelude.{◌≡◌, IfOk};
+ghost use Rattle.access_history.specs.Replay.{fresh};
+
+use crate::event::{Issues, Statements};
+use bl_syntax::{NoMemory, Sequence};
+use std::alloc::Global;
+use std::marker::Model;
+use world_state::World;
+
+/// The first second of the range of moments, 0001-01-01T00:00:00Z.
+const FIRST_MOMENT: i64 = -62135596800;
+
+/// A state: a world, the statements and issues by their numbers from 1, the greatest moment so far, and the number of
+/// the last event.
+#[derive(Drop)]
+pub struct Base {
+    world: World,
+    statements: Statements,
+    issues: Issues,
+    moment: i64,
+    count: u64,
+}
+
+impl Model for Base {
+    ghost use Rattle.access_history.specs.Base.{BaseView};
+    ghost use Rattle.access_history.specs.BaseCode.{base_code};
+
+    ghost Value = { BaseView };
+
+    ghost coded = { base_code };
+
+    ghost view = { λ b. record { world = b.world.world; statements = b.statements; issues = b.issues; moment = b.moment; count = b.count } };
+}
+
+impl Base {
+    /// A store before its first event: the root, which `admin` owns, and the first moment.
+    pub fn fresh(alloc: Global) -> Result<Base, NoMemory>
+        ensures { IfOk result (λ base. base ≡ fresh) }
+    {
+        Ok(Base {
+            world: World::new(alloc)?,
+            statements: Sequence::new(alloc),
+            issues: Sequence::new(alloc),
+            moment: FIRST_MOMENT,
+            count: 0,
+        })
+    }
+
+    /// The world.
+    pub fn world(&self) -> &World
+        ensures { result.now.world ≡ self.now.world }
+    {
+        &self.world
+    }
+
+    /// The greatest moment so far.
+    pub fn moment(&self) -> i64
+        ensures { result ≡ self.now.moment }
+    {
+        self.moment
+    }
+
+    /// The number of the last event.
+    pub fn count(&self) -> u64
+        ensures { result ≡ self.now.count }
+    {
+        self.count
+    }
+}
