@@ -141,6 +141,6 @@ reads_stop bytes fault h = reads_err bytes fault (λ memory. stops_with fault (w
 
 -- an event that is read may be written
 pub read_fits : (e : Event) → IsReadEvent e → HasFittingFields e
-read_fits (Registered pass statement signature) h = h.spelled.signature
-read_fits (Issued pass cited proof grant) h = h.spelled.cited.few
-read_fits (Acted pass caller op procaps moment) h = (spelled_fits op h.spelled.op, (h.spelled.procaps.few, h.spelled.moment))
+read_fits (Registered pass statement signature) h = h.spelled.signed
+read_fits (Issued pass cited proof grant) h = h.spelled.numbers.few
+read_fits (Acted pass caller op procaps moment) h = (spelled_fits op h.spelled.words, (h.spelled.sealed.few, h.spelled.timed))
