@@ -1,6 +1,8 @@
 //! Reading events.
 
+ghost use Rattle.std.specs.Prelude.{IfOk};
 ghost use Rattle.bl_syntax.specs.Codec.{GivesReadingOrReports};
+ghost use Rattle.journal_records.specs.EventSpelling.{HasFittingFields};
 ghost use Rattle.journal_records.specs.EventReading.{event_at, whole_event, ReadsWholeEvent};
 
 use access_history::Event;
@@ -56,10 +58,12 @@ fn event_at(alloc: Global, input: usize, bytes: &[u8]) -> Result<(Event, &[u8]),
     }
 }
 
-/// Reads an event that is all of the bytes, with pass 0. Bytes after it are `NotCanonical` at the first of them.
+/// Reads an event that is all of the bytes, with pass 0. Bytes after it are `NotCanonical` at the first of them. What is
+/// read may be written again.
 pub fn read_event(alloc: Global, bytes: &[u8]) -> Result<Event, CodecFault>
     ensures exact { GivesReadingOrReports (λ e. e) result (whole_event bytes.now) }
     ensures whole { ReadsWholeEvent bytes.now result }
+    ensures fits { IfOk result (λ e. HasFittingFields e) }
 {
     match event_at(alloc, bytes.len(), bytes) {
         Err(fault) => Err(fault),
