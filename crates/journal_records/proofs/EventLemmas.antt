@@ -1,0 +1,146 @@
+-- Events: what is read is spelled so, and what is spelled so is read, up to its pass.
+use Rattle.std.proofs.Common.{◌≡◌, ℕ, ℤ, true, false, eqb, List, [], ◌∷◌, ◌++◌, length, Result, Ok, Err, refl, sym, ap, subst, ◌∙◌, arith}
+use Rattle.std.proofs.lemmas.Bool.{eqb-true}
+use Rattle.std.proofs.lemmas.List.{append-nil}
+use Rattle.bl_syntax.specs.declared.codec_fault.CodecFault.{CodecFault}
+use Rattle.bl_syntax.specs.declared.codec_fault.CodecFault.TheVariants as faults
+use Rattle.bl_syntax.specs.Reading.{◌>>=◌, Reading, map_reading, place}
+use Rattle.bl_syntax.specs.Codec.{AreBytes, IsCodec, ReportsFault}
+use Rattle.bl_syntax.proofs.CodecLemmas.{bind_ok, by_test, ok_is, made_ok, made_memoryless, AreBytes-rest, codec}
+use Rattle.bl_syntax.proofs.StopsWithLemmas.{hands_on, stops_with}
+use Rattle.procap.specs.Procap.{at_end}
+use Rattle.procap.proofs.ItemsLemmas.{test_memoryless}
+use Rattle.access_history.specs.declared.event.Event.{Event}
+use Rattle.access_history.specs.declared.event.Event.TheVariants.{Registered, Issued, Acted}
+use Rattle.record_parts.specs.RecordSpelling.{Registration, IsRegistration, registration_spelling, Issuing, IsIssuing, issuing_spelling, Action, IsAction, action_spelling}
+use Rattle.record_parts.specs.RecordReading.{registered_at, issued_at, acted_at}
+use Rattle.record_parts.proofs.OperationLemmas.{spelled_fits}
+use Rattle.record_parts.proofs.RecordLemmas.{registered_codec, issued_codec, acted_codec}
+use Rattle.journal_records.specs.EventSpelling.{erase, event_spelling, IsSpellableEvent, HasFittingFields, IsReadEvent}
+use Rattle.journal_records.specs.EventReading.{event_at, whole_event, ReadsWholeEvent}
+
+abbrev registered : Registration → Event
+registered r = Registered 0 r.0 r.1
+
+abbrev issued : Issuing → Event
+issued i = Issued 0 i.0 i.1.0 i.1.1
+
+abbrev acted : Action → Event
+acted a = Acted 0 a.0 a.1.0 a.1.1.0 a.1.1.1
+
+abbrev Spells : List ℕ → Event → List ℕ → Type 0
+Spells bytes e rest = IsReadEvent e × (bytes ≡ event_spelling e ++ rest)
+
+-- an event of which all behind the tag was read
+with_tag : {A : Type 0} (IsSpelled : A → Type 0) (spelling : A → List ℕ) (at : ℕ → List ℕ → Reading A) (f : A → Event) (code : ℕ) → IsCodec IsSpelled spelling at
+    → ((x : A) → IsSpelled x → IsReadEvent (f x)) → ((x : A) → event_spelling (f x) ≡ code ∷ spelling x)
+    → (input tag : ℕ) (more rest : List ℕ) (e : Event) → AreBytes more → tag ≡ code → map_reading f (at input more) ≡ Ok (e, rest) → Spells (tag ∷ more) e rest
+with_tag IsSpelled spelling at f code c there same input tag more rest e fits is read =
+    let m = made_ok f (at input more) e rest read in
+    let it = c.found input more rest m.0 fits m.1 in
+    subst (λ (d : Event). Spells (tag ∷ more) d rest) m.2 (there m.0 it.0, ap (λ (k : ℕ). k ∷ more) is ∙ ap (λ (b : List ℕ). code ∷ b) it.1 ∙ ap (λ (b : List ℕ). b ++ rest) (sym (same m.0)))
+
+event_found : (input : ℕ) (bytes rest : List ℕ) (e : Event) → AreBytes bytes → event_at input bytes ≡ Ok (e, rest) → IsReadEvent e × (bytes ≡ event_spelling e ++ rest)
+unfolding event_at event_spelling
+event_found input [] rest e fits read = absurd cc
+event_found input (tag ∷ more) rest e fits read =
+    let behind : AreBytes more = AreBytes-rest tag more fits in
+    by_test (eqb tag 1) _ _ _ read (λ is h. with_tag IsRegistration registration_spelling registered_at registered 1 registered_codec (λ x k. record { spelled = k; erased = refl }) (λ x. refl) input tag more rest e behind (eqb-true tag 1 is) h) (λ _ e1.
+    by_test (eqb tag 2) _ _ _ e1 (λ is h. with_tag IsIssuing issuing_spelling issued_at issued 2 issued_codec (λ x k. record { spelled = k; erased = refl }) (λ x. refl) input tag more rest e behind (eqb-true tag 2 is) h) (λ _ e2.
+    by_test (eqb tag 3) _ _ _ e2 (λ is h. with_tag IsAction action_spelling acted_at acted 3 acted_codec (λ x k. record { spelled = k; erased = refl }) (λ x. refl) input tag more rest e behind (eqb-true tag 3 is) h) (λ _ fault. absurd cc)))
+
+-- whatever its pass
+spelled_again : (input : ℕ) (e : Event) (rest : List ℕ) → IsSpellableEvent e → event_at input (event_spelling e ++ rest) ≡ Ok (erase e, rest)
+unfolding event_at event_spelling
+spelled_again input (Registered pass statement signature) rest h = ap (map_reading registered) (registered_codec.again input (statement, signature) rest h)
+spelled_again input (Issued pass cited proof grant) rest h = ap (map_reading issued) (issued_codec.again input (cited, (proof, grant)) rest h)
+spelled_again input (Acted pass caller op procaps moment) rest h = ap (map_reading acted) (acted_codec.again input (caller, (op, (procaps, moment))) rest h)
+
+abbrev done : {A : Type 0} → A → Result A CodecFault
+done x = Ok x
+
+event_again : (input : ℕ) (e : Event) (rest : List ℕ) → IsReadEvent e → event_at input (event_spelling e ++ rest) ≡ Ok (e, rest)
+event_again input e rest h = spelled_again input e rest h.spelled ∙ ap (λ (d : Event). done (d, rest)) h.erased
+
+event_memoryless : (input : ℕ) (bytes : List ℕ) → event_at input bytes ≡ Err faults.NoMemory → ⊥
+unfolding event_at
+event_memoryless input [] e = cc
+event_memoryless input (tag ∷ more) e =
+    test_memoryless (eqb tag 1) _ _ (λ h. made_memoryless registered (registered_at input more) (registered_codec.memoryless input more) h) (λ e1.
+    test_memoryless (eqb tag 2) _ _ (λ h. made_memoryless issued (issued_at input more) (issued_codec.memoryless input more) h) (λ e2.
+    test_memoryless (eqb tag 3) _ _ (λ h. made_memoryless acted (acted_at input more) (acted_codec.memoryless input more) h) (λ h. cc) e2) e1) e
+
+pub event_codec : IsCodec IsReadEvent event_spelling event_at
+event_codec = codec IsReadEvent event_spelling event_at event_found event_again event_memoryless
+
+-- ---- passes
+
+pub same_spelling : (e : Event) → event_spelling (erase e) ≡ event_spelling e
+unfolding event_spelling
+same_spelling (Registered pass statement signature) = refl
+same_spelling (Issued pass cited proof grant) = refl
+same_spelling (Acted pass caller op procaps moment) = refl
+
+pub apart : (e d : Event) (rest others : List ℕ) → IsSpellableEvent e → IsSpellableEvent d → event_spelling e ++ rest ≡ event_spelling d ++ others → (erase e ≡ erase d) × (rest ≡ others)
+apart e d rest others first second is =
+    let pair = ok_is (erase e, rest) (erase d, others) (sym (spelled_again 0 e rest first) ∙ ap (event_at 0) is ∙ spelled_again 0 d others second) in
+    (ap (λ (p : Event × List ℕ). p.0) pair, ap (λ (p : Event × List ℕ). p.1) pair)
+
+-- ---- events that are the whole input
+
+at_end_ok : (input : ℕ) (r : Event × List ℕ) (x : Event) → at_end input r ≡ Ok x → (r.0 ≡ x) × (r.1 ≡ [])
+at_end_ok input (y, []) x e = (ok_is y x e, refl)
+at_end_ok input (y, byte ∷ rest) x e = absurd cc
+
+whole_found : (bytes : List ℕ) (e : Event) → AreBytes bytes → whole_event bytes ≡ Ok e → IsReadEvent e × (bytes ≡ event_spelling e)
+unfolding whole_event
+whole_found bytes e fits read =
+    let a = bind_ok (event_at (length bytes) bytes) (at_end (length bytes)) e read in
+    let end = at_end_ok (length bytes) a.0 e a.2 in
+    let it = event_found (length bytes) bytes a.0.1 a.0.0 fits a.1 in
+    let ended : bytes ≡ event_spelling a.0.0 = it.1 ∙ ap (λ (rest : List ℕ). event_spelling a.0.0 ++ rest) end.1 ∙ append-nil (event_spelling a.0.0) in
+    subst (λ (d : Event). IsReadEvent d × (bytes ≡ event_spelling d)) end.0 (it.0, ended)
+
+pub whole_again : (e : Event) → IsSpellableEvent e → whole_event (event_spelling e) ≡ Ok (erase e)
+unfolding whole_event
+whole_again e h =
+    let read : event_at (length (event_spelling e)) (event_spelling e) ≡ Ok (erase e, []) =
+    ap (event_at (length (event_spelling e))) (sym (append-nil (event_spelling e))) ∙ spelled_again (length (event_spelling e)) e [] h in
+    rw read refl
+
+pub reads_ok : (bytes : List ℕ) (e : Event) → AreBytes bytes → whole_event bytes ≡ Ok e → ReadsWholeEvent bytes (Ok e)
+reads_ok bytes e fits read = record { found = whole_found bytes e fits read; refused = tt }
+
+differ : (e : Event) (fault : CodecFault) (r : Result Event CodecFault) → r ≡ Ok e → r ≡ Err fault → ⊥
+differ e fault r x y = cc
+
+pub reads_err : (bytes : List ℕ) (fault : CodecFault) → ((fault ≡ faults.NoMemory → ⊥) → whole_event bytes ≡ Err fault) → ReadsWholeEvent bytes (Err fault)
+reads_err bytes fault read = record {
+  found = tt;
+  refused = λ memory e spelled is. differ (erase e) fault (whole_event bytes) (ap whole_event is ∙ whole_again e spelled) (read memory);
+}
+
+-- ---- calls that read the whole input
+
+pub event_stops : (bytes : List ℕ) (fault : CodecFault) → ReportsFault fault (event_at (length bytes) bytes) → ReportsFault fault (whole_event bytes)
+unfolding whole_event
+event_stops bytes fault h = hands_on fault (event_at (length bytes) bytes) (at_end (length bytes)) h
+
+pub is_whole : (bytes rest : List ℕ) (e : Event) → event_at (length bytes) bytes ≡ Ok (e, rest) → eqb (length rest) 0 ≡ true → whole_event bytes ≡ Ok e
+unfolding whole_event
+is_whole bytes [] e read none = rw read refl
+is_whole bytes (byte ∷ rest) e read none = absurd (omega (arith, eqb-true (length (byte ∷ rest)) 0 none))
+
+pub is_left_over : (bytes rest : List ℕ) (e : Event) → event_at (length bytes) bytes ≡ Ok (e, rest) → eqb (length rest) 0 ≡ false → whole_event bytes ≡ Err (faults.NotCanonical (place (length bytes) rest))
+unfolding whole_event
+is_left_over bytes [] e read some = absurd cc
+is_left_over bytes (byte ∷ rest) e read some = rw read refl
+
+pub reads_stop : (bytes : List ℕ) (fault : CodecFault) → ReportsFault fault (whole_event bytes) → ReadsWholeEvent bytes (Err fault)
+reads_stop bytes fault h = reads_err bytes fault (λ memory. stops_with fault (whole_event bytes) h memory)
+
+-- an event that is read may be written
+pub read_fits : (e : Event) → IsReadEvent e → HasFittingFields e
+read_fits (Registered pass statement signature) h = h.spelled.signed
+read_fits (Issued pass cited proof grant) h = h.spelled.numbers.few
+read_fits (Acted pass caller op procaps moment) h = (spelled_fits op h.spelled.words, (h.spelled.sealed.few, h.spelled.timed))

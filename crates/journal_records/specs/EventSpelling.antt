@@ -1,0 +1,37 @@
+-- The payload of a journal's record: the one spelling of an event, up to its pass, which is not written. The format is this project's own.
+use Rattle.std.specs.Prelude.{◌≡◌, ℕ, List, ◌∷◌, ◌≤◌, length}
+use Rattle.bl_syntax.specs.TimeOrder.{IsMoment}
+use Rattle.access_history.specs.declared.event.Event.{Event}
+use Rattle.access_history.specs.declared.event.Event.TheVariants.{Registered, Issued, Acted}
+use Rattle.record_parts.specs.Fields.{IsLong}
+use Rattle.record_parts.specs.OperationSpelling.{HasFittingWords}
+use Rattle.record_parts.specs.RecordSpelling.{registered_spelling, IsSpellableRegistered, issued_spelling, IsSpellableIssued, acted_spelling, IsSpellableActed}
+
+-- the event with pass 0
+abbrev pub erase : Event → Event
+erase (Registered pass statement signature) = Registered 0 statement signature
+erase (Issued pass cited proof grant) = Issued 0 cited proof grant
+erase (Acted pass caller op procaps moment) = Acted 0 caller op procaps moment
+
+-- the tag of its kind, and what happened
+unfoldable pub event_spelling : Event → List ℕ
+event_spelling (Registered pass statement signature) = 1 ∷ registered_spelling statement signature
+event_spelling (Issued pass cited proof grant) = 2 ∷ issued_spelling cited proof grant
+event_spelling (Acted pass caller op procaps moment) = 3 ∷ acted_spelling caller op procaps moment
+
+-- the event has a spelling
+abbrev pub IsSpellableEvent : Event → Type 0
+IsSpellableEvent (Registered pass statement signature) = IsSpellableRegistered statement signature
+IsSpellableEvent (Issued pass cited proof grant) = IsSpellableIssued cited proof grant
+IsSpellableEvent (Acted pass caller op procaps moment) = IsSpellableActed caller op procaps moment
+
+-- what is counted fits its field, and the moment is one; the rest of what a spelling asks for always holds
+abbrev pub HasFittingFields : Event → Type 0
+HasFittingFields (Registered pass statement signature) = IsLong signature
+HasFittingFields (Issued pass cited proof grant) = length cited ≤ 255
+HasFittingFields (Acted pass caller op procaps moment) = HasFittingWords op × ((length procaps ≤ 255) × IsMoment moment)
+
+-- an event that is read: it has a spelling, and pass 0
+pub record IsReadEvent (e : Event) : Type 0 where
+  pub spelled : IsSpellableEvent e
+  pub erased : erase e ≡ e

@@ -1,0 +1,21 @@
+//! Laws of the definitions. A law is the contract of an empty function, which nothing calls.
+
+ghost use Rattle.std.specs.Prelude.{◌≡◌, ◌++◌, List, ℕ, Ok};
+ghost use Rattle.bl_syntax.specs.Codec.{IsCodec};
+ghost use Rattle.access_history.specs.declared.event.Event.{Event};
+ghost use Rattle.journal_records.specs.EventSpelling.{erase, event_spelling, IsSpellableEvent, IsReadEvent};
+ghost use Rattle.journal_records.specs.EventReading.{event_at, whole_event};
+
+/// The spelling of events of pass 0 and the reading of them belong together.
+pub fn events_are_a_codec()
+    ensures { IsCodec IsReadEvent event_spelling event_at }
+{}
+
+/// No pass is written: an event and the one of pass 0 have one spelling. So what is written is read again, up to its
+/// pass; no spelling begins another one, and events with one spelling differ in their passes alone.
+pub fn passes_are_not_written()
+    ensures same { (e : Event) → event_spelling (erase e) ≡ event_spelling e }
+    ensures again { (e : Event) → IsSpellableEvent e → whole_event (event_spelling e) ≡ Ok (erase e) }
+    ensures apart { (e d : Event) (rest others : List ℕ) → IsSpellableEvent e → IsSpellableEvent d
+        → event_spelling e ++ rest ≡ event_spelling d ++ others → (erase e ≡ erase d) × (rest ≡ others) }
+{}
