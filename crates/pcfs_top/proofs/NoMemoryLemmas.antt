@@ -28,7 +28,6 @@ use Rattle.line_forms.specs.Forms.{form_named, operation_named}
 use Rattle.line_forms.specs.Heads.{Head, head_of, operation_head, by_form, by_operation}
 use Rattle.line_forms.specs.Lines.{IsLineFault, of_head, of_count, of_word, of_text}
 use Rattle.line_wire.specs.declared.reply.LineReply.{LineReply}
-use Rattle.line_wire.specs.declared.reply.LineReply.TheVariants as replies
 use Rattle.line_wire.specs.FirstWord.{step_word, unproved_word, text_word, fault_word, reply_word}
 use Rattle.pcfs_top.specs.Asker.{Asker}
 use Rattle.pcfs_top.specs.Proved.{IsUnproved, cites_none, proves_none}
