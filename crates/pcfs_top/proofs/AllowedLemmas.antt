@@ -1,5 +1,5 @@
 -- What a line asks for is allowed.
-use Rattle.std.proofs.Common.{◌<◌, ℕ, List, [], ◌∷◌, length}
+use Rattle.std.proofs.Common.{ℕ, List, [], ◌∷◌}
 use Rattle.std.specs.List.Sorted.{IsStrictlyIncreasing}
 use Rattle.access_history.specs.Citing.{DoNumbersRise, AreCitable}
 use Rattle.line_words.proofs.CitedLemmas.{rising-fewer}

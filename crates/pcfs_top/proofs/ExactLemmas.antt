@@ -1,5 +1,5 @@
 -- A script has exactly one outcome.
-use Rattle.std.proofs.Common.{◌≡◌, ◌<◌, ◌^◌, ℕ, List, length}
+use Rattle.std.proofs.Common.{◌<◌, ◌^◌, ℕ, List, length}
 use Rattle.line_text.specs.Lines.{lines_of}
 use Rattle.access_history.specs.declared.event.Event.{Event}
 use Rattle.line_wire.specs.declared.reply.LineReply.{LineReply}

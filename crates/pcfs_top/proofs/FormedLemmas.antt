@@ -1,5 +1,5 @@
 -- What a line makes of the state is well formed.
-use Rattle.std.proofs.Common.{◌≡◌, suc, ap, ◌∙◌, ◌≤◌, ℕ, List, [], ◌∷◌, length, take, refl, sym, subst, arith, Ok}
+use Rattle.std.proofs.Common.{◌≡◌, suc, ap, ◌∙◌, ℕ, List, [], ◌∷◌, length, refl, sym, subst, arith}
 use Rattle.std.specs.List.{AllByRecursion}
 use Rattle.std.proofs.lemmas.List.{take_all}
 use Rattle.bl_syntax.specs.declared.grant.Goal.{Goal}

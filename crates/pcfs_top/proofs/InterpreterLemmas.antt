@@ -1,7 +1,6 @@
 -- What an interpreter makes of requests, commands and lines.
-use Rattle.std.proofs.Common.{◌≡◌, ℕ, ℤ, List, [], ◌∷◌, ◌++◌, Option, Some, None, Result, Err, ⊎_elim, refl, sym, ap, subst, ◌∙◌, append-nil}
+use Rattle.std.proofs.Common.{◌≡◌, ℕ, ℤ, List, [], ◌∷◌, ◌++◌, Option, Some, None, Err, ⊎_elim, refl, sym, ap, subst, ◌∙◌, append-nil}
 use Rattle.std.specs.Prelude.{◌≢◌, IfSome}
-use Rattle.std.specs.Option.{option_to_list}
 use Rattle.bl_syntax.specs.declared.grant.Goal.{Goal}
 use Rattle.bl_syntax.specs.Statement.{StatementView}
 use Rattle.bl_syntax.specs.Grant.{GrantView}
@@ -39,7 +38,7 @@ use Rattle.line_forms.specs.declared.fault.LineFault.TheVariants as line_faults
 use Rattle.line_forms.specs.Lines.{IsLine, IsLineFault, IsUnread}
 use Rattle.line_wire.specs.declared.reply.LineReply.{LineReply}
 use Rattle.line_wire.specs.declared.reply.LineReply.TheVariants as replies
-use Rattle.pcfs_top.specs.Asker.{Asker, asker_after}
+use Rattle.pcfs_top.specs.Asker.{asker_after}
 use Rattle.pcfs_top.specs.Procaps.{AreBrought, IsFirstUnissued}
 use Rattle.pcfs_top.specs.Proved.{IsUnproved, cites_none, proves_none, IsProved}
 use Rattle.pcfs_top.specs.LineAnswer.{authority_under, signature_under, replied, requested, ComesTo, AnswersCommand, at_once, decided, faulty, asks}

@@ -5,6 +5,7 @@ pub mod ExactLemmas
 pub mod FormedLemmas
 pub mod InterpreterLemmas
 pub mod LawfulRunLemmas
+pub mod NoMemoryLemmas
 pub mod OneAnswerLemmas
 pub mod OneOutcomeLemmas
 pub mod OutboxLemmas

@@ -1,12 +1,11 @@
 -- The lines of a script have one outcome at most, unless memory runs out.
-use Rattle.std.proofs.Common.{◌≡◌, ℕ, List, [], ◌∷◌, ◌++◌, Option, refl, sym, ap, subst, ◌∙◌}
+use Rattle.std.proofs.Common.{◌≡◌, ℕ, List, ◌∷◌, ◌++◌, Option, refl, ap, subst, ◌∙◌}
 use Rattle.std.specs.Prelude.{◌≢◌}
 use Rattle.std.specs.Option.{option_to_list}
 use Rattle.access_history.specs.declared.event.Event.{Event}
 use Rattle.access_history.specs.Lawful.{IsLawful}
 use Rattle.line_wire.specs.declared.reply.LineReply.{LineReply}
 use Rattle.line_wire.specs.declared.reply.LineReply.TheVariants.{NoMemory}
-use Rattle.pcfs_top.specs.Asker.{Asker}
 use Rattle.pcfs_top.specs.LineAnswer.{authority_under}
 use Rattle.pcfs_top.specs.ScriptRun.{Standing, state_of_standing, standing_after, IsLawfulStanding, CanNumber, IsReplied, answered, without_memory, ScriptRun, ended, HadMemory}
 use Rattle.pcfs_top.specs.ScriptRun as script

@@ -1,12 +1,11 @@
 -- A script that was run as far as some rest of its input.
-use Rattle.std.proofs.Common.{◌≡◌, ℕ, suc, ◌+◌, ◌-◌, ◌^◌, ◌≤◌, ◌<◌, Bool, true, false, cond, List, [], ◌∷◌, ◌++◌, length, Option, Some, None, refl, sym, ap, subst, ◌∙◌, arith, append_assoc, append-nil, length-append}
+use Rattle.std.proofs.Common.{◌≡◌, ℕ, suc, ◌+◌, ◌-◌, ◌^◌, ◌≤◌, ◌<◌, Bool, true, false, cond, List, [], ◌∷◌, ◌++◌, length, Option, refl, sym, ap, subst, ◌∙◌, arith, append_assoc, append-nil, length-append}
 use Rattle.std.specs.Prelude.{◌==◌}
 use Rattle.std.specs.Option.{option_to_list}
 use Rattle.std.proofs.lemmas.Grind.{flat_map-append}
 use Rattle.pcfs_ports.specs.Told.{with_back, HoldsSome}
 use Rattle.line_text.specs.Lines.{lines_of, with_byte}
 use Rattle.access_history.specs.declared.event.Event.{Event}
-use Rattle.access_history.specs.Replay.{fresh}
 use Rattle.access_history.proofs.HeadlineLemmas.{Headline-lawful}
 use Rattle.access_history.proofs.ReplayLemmas.{count-replay}
 use Rattle.line_wire.specs.declared.reply.LineReply.{LineReply}

@@ -1,9 +1,11 @@
 -- Laws of runs and lines: what runs keep is lawful, and lines and runs have one answer each.
-use Rattle.std.specs.Prelude.{◌≡◌, ◌<◌, ◌^◌, ℕ, List, ◌++◌, length, Option}
+use Rattle.std.specs.Prelude.{◌≡◌, ◌<◌, ◌^◌, ℕ, List, ◌++◌, length, codes, Option}
 use Rattle.access_history.specs.declared.event.Event.{Event}
+use Rattle.access_history.specs.Base.{BaseView}
 use Rattle.access_history.specs.Lawful.{IsLawful}
 use Rattle.line_text.specs.Lines.{lines_of}
 use Rattle.line_wire.specs.declared.reply.LineReply.{LineReply}
+use Rattle.line_wire.specs.FirstWord.{reply_word}
 use Rattle.pcfs_secrets.specs.declared.secrets.Secrets.{Secrets}
 use Rattle.pcfs_top.specs.Asker.{Asker}
 use Rattle.pcfs_top.specs.LineAnswer.{authority_under, AnswersLine}
@@ -23,6 +25,10 @@ LinesHaveOneAnswer = (s : Standing) (line : List ℕ) (first second : LineReply)
 abbrev pub LinesHaveAnAnswer : Type 0
 LinesHaveAnAnswer = (s : Standing) (line : List ℕ) → IsLawfulStanding s →
     (reply : LineReply) × (event : Option Event) × (after : Asker) × AnswersLine s.secrets (state_of_standing s) s.asker line reply event after
+
+-- no answer to a line is written as it is if memory runs out
+abbrev pub AnswersAreNotOutOfMemory : Type 0
+AnswersAreNotOutOfMemory = (secrets : Secrets) (state : BaseView) (asker : Asker) (line : List ℕ) (reply : LineReply) (event : Option Event) (after : Asker) → AnswersLine secrets state asker line reply event after → reply_word reply ≡ codes "nomemory" → ⊥
 
 -- two runs of the same lines from a lawful start that do not run out of memory have the same outcome
 abbrev pub RunsHaveOneOutcome : Type 0

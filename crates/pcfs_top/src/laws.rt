@@ -1,6 +1,6 @@
 //! Laws of the definitions. The functions do nothing: each contract is a law.
 
-ghost use Rattle.pcfs_top.specs.Laws.{RunsAreLawful, LinesHaveOneAnswer, LinesHaveAnAnswer, RunsHaveOneOutcome, RunsHaveAnOutcome, FreshStartsAreLawful, ScriptsHaveOneOutcome};
+ghost use Rattle.pcfs_top.specs.Laws.{RunsAreLawful, LinesHaveOneAnswer, LinesHaveAnAnswer, AnswersAreNotOutOfMemory, RunsHaveOneOutcome, RunsHaveAnOutcome, FreshStartsAreLawful, ScriptsHaveOneOutcome};
 
 /// The events of a run of a script are lawful.
 pub fn runs_are_lawful()
@@ -15,6 +15,11 @@ pub fn lines_have_one_answer()
 /// Over the state of a lawful history each line has an answer.
 pub fn lines_have_an_answer()
     ensures { LinesHaveAnAnswer }
+{}
+
+/// No answer to a line is written as it is if memory runs out.
+pub fn answers_are_not_out_of_memory()
+    ensures { AnswersAreNotOutOfMemory }
 {}
 
 /// The lines of a script have at most one outcome, unless memory runs out.
