@@ -1,13 +1,14 @@
 -- Events: what is read is spelled so, and what is spelled so is read, up to its pass.
 use Rattle.std.proofs.Common.{◌≡◌, ℕ, ℤ, true, false, eqb, List, [], ◌∷◌, ◌++◌, length, Result, Ok, Err, refl, sym, ap, subst, ◌∙◌, arith}
+use Rattle.std.specs.Prelude.{IfOk}
 use Rattle.std.proofs.lemmas.Bool.{eqb-true}
 use Rattle.std.proofs.lemmas.List.{append-nil}
 use Rattle.bl_syntax.specs.declared.codec_fault.CodecFault.{CodecFault}
 use Rattle.bl_syntax.specs.declared.codec_fault.CodecFault.TheVariants as faults
-use Rattle.bl_syntax.specs.Reading.{◌>>=◌, Reading, map_reading, place}
-use Rattle.bl_syntax.specs.Codec.{AreBytes, IsCodec, ReportsFault}
+use Rattle.bl_syntax.specs.Reading.{◌>>=◌, Reading, map_reading, place, GivesReading}
+use Rattle.bl_syntax.specs.Codec.{AreBytes, IsCodec, ReportsFault, GivesReadingOrReports}
 use Rattle.bl_syntax.proofs.CodecLemmas.{bind_ok, by_test, ok_is, made_ok, made_memoryless, AreBytes-rest, codec}
-use Rattle.bl_syntax.proofs.StopsWithLemmas.{hands_on, stops_with}
+use Rattle.bl_syntax.proofs.StopsWithLemmas.{stops, hands_on, stops_with}
 use Rattle.procap.specs.Procap.{at_end}
 use Rattle.procap.proofs.ItemsLemmas.{test_memoryless}
 use Rattle.access_history.specs.declared.event.Event.{Event}
@@ -108,13 +109,13 @@ whole_again e h =
     ap (event_at (length (event_spelling e))) (sym (append-nil (event_spelling e))) ∙ spelled_again (length (event_spelling e)) e [] h in
     rw read refl
 
-pub reads_ok : (bytes : List ℕ) (e : Event) → AreBytes bytes → whole_event bytes ≡ Ok e → ReadsWholeEvent bytes (Ok e)
+reads_ok : (bytes : List ℕ) (e : Event) → AreBytes bytes → whole_event bytes ≡ Ok e → ReadsWholeEvent bytes (Ok e)
 reads_ok bytes e fits read = record { found = whole_found bytes e fits read; refused = tt }
 
 differ : (e : Event) (fault : CodecFault) (r : Result Event CodecFault) → r ≡ Ok e → r ≡ Err fault → ⊥
 differ e fault r x y = cc
 
-pub reads_err : (bytes : List ℕ) (fault : CodecFault) → ((fault ≡ faults.NoMemory → ⊥) → whole_event bytes ≡ Err fault) → ReadsWholeEvent bytes (Err fault)
+reads_err : (bytes : List ℕ) (fault : CodecFault) → ((fault ≡ faults.NoMemory → ⊥) → whole_event bytes ≡ Err fault) → ReadsWholeEvent bytes (Err fault)
 reads_err bytes fault read = record {
   found = tt;
   refused = λ memory e spelled is. differ (erase e) fault (whole_event bytes) (ap whole_event is ∙ whole_again e spelled) (read memory);
@@ -126,21 +127,25 @@ pub event_stops : (bytes : List ℕ) (fault : CodecFault) → ReportsFault fault
 unfolding whole_event
 event_stops bytes fault h = hands_on fault (event_at (length bytes) bytes) (at_end (length bytes)) h
 
-pub is_whole : (bytes rest : List ℕ) (e : Event) → event_at (length bytes) bytes ≡ Ok (e, rest) → eqb (length rest) 0 ≡ true → whole_event bytes ≡ Ok e
+pub ends : (bytes rest : List ℕ) (e : Event) (result : Result Event CodecFault) → event_at (length bytes) bytes ≡ Ok (e, rest) → GivesReading (λ d. d) result (at_end (length bytes) (e, rest))
+    → GivesReadingOrReports (λ d. d) result (whole_event bytes)
 unfolding whole_event
-is_whole bytes [] e read none = rw read refl
-is_whole bytes (byte ∷ rest) e read none = absurd (omega (arith, eqb-true (length (byte ∷ rest)) 0 none))
+ends bytes rest e (Ok d) read h = ap (λ (r : Reading Event). r >>= at_end (length bytes)) read ∙ h
+ends bytes rest e (Err fault) read h = stops fault (whole_event bytes) (ap (λ (r : Reading Event). r >>= at_end (length bytes)) read ∙ h)
 
-pub is_left_over : (bytes rest : List ℕ) (e : Event) → event_at (length bytes) bytes ≡ Ok (e, rest) → eqb (length rest) 0 ≡ false → whole_event bytes ≡ Err (faults.NotCanonical (place (length bytes) rest))
-unfolding whole_event
-is_left_over bytes [] e read some = absurd cc
-is_left_over bytes (byte ∷ rest) e read some = rw read refl
-
-pub reads_stop : (bytes : List ℕ) (fault : CodecFault) → ReportsFault fault (whole_event bytes) → ReadsWholeEvent bytes (Err fault)
+reads_stop : (bytes : List ℕ) (fault : CodecFault) → ReportsFault fault (whole_event bytes) → ReadsWholeEvent bytes (Err fault)
 reads_stop bytes fault h = reads_err bytes fault (λ memory. stops_with fault (whole_event bytes) h memory)
 
+pub reads : (bytes : List ℕ) (result : Result Event CodecFault) → AreBytes bytes → GivesReadingOrReports (λ d. d) result (whole_event bytes) → ReadsWholeEvent bytes result
+reads bytes (Ok e) fits h = reads_ok bytes e fits h
+reads bytes (Err fault) fits h = reads_stop bytes fault h
+
 -- an event that is read may be written
-pub read_fits : (e : Event) → IsReadEvent e → HasFittingFields e
+read_fits : (e : Event) → IsReadEvent e → HasFittingFields e
 read_fits (Registered pass statement signature) h = h.spelled.signed
 read_fits (Issued pass cited proof grant) h = h.spelled.numbers.few
 read_fits (Acted pass caller op procaps moment) h = (spelled_fits op h.spelled.words, (h.spelled.sealed.few, h.spelled.timed))
+
+pub reads_what_fits : (bytes : List ℕ) (result : Result Event CodecFault) → AreBytes bytes → GivesReadingOrReports (λ d. d) result (whole_event bytes) → IfOk result HasFittingFields
+reads_what_fits bytes (Ok e) fits h = read_fits e (whole_found bytes e fits h).0
+reads_what_fits bytes (Err fault) fits h = tt

@@ -1,7 +1,9 @@
 //! Reading events.
 
 ghost use Rattle.std.specs.Prelude.{IfOk};
+ghost use Rattle.bl_syntax.specs.Reading.{GivesReading};
 ghost use Rattle.bl_syntax.specs.Codec.{GivesReadingOrReports};
+ghost use Rattle.procap.specs.Procap.{at_end};
 ghost use Rattle.journal_records.specs.EventSpelling.{HasFittingFields};
 ghost use Rattle.journal_records.specs.EventReading.{event_at, whole_event, ReadsWholeEvent};
 
@@ -67,12 +69,16 @@ pub fn read_event(alloc: Global, bytes: &[u8]) -> Result<Event, CodecFault>
 {
     match event_at(alloc, bytes.len(), bytes) {
         Err(fault) => Err(fault),
-        Ok((event, rest)) => {
-            if rest.is_empty() {
-                Ok(event)
-            } else {
-                Err(CodecFault::NotCanonical(place(bytes.len(), rest)))
-            }
-        }
+        Ok((event, rest)) => at_end(bytes.len(), event, rest),
+    }
+}
+
+/// The event after which nothing is left over.
+fn at_end(input: usize, event: Event, rest: &[u8]) -> Result<Event, CodecFault>
+    ensures { GivesReading (λ e. e) result (at_end input (event, rest.now)) }
+{
+    match rest {
+        [] => Ok(event),
+        [_, ..] => Err(CodecFault::NotCanonical(place(input, rest))),
     }
 }
