@@ -20,7 +20,7 @@ BINDERS = {"forall": b"\x1a", "exists": b"\x1b"}
 
 DATE = r"\d{4}-\d\d-\d\d(?:T\d\d:\d\d:\d\dZ)?"
 TOKEN = re.compile(
-    rf' *([-+]inf\b|{DATE}|-?\d{{1,18}}|#\d+|\?\d+|"[^"\\]*"|[a-z][a-z0-9_]*|[A-Z][A-Za-z0-9_]*|=>|<=|[()\[\],:.&|@])'
+    rf' *([-+]inf|{DATE}|-?\d{{1,18}}|[#?](?:0|[1-9]\d*)(?!\d)|"[^"\\]*"|[a-z][a-z0-9_]*|[A-Z][A-Za-z0-9_]*|=>|<=|[()\[\],:.&|@])'
 )
 
 
@@ -89,6 +89,8 @@ class Text:
         if self.ahead() in BINDERS:
             tag = BINDERS[self.take()]
             name = self.take()
+            if not name[0].isupper():
+                raise ValueError(f"a variable expected, and not {name}")
             self.take(":")
             sort = bytes([SORTS.index(self.take()) + 1])
             self.take(".")
@@ -158,6 +160,8 @@ class Text:
     def term(self):
         token = self.take()
         if token[0] == "#":
+            if int(token[1:]) >= 2**64:
+                raise ValueError(f"{token} is no file")
             return b"\x02" + int(token[1:]).to_bytes(8, "big")
         if token in PERMISSIONS:
             return bytes([3, PERMISSIONS.index(token) + 1])
@@ -275,6 +279,13 @@ def secrets_of(path):
     return hex_bytes(seal), {name: hex_bytes(word) for _, name, word in lines}
 
 
+def key_of(path, name):
+    _, keys = secrets_of(path)
+    if name not in keys:
+        sys.exit(f"{name} has no key in {path}")
+    return keys[name]
+
+
 def hex_bytes(word):
     return b"" if word == "-" else bytes.fromhex(word)
 
@@ -297,12 +308,13 @@ def main():
     sys.setrecursionlimit(10_000)  # a text may have 512 parentheses within one another, each of several calls
     match sys.argv[1:]:
         case ["statement", path, text]:
-            who = text.split()[0]
-            _, keys = secrets_of(path)
-            print("register", sign_statement(keys[who], text).hex(), text)
+            try:
+                who = Text(text).take()
+                print("register", sign_statement(key_of(path, who), text).hex(), text)
+            except ValueError as fault:
+                sys.exit(f"no statement: {fault}")
         case ["login", path, name, nonce]:
-            _, keys = secrets_of(path)
-            print("login", name, sign_login(keys[name], name, bytes.fromhex(nonce)).hex())
+            print("login", name, sign_login(key_of(path, name), name, bytes.fromhex(nonce)).hex())
         case ["procap", word]:
             show_procap(word)
         case ["procap", word, path]:

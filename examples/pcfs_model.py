@@ -5,7 +5,7 @@
     pcfs_model.py rows FILE..                   compares the replies that files of rows want (crates/pcfs_rows) with its own
     pcfs_model.py random SEED COUNT             prints a script with COUNT random lines, most of them operations
 
-It reads right texts alone: a line whose statement or proof has a fault is answered `?`.
+It reads right texts alone: a line whose statement or proof has a fault, one of its limits included, is answered `?`.
 """
 import random
 import re
@@ -237,6 +237,7 @@ def read_procap(data):
 FIELDS = {"consR": "", "interR": "", "trueR": "", "init": "h", "falseL": "h", "existsR": "tp", "forallL": "htp", "andR": "pp", "orL": "hpp", "impL": "httpp"}
 FIELDS.update({rule: "p" for rule in "orR1 orR2 impR forallR saysR atR".split()})
 FIELDS.update({rule: "hp" for rule in "consL interL andL existsL saysL claim atL".split()})
+MOST_RULES, MOST_DEPTH = 4096, 200
 PROOF_TOKEN = re.compile(r" *([(),]|[-+]inf\b|-?[0-9][0-9:TZ-]*|#\d+|\?\d+|\"[^\"\\]*\"|[A-Za-z][A-Za-z0-9_]*)")
 Proof = namedtuple("Proof", "rule number terms premises size")
 
@@ -263,16 +264,18 @@ class ProofText:
     def term(self):
         token = self.take()
         if token[0] == "?":
+            need(re.fullmatch("0|[1-9][0-9]{0,9}", token[1:]) and int(token[1:]) < 2**32, Undecided)
             return ("parameter", int(token[1:]))
-        need(not token[0].isupper(), Undecided)
+        reading = Text(token)
+        need(not token[0].isupper() and len(reading.tokens) == 1, Undecided)
         try:
-            return CTIME if token == "ctime" else Bytes(Text(token).term()).term()
+            return CTIME if token == "ctime" else Bytes(reading.term()).term()
         except Bad as fault:
             raise Undecided() from fault
 
-    def proof(self):
+    def proof(self, depth=1):
         rule = self.take()
-        need(rule in FIELDS, Undecided)
+        need(rule in FIELDS and depth <= MOST_DEPTH, Undecided)
         number, terms, premises = None, [], []
         for place, field in enumerate(FIELDS[rule]):
             self.take("," if place else "(")
@@ -282,15 +285,16 @@ class ProofText:
                 number = int(digits)
             elif field == "t":
                 terms.append(self.term())
+                need(rule != "impL" or terms[-1][0] in ("time", "ctime", "parameter"), Undecided)
             else:
-                premises.append(self.proof())
+                premises.append(self.proof(depth + 1))
         if FIELDS[rule]:
             self.take(")")
         return Proof(rule, number, terms, premises, 1 + sum(premise.size for premise in premises))
 
     def whole(self):
         proof = self.proof()
-        need(self.at == len(self.tokens) and proof.size <= 4096, Undecided)
+        need(self.at == len(self.tokens) and proof.size <= MOST_RULES, Undecided)
         return proof
 
 
@@ -570,16 +574,34 @@ def read_line(line):
 # ---- the server ----------------------------------------------------------------------------------------------------
 
 Statement = namedtuple("Statement", "who body begin end bytes")
+MOST_NAME, MOST_OPEN, MOST_PARTS = 32, 512, 512
+
+
+class StatementText(Text):
+    """Reads the text of a statement within the limits of variables and of parentheses that group."""
+
+    def __init__(self, text):
+        super().__init__(text)
+        need(all(len(token) <= MOST_NAME for token in self.tokens if token[0].isupper()), Undecided)
+        self.open = 0
+
+    def primary(self):
+        grouping = self.ahead() == "("
+        self.open += grouping
+        need(self.open <= MOST_OPEN, Undecided)
+        read = super().primary()
+        self.open -= grouping
+        return read
 
 
 def statement_of(text):
-    data = Text(text).statement()
+    data = StatementText(text).statement()
     reading = Bytes(data)
     try:
         statement = Statement(reading.name(), reading.formula(), reading.point(), reading.point(), data)
     except Bad as fault:
         raise Undecided() from fault
-    need(is_stated(statement.body) and nodes_of(statement.body) <= 512, Undecided)
+    need(reading.at == len(data) and is_stated(statement.body) and nodes_of(statement.body) <= MOST_PARTS, Undecided)
     return statement
 
 
@@ -604,7 +626,7 @@ class Server:
             return self.do(form, words) if form in OPERATIONS else getattr(self, form)(*words, *([text] if form in ("register", "verify", "check") else []))
         except Bad:
             return "bad 9"
-        except (Undecided, ValueError, IndexError):
+        except (Undecided, ValueError, IndexError, OverflowError, RecursionError):
             return "?"
         except Reply as reply:
             return str(reply)
