@@ -311,7 +311,7 @@ def main():
             try:
                 who = Text(text).take()
                 print("register", sign_statement(key_of(path, who), text).hex(), text)
-            except ValueError as fault:
+            except (ValueError, RecursionError) as fault:
                 sys.exit(f"no statement: {fault}")
         case ["login", path, name, nonce]:
             print("login", name, sign_login(key_of(path, name), name, bytes.fromhex(nonce)).hex())
