@@ -3,7 +3,7 @@ use Rattle.std.specs.Prelude.{◌≡◌, ℕ, List, ◌∷◌, ◌≤◌, length
 use Rattle.bl_syntax.specs.TimeOrder.{IsMoment}
 use Rattle.access_history.specs.declared.event.Event.{Event}
 use Rattle.access_history.specs.declared.event.Event.TheVariants.{Registered, Issued, Acted}
-use Rattle.record_parts.specs.Fields.{IsLong}
+use Rattle.record_parts.specs.Fields.{FitsFourBytes}
 use Rattle.record_parts.specs.OperationSpelling.{HasFittingWords}
 use Rattle.record_parts.specs.RecordSpelling.{registered_spelling, IsSpellableRegistered, issued_spelling, IsSpellableIssued, acted_spelling, IsSpellableActed}
 
@@ -25,9 +25,9 @@ IsSpellableEvent (Registered pass statement signature) = IsSpellableRegistered s
 IsSpellableEvent (Issued pass cited proof grant) = IsSpellableIssued cited proof grant
 IsSpellableEvent (Acted pass caller op procaps moment) = IsSpellableActed caller op procaps moment
 
--- what is counted fits its field, and the moment is one; the rest of what a spelling asks for always holds
+-- what is counted fits its field, and the moment lies in the range of moments; the rest of what a spelling asks for always holds
 abbrev pub HasFittingFields : Event → Type 0
-HasFittingFields (Registered pass statement signature) = IsLong signature
+HasFittingFields (Registered pass statement signature) = FitsFourBytes signature
 HasFittingFields (Issued pass cited proof grant) = length cited ≤ 255
 HasFittingFields (Acted pass caller op procaps moment) = HasFittingWords op × ((length procaps ≤ 255) × IsMoment moment)
 

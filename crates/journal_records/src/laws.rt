@@ -6,7 +6,8 @@ ghost use Rattle.access_history.specs.declared.event.Event.{Event};
 ghost use Rattle.journal_records.specs.EventSpelling.{erase, event_spelling, IsSpellableEvent, IsReadEvent};
 ghost use Rattle.journal_records.specs.EventReading.{event_at, whole_event};
 
-/// The spelling of events of pass 0 and the reading of them belong together.
+/// Events of pass 0: what is read is spelled so, what is spelled is read, no spelling begins another, and a fault comes
+/// exactly if none begins the bytes.
 pub fn events_are_a_codec()
     ensures { IsCodec IsReadEvent event_spelling event_at }
 {}

@@ -11,7 +11,7 @@ use std::alloc::Global;
 
 /// Adds the payload of an event, without its pass, or nothing. The moment of an operation lies in the range of moments, its
 /// names have at most 255 bytes, procaps and cited numbers are at most 255, and signatures and bytes to write have fewer
-/// than 2^32 bytes.
+/// than 2^32 bytes. No memory is taken from `alloc`.
 pub fn write_event(alloc: Global, e: &Event, out: &mut Bytes) -> Result<(), NoMemory>
     requires { HasFittingFields e.now }
     ensures ok { OnOk result (out.new ≡ out.old ++ event_spelling e.now) }

@@ -1,14 +1,15 @@
 -- Operations: what is read is spelled so, and what is spelled so is read.
-use Rattle.std.proofs.Common.{◌≡◌, ℕ, ◌^◌, ◌<◌, eqb, List, [], ◌∷◌, ◌++◌, Ok, Err, refl, sym, ap, subst, ◌∙◌}
-use Rattle.std.specs.Prelude.{IsTrue}
+use Rattle.std.proofs.Common.{◌≡◌, ℕ, ◌^◌, ◌<◌, eqb, List, [], ◌∷◌, ◌++◌, Result, Ok, Err, refl, sym, ap, subst, ◌∙◌}
+use Rattle.std.specs.Prelude.{IsTrue, IfOk}
 use Rattle.std.specs.Int.{w64, to_be_bytes}
 use Rattle.std.proofs.lemmas.Bool.{eqb-true}
+use Rattle.bl_syntax.specs.declared.codec_fault.CodecFault.{CodecFault}
 use Rattle.bl_syntax.specs.declared.codec_fault.CodecFault.TheVariants as faults
 use Rattle.bl_syntax.specs.declared.terms.NodeId.{NodeId}
 use Rattle.bl_syntax.specs.Names.{is_principal_name, is_text}
 use Rattle.bl_syntax.specs.Spelling.{with_length}
 use Rattle.bl_syntax.specs.Reading.{Reading, map_reading, place, name_at, text_at}
-use Rattle.bl_syntax.specs.Codec.{AreBytes, IsCodec}
+use Rattle.bl_syntax.specs.Codec.{AreBytes, IsCodec, GivesReadingOrReports}
 use Rattle.bl_syntax.proofs.CodecLemmas.{by_test, made_ok, made_memoryless, AreBytes-rest, codec}
 use Rattle.bl_syntax.proofs.FieldCodecs.{name_codec, text_codec}
 use Rattle.procap.specs.GrantReading.{both_at}
@@ -16,10 +17,10 @@ use Rattle.procap.proofs.ItemsLemmas.{test_memoryless}
 use Rattle.procap.proofs.PartLemmas.{both_spelling, AreBoth, both_codec}
 use Rattle.file_world.specs.declared.operation.Op.{Op}
 use Rattle.file_world.specs.declared.operation.Op.TheVariants.{Read, Write, Truncate, List as ListOf, Lookup, Create, Mkdir, Unlink, Rename, Getattr, Setattr, Delattr, Chown}
-use Rattle.record_parts.specs.Fields.{u64_at, number_spelling, IsSpellableNumber, node_spelling, node_at, IsSpellableNode, short_at, IsShort, long_spelling, long_at, IsLong}
+use Rattle.record_parts.specs.Fields.{u64_at, number_spelling, IsSpellableNumber, node_spelling, node_at, IsSpellableNode, free_name_at, FitsOneByte, sized_bytes_spelling, sized_bytes_at, FitsFourBytes}
 use Rattle.record_parts.specs.OperationSpelling.{operation_spelling, IsSpellableOperation, HasFittingWords}
 use Rattle.record_parts.specs.OperationReading.{named_node_at, range_at, piece_at, renamed_at, valued_at, read_words_at, write_words_at, truncate_words_at, rename_words_at, setattr_words_at, chown_words_at, attribute_words_at, name_words_at, words_at, operation_at}
-use Rattle.record_parts.proofs.FieldsLemmas.{u64_codec, node_codec, short_codec, long_codec}
+use Rattle.record_parts.proofs.FieldsLemmas.{u64_codec, node_codec, free_name_codec, sized_bytes_codec}
 
 -- ---- the words of an operation, as they stand one after the other
 
@@ -29,45 +30,45 @@ IsName name = IsTrue (is_principal_name name)
 abbrev IsText : List ℕ → Type 0
 IsText text = IsTrue (is_text text)
 
-named : IsCodec (AreBoth IsSpellableNode IsShort) (both_spelling node_spelling with_length) (λ input. named_node_at)
+named : IsCodec (AreBoth IsSpellableNode FitsOneByte) (both_spelling node_spelling with_length) (λ input. named_node_at)
 unfolding both_at named_node_at
-named = both_codec IsSpellableNode node_spelling (λ input. node_at) IsShort with_length (λ input. short_at) node_codec short_codec
+named = both_codec IsSpellableNode node_spelling (λ input. node_at) FitsOneByte with_length (λ input. free_name_at) node_codec free_name_codec
 
 range : IsCodec (AreBoth IsSpellableNumber IsSpellableNumber) (both_spelling number_spelling number_spelling) (λ input. range_at)
 unfolding both_at range_at
 range = both_codec IsSpellableNumber number_spelling (λ input. u64_at) IsSpellableNumber number_spelling (λ input. u64_at) u64_codec u64_codec
 
-piece : IsCodec (AreBoth IsSpellableNumber IsLong) (both_spelling number_spelling long_spelling) (λ input. piece_at)
+piece : IsCodec (AreBoth IsSpellableNumber FitsFourBytes) (both_spelling number_spelling sized_bytes_spelling) (λ input. piece_at)
 unfolding both_at piece_at
-piece = both_codec IsSpellableNumber number_spelling (λ input. u64_at) IsLong long_spelling (λ input. long_at) u64_codec long_codec
+piece = both_codec IsSpellableNumber number_spelling (λ input. u64_at) FitsFourBytes sized_bytes_spelling (λ input. sized_bytes_at) u64_codec sized_bytes_codec
 
 reads : IsCodec (AreBoth IsSpellableNode (AreBoth IsSpellableNumber IsSpellableNumber)) (both_spelling node_spelling (both_spelling number_spelling number_spelling)) (λ input. read_words_at)
 unfolding both_at read_words_at
 reads = both_codec IsSpellableNode node_spelling (λ input. node_at) (AreBoth IsSpellableNumber IsSpellableNumber) (both_spelling number_spelling number_spelling) (λ input. range_at) node_codec range
 
-writes : IsCodec (AreBoth IsSpellableNode (AreBoth IsSpellableNumber IsLong)) (both_spelling node_spelling (both_spelling number_spelling long_spelling)) (λ input. write_words_at)
+writes : IsCodec (AreBoth IsSpellableNode (AreBoth IsSpellableNumber FitsFourBytes)) (both_spelling node_spelling (both_spelling number_spelling sized_bytes_spelling)) (λ input. write_words_at)
 unfolding both_at write_words_at
-writes = both_codec IsSpellableNode node_spelling (λ input. node_at) (AreBoth IsSpellableNumber IsLong) (both_spelling number_spelling long_spelling) (λ input. piece_at) node_codec piece
+writes = both_codec IsSpellableNode node_spelling (λ input. node_at) (AreBoth IsSpellableNumber FitsFourBytes) (both_spelling number_spelling sized_bytes_spelling) (λ input. piece_at) node_codec piece
 
 truncates : IsCodec (AreBoth IsSpellableNode IsSpellableNumber) (both_spelling node_spelling number_spelling) (λ input. truncate_words_at)
 unfolding both_at truncate_words_at
 truncates = both_codec IsSpellableNode node_spelling (λ input. node_at) IsSpellableNumber number_spelling (λ input. u64_at) node_codec u64_codec
 
-renamed : IsCodec (AreBoth IsShort (AreBoth IsSpellableNode IsShort)) (both_spelling with_length (both_spelling node_spelling with_length)) (λ input. renamed_at)
+renamed : IsCodec (AreBoth FitsOneByte (AreBoth IsSpellableNode FitsOneByte)) (both_spelling with_length (both_spelling node_spelling with_length)) (λ input. renamed_at)
 unfolding both_at renamed_at
-renamed = both_codec IsShort with_length (λ input. short_at) (AreBoth IsSpellableNode IsShort) (both_spelling node_spelling with_length) (λ input. named_node_at) short_codec named
+renamed = both_codec FitsOneByte with_length (λ input. free_name_at) (AreBoth IsSpellableNode FitsOneByte) (both_spelling node_spelling with_length) (λ input. named_node_at) free_name_codec named
 
-renames : IsCodec (AreBoth IsSpellableNode (AreBoth IsShort (AreBoth IsSpellableNode IsShort))) (both_spelling node_spelling (both_spelling with_length (both_spelling node_spelling with_length))) (λ input. rename_words_at)
+renames : IsCodec (AreBoth IsSpellableNode (AreBoth FitsOneByte (AreBoth IsSpellableNode FitsOneByte))) (both_spelling node_spelling (both_spelling with_length (both_spelling node_spelling with_length))) (λ input. rename_words_at)
 unfolding both_at rename_words_at
-renames = both_codec IsSpellableNode node_spelling (λ input. node_at) (AreBoth IsShort (AreBoth IsSpellableNode IsShort)) (both_spelling with_length (both_spelling node_spelling with_length)) (λ input. renamed_at) node_codec renamed
+renames = both_codec IsSpellableNode node_spelling (λ input. node_at) (AreBoth FitsOneByte (AreBoth IsSpellableNode FitsOneByte)) (both_spelling with_length (both_spelling node_spelling with_length)) (λ input. renamed_at) node_codec renamed
 
-valued : IsCodec (AreBoth IsShort IsText) (both_spelling with_length with_length) valued_at
+valued : IsCodec (AreBoth FitsOneByte IsText) (both_spelling with_length with_length) valued_at
 unfolding both_at valued_at
-valued = both_codec IsShort with_length (λ input. short_at) IsText with_length text_at short_codec text_codec
+valued = both_codec FitsOneByte with_length (λ input. free_name_at) IsText with_length text_at free_name_codec text_codec
 
-sets : IsCodec (AreBoth IsSpellableNode (AreBoth IsShort IsText)) (both_spelling node_spelling (both_spelling with_length with_length)) setattr_words_at
+sets : IsCodec (AreBoth IsSpellableNode (AreBoth FitsOneByte IsText)) (both_spelling node_spelling (both_spelling with_length with_length)) setattr_words_at
 unfolding both_at setattr_words_at
-sets = both_codec IsSpellableNode node_spelling (λ input. node_at) (AreBoth IsShort IsText) (both_spelling with_length with_length) valued_at node_codec valued
+sets = both_codec IsSpellableNode node_spelling (λ input. node_at) (AreBoth FitsOneByte IsText) (both_spelling with_length with_length) valued_at node_codec valued
 
 chowns : IsCodec (AreBoth IsSpellableNode IsName) (both_spelling node_spelling with_length) chown_words_at
 unfolding both_at chown_words_at
@@ -128,16 +129,16 @@ with_words IsSpelled spelling at f code c there same input tag more rest op fits
     subst (λ (o : Op). Spells (tag ∷ more) o rest) m.2 (there m.0 it.0, ap (λ (k : ℕ). k ∷ more) is ∙ ap (λ (b : List ℕ). code ∷ b) it.1 ∙ ap (λ (b : List ℕ). b ++ rest) (sym (same m.0)))
 
 -- one with a node and a name
-with_name : (f : NodeId × List ℕ → Op) (code : ℕ) → ((x : NodeId × List ℕ) → AreBoth IsSpellableNode IsShort x → IsSpellableOperation (f x)) → ((x : NodeId × List ℕ) → operation_spelling (f x) ≡ code ∷ both_spelling node_spelling with_length x)
+with_name : (f : NodeId × List ℕ → Op) (code : ℕ) → ((x : NodeId × List ℕ) → AreBoth IsSpellableNode FitsOneByte x → IsSpellableOperation (f x)) → ((x : NodeId × List ℕ) → operation_spelling (f x) ≡ code ∷ both_spelling node_spelling with_length x)
     → (input tag : ℕ) (more rest : List ℕ) (op : Op) → AreBytes more → tag ≡ code → map_reading f (named_node_at more) ≡ Ok (op, rest) → Spells (tag ∷ more) op rest
 with_name f code there same input tag more rest op fits is e =
-    with_words (AreBoth IsSpellableNode IsShort) (both_spelling node_spelling with_length) (λ input. named_node_at) f code named there same input tag more rest op fits is e
+    with_words (AreBoth IsSpellableNode FitsOneByte) (both_spelling node_spelling with_length) (λ input. named_node_at) f code named there same input tag more rest op fits is e
 
 attribute_found : (input start tag : ℕ) (more rest : List ℕ) (op : Op) → AreBytes more → attribute_words_at input start tag more ≡ Ok (op, rest) → Spells (tag ∷ more) op rest
 unfolding attribute_words_at operation_spelling
 attribute_found input start tag more rest op fits e =
     by_test (eqb tag 10) _ _ _ e (λ is h. with_name getattr 10 (λ x k. k) (λ x. refl) input tag more rest op fits (eqb-true tag 10 is) h) (λ _ e1.
-    by_test (eqb tag 11) _ _ _ e1 (λ is h. with_words (AreBoth IsSpellableNode (AreBoth IsShort IsText)) (both_spelling node_spelling (both_spelling with_length with_length)) setattr_words_at setattr 11 sets (λ x k. k) (λ x. refl) input tag more rest op fits (eqb-true tag 11 is) h) (λ _ e2.
+    by_test (eqb tag 11) _ _ _ e1 (λ is h. with_words (AreBoth IsSpellableNode (AreBoth FitsOneByte IsText)) (both_spelling node_spelling (both_spelling with_length with_length)) setattr_words_at setattr 11 sets (λ x k. k) (λ x. refl) input tag more rest op fits (eqb-true tag 11 is) h) (λ _ e2.
     by_test (eqb tag 12) _ _ _ e2 (λ is h. with_name delattr 12 (λ x k. k) (λ x. refl) input tag more rest op fits (eqb-true tag 12 is) h) (λ _ e3.
     by_test (eqb tag 13) _ _ _ e3 (λ is h. with_words (AreBoth IsSpellableNode IsName) (both_spelling node_spelling with_length) chown_words_at chown 13 chowns (λ x k. k) (λ x. refl) input tag more rest op fits (eqb-true tag 13 is) h) (λ _ fault. absurd cc))))
 
@@ -148,14 +149,14 @@ name_found input start tag more rest op fits e =
     by_test (eqb tag 6) _ _ _ e1 (λ is h. with_name create 6 (λ x k. k) (λ x. refl) input tag more rest op fits (eqb-true tag 6 is) h) (λ _ e2.
     by_test (eqb tag 7) _ _ _ e2 (λ is h. with_name mkdir 7 (λ x k. k) (λ x. refl) input tag more rest op fits (eqb-true tag 7 is) h) (λ _ e3.
     by_test (eqb tag 8) _ _ _ e3 (λ is h. with_name unlink 8 (λ x k. k) (λ x. refl) input tag more rest op fits (eqb-true tag 8 is) h) (λ _ e4.
-    by_test (eqb tag 9) _ _ _ e4 (λ is h. with_words (AreBoth IsSpellableNode (AreBoth IsShort (AreBoth IsSpellableNode IsShort))) (both_spelling node_spelling (both_spelling with_length (both_spelling node_spelling with_length))) (λ input. rename_words_at) rename 9 renames (λ x k. k) (λ x. refl) input tag more rest op fits (eqb-true tag 9 is) h) (λ _ h.
+    by_test (eqb tag 9) _ _ _ e4 (λ is h. with_words (AreBoth IsSpellableNode (AreBoth FitsOneByte (AreBoth IsSpellableNode FitsOneByte))) (both_spelling node_spelling (both_spelling with_length (both_spelling node_spelling with_length))) (λ input. rename_words_at) rename 9 renames (λ x k. k) (λ x. refl) input tag more rest op fits (eqb-true tag 9 is) h) (λ _ h.
     attribute_found input start tag more rest op fits h)))))
 
 words_found : (input start tag : ℕ) (more rest : List ℕ) (op : Op) → AreBytes more → words_at input start tag more ≡ Ok (op, rest) → Spells (tag ∷ more) op rest
 unfolding words_at operation_spelling
 words_found input start tag more rest op fits e =
     by_test (eqb tag 1) _ _ _ e (λ is h. with_words (AreBoth IsSpellableNode (AreBoth IsSpellableNumber IsSpellableNumber)) (both_spelling node_spelling (both_spelling number_spelling number_spelling)) (λ input. read_words_at) read 1 reads (λ x k. k) (λ x. refl) input tag more rest op fits (eqb-true tag 1 is) h) (λ _ e1.
-    by_test (eqb tag 2) _ _ _ e1 (λ is h. with_words (AreBoth IsSpellableNode (AreBoth IsSpellableNumber IsLong)) (both_spelling node_spelling (both_spelling number_spelling long_spelling)) (λ input. write_words_at) write 2 writes (λ x k. k) (λ x. refl) input tag more rest op fits (eqb-true tag 2 is) h) (λ _ e2.
+    by_test (eqb tag 2) _ _ _ e1 (λ is h. with_words (AreBoth IsSpellableNode (AreBoth IsSpellableNumber FitsFourBytes)) (both_spelling node_spelling (both_spelling number_spelling sized_bytes_spelling)) (λ input. write_words_at) write 2 writes (λ x k. k) (λ x. refl) input tag more rest op fits (eqb-true tag 2 is) h) (λ _ e2.
     by_test (eqb tag 3) _ _ _ e2 (λ is h. with_words (AreBoth IsSpellableNode IsSpellableNumber) (both_spelling node_spelling number_spelling) (λ input. truncate_words_at) truncate 3 truncates (λ x k. k) (λ x. refl) input tag more rest op fits (eqb-true tag 3 is) h) (λ _ e3.
     by_test (eqb tag 4) _ _ _ e3 (λ is h. with_words IsSpellableNode node_spelling (λ input. node_at) list 4 node_codec (λ x k. k) (λ x. refl) input tag more rest op fits (eqb-true tag 4 is) h) (λ _ h.
     name_found input start tag more rest op fits h))))
@@ -230,5 +231,11 @@ spelled_fits (Setattr node name value) h = h.1.0
 spelled_fits (Delattr node name) h = h.1
 spelled_fits (Chown node owner) h = tt
 
-pub read_fits : (input : ℕ) (bytes rest : List ℕ) (op : Op) → AreBytes bytes → operation_at input bytes ≡ Ok (op, rest) → HasFittingWords op
+read_fits : (input : ℕ) (bytes rest : List ℕ) (op : Op) → AreBytes bytes → operation_at input bytes ≡ Ok (op, rest) → HasFittingWords op
 read_fits input bytes rest op fits e = spelled_fits op (operation_found input bytes rest op fits e).0
+
+-- so may one that a call read
+pub reads_what_fits : {X : Type 0} (view : X → Op × List ℕ) (input : ℕ) (bytes : List ℕ) (result : Result X CodecFault) → AreBytes bytes → GivesReadingOrReports view result (operation_at input bytes)
+    → IfOk result (λ x. HasFittingWords (view x).0)
+reads_what_fits view input bytes (Ok x) fits h = read_fits input bytes (view x).1 (view x).0 fits h
+reads_what_fits view input bytes (Err fault) fits h = tt

@@ -22,14 +22,14 @@ use Rattle.procap.proofs.PartLemmas.{both_spelling, AreBoth, both_codec}
 use Rattle.procap.proofs.GrantLemmas.{grant_codec}
 use Rattle.procap.proofs.ProcapLemmas.{procap_codec}
 use Rattle.file_world.specs.declared.operation.Op.{Op}
-use Rattle.record_parts.specs.Fields.{u32_at, long_spelling, long_at, IsLong, second_spelling, second_at}
+use Rattle.record_parts.specs.Fields.{u32_at, sized_bytes_spelling, sized_bytes_at, FitsFourBytes, moment_spelling, moment_field_at}
 use Rattle.record_parts.specs.Parts.{part_at, list_at, AreSpellable, sized_proof_spelling, sized_proof_at}
 use Rattle.record_parts.specs.OperationSpelling.{operation_spelling, IsSpellableOperation}
 use Rattle.record_parts.specs.OperationReading.{operation_at}
 use Rattle.record_parts.specs.RecordSpelling.{registered_spelling, Registration, IsRegistration, registration_spelling, cited_spelling, IsSpellableCited, issued_spelling, Issuing, IsIssuing, issuing_spelling, acted_spelling, Action, IsAction, action_spelling}
 use Rattle.record_parts.specs.RecordReading.{registered_at, proved_at, issued_at, admitted_at, done_at, acted_at}
 use Rattle.record_parts.proofs.CodecLemmas.{same_codec}
-use Rattle.record_parts.proofs.FieldsLemmas.{u32_codec, long_codec, second_codec}
+use Rattle.record_parts.proofs.FieldsLemmas.{u32_codec, sized_bytes_codec, moment_codec}
 use Rattle.record_parts.proofs.PartsLemmas.{part_codec, list_codec, sized_codec}
 use Rattle.record_parts.proofs.OperationLemmas.{operation_codec}
 
@@ -38,8 +38,8 @@ use Rattle.record_parts.proofs.OperationLemmas.{operation_codec}
 pub registered_codec : IsCodec IsRegistration registration_spelling registered_at
 unfolding both_at registered_at registered_spelling
 registered_codec =
-    same_codec (AreBoth IsSpellableStatement IsLong) (both_spelling statement_spelling long_spelling) (both_at statement_at (λ input. long_at)) IsRegistration registration_spelling registered_at
-    (both_codec IsSpellableStatement statement_spelling statement_at IsLong long_spelling (λ input. long_at) statement_codec long_codec)
+    same_codec (AreBoth IsSpellableStatement FitsFourBytes) (both_spelling statement_spelling sized_bytes_spelling) (both_at statement_at (λ input. sized_bytes_at)) IsRegistration registration_spelling registered_at
+    (both_codec IsSpellableStatement statement_spelling statement_at FitsFourBytes sized_bytes_spelling (λ input. sized_bytes_at) statement_codec sized_bytes_codec)
     (λ r h. record { said = h.0; signed = h.1 }) (λ r h. (h.said, h.signed)) (λ r. refl) (λ input bytes. refl)
 
 -- ---- what was issued
@@ -73,14 +73,14 @@ abbrev IsAdmission : List Procap × ℤ → Type 0
 IsAdmission = AreBoth (AreSpellable IsSpellableProcap) IsMoment
 
 abbrev admission_spelling : List Procap × ℤ → List ℕ
-admission_spelling = both_spelling (list_spelling procap_spelling) second_spelling
+admission_spelling = both_spelling (list_spelling procap_spelling) moment_spelling
 
 procaps_codec : IsCodec (AreSpellable IsSpellableProcap) (list_spelling procap_spelling) (λ input. list_at (part_at procap_at input))
 procaps_codec = list_codec IsSpellableProcap procap_spelling (part_at procap_at) (part_codec IsSpellableProcap procap_spelling procap_at procap_codec)
 
 admitted_codec : IsCodec IsAdmission admission_spelling admitted_at
 unfolding both_at admitted_at
-admitted_codec = both_codec (AreSpellable IsSpellableProcap) (list_spelling procap_spelling) (λ input. list_at (part_at procap_at input)) IsMoment second_spelling second_at procaps_codec second_codec
+admitted_codec = both_codec (AreSpellable IsSpellableProcap) (list_spelling procap_spelling) (λ input. list_at (part_at procap_at input)) IsMoment moment_spelling moment_field_at procaps_codec moment_codec
 
 done_codec : IsCodec (AreBoth IsSpellableOperation IsAdmission) (both_spelling operation_spelling admission_spelling) done_at
 unfolding both_at done_at

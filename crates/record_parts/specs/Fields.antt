@@ -35,33 +35,33 @@ abbrev pub IsSpellableNode : NodeId → Type 0
 IsSpellableNode file = IsSpellableNumber file.0
 
 -- a name in no grammar: one byte of length, and that many bytes
-unfoldable pub short_at : List ℕ → Reading (List ℕ)
-short_at [] = Err Short
-short_at (len ∷ rest) = if nat_lt (length rest) len then Err Short else Ok (take len rest, drop len rest)
+unfoldable pub free_name_at : List ℕ → Reading (List ℕ)
+free_name_at [] = Err Short
+free_name_at (len ∷ rest) = if nat_lt (length rest) len then Err Short else Ok (take len rest, drop len rest)
 
 -- few enough bytes for a length of one byte
-abbrev pub IsShort : List ℕ → Type 0
-IsShort name = length name ≤ 255
+abbrev pub FitsOneByte : List ℕ → Type 0
+FitsOneByte name = length name ≤ 255
 
 -- plain bytes: four bytes of length, and that many bytes
-unfoldable pub long_spelling : List ℕ → List ℕ
-long_spelling bytes = to_be_bytes w32 (length bytes) ++ bytes
+unfoldable pub sized_bytes_spelling : List ℕ → List ℕ
+sized_bytes_spelling bytes = to_be_bytes w32 (length bytes) ++ bytes
 
-unfoldable pub long_at : List ℕ → Reading (List ℕ)
-long_at bytes = do
+unfoldable pub sized_bytes_at : List ℕ → Reading (List ℕ)
+sized_bytes_at bytes = do
   len ← u32_at bytes
   if nat_lt (length len.1) len.0 then Err Short else Ok (take len.0 len.1, drop len.0 len.1)
 
 -- few enough bytes for a length of four bytes
-abbrev pub IsLong : List ℕ → Type 0
-IsLong bytes = length bytes < 2 ^ 32
+abbrev pub FitsFourBytes : List ℕ → Type 0
+FitsFourBytes bytes = length bytes < 2 ^ 32
 
 -- a moment: a whole second in two's complement
-unfoldable pub second_spelling : ℤ → List ℕ
-second_spelling moment = to_be_bytes w64 (cast_unsigned w64 moment)
+unfoldable pub moment_spelling : ℤ → List ℕ
+moment_spelling moment = to_be_bytes w64 (cast_unsigned w64 moment)
 
 -- one outside the range has its fault at its first byte
-unfoldable pub second_at : ℕ → List ℕ → Reading ℤ
-second_at input bytes = do
+unfoldable pub moment_field_at : ℕ → List ℕ → Reading ℤ
+moment_field_at input bytes = do
   number ← u64_at bytes
   if is_moment (cast_signed w64 number.0) then Ok (cast_signed w64 number.0, number.1) else Err (NotCanonical (place input bytes))

@@ -6,13 +6,13 @@ use Rattle.bl_syntax.specs.declared.terms.NodeId.{NodeId}
 use Rattle.bl_syntax.specs.Reading.{◌>>=◌, Reading, map_reading, place, name_at, text_at}
 use Rattle.file_world.specs.declared.operation.Op.{Op}
 use Rattle.file_world.specs.declared.operation.Op.TheVariants.{Read, Write, Truncate, List as ListOf, Lookup, Create, Mkdir, Unlink, Rename, Getattr, Setattr, Delattr, Chown}
-use Rattle.record_parts.specs.Fields.{u64_at, node_at, short_at, long_at}
+use Rattle.record_parts.specs.Fields.{u64_at, node_at, free_name_at, sized_bytes_at}
 
 -- a node, and a name
 unfoldable pub named_node_at : List ℕ → Reading (NodeId × List ℕ)
 named_node_at bytes = do
   file ← node_at bytes
-  name ← short_at file.1
+  name ← free_name_at file.1
   Ok ((file.0, name.0), name.1)
 
 -- an offset, and the greatest number of bytes
@@ -26,20 +26,20 @@ range_at bytes = do
 unfoldable pub piece_at : List ℕ → Reading (ℕ × List ℕ)
 piece_at bytes = do
   offset ← u64_at bytes
-  piece ← long_at offset.1
+  piece ← sized_bytes_at offset.1
   Ok ((offset.0, piece.0), piece.1)
 
 -- a name, and a node with a name
 unfoldable pub renamed_at : List ℕ → Reading (List ℕ × (NodeId × List ℕ))
 renamed_at bytes = do
-  name ← short_at bytes
+  name ← free_name_at bytes
   target ← named_node_at name.1
   Ok ((name.0, target.0), target.1)
 
 -- a name, and a text
 unfoldable pub valued_at : ℕ → List ℕ → Reading (List ℕ × List ℕ)
 valued_at input bytes = do
-  name ← short_at bytes
+  name ← free_name_at bytes
   value ← text_at input name.1
   Ok ((name.0, value.0), value.1)
 

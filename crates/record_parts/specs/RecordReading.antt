@@ -9,7 +9,7 @@ use Rattle.procap.specs.declared.procap.Procap.{Procap}
 use Rattle.procap.specs.GrantReading.{grant_at}
 use Rattle.procap.specs.Procap.{procap_at}
 use Rattle.file_world.specs.declared.operation.Op.{Op}
-use Rattle.record_parts.specs.Fields.{u32_at, long_at, second_at}
+use Rattle.record_parts.specs.Fields.{u32_at, sized_bytes_at, moment_field_at}
 use Rattle.record_parts.specs.Parts.{part_at, list_at, sized_proof_at}
 use Rattle.record_parts.specs.OperationReading.{operation_at}
 
@@ -17,7 +17,7 @@ use Rattle.record_parts.specs.OperationReading.{operation_at}
 unfoldable pub registered_at : ℕ → List ℕ → Reading (StatementView × List ℕ)
 registered_at input bytes = do
   statement ← statement_at input bytes
-  signature ← long_at statement.1
+  signature ← sized_bytes_at statement.1
   Ok ((statement.0, signature.0), signature.1)
 
 -- a proof, and what it grants
@@ -38,7 +38,7 @@ issued_at input bytes = do
 unfoldable pub admitted_at : ℕ → List ℕ → Reading (List Procap × ℤ)
 admitted_at input bytes = do
   procaps ← list_at (part_at procap_at input) bytes
-  moment ← second_at input procaps.1
+  moment ← moment_field_at input procaps.1
   Ok ((procaps.0, moment.0), moment.1)
 
 -- what was done, under which procaps, and when

@@ -13,17 +13,17 @@ use Rattle.procap.specs.declared.procap.Procap.{Procap}
 use Rattle.procap.specs.GrantSpelling.{grant_spelling, list_spelling, IsSpellableGrant}
 use Rattle.procap.specs.Procap.{procap_spelling, IsSpellableProcap}
 use Rattle.file_world.specs.declared.operation.Op.{Op}
-use Rattle.record_parts.specs.Fields.{long_spelling, IsLong, second_spelling}
+use Rattle.record_parts.specs.Fields.{sized_bytes_spelling, FitsFourBytes, moment_spelling}
 use Rattle.record_parts.specs.Parts.{AreSpellable, sized_proof_spelling}
 use Rattle.record_parts.specs.OperationSpelling.{operation_spelling, IsSpellableOperation}
 
 -- a statement, and its signature
 unfoldable pub registered_spelling : StatementView → List ℕ → List ℕ
-registered_spelling statement signature = statement_spelling statement ++ long_spelling signature
+registered_spelling statement signature = statement_spelling statement ++ sized_bytes_spelling signature
 
 pub record IsSpellableRegistered (statement : StatementView) (signature : List ℕ) : Type 0 where
   pub said : IsSpellableStatement statement
-  pub signed : IsLong signature
+  pub signed : FitsFourBytes signature
 
 -- the number of a statement
 abbrev pub cited_spelling : ℕ → List ℕ
@@ -43,7 +43,7 @@ pub record IsSpellableIssued (cited : List ℕ) (proof : ProofView) (grant : Gra
 
 -- who did what, under which procaps, and when
 unfoldable pub acted_spelling : List ℕ → Op → List Procap → ℤ → List ℕ
-acted_spelling caller op procaps moment = with_length caller ++ (operation_spelling op ++ (list_spelling procap_spelling procaps ++ second_spelling moment))
+acted_spelling caller op procaps moment = with_length caller ++ (operation_spelling op ++ (list_spelling procap_spelling procaps ++ moment_spelling moment))
 
 pub record IsSpellableActed (caller : List ℕ) (op : Op) (procaps : List Procap) (moment : ℤ) : Type 0 where
   pub named : IsTrue (is_principal_name caller)

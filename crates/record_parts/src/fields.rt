@@ -7,7 +7,7 @@ ghost use Rattle.std.specs.Prelude.{◌≡◌, ◌∷◌, ◌++◌, OnOk, OnErr,
 ghost use Rattle.bl_syntax.specs.Spelling.{with_length};
 ghost use Rattle.bl_syntax.specs.Reading.{GivesReading};
 ghost use Rattle.bl_syntax.specs.Codec.{GivesReadingOrReports};
-ghost use Rattle.record_parts.specs.Fields.{number_spelling, IsSpellableNumber, node_spelling, node_at, IsSpellableNode, short_at, IsShort, long_spelling, long_at, IsLong, second_spelling, second_at};
+ghost use Rattle.record_parts.specs.Fields.{number_spelling, IsSpellableNumber, node_spelling, node_at, IsSpellableNode, free_name_at, FitsOneByte, sized_bytes_spelling, sized_bytes_at, FitsFourBytes, moment_spelling, moment_field_at};
 
 use bl_syntax::fields::{place, put, second_bytes, u32_at, u32_bytes, u64_at, u64_bytes};
 use bl_syntax::{Bytes, CodecFault, NoMemory, NodeId, Sequence, is_moment};
@@ -31,9 +31,9 @@ fn owned(alloc: Global, bytes: &[u8]) -> Result<Bytes, NoMemory>
 }
 
 /// A name in no grammar, with its length byte.
-#[tactic(auto, unfolding(crate::specs::Fields::short_at))]
-pub(crate) fn short_at(alloc: Global, bytes: &[u8]) -> Result<(Bytes, &[u8]), CodecFault>
-    ensures { GivesReadingOrReports (λ x. (x.0, x.1.now)) result (short_at bytes.now) }
+#[tactic(auto, unfolding(crate::specs::Fields::free_name_at))]
+pub(crate) fn free_name_at(alloc: Global, bytes: &[u8]) -> Result<(Bytes, &[u8]), CodecFault>
+    ensures { GivesReadingOrReports (λ x. (x.0, x.1.now)) result (free_name_at bytes.now) }
 {
     match bytes {
         [] => Err(CodecFault::Short),
@@ -49,9 +49,9 @@ pub(crate) fn short_at(alloc: Global, bytes: &[u8]) -> Result<(Bytes, &[u8]), Co
 }
 
 /// Plain bytes, with four bytes of length.
-#[tactic(auto, unfolding(crate::specs::Fields::long_at))]
-pub(crate) fn long_at(alloc: Global, bytes: &[u8]) -> Result<(Bytes, &[u8]), CodecFault>
-    ensures { GivesReadingOrReports (λ x. (x.0, x.1.now)) result (long_at bytes.now) }
+#[tactic(auto, unfolding(crate::specs::Fields::sized_bytes_at))]
+pub(crate) fn sized_bytes_at(alloc: Global, bytes: &[u8]) -> Result<(Bytes, &[u8]), CodecFault>
+    ensures { GivesReadingOrReports (λ x. (x.0, x.1.now)) result (sized_bytes_at bytes.now) }
 {
     match u32_at(bytes) {
         Err(fault) => Err(fault),
@@ -67,9 +67,9 @@ pub(crate) fn long_at(alloc: Global, bytes: &[u8]) -> Result<(Bytes, &[u8]), Cod
 }
 
 /// A moment. One outside the range has its fault at its first byte, in an input of `input` bytes.
-#[tactic(auto, unfolding(crate::specs::Fields::second_at))]
-pub(crate) fn second_at(input: usize, bytes: &[u8]) -> Result<(i64, &[u8]), CodecFault>
-    ensures { GivesReading (λ x. (x.0, x.1.now)) result (second_at input bytes.now) }
+#[tactic(auto, unfolding(crate::specs::Fields::moment_field_at))]
+pub(crate) fn moment_field_at(input: usize, bytes: &[u8]) -> Result<(i64, &[u8]), CodecFault>
+    ensures { GivesReading (λ x. (x.0, x.1.now)) result (moment_field_at input bytes.now) }
 {
     let (number, rest) = u64_at(bytes)?;
     let second = number.cast_signed();
@@ -101,8 +101,8 @@ pub(crate) fn put_number(number: u64, out: &mut Bytes) -> Result<(), NoMemory>
 }
 
 /// Adds a name with its length byte.
-pub(crate) fn put_short(name: &[u8], out: &mut Bytes) -> Result<(), NoMemory>
-    requires { IsShort name.now }
+pub(crate) fn put_free_name(name: &[u8], out: &mut Bytes) -> Result<(), NoMemory>
+    requires { FitsOneByte name.now }
     ensures ok { OnOk result (out.new ≡ out.old ++ with_length name.now) }
     ensures err { OnErr result (out.new ≡ out.old) }
 {
@@ -110,19 +110,19 @@ pub(crate) fn put_short(name: &[u8], out: &mut Bytes) -> Result<(), NoMemory>
 }
 
 /// Adds plain bytes with four bytes of length.
-#[tactic(auto, unfolding(crate::specs::Fields::long_spelling))]
-pub(crate) fn put_long(plain: &[u8], out: &mut Bytes) -> Result<(), NoMemory>
-    requires { IsLong plain.now }
-    ensures ok { OnOk result (out.new ≡ out.old ++ long_spelling plain.now) }
+#[tactic(auto, unfolding(crate::specs::Fields::sized_bytes_spelling))]
+pub(crate) fn put_sized_bytes(plain: &[u8], out: &mut Bytes) -> Result<(), NoMemory>
+    requires { FitsFourBytes plain.now }
+    ensures ok { OnOk result (out.new ≡ out.old ++ sized_bytes_spelling plain.now) }
     ensures err { OnErr result (out.new ≡ out.old) }
 {
     put(&u32_bytes(plain.len() as u32), plain, out)
 }
 
 /// Adds a moment.
-#[tactic(auto, unfolding(crate::specs::Fields::second_spelling))]
-pub(crate) fn put_second(moment: i64, out: &mut Bytes) -> Result<(), NoMemory>
-    ensures ok { OnOk result (out.new ≡ out.old ++ second_spelling moment) }
+#[tactic(auto, unfolding(crate::specs::Fields::moment_spelling))]
+pub(crate) fn put_moment(moment: i64, out: &mut Bytes) -> Result<(), NoMemory>
+    ensures ok { OnOk result (out.new ≡ out.old ++ moment_spelling moment) }
     ensures err { OnErr result (out.new ≡ out.old) }
 {
     out.extend(&second_bytes(moment))

@@ -1,10 +1,12 @@
 //! Reading operations.
 
+ghost use Rattle.std.specs.Prelude.{IfOk};
 ghost use Rattle.bl_syntax.specs.Reading.{GivesReading};
 ghost use Rattle.bl_syntax.specs.Codec.{GivesReadingOrReports};
+ghost use Rattle.record_parts.specs.OperationSpelling.{HasFittingWords};
 ghost use Rattle.record_parts.specs.OperationReading.{named_node_at, range_at, piece_at, renamed_at, valued_at, read_words_at, write_words_at, truncate_words_at, rename_words_at, setattr_words_at, chown_words_at, attribute_words_at, name_words_at, words_at, operation_at};
 
-use crate::fields::{long_at, node_at, short_at};
+use crate::fields::{free_name_at, node_at, sized_bytes_at};
 use bl_syntax::fields::{name_at, place, text_at, u64_at};
 use bl_syntax::{Bytes, CodecFault, NodeId, Principal, Text};
 use file_world::Op;
@@ -17,7 +19,7 @@ fn named_node_at(alloc: Global, bytes: &[u8]) -> Result<(NodeId, Bytes, &[u8]), 
 {
     match node_at(bytes) {
         Err(fault) => Err(fault),
-        Ok((node, rest)) => match short_at(alloc, rest) {
+        Ok((node, rest)) => match free_name_at(alloc, rest) {
             Err(fault) => Err(fault),
             Ok((name, rest)) => Ok((node, name, rest)),
         },
@@ -45,7 +47,7 @@ fn piece_at(alloc: Global, bytes: &[u8]) -> Result<(u64, Bytes, &[u8]), CodecFau
 {
     match u64_at(bytes) {
         Err(fault) => Err(fault),
-        Ok((offset, rest)) => match long_at(alloc, rest) {
+        Ok((offset, rest)) => match sized_bytes_at(alloc, rest) {
             Err(fault) => Err(fault),
             Ok((piece, rest)) => Ok((offset, piece, rest)),
         },
@@ -57,7 +59,7 @@ fn piece_at(alloc: Global, bytes: &[u8]) -> Result<(u64, Bytes, &[u8]), CodecFau
 fn renamed_at(alloc: Global, bytes: &[u8]) -> Result<(Bytes, NodeId, Bytes, &[u8]), CodecFault>
     ensures { GivesReadingOrReports (λ x. ((x.0, (x.1, x.2)), x.3.now)) result (renamed_at bytes.now) }
 {
-    match short_at(alloc, bytes) {
+    match free_name_at(alloc, bytes) {
         Err(fault) => Err(fault),
         Ok((name, rest)) => match named_node_at(alloc, rest) {
             Err(fault) => Err(fault),
@@ -71,7 +73,7 @@ fn renamed_at(alloc: Global, bytes: &[u8]) -> Result<(Bytes, NodeId, Bytes, &[u8
 fn valued_at(alloc: Global, input: usize, bytes: &[u8]) -> Result<(Bytes, Text, &[u8]), CodecFault>
     ensures { GivesReadingOrReports (λ x. ((x.0, x.1), x.2.now)) result (valued_at input bytes.now) }
 {
-    match short_at(alloc, bytes) {
+    match free_name_at(alloc, bytes) {
         Err(fault) => Err(fault),
         Ok((name, rest)) => match text_at(input, rest) {
             Err(fault) => Err(fault),
@@ -273,14 +275,23 @@ fn words_at(
     }
 }
 
-/// An operation: the reader that formats with operations in them are made of. It reads at the front of `bytes`, the rest
-/// of an input of `input` bytes, and gives the operation and the bytes after it, or the first fault.
+/// An operation: its code and its words.
 #[tactic(auto, unfolding(crate::specs::OperationReading::operation_at))]
-pub fn operation_at(alloc: Global, input: usize, bytes: &[u8]) -> Result<(Op, &[u8]), CodecFault>
+fn coded_words_at(alloc: Global, input: usize, bytes: &[u8]) -> Result<(Op, &[u8]), CodecFault>
     ensures { GivesReadingOrReports (λ x. (x.0, x.1.now)) result (operation_at input bytes.now) }
 {
     match bytes {
         [] => Err(CodecFault::Short),
         [code, rest @ ..] => words_at(alloc, input, place(input, bytes), *code, rest),
     }
+}
+
+/// An operation: the reader that formats with operations in them are made of. It reads at the front of `bytes`, the rest
+/// of an input of `input` bytes, and gives the operation and the bytes after it, or the first fault. What is read may be
+/// written again.
+pub fn operation_at(alloc: Global, input: usize, bytes: &[u8]) -> Result<(Op, &[u8]), CodecFault>
+    ensures read { GivesReadingOrReports (λ x. (x.0, x.1.now)) result (operation_at input bytes.now) }
+    ensures fits { IfOk result (λ x. HasFittingWords x.0) }
+{
+    coded_words_at(alloc, input, bytes)
 }

@@ -4,10 +4,10 @@ ghost use Rattle.std.specs.Prelude.{◌≡◌, ◌∷◌, ◌++◌, OnOk, OnErr,
 ghost use Rattle.bl_syntax.specs.Names.{is_principal_name, is_text};
 ghost use Rattle.bl_syntax.specs.Spelling.{with_length};
 ghost use Rattle.procap.specs.Writing.{Begins};
-ghost use Rattle.record_parts.specs.Fields.{number_spelling, IsSpellableNumber, node_spelling, IsSpellableNode, IsShort, long_spelling, IsLong};
+ghost use Rattle.record_parts.specs.Fields.{number_spelling, IsSpellableNumber, node_spelling, IsSpellableNode, FitsOneByte, sized_bytes_spelling, FitsFourBytes};
 ghost use Rattle.record_parts.specs.OperationSpelling.{operation_spelling, IsSpellableOperation, HasFittingWords};
 
-use crate::fields::{put_long, put_node, put_number, put_short};
+use crate::fields::{put_free_name, put_node, put_number, put_sized_bytes};
 use bl_syntax::{Bytes, NoMemory, NodeId, Principal, Text, write_name, write_text};
 use file_world::Op;
 
@@ -68,14 +68,14 @@ fn add_read(file: NodeId, offset: u64, len: u64, out: &mut Bytes) -> Result<(), 
 /// Adds the bytes of a writing, or a front of them.
 #[tactic(auto, using(procap::proofs::WritingLemmas::kept))]
 fn add_write(file: NodeId, offset: u64, piece: &Bytes, out: &mut Bytes) -> Result<(), NoMemory>
-    requires { IsLong piece.now }
-    ensures ok { OnOk result (out.new ≡ out.old ++ 2 ∷ (node_spelling file ++ (number_spelling offset ++ long_spelling piece.now))) }
+    requires { FitsFourBytes piece.now }
+    ensures ok { OnOk result (out.new ≡ out.old ++ 2 ∷ (node_spelling file ++ (number_spelling offset ++ sized_bytes_spelling piece.now))) }
     ensures spelled { OnOk result (IsSpellableNode file × IsSpellableNumber offset) }
     ensures err { OnErr result (Begins out.old out.new) }
 {
     put_node(2, file, out)?;
     put_number(offset, out)?;
-    put_long(piece.as_slice(), out)
+    put_sized_bytes(piece.as_slice(), out)
 }
 
 /// Adds the bytes of a truncation, or a front of them.
@@ -98,21 +98,21 @@ fn add_rename(
     renamed: &Bytes,
     out: &mut Bytes,
 ) -> Result<(), NoMemory>
-    requires name { IsShort name.now }
-    requires renamed { IsShort renamed.now }
+    requires name { FitsOneByte name.now }
+    requires renamed { FitsOneByte renamed.now }
     ensures ok { OnOk result (out.new ≡ out.old ++ 9 ∷ (node_spelling directory ++ (with_length name.now ++ (node_spelling target ++ with_length renamed.now)))) }
     ensures spelled { OnOk result (IsSpellableNode directory × IsSpellableNode target) }
     ensures err { OnErr result (Begins out.old out.new) }
 {
     add_named_node(9, directory, name, out)?;
     put_number(target.0, out)?;
-    put_short(renamed.as_slice(), out)
+    put_free_name(renamed.as_slice(), out)
 }
 
 /// Adds the bytes of a change of an attribute, or a front of them.
 #[tactic(auto, using(procap::proofs::WritingLemmas::kept))]
 fn add_setattr(node: NodeId, name: &Bytes, value: &Text, out: &mut Bytes) -> Result<(), NoMemory>
-    requires { IsShort name.now }
+    requires { FitsOneByte name.now }
     ensures ok { OnOk result (out.new ≡ out.old ++ 11 ∷ (node_spelling node ++ (with_length name.now ++ with_length value.now))) }
     ensures spelled { OnOk result (IsSpellableNode node × IsTrue (is_text value.now)) }
     ensures err { OnErr result (Begins out.old out.new) }
@@ -135,11 +135,11 @@ fn add_chown(node: NodeId, owner: &Principal, out: &mut Bytes) -> Result<(), NoM
 /// Adds a byte, the number of a node and a name, or a front of them.
 #[tactic(auto, using(procap::proofs::WritingLemmas::kept))]
 fn add_named_node(code: u8, node: NodeId, name: &Bytes, out: &mut Bytes) -> Result<(), NoMemory>
-    requires { IsShort name.now }
+    requires { FitsOneByte name.now }
     ensures ok { OnOk result (out.new ≡ out.old ++ code ∷ (node_spelling node ++ with_length name.now)) }
     ensures spelled { IsSpellableNode node }
     ensures err { OnErr result (Begins out.old out.new) }
 {
     put_node(code, node, out)?;
-    put_short(name.as_slice(), out)
+    put_free_name(name.as_slice(), out)
 }

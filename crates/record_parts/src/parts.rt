@@ -1,6 +1,6 @@
 //! Parts with a format of their own, and lists of parts, both ways.
 
-ghost use Rattle.std.specs.Prelude.{◌≡◌, ◌≤◌, ◌+◌, ◌++◌, OnOk, OnErr, take, drop, length};
+ghost use Rattle.std.specs.Prelude.{◌≡◌, ◌↔◌, ◌≤◌, ◌+◌, ◌-◌, ◌++◌, IsTrue, OnOk, OnErr, take, drop, length};
 ghost use Rattle.std.specs.List.{AllByRecursion, flat_map};
 ghost use Rattle.bl_syntax.specs.Codec.{GivesReadingOrReports};
 ghost use Rattle.proof_term.specs.ProofSpelling.{IsSpellableProof};
@@ -174,6 +174,13 @@ fn of_proof(fault: ProofFault) -> CodecFault
     }
 }
 
+/// Whether what was read between the two has this length.
+fn is_of_length(len: u32, rest: &[u8], behind: &[u8]) -> bool
+    ensures { IsTrue result ↔ (length rest.now - length behind.now ≡ len) }
+{
+    place(rest.len(), behind) == len as usize
+}
+
 /// A proof with four bytes of length. Another length than the proof's has its fault at its first byte.
 pub(crate) fn sized_proof_at(
     alloc: Global,
@@ -187,7 +194,7 @@ pub(crate) fn sized_proof_at(
         Ok((len, rest)) => match proof_at(alloc, input, rest) {
             Err(fault) => Err(of_proof(fault)),
             Ok((proof, behind)) => {
-                if place(rest.len(), behind) == len as usize {
+                if is_of_length(len, rest, behind) {
                     Ok((proof, behind))
                 } else {
                     Err(CodecFault::NotCanonical(place(input, bytes)))

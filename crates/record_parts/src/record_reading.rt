@@ -6,7 +6,7 @@
 ghost use Rattle.bl_syntax.specs.Codec.{GivesReadingOrReports};
 ghost use Rattle.record_parts.specs.RecordReading.{registered_at, proved_at, issued_at, admitted_at, done_at, acted_at};
 
-use crate::fields::{long_at, second_at};
+use crate::fields::{moment_field_at, sized_bytes_at};
 use crate::operation_reading::operation_at;
 use crate::parts::{grant_at, numbers_at, procaps_at, sized_proof_at};
 use bl_codec::statement_at;
@@ -28,7 +28,7 @@ pub fn registered_at(
 {
     match statement_at(alloc, input, bytes) {
         Err(fault) => Err(fault),
-        Ok((statement, rest)) => match long_at(alloc, rest) {
+        Ok((statement, rest)) => match sized_bytes_at(alloc, rest) {
             Err(fault) => Err(fault),
             Ok((signature, rest)) => Ok((statement, signature, rest)),
         },
@@ -82,7 +82,7 @@ fn admitted_at(
 {
     match procaps_at(alloc, input, bytes) {
         Err(fault) => Err(fault),
-        Ok((procaps, rest)) => match second_at(input, rest) {
+        Ok((procaps, rest)) => match moment_field_at(input, rest) {
             Err(fault) => Err(fault),
             Ok((moment, rest)) => Ok((procaps, moment, rest)),
         },

@@ -6,11 +6,11 @@ ghost use Rattle.bl_syntax.specs.TimeOrder.{IsMoment};
 ghost use Rattle.procap.specs.GrantSpelling.{list_spelling};
 ghost use Rattle.procap.specs.Procap.{procap_spelling, IsSpellableProcap};
 ghost use Rattle.procap.specs.Writing.{Begins};
-ghost use Rattle.record_parts.specs.Fields.{IsLong, second_spelling};
+ghost use Rattle.record_parts.specs.Fields.{FitsFourBytes, moment_spelling};
 ghost use Rattle.record_parts.specs.OperationSpelling.{operation_spelling, IsSpellableOperation, HasFittingWords};
 ghost use Rattle.record_parts.specs.RecordSpelling.{registered_spelling, IsSpellableRegistered, issued_spelling, IsSpellableIssued, acted_spelling, IsSpellableActed};
 
-use crate::fields::{put_long, put_second};
+use crate::fields::{put_moment, put_sized_bytes};
 use crate::operation_writing::write_operation;
 use crate::parts::{add_numbers, add_procaps, add_sized_proof};
 use bl_codec::write_statement;
@@ -26,7 +26,7 @@ pub fn write_registered(
     signature: &[u8],
     out: &mut Bytes,
 ) -> Result<(), NoMemory>
-    requires { IsLong signature.now }
+    requires { FitsFourBytes signature.now }
     ensures ok { OnOk result (out.new ≡ out.old ++ registered_spelling statement.now signature.now) }
     ensures spelled { OnOk result (IsSpellableRegistered statement.now signature.now) }
     ensures err { OnErr result (out.new ≡ out.old) }
@@ -42,13 +42,13 @@ pub fn write_registered(
 /// Adds a statement and its signature, or a front of them.
 #[tactic(auto, using(procap::proofs::WritingLemmas::kept), unfolding(crate::specs::RecordSpelling::registered_spelling))]
 fn add_registered(statement: &Statement, signature: &[u8], out: &mut Bytes) -> Result<(), NoMemory>
-    requires { IsLong signature.now }
+    requires { FitsFourBytes signature.now }
     ensures ok { OnOk result (out.new ≡ out.old ++ registered_spelling statement.now signature.now) }
     ensures spelled { OnOk result (IsSpellableRegistered statement.now signature.now) }
     ensures err { OnErr result (Begins out.old out.new) }
 {
     write_statement(statement, out)?;
-    put_long(signature, out)
+    put_sized_bytes(signature, out)
 }
 
 /// Adds the numbers of the statements that a proof cites, at most 255, the proof, and what it grants.
@@ -140,7 +140,7 @@ fn add_acted(
 fn add_done(op: &Op, procaps: &[Procap], moment: i64, out: &mut Bytes) -> Result<(), NoMemory>
     requires words { HasFittingWords op.now }
     requires procaps { length procaps.now ≤ 255 }
-    ensures ok { OnOk result (out.new ≡ out.old ++ (operation_spelling op.now ++ (list_spelling procap_spelling procaps.now ++ second_spelling moment))) }
+    ensures ok { OnOk result (out.new ≡ out.old ++ (operation_spelling op.now ++ (list_spelling procap_spelling procaps.now ++ moment_spelling moment))) }
     ensures words { OnOk result (IsSpellableOperation op.now) }
     ensures procaps { OnOk result (AllByRecursion IsSpellableProcap procaps.now) }
     ensures err { OnErr result (Begins out.old out.new) }
@@ -153,10 +153,10 @@ fn add_done(op: &Op, procaps: &[Procap], moment: i64, out: &mut Bytes) -> Result
 #[tactic(auto, using(procap::proofs::WritingLemmas::kept))]
 fn add_admitted(procaps: &[Procap], moment: i64, out: &mut Bytes) -> Result<(), NoMemory>
     requires { length procaps.now ≤ 255 }
-    ensures ok { OnOk result (out.new ≡ out.old ++ (list_spelling procap_spelling procaps.now ++ second_spelling moment)) }
+    ensures ok { OnOk result (out.new ≡ out.old ++ (list_spelling procap_spelling procaps.now ++ moment_spelling moment)) }
     ensures spelled { OnOk result (AllByRecursion IsSpellableProcap procaps.now) }
     ensures err { OnErr result (Begins out.old out.new) }
 {
     add_procaps(procaps, out)?;
-    put_second(moment, out)
+    put_moment(moment, out)
 }

@@ -1,18 +1,21 @@
 //! Events: the payloads of the first file's three, every cut of them, and each fault at its place.
 
+use crate::operations::OPERATIONS;
 use crate::rows::{bytes_of, is_end, word_and_rest};
+use crate::told::{tell_number, tell_operation, tell_word};
 use access_history::Event;
-use bl_syntax::{Bytes, CodecFault};
+use bl_syntax::{Bytes, CodecFault, Grant, NoMemory, Numbers, Statement};
 use journal_records::{read_event, write_event};
+use proof_term::ProofTree;
 use std::alloc::Global;
 use std::test::Fail;
 
-/// The statement that alice may write to the root, the issue of that grant, and the file that she makes: each with its
-/// length. The signature and the seal are those under the example's keys, made by another program.
+/// The statement that alice may write to the root, the issue of that grant, and the file that she makes, each told by its
+/// pass and its fields. The signature and the seal are those under the example's keys, made by another program.
 const FIRST_FILE: &str =
-    "registered 010561646d696e10036d6179030105616c69636502000000000000000103020100000000000000000100000000000000c8000000209efa4c8dc2816d5e04d51d2d69107b0e33f880f6ea5a6c0df5a7440014841a99
-issued 020100000001000000070b1a0000010001470105616c69636500000000000000010202040100000000000000000606040100000000000000c800
-acted 0305616c696365060000000000000001056e6f74657301470105616c69636500000000000000010202040100000000000000000606040100000000000000c800e52f3ee369a66ee9a101d58bea448969451a93f6106f82bc55c2138de284bc610000000000000064";
+    "010561646d696e10036d6179030105616c69636502000000000000000103020100000000000000000100000000000000c8000000209efa4c8dc2816d5e04d51d2d69107b0e33f880f6ea5a6c0df5a7440014841a99 registered 0 admin 32
+020100000001000000070b1a0000010001470105616c69636500000000000000010202040100000000000000000606040100000000000000c800 issued 0 1 3 alice 1
+0305616c696365060000000000000001056e6f74657301470105616c69636500000000000000010202040100000000000000000606040100000000000000c800e52f3ee369a66ee9a101d58bea448969451a93f6106f82bc55c2138de284bc610000000000000064 acted 0 alice create 1 notes 1 100";
 
 /// The numbers of bytes of these.
 const LENGTHS: [usize; 3] = [85, 58, 104];
@@ -49,22 +52,103 @@ const ENDS: &str = "- short
 030161040000000000000001000000003afff44180 not canonical 13
 03016104000000000000000100fffffff1886e0900 ok 21
 03016104000000000000000100fffffff1886e08ff not canonical 13
-03016104000000000000000100000000000000000000 not canonical 21";
+03016104000000000000000100000000000000000000 not canonical 21
+0301610200000000000000020000000000000003000000036869000000000000000064 short
+0301610200000000000000020000000000000003000000016869000000000000000064 bad tag 26
+0301610500000000000000010264000000000000000064 short
+0301610600000000000000010264000000000000000064 short
+0301610700000000000000010264000000000000000064 short
+0301610800000000000000010264000000000000000064 short
+0301610a00000000000000010264000000000000000064 short
+0301610c00000000000000010264000000000000000064 short
+0301610500000000000000010064000000000000000064 bad tag 14
+0301610600000000000000010064000000000000000064 bad tag 14
+0301610700000000000000010064000000000000000064 bad tag 14
+0301610800000000000000010064000000000000000064 bad tag 14
+0301610a00000000000000010064000000000000000064 bad tag 14
+0301610c00000000000000010064000000000000000064 bad tag 14
+0301610900000000000000010264000000000000000302656e000000000000000064 short
+0301610900000000000000010064000000000000000302656e000000000000000064 ok 34
+0301610900000000000000010164000000000000000303656e000000000000000064 short
+0301610900000000000000010164000000000000000301656e000000000000000064 bad tag 25
+0301610b000000000000000200610162000000000000000064 short
+0301610b000000000000000201610262000000000000000064 not canonical 14
+0301610b000000000000000201610062000000000000000064 bad tag 16
+0301610d00000000000000020263000000000000000064 not canonical 12
+0301610d00000000000000020063000000000000000064 not canonical 12
+02000000000207 not canonical 2
+030161040000000000000001014701016100000000000000010200010100 bad tag 28
+0200000000010747010161000000000000000102020606060600 not canonical 23
+0200000000010747010161000000000000000102000118 not canonical 22
+010561646d696e10017009 too large 10";
 
-fn name_of(e: &Event) -> &'static str {
+// Adds the pass, who says the statement, and how long the signature is.
+fn tell_registered(
+    pass: u64,
+    statement: &Statement,
+    signature: &Bytes,
+    out: &mut Bytes,
+) -> Result<(), NoMemory> {
+    out.extend(b"registered")?;
+    tell_number(pass, out)?;
+    tell_word(statement.who().bytes(), out)?;
+    tell_number(signature.len() as u64, out)
+}
+
+// Adds the pass, the numbers that are cited, the nodes of the proof, and who is granted what on which node.
+fn tell_issued(
+    pass: u64,
+    cited: &Numbers,
+    proof: &ProofTree,
+    grant: &Grant,
+    out: &mut Bytes,
+) -> Result<(), NoMemory> {
+    out.extend(b"issued")?;
+    tell_number(pass, out)?;
+    for number in cited.as_slice() {
+        tell_number(u64::from(*number), out)?;
+    }
+    tell_number(proof.size() as u64, out)?;
+    let goal = grant.goal();
+    tell_word(goal.who.bytes(), out)?;
+    tell_number(goal.file.0, out)
+}
+
+fn tell_event(e: &Event, out: &mut Bytes) -> Result<(), NoMemory> {
     match e {
-        Event::Registered { .. } => "registered",
-        Event::Issued { .. } => "issued",
-        Event::Acted { .. } => "acted",
+        Event::Registered {
+            pass,
+            statement,
+            signature,
+        } => tell_registered(*pass, statement, signature, out),
+        Event::Issued {
+            pass,
+            cited,
+            proof,
+            grant,
+        } => tell_issued(*pass, cited, proof, grant, out),
+        Event::Acted {
+            pass,
+            caller,
+            op,
+            procaps,
+            moment,
+        } => {
+            out.extend(b"acted")?;
+            tell_number(*pass, out)?;
+            tell_word(caller.bytes(), out)?;
+            out.push(b' ')?;
+            tell_operation(op, out)?;
+            tell_number(procaps.len() as u64, out)?;
+            tell_number(moment.unsigned_abs(), out)
+        }
     }
 }
 
-fn pass_of(e: &Event) -> u64 {
-    match e {
-        Event::Registered { pass, .. } => *pass,
-        Event::Issued { pass, .. } => *pass,
-        Event::Acted { pass, .. } => *pass,
-    }
+// Whether the event is told as the text.
+fn is_told(alloc: Global, e: &Event, told: &str) -> bool {
+    let mut out = Bytes::new(alloc);
+    tell_event(e, &mut out).is_ok() && out.as_slice() == told.as_bytes()
 }
 
 // The number of the bytes if they are an event, or the fault.
@@ -75,13 +159,12 @@ fn end_of(alloc: Global, bytes: &[u8]) -> Result<usize, CodecFault> {
     }
 }
 
-// Whether the bytes are read as an event of that name and of pass 0, which is written as them.
-fn is_spelled(alloc: Global, name: &str, bytes: &[u8]) -> bool {
+// Whether the bytes are read as the event that is told so, which is written as them.
+fn is_spelled(alloc: Global, told: &str, bytes: &[u8]) -> bool {
     let mut out = Bytes::new(alloc);
     match read_event(alloc, bytes) {
         Ok(event) => {
-            name_of(&event) == name
-                && pass_of(&event) == 0
+            is_told(alloc, &event, told)
                 && write_event(alloc, &event, &mut out).is_ok()
                 && out.as_slice() == bytes
         }
@@ -99,11 +182,11 @@ fn are_cuts_short(alloc: Global, bytes: &[u8]) -> bool {
     true
 }
 
-fn is_event_row(alloc: Global, name: &str, word: &str, len: usize) -> Result<bool, Fail> {
+fn is_event_row(alloc: Global, word: &str, told: &str, len: usize) -> Result<bool, Fail> {
     let bytes = bytes_of(alloc, word)?;
     Ok(
         bytes.len() == len
-            && is_spelled(alloc, name, bytes.as_slice())
+            && is_spelled(alloc, told, bytes.as_slice())
             && are_cuts_short(alloc, bytes.as_slice()),
     )
 }
@@ -116,8 +199,8 @@ fn is_end_row(alloc: Global, word: &str, want: &str) -> Result<bool, Fail> {
 #[test]
 fn the_first_files_events_have_their_bytes_both_ways(rt: HostRuntime) -> Result<(), Fail> {
     for (row, len) in FIRST_FILE.lines().zip(LENGTHS) {
-        let (name, word) = word_and_rest(row)?;
-        assert!(rt; is_event_row(rt.alloc(), name, word, len)?, "{row}");
+        let (word, told) = word_and_rest(row)?;
+        assert!(rt; is_event_row(rt.alloc(), word, told, len)?, "{row}");
     }
     Ok(())
 }
@@ -127,6 +210,25 @@ fn other_bytes_have_a_first_fault(rt: HostRuntime) -> Result<(), Fail> {
     for row in ENDS.lines() {
         let (word, want) = word_and_rest(row)?;
         assert!(rt; is_end_row(rt.alloc(), word, want)?, "{row}");
+    }
+    Ok(())
+}
+
+// Whether the operation as an event without procaps, and with a byte more, is not canonical at that byte.
+fn is_extended_row(alloc: Global, word: &str) -> Result<bool, Fail> {
+    let op = bytes_of(alloc, word)?;
+    let mut bytes = bytes_of(alloc, "030161")?;
+    bytes.extend(op.as_slice())?;
+    bytes.extend(&[0; 10])?;
+    let last = bytes.len().saturating_sub(1);
+    Ok(end_of(alloc, bytes.as_slice()) == Err(CodecFault::NotCanonical(last)))
+}
+
+#[test]
+fn each_operation_ends_where_its_words_end(rt: HostRuntime) -> Result<(), Fail> {
+    for row in OPERATIONS.lines() {
+        let (word, _told) = word_and_rest(row)?;
+        assert!(rt; is_extended_row(rt.alloc(), word)?, "{row}");
     }
     Ok(())
 }

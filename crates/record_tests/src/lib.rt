@@ -8,3 +8,5 @@ mod events;
 mod operations;
 #[cfg(test)]
 mod rows;
+#[cfg(test)]
+mod told;

@@ -1,6 +1,7 @@
 //! Operations: the bytes of each, every cut of them, and each fault at its place.
 
 use crate::rows::{bytes_of, is_end, word_and_rest};
+use crate::told::tell_operation;
 use bl_syntax::fields::place;
 use bl_syntax::{Bytes, CodecFault};
 use file_world::Op;
@@ -8,20 +9,20 @@ use record_parts::{operation_at, write_operation};
 use std::alloc::Global;
 use std::test::Fail;
 
-/// Each operation, and its bytes: `read #2 0 10`, `write #2 3` of the bytes `hi`, and so on.
-const OPERATIONS: &str = "read 0100000000000000020000000000000000000000000000000a
-write 0200000000000000020000000000000003000000026869
-truncate 0300000000000000020000000000000004
-list 040000000000000001
-lookup 050000000000000001056e6f746573
-create 060000000000000001056e6f746573
-mkdir 0700000000000000010164
-unlink 080000000000000001056e6f746573
-rename 0900000000000000010164000000000000000302656e
-getattr 0a00000000000000020161
-setattr 0b00000000000000020a706366732e636c617373067075626c6963
-delattr 0c00000000000000020161
-chown 0d0000000000000002056361726f6c";
+/// The bytes of each operation, and its fields in order.
+pub const OPERATIONS: &str = "0100000000000000020000000000000003000000000000000a read 2 3 10
+0200000000000000020000000000000003000000026869 write 2 3 hi
+0300000000000000020000000000000004 truncate 2 4
+040000000000000001 list 1
+050000000000000001056e6f746573 lookup 1 notes
+060000000000000001056e6f746573 create 1 notes
+0700000000000000010164 mkdir 1 d
+080000000000000001056e6f746573 unlink 1 notes
+0900000000000000010164000000000000000302656e rename 1 d 3 en
+0a00000000000000020161 getattr 2 a
+0b00000000000000020a706366732e636c617373067075626c6963 setattr 2 pcfs.class public
+0c00000000000000020161 delattr 2 a
+0d0000000000000002056361726f6c chown 2 carol";
 
 /// Other bytes, and what comes of reading an operation at their front.
 const ENDS: &str = "- short
@@ -40,24 +41,6 @@ const ENDS: &str = "- short
 0d00000000000000020472656164 not canonical 9
 0200000000000000020000000000000000ffffffff00 short";
 
-fn name_of(op: &Op) -> &'static str {
-    match op {
-        Op::Read(..) => "read",
-        Op::Write(..) => "write",
-        Op::Truncate(..) => "truncate",
-        Op::List(_) => "list",
-        Op::Lookup(..) => "lookup",
-        Op::Create(..) => "create",
-        Op::Mkdir(..) => "mkdir",
-        Op::Unlink(..) => "unlink",
-        Op::Rename(..) => "rename",
-        Op::Getattr(..) => "getattr",
-        Op::Setattr(..) => "setattr",
-        Op::Delattr(..) => "delattr",
-        Op::Chown(..) => "chown",
-    }
-}
-
 // How many bytes an operation at the front of these takes, or the fault.
 fn end_of(alloc: Global, bytes: &[u8]) -> Result<usize, CodecFault> {
     match operation_at(alloc, bytes.len(), bytes) {
@@ -66,13 +49,19 @@ fn end_of(alloc: Global, bytes: &[u8]) -> Result<usize, CodecFault> {
     }
 }
 
-// Whether the bytes are read as an operation of that name, which is written as them.
-fn is_spelled(alloc: Global, name: &str, bytes: &[u8]) -> bool {
+// Whether the operation is told as the text.
+fn is_told(alloc: Global, op: &Op, told: &str) -> bool {
+    let mut out = Bytes::new(alloc);
+    tell_operation(op, &mut out).is_ok() && out.as_slice() == told.as_bytes()
+}
+
+// Whether the bytes are read as the operation that is told so, which is written as them.
+fn is_spelled(alloc: Global, told: &str, bytes: &[u8]) -> bool {
     let mut out = Bytes::new(alloc);
     match operation_at(alloc, bytes.len(), bytes) {
         Ok((op, rest)) => {
-            name_of(&op) == name
-                && rest.is_empty()
+            rest.is_empty()
+                && is_told(alloc, &op, told)
                 && write_operation(&op, &mut out).is_ok()
                 && out.as_slice() == bytes
         }
@@ -90,9 +79,9 @@ fn are_cuts_short(alloc: Global, bytes: &[u8]) -> bool {
     true
 }
 
-fn is_operation_row(alloc: Global, name: &str, word: &str) -> Result<bool, Fail> {
+fn is_operation_row(alloc: Global, word: &str, told: &str) -> Result<bool, Fail> {
     let bytes = bytes_of(alloc, word)?;
-    Ok(is_spelled(alloc, name, bytes.as_slice()) && are_cuts_short(alloc, bytes.as_slice()))
+    Ok(is_spelled(alloc, told, bytes.as_slice()) && are_cuts_short(alloc, bytes.as_slice()))
 }
 
 fn is_end_row(alloc: Global, word: &str, want: &str) -> Result<bool, Fail> {
@@ -103,8 +92,8 @@ fn is_end_row(alloc: Global, word: &str, want: &str) -> Result<bool, Fail> {
 #[test]
 fn each_operation_has_its_bytes_both_ways(rt: HostRuntime) -> Result<(), Fail> {
     for row in OPERATIONS.lines() {
-        let (name, word) = word_and_rest(row)?;
-        assert!(rt; is_operation_row(rt.alloc(), name, word)?, "{row}");
+        let (word, told) = word_and_rest(row)?;
+        assert!(rt; is_operation_row(rt.alloc(), word, told)?, "{row}");
     }
     Ok(())
 }
