@@ -1,11 +1,11 @@
 -- Events: what is read is spelled so, and what is spelled so is read, up to its pass.
-use Rattle.std.proofs.Common.{◌≡◌, ℕ, ℤ, true, false, eqb, List, [], ◌∷◌, ◌++◌, length, Result, Ok, Err, refl, sym, ap, subst, ◌∙◌, arith}
+use Rattle.std.proofs.Common.{◌≡◌, ℕ, eqb, List, [], ◌∷◌, ◌++◌, length, Result, Ok, Err, refl, sym, ap, subst, ◌∙◌}
 use Rattle.std.specs.Prelude.{IfOk}
 use Rattle.std.proofs.lemmas.Bool.{eqb-true}
 use Rattle.std.proofs.lemmas.List.{append-nil}
 use Rattle.bl_syntax.specs.declared.codec_fault.CodecFault.{CodecFault}
 use Rattle.bl_syntax.specs.declared.codec_fault.CodecFault.TheVariants as faults
-use Rattle.bl_syntax.specs.Reading.{◌>>=◌, Reading, map_reading, place, GivesReading}
+use Rattle.bl_syntax.specs.Reading.{◌>>=◌, Reading, map_reading, GivesReading}
 use Rattle.bl_syntax.specs.Codec.{AreBytes, IsCodec, ReportsFault, GivesReadingOrReports}
 use Rattle.bl_syntax.proofs.CodecLemmas.{bind_ok, by_test, ok_is, made_ok, made_memoryless, AreBytes-rest, codec}
 use Rattle.bl_syntax.proofs.StopsWithLemmas.{stops, hands_on, stops_with}

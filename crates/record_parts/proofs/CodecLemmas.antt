@@ -1,5 +1,5 @@
 -- A kind of value that is made of another one, or is another one under other words, is spelled and read like it.
-use Rattle.std.proofs.Common.{◌≡◌, ℕ, suc, zero, ◌<◌, List, [], ◌∷◌, ◌++◌, Result, Ok, refl, sym, ap, subst, ◌∙◌}
+use Rattle.std.proofs.Common.{◌≡◌, ℕ, suc, zero, ◌<◌, List, ◌∷◌, ◌++◌, Result, Ok, sym, ap, subst, ◌∙◌}
 use Rattle.bl_syntax.specs.declared.codec_fault.CodecFault.{CodecFault}
 use Rattle.bl_syntax.specs.Reading.{Reading, map_reading}
 use Rattle.bl_syntax.specs.Codec.{AreBytes, IsCodec}

@@ -1,10 +1,9 @@
 -- Parts with a format of their own, and lists of parts: what is read is spelled so, and what is spelled so is read.
-use Rattle.std.proofs.Common.{◌≡◌, ℕ, zero, suc, ◌-◌, ◌^◌, ◌<◌, ◌≤◌, true, false, cond, eqb, List, [], ◌∷◌, ◌++◌, length, Result, Ok, Err, refl, sym, ap, subst, ◌∙◌, append_assoc, arith}
+use Rattle.std.proofs.Common.{◌≡◌, ℕ, zero, suc, ◌-◌, ◌^◌, ◌<◌, ◌≤◌, true, cond, eqb, List, [], ◌∷◌, ◌++◌, length, Result, Ok, Err, refl, sym, ap, subst, ◌∙◌, append_assoc, arith}
 use Rattle.std.specs.List.{flat_map, AllByRecursion}
 use Rattle.std.specs.Int.{w32, to_be_bytes}
 use Rattle.std.proofs.lemmas.Bool.{eqb-true, eq-eqb}
 use Rattle.std.proofs.lemmas.List.{length-append}
-use Rattle.bl_syntax.specs.declared.codec_fault.CodecFault.{CodecFault}
 use Rattle.bl_syntax.specs.declared.codec_fault.CodecFault.TheVariants as faults
 use Rattle.bl_syntax.specs.Reading.{◌>>=◌, Reading, place, number_at}
 use Rattle.bl_syntax.specs.Codec.{AreBytes, IsCodec}
@@ -18,7 +17,7 @@ use Rattle.proof_term.specs.ProofReading.{kept_proof_at}
 use Rattle.proof_term.proofs.CodecLemmas.{proofs_codec}
 use Rattle.procap.specs.GrantSpelling.{list_spelling}
 use Rattle.procap.proofs.ItemsLemmas.{test_memoryless}
-use Rattle.record_parts.specs.Parts.{fault_in, reading_in, part_at, many_at, list_at, AreSpellable, of_proof, as_part, sized_proof_spelling, sized_proof_at}
+use Rattle.record_parts.specs.Parts.{reading_in, part_at, many_at, list_at, AreSpellable, as_part, sized_proof_spelling, sized_proof_at}
 use Rattle.record_parts.proofs.CodecLemmas.{done}
 use Rattle.record_parts.proofs.ProofLengthLemmas.{proof_is_short}
 use Rattle.record_parts.proofs.TermFaultLemmas.{kept_blameless}

@@ -1,5 +1,5 @@
 -- What the calls read is what the definitions read: parts that are read as if the input began with them, proofs with their length, and lists.
-use Rattle.std.proofs.Common.{◌≡◌, ℕ, suc, ◌-◌, ◌+◌, ◌≤◌, ◌<◌, true, false, eqb, List, [], ◌∷◌, ◌++◌, length, take, drop, Result, Ok, Err, refl, sym, ap, subst, ◌∙◌, append_assoc, arith}
+use Rattle.std.proofs.Common.{◌≡◌, ℕ, suc, ◌-◌, ◌+◌, ◌≤◌, ◌<◌, false, eqb, List, [], ◌∷◌, ◌++◌, length, take, drop, Result, Ok, Err, refl, sym, ap, subst, ◌∙◌, append_assoc, arith}
 use Rattle.std.proofs.lemmas.Bool.{eqb-true, eq-eqb, false_from_ne_true}
 use Rattle.std.proofs.lemmas.List.{append-nil, drop_at, length-append}
 use Rattle.bl_syntax.specs.declared.codec_fault.CodecFault.{CodecFault}
@@ -13,7 +13,6 @@ use Rattle.proof_term.specs.declared.fault.ProofFault.{ProofFault}
 use Rattle.proof_term.specs.declared.fault.ProofFault.TheVariants as proof_faults
 use Rattle.proof_term.specs.Proof.{ProofView}
 use Rattle.proof_term.specs.ProofReading.{kept_proof_at, ReportsProofFault}
-use Rattle.procap.specs.declared.procap.Procap.{Procap}
 use Rattle.procap.specs.GrantSpelling.{grant_spelling, IsSpellableGrant}
 use Rattle.procap.specs.GrantReading.{grant_at}
 use Rattle.procap.specs.Procap.{procap_at}

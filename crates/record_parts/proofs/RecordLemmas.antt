@@ -1,9 +1,8 @@
 -- What records hold behind their tag: what is read is spelled so, and what is spelled so is read.
-use Rattle.std.proofs.Common.{◌≡◌, ℕ, ℤ, List, refl}
+use Rattle.std.proofs.Common.{ℕ, ℤ, List, refl}
 use Rattle.std.specs.Prelude.{IsTrue}
 use Rattle.bl_syntax.specs.Names.{is_principal_name}
 use Rattle.bl_syntax.specs.TimeOrder.{IsMoment}
-use Rattle.bl_syntax.specs.Statement.{StatementView}
 use Rattle.bl_syntax.specs.Grant.{GrantView}
 use Rattle.bl_syntax.specs.Spelling.{with_length}
 use Rattle.bl_syntax.specs.FormulaSpelling.{statement_spelling, IsSpellableStatement}
@@ -21,12 +20,11 @@ use Rattle.procap.specs.Procap.{procap_spelling, IsSpellableProcap, procap_at}
 use Rattle.procap.proofs.PartLemmas.{both_spelling, AreBoth, both_codec}
 use Rattle.procap.proofs.GrantLemmas.{grant_codec}
 use Rattle.procap.proofs.ProcapLemmas.{procap_codec}
-use Rattle.file_world.specs.declared.operation.Op.{Op}
 use Rattle.record_parts.specs.Fields.{u32_at, sized_bytes_spelling, sized_bytes_at, FitsFourBytes, moment_spelling, moment_field_at}
 use Rattle.record_parts.specs.Parts.{part_at, list_at, AreSpellable, sized_proof_spelling, sized_proof_at}
 use Rattle.record_parts.specs.OperationSpelling.{operation_spelling, IsSpellableOperation}
 use Rattle.record_parts.specs.OperationReading.{operation_at}
-use Rattle.record_parts.specs.RecordSpelling.{registered_spelling, Registration, IsRegistration, registration_spelling, cited_spelling, IsSpellableCited, issued_spelling, Issuing, IsIssuing, issuing_spelling, acted_spelling, Action, IsAction, action_spelling}
+use Rattle.record_parts.specs.RecordSpelling.{registered_spelling, IsRegistration, registration_spelling, cited_spelling, IsSpellableCited, issued_spelling, IsIssuing, issuing_spelling, acted_spelling, IsAction, action_spelling}
 use Rattle.record_parts.specs.RecordReading.{registered_at, proved_at, issued_at, admitted_at, done_at, acted_at}
 use Rattle.record_parts.proofs.CodecLemmas.{same_codec}
 use Rattle.record_parts.proofs.FieldsLemmas.{u32_codec, sized_bytes_codec, moment_codec}

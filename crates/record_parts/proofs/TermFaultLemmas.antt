@@ -1,5 +1,5 @@
 -- No term of a proof that is read has the fault that memory ran out.
-use Rattle.std.proofs.Common.{◌≡◌, ◌-◌, ℕ, zero, suc, Bool, true, false, cond, eqb, List, [], ◌∷◌, Result, Ok, Err, refl}
+use Rattle.std.proofs.Common.{◌≡◌, ◌-◌, ℕ, zero, suc, Bool, true, false, cond, eqb, List, [], ◌∷◌, Result, Ok, Err}
 use Rattle.std.specs.Prelude.{◌||◌}
 use Rattle.std.specs.Int.{w16}
 use Rattle.bl_syntax.specs.declared.codec_fault.CodecFault.{CodecFault}
