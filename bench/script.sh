@@ -293,13 +293,14 @@ with open(f"{work}/mixed", "rb") as mine, open(f"{work}/peer", "rb") as theirs:
 seconds = {name: min(one[0] for one in several) for name, several in runs.items()}
 memory = {name: min(one[1] for one in several) for name, several in runs.items()}
 mixed = seconds["mixed"] - seconds["made"]
-peer, peer_event = min(one[1] for one in peers), min(one[2] for one in peers)
+peer, peer_event = min(one[1] for one in peers), max(one[2] for one in peers)
 event = (memory["mixed"] - memory["spoiled"]) / count
 tag = (seconds["three"] - seconds["one"]) / 2 / three.count(b"\n")
 print(f"{count:,} operations over 16,000 nodes, {tags / count:.2f} procaps for each; {'the same replies' if same else 'OTHER REPLIES'} by both")
 print(f"pcfs: {count / mixed:,.0f} lines a second, {mixed / count * 1e6:.2f} us a line; {peer / mixed:.1f} times SQLite from Python: {count / peer:,.0f} lines a second, {peer / count * 1e6:.2f} us")
 print(f"  beside its tags of {tag * 1e6:.2f} us: {(mixed - tags * tag) / count * 1e6:.2f} us a line")
 print(f"  a line that is denied after its first tag takes {(seconds['denied'] - seconds['made']) / count * 1e6:.2f}, a line of no form {(seconds['spoiled'] - seconds['made']) / count * 1e6:.2f}")
-print(f"pcfs: {event:,.0f} bytes of memory for an event beside its line; {event / peer_event:.2f} of SQLite's {peer_event:,.0f}")
+beside = f"SQLite takes {peer_event:,.0f}" if peer_event else "SQLite's grew by nothing that its greatest memory shows"
+print(f"pcfs: {event:,.0f} bytes of memory for an event beside its line; {beside}")
 print(f"making 16,000 nodes: {seconds['made']:.2f} s; SQLite {min(one[0] for one in peers):.2f} s")
 PYTHON
