@@ -1,21 +1,17 @@
 -- A line that asks for an operation gives a procap for each place of its needs.
-use Rattle.std.proofs.Common.{◌≡◌, ℕ, ◌+◌, List, [], ◌∷◌, length, refl, sym, ap, ◌∙◌, arith, length-append}
-use Rattle.file_world.specs.declared.operation.Op.{Op}
+use Rattle.std.proofs.Common.{◌≡◌, ℕ, Bool, true, false, ◌+◌, List, [], ◌∷◌, length, refl, sym, ap, ◌∙◌, arith, length-append}
 use Rattle.file_world.specs.Needs.{slots}
 use Rattle.line_words.specs.Cutting.{first_cut}
-use Rattle.line_words.specs.Kinds.{blank, Sets}
+use Rattle.line_words.specs.Kinds.{blank, Sets, kind_in, kinds_in}
 use Rattle.line_words.specs.Reading.{AreWords}
 use Rattle.line_words.specs.declared.kinds.WordKind.{WordKind}
 use Rattle.line_words.specs.declared.kinds.WordKind.TheVariants as kinds
 use Rattle.line_words.specs.declared.arguments.Arguments.{Arguments}
 use Rattle.line_words.specs.declared.procap_word.ProcapWord.{ProcapWord}
-use Rattle.line_forms.specs.declared.command.Command.TheVariants as commands
-use Rattle.line_forms.specs.declared.forms.Form.{Form}
-use Rattle.line_forms.specs.declared.forms.Form.TheVariants.{At, As, Register, Procap, Verify, Check, Do}
+use Rattle.line_words.specs.declared.procap_word.ProcapWord.TheVariants as words
 use Rattle.line_forms.specs.declared.forms.Operation.{Operation}
 use Rattle.line_forms.specs.declared.forms.Operation.TheVariants.{Read, Write, Truncate, List as ListOf, Lookup, Create, Mkdir, Unlink, Rename, Getattr, Setattr, Delattr, Chown}
-use Rattle.line_forms.specs.Forms.{kinds_of_operation, kinds_of}
-use Rattle.line_forms.specs.Lines.{IsAsked, IsLine}
+use Rattle.line_forms.specs.Forms.{kinds_of_operation}
 use Rattle.line_forms.specs.Making.{op_of}
 
 -- how many procaps a word of the kind gives
@@ -36,6 +32,8 @@ procaps_of kinds.Issue = 0
 procaps_of kinds.Cited = 0
 procaps_of kinds.Signature = 0
 procaps_of kinds.Procap = 1
+procaps_of kinds.SignatureHex = 0
+procaps_of kinds.ProcapHex = 1
 
 abbrev procaps_in : List WordKind → ℕ
 procaps_in [] = 0
@@ -61,6 +59,8 @@ one_word kinds.Issue word before after h = none_more before after _ h.1 refl
 one_word kinds.Cited word before after h = none_more before after _ h.1 refl
 one_word kinds.Signature word before after h = none_more before after _ h.1 refl
 one_word kinds.Procap word before after h = omega (arith, ap (λ (a : Arguments). length a.procaps) h.2, length-append before.procaps (h.0 ∷ []))
+one_word kinds.SignatureHex word before after h = none_more before after _ h.2 refl
+one_word kinds.ProcapHex word before after h = omega (arith, ap (λ (a : Arguments). length a.procaps) h.2, length-append before.procaps (words.Held h.0 ∷ []))
 
 all_words : (kinds : List WordKind) (behind : List ℕ) (before after : Arguments) (rest : List ℕ) → AreWords kinds behind before after rest → length after.procaps ≡ length before.procaps + procaps_in kinds
 all_words [] behind before after rest h = omega (arith, ap (λ (a : Arguments). length a.procaps) h.0)
@@ -88,17 +88,33 @@ slots_are_procaps Chown a = refl
 none_before : (n : ℕ) → length {A = ProcapWord} [] + n ≡ n
 none_before n = omega arith
 
-counted : (form : Form) (behind : List ℕ) (a : Arguments) (rest text : List ℕ) (op : Op) (procaps : List ProcapWord) → AreWords (kinds_of form) behind blank a rest → IsAsked form a text (commands.Do op procaps) → length procaps ≡ slots op
-counted At behind a rest text op procaps words asked = absurd (cc)
-counted As behind a rest text op procaps words asked = absurd (cc)
-counted Register behind a rest text op procaps words asked = let no = asked.2 in absurd (cc)
-counted Procap behind a rest text op procaps words asked = absurd (cc)
-counted Verify behind a rest text op procaps words asked = let no = asked.2 in absurd (cc)
-counted Check behind a rest text op procaps words asked = let no = asked.2 in absurd (cc)
-counted (Do operation) behind a rest text op procaps words asked =
-    let op_is : op ≡ op_of operation a = cc in
-    let procaps_are : procaps ≡ a.procaps = cc in
-    ap length procaps_are ∙ all_words (kinds_of_operation operation) behind blank a rest words ∙ none_before (procaps_in (kinds_of_operation operation)) ∙ sym (slots_are_procaps operation a) ∙ ap slots (sym op_is)
+-- as many, whether they have to be written out or not
+same_kind : (out : Bool) (kind : WordKind) → procaps_of (kind_in out kind) ≡ procaps_of kind
+same_kind out kinds.Node = refl
+same_kind out kinds.Target = refl
+same_kind out kinds.Name = refl
+same_kind out kinds.NewName = refl
+same_kind out kinds.Offset = refl
+same_kind out kinds.Len = refl
+same_kind out kinds.Most = refl
+same_kind out kinds.Data = refl
+same_kind out kinds.Value = refl
+same_kind out kinds.Who = refl
+same_kind out kinds.Permission = refl
+same_kind out kinds.Second = refl
+same_kind out kinds.Issue = refl
+same_kind out kinds.Cited = refl
+same_kind true kinds.Signature = refl
+same_kind false kinds.Signature = refl
+same_kind true kinds.Procap = refl
+same_kind false kinds.Procap = refl
+same_kind out kinds.SignatureHex = refl
+same_kind out kinds.ProcapHex = refl
 
-pub procap_for_each_need : (line : List ℕ) (op : Op) (procaps : List ProcapWord) → IsLine line (commands.Do op procaps) → length procaps ≡ slots op
-procap_for_each_need line op procaps h = counted h.form h.has_words.behind h.arguments h.rest _ op procaps h.has_words.words h.asked
+same_kinds : (out : Bool) (kinds : List WordKind) → procaps_in (kinds_in out kinds) ≡ procaps_in kinds
+same_kinds out [] = refl
+same_kinds out (kind ∷ kinds) = omega (arith, same_kind out kind, same_kinds out kinds)
+
+pub procap_slots : (out : Bool) (operation : Operation) (behind : List ℕ) (a : Arguments) (rest : List ℕ) → AreWords (kinds_in out (kinds_of_operation operation)) behind blank a rest → length a.procaps ≡ slots (op_of operation a)
+procap_slots out operation behind a rest words =
+    all_words (kinds_in out (kinds_of_operation operation)) behind blank a rest words ∙ none_before (procaps_in (kinds_in out (kinds_of_operation operation))) ∙ same_kinds out (kinds_of_operation operation) ∙ sym (slots_are_procaps operation a)
