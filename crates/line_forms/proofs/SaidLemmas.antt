@@ -130,7 +130,10 @@ said_asked mode (Do operation) behind a rest text asked is words h =
 said_asked mode Statement behind a rest text asked is words h = by_mode mode (modes_of Statement) asked is (λ no. absurd (false≢true no)) (λ no _. absurd (false≢true no)) (λ _. subst IsSaidInInquiry (sym h.2) tt)
 said_asked mode Goal behind a rest text asked is words h = by_mode mode (modes_of Goal) asked is (λ no. absurd (false≢true no)) (λ no _. absurd (false≢true no)) (λ _. subst IsSaidInInquiry (sym h.2) tt)
 
+-- the form of a line is known in its mode
+pub form_in_mode : {mode : Mode} {line : List ℕ} {asked : Line} → (h : IsLineIn mode line asked) → IsTrue (is_in mode (modes_of h.form))
+form_in_mode {mode} {line} h = head_known mode line (Ok (h.form, h.has_words.behind)) h.has_words.head_is
+
 pub said_in_mode : {mode : Mode} {line : List ℕ} {asked : Line} → IsLineIn mode line asked → IsSaidIn mode asked
 said_in_mode {mode} {line} {asked} h =
-    let is : IsTrue (is_in mode (modes_of h.form)) = head_known mode line (Ok (h.form, h.has_words.behind)) h.has_words.head_is in
-    said_asked mode h.form h.has_words.behind h.arguments h.rest _ asked is h.has_words.words h.asked
+    said_asked mode h.form h.has_words.behind h.arguments h.rest _ asked (form_in_mode h) h.has_words.words h.asked

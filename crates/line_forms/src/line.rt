@@ -4,6 +4,7 @@ ghost use Rattle.std.specs.Prelude.{◌≡◌, [], MatchResult, unwrap_or};
 ghost use Rattle.line_forms.specs.declared.forms.Form.TheVariants.{Register, Verify, Check, Statement, Goal};
 ghost use Rattle.line_forms.specs.Heads.{text_of};
 ghost use Rattle.line_forms.specs.Lines.{IsAsked, IsTextUnread, IsLineIn, IsUnreadIn, IsLine, IsUnread};
+ghost use Rattle.line_forms.specs.Said.{IsSaidInScript};
 
 use crate::asked::Line;
 use crate::command::Command;
@@ -60,9 +61,10 @@ fn check(alloc: Global, arguments: Arguments, text: &[u8]) -> Result<Line, LineF
 fn login(alloc: Global, arguments: Arguments) -> Line
     ensures { result ≡ Line.Login arguments.who (unwrap_or arguments.signature []) }
 {
-    match arguments.signature {
-        Some(signature) => Line::Login(arguments.who, signature),
-        None => Line::Login(arguments.who, Bytes::new(alloc)),
+    let Arguments { who, signature, .. } = arguments;
+    match signature {
+        Some(signature) => Line::Login(who, signature),
+        None => Line::Login(who, Bytes::new(alloc)),
     }
 }
 
@@ -127,13 +129,25 @@ pub fn read_line_in(alloc: Global, mode: &Mode, line: &[u8]) -> Result<Line, Lin
     }
 }
 
+// The command that a line of a script asks for.
+fn command_of(asked: Line) -> Command
+    requires { IsSaidInScript asked }
+    ensures { asked ≡ Line.Command result }
+{
+    match asked {
+        Line::Command(command) => command,
+        Line::Login(_, _) => unreachable!(),
+        Line::Statement(_) => unreachable!(),
+        Line::Goal(_, _) => unreachable!(),
+    }
+}
+
 /// What a line of a script, given without its end, asks for, or its first fault.
 pub fn read_line(alloc: Global, line: &[u8]) -> Result<Command, LineFault>
     ensures { MatchResult result (IsLine line.now) (IsUnread line.now) }
 {
     match read_line_in(alloc, &Mode::Operator, line) {
-        Ok(Line::Command(command)) => Ok(command),
-        Ok(_) => unreachable!(),
+        Ok(asked) => Ok(command_of(asked)),
         Err(fault) => Err(fault),
     }
 }

@@ -42,6 +42,9 @@ number_of_word (by_number ds number h) digits same =
     (number, subst (λ w. IsLongNumber w number) digits_are h, refl)
 number_of_word (held word p h) digits same = absurd (no_sign digits (procap_spelling p) (subst (λ w. IsHex w (procap_spelling p)) same h.hex))
 
+pub IsProcapWord-number : (word digits : List ℕ) (number : ℕ) → word ≡ 64 ∷ digits → IsLongNumber digits number → IsProcapWord word (Issue number)
+IsProcapWord-number word digits number same h = rw same (by_number digits number h)
+
 pub IsProcapWord-same : {word : List ℕ} {first : ProcapWord} → IsProcapWord word first → (other : List ℕ) (second : ProcapWord) → word ≡ other → IsProcapWord other second → first ≡ second
 IsProcapWord-same (by_number digits m h) other second same k =
     let of = number_of_word k digits (sym same) in
