@@ -5,4 +5,5 @@ pub mod ProcapCount
 pub mod ProofTimeLemmas
 pub mod ReadLemmas
 pub mod SaidLemmas
+pub mod SlotLemmas
 pub mod TotalLemmas

@@ -33,7 +33,7 @@ use Rattle.line_forms.specs.Lines.{IsAsked, kinds_said, IsLineIn, IsLine}
 use Rattle.line_forms.specs.Making.{op_of}
 use Rattle.line_forms.specs.Modes.{is_session}
 use Rattle.line_forms.specs.Said.{IsLineWithin}
-use Rattle.line_forms.proofs.ProcapCount.{procap_slots}
+use Rattle.line_forms.proofs.SlotLemmas.{procap_slots}
 use Rattle.line_forms.proofs.ProofTimeLemmas.{IsProofText-times}
 
 -- what is left of the words after the first of them
