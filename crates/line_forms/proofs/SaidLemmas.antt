@@ -89,9 +89,9 @@ one_out kinds.Second word before after set h = kept before after _ set.1 refl h
 one_out kinds.Issue word before after set h = kept before after _ set.1 refl h
 one_out kinds.Cited word before after set h = kept before after _ set.1 refl h
 one_out kinds.Signature word before after set h = kept before after _ set.2 refl h
-one_out kinds.Procap word before after set h = subst (AllByRecursion IsWrittenOut) (sym (ap (λ (a : Arguments). a.procaps) set.2)) (AllHeld-append before.procaps (words.Held set.0 ∷ []) h (tt, tt))
+one_out kinds.Procap word before after set h = subst (AllByRecursion IsWrittenOut) (sym (ap (λ (a : Arguments). a.procaps) set.2)) (AllHeld-append before.procaps (words.Procap set.0 ∷ []) h (tt, tt))
 one_out kinds.SignatureHex word before after set h = kept before after _ set.2 refl h
-one_out kinds.ProcapHex word before after set h = subst (AllByRecursion IsWrittenOut) (sym (ap (λ (a : Arguments). a.procaps) set.2)) (AllHeld-append before.procaps (words.Held set.0 ∷ []) h (tt, tt))
+one_out kinds.ProcapHex word before after set h = subst (AllByRecursion IsWrittenOut) (sym (ap (λ (a : Arguments). a.procaps) set.2)) (AllHeld-append before.procaps (words.Procap set.0 ∷ []) h (tt, tt))
 
 all_out : (kinds : List WordKind) (behind : List ℕ) (before after : Arguments) (rest : List ℕ) → AreWords (kinds_in true kinds) behind before after rest → AllByRecursion IsWrittenOut before.procaps → AllByRecursion IsWrittenOut after.procaps
 all_out [] behind before after rest words h = subst (AllByRecursion IsWrittenOut) (sym (ap (λ (a : Arguments). a.procaps) words.0)) h

@@ -60,7 +60,7 @@ one_word kinds.Cited word before after h = none_more before after _ h.1 refl
 one_word kinds.Signature word before after h = none_more before after _ h.1 refl
 one_word kinds.Procap word before after h = omega (arith, ap (λ (a : Arguments). length a.procaps) h.2, length-append before.procaps (h.0 ∷ []))
 one_word kinds.SignatureHex word before after h = none_more before after _ h.2 refl
-one_word kinds.ProcapHex word before after h = omega (arith, ap (λ (a : Arguments). length a.procaps) h.2, length-append before.procaps (words.Held h.0 ∷ []))
+one_word kinds.ProcapHex word before after h = omega (arith, ap (λ (a : Arguments). length a.procaps) h.2, length-append before.procaps (words.Procap h.0 ∷ []))
 
 all_words : (kinds : List WordKind) (behind : List ℕ) (before after : Arguments) (rest : List ℕ) → AreWords kinds behind before after rest → length after.procaps ≡ length before.procaps + procaps_in kinds
 all_words [] behind before after rest h = omega (arith, ap (λ (a : Arguments). length a.procaps) h.0)

@@ -43,7 +43,7 @@ IsLineWithin (lines.Goal goal proof) = HasTimesInRange proof
 
 -- a procap itself, and not the number of its issue
 abbrev pub IsWrittenOut : ProcapWord → Type 0
-IsWrittenOut (words.Held p) = Unit {0}
+IsWrittenOut (words.Procap p) = Unit {0}
 IsWrittenOut (words.Issue number) = ⊥
 
 -- a command of a session

@@ -3,13 +3,13 @@ use Rattle.std.proofs.Common.{◌≡◌, ◌^◌, ℕ, List, [], ◌∷◌, ◌+
 use Rattle.line_words.specs.declared.kinds.WordKind.{WordKind}
 use Rattle.line_words.specs.declared.kinds.WordKind.TheVariants.{Node, Target, Name, NewName, Offset, Len, Most, Data, Value, Who, Permission, Second, Issue, Cited, Signature, Procap, SignatureHex, ProcapHex}
 use Rattle.line_words.specs.declared.arguments.Arguments.{Arguments}
-use Rattle.line_words.specs.declared.procap_word.ProcapWord.TheVariants.{Held}
+use Rattle.line_words.specs.declared.procap_word.ProcapWord.TheVariants.{Procap as BySpelling}
 use Rattle.line_text.proofs.HexLemmas.{IsHex-same}
 use Rattle.line_words.specs.Kinds.{Sets}
 use Rattle.line_words.proofs.NumeralLemmas.{IsFile-unique, IsNumberBelow-unique, IsSecond-unique}
 use Rattle.line_words.proofs.GrammarLemmas.{IsName-unique, IsPrincipal-unique, IsData-unique, IsQuoted-unique, permission-unique}
 use Rattle.line_words.proofs.CitedLemmas.{AreJoined-same}
-use Rattle.line_words.proofs.ProcapLemmas.{IsHeld-same, IsProcapWord-same, IsSigned-same}
+use Rattle.line_words.proofs.ProcapLemmas.{IsProcapHex-same, IsProcapWord-same, IsSigned-same}
 
 pub Sets-unique : (kind : WordKind) (word : List ℕ) (before first second : Arguments) → Sets kind word before first → Sets kind word before second → first ≡ second
 Sets-unique Node word before first second h k = h.1 ∙ ap (λ x. record before { node = x }) (IsFile-unique h.0 k.0) ∙ sym k.1
@@ -29,4 +29,4 @@ Sets-unique Cited word before first second h k = h.1 ∙ ap (λ x. record before
 Sets-unique Signature word before first second h k = h.1 ∙ ap (λ x. record before { signature = x }) (IsSigned-same h.0 word second.signature refl k.0) ∙ sym k.1
 Sets-unique Procap word before first second h k = h.2 ∙ ap (λ x. record before { procaps = before.procaps ++ x ∷ [] }) (IsProcapWord-same h.1 word k.0 refl k.1) ∙ sym k.2
 Sets-unique SignatureHex word before first second h k = h.2 ∙ ap (λ x. record before { signature = Some x }) (IsHex-same word h.0 k.0 h.1.hex k.1.hex) ∙ sym k.2
-Sets-unique ProcapHex word before first second h k = h.2 ∙ ap (λ x. record before { procaps = before.procaps ++ Held x ∷ [] }) (IsHeld-same word h.0 k.0 h.1 k.1) ∙ sym k.2
+Sets-unique ProcapHex word before first second h k = h.2 ∙ ap (λ x. record before { procaps = before.procaps ++ BySpelling x ∷ [] }) (IsProcapHex-same word h.0 k.0 h.1 k.1) ∙ sym k.2

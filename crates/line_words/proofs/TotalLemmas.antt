@@ -3,11 +3,11 @@ use Rattle.std.proofs.Common.{◌^◌, ◌-◌, ℕ, List, [], ◌∷◌, ◌++�
 use Rattle.line_words.specs.declared.kinds.WordKind.{WordKind}
 use Rattle.line_words.specs.declared.kinds.WordKind.TheVariants.{Node, Target, Name, NewName, Offset, Len, Most, Data, Value, Who, Permission, Second, Issue, Cited, Signature, Procap, SignatureHex, ProcapHex}
 use Rattle.line_words.specs.declared.arguments.Arguments.{Arguments}
-use Rattle.line_words.specs.declared.procap_word.ProcapWord.TheVariants.{Held}
+use Rattle.line_words.specs.declared.procap_word.ProcapWord.TheVariants.{Procap as BySpelling}
 use Rattle.line_words.specs.Cutting.{first_cut}
 use Rattle.line_words.specs.Kinds.{Sets, IsOutside}
 use Rattle.line_words.specs.Reading.{AreWords, IsBadWord, missing, outside, later}
-use Rattle.line_words.proofs.DecisionLemmas.{number_decided, file_decided, issue_decided, second_decided, name_decided, principal_decided, quoted_decided, permission_decided, data_decided, signature_hex_decided, signed_decided, cited_decided, held_decided, procap_decided}
+use Rattle.line_words.proofs.DecisionLemmas.{number_decided, file_decided, issue_decided, second_decided, name_decided, principal_decided, quoted_decided, permission_decided, data_decided, signature_hex_decided, signed_decided, cited_decided, procap_hex_decided, procap_decided}
 
 -- the word sets the field, or it is of no such kind
 abbrev IsTold : WordKind → List ℕ → Arguments → Type 0
@@ -37,8 +37,8 @@ set_or_outside SignatureHex word before = elim (signature_hex_decided word) [
   | inl one ↦ inl (record before { signature = Some one.0 }, (one.0, one.1, refl))
   | inr none ↦ inr (λ b a h. none h.0 h.1)
 ]
-set_or_outside ProcapHex word before = elim (held_decided word) [
-  | inl one ↦ inl (record before { procaps = before.procaps ++ Held one.0 ∷ [] }, (one.0, one.1, refl))
+set_or_outside ProcapHex word before = elim (procap_hex_decided word) [
+  | inl one ↦ inl (record before { procaps = before.procaps ++ BySpelling one.0 ∷ [] }, (one.0, one.1, refl))
   | inr none ↦ inr (λ b a h. none h.0 h.1)
 ]
 

@@ -3,11 +3,11 @@ use Rattle.std.specs.Prelude.{◌≡◌, Bool, if◌then◌else◌, pos, ℕ, Li
 use Rattle.bl_syntax.specs.declared.terms.Perm.TheVariants.{Read}
 use Rattle.line_words.specs.Numbers.{IsSecond, IsLongNumber, IsCount, IsFile, IsIssue}
 use Rattle.line_words.specs.Cited.{IsCited}
-use Rattle.line_words.specs.Procaps.{IsHeld, IsProcapWord}
+use Rattle.line_words.specs.Procaps.{IsProcapHex, IsProcapWord}
 use Rattle.procap.specs.declared.procap.Procap.{Procap as Sealed}
 use Rattle.line_words.specs.Grammar.{IsName, IsPrincipal, IsData, IsQuoted, IsPermission, IsSigned, IsSignatureHex}
 use Rattle.line_words.specs.declared.procap_word.ProcapWord.{ProcapWord}
-use Rattle.line_words.specs.declared.procap_word.ProcapWord.TheVariants.{Held}
+use Rattle.line_words.specs.declared.procap_word.ProcapWord.TheVariants.{Procap as BySpelling}
 use Rattle.line_words.specs.declared.kinds.WordKind.{WordKind}
 use Rattle.line_words.specs.declared.kinds.WordKind.TheVariants.{Node, Target, Name, NewName, Offset, Len, Most, Data, Value, Who, Permission, Second, Issue, Cited, Signature, Procap, SignatureHex, ProcapHex}
 use Rattle.line_words.specs.declared.arguments.Arguments.{Arguments}
@@ -51,7 +51,7 @@ Sets Cited word before after = IsCited word after.cited × (after ≡ record bef
 Sets Signature word before after = IsSigned word after.signature × (after ≡ record before { signature = after.signature })
 Sets Procap word before after = (given : ProcapWord) × IsProcapWord word given × (after ≡ record before { procaps = before.procaps ++ given ∷ [] })
 Sets SignatureHex word before after = (bytes : List ℕ) × IsSignatureHex word bytes × (after ≡ record before { signature = Some bytes })
-Sets ProcapHex word before after = (p : Sealed) × IsHeld word p × (after ≡ record before { procaps = before.procaps ++ Held p ∷ [] })
+Sets ProcapHex word before after = (p : Sealed) × IsProcapHex word p × (after ≡ record before { procaps = before.procaps ++ BySpelling p ∷ [] })
 
 -- the word is of no such kind
 abbrev pub IsOutside : WordKind → List ℕ → Type 0

@@ -111,7 +111,7 @@ impl Arguments {
     {
         match procap_of_hex(alloc, word)? {
             Some(p) => {
-                self.procaps.push(ProcapWord::Held(p))?;
+                self.procaps.push(ProcapWord::Procap(p))?;
                 Ok(true)
             }
             None => Ok(false),
@@ -135,13 +135,13 @@ impl Arguments {
             WordKind::Len => Ok(put(&mut self.len, long_number(word))),
             WordKind::Most => Ok(put(&mut self.len, count(word))),
             WordKind::Data => Ok(put(&mut self.bytes, data(alloc, word)?)),
-            WordKind::Value => Ok(put(&mut self.value, quoted(word))),
+            WordKind::Value => Ok(put(&mut self.value, quoted_text(word))),
             WordKind::Who => Ok(put(&mut self.who, principal(word))),
             WordKind::Permission => Ok(put(&mut self.perm, permission(word))),
             WordKind::Second => Ok(put(&mut self.second, second(word))),
             WordKind::Issue => Ok(put(&mut self.issue, issue(word))),
             WordKind::Cited => Ok(put(&mut self.cited, cited_numbers(alloc, word)?)),
-            WordKind::Signature => Ok(put(&mut self.signature, signed(alloc, word)?)),
+            WordKind::Signature => Ok(put(&mut self.signature, signature(alloc, word)?)),
             WordKind::Procap => self.add_procap(alloc, word),
             WordKind::SignatureHex => self.set_signature(alloc, word),
             WordKind::ProcapHex => self.add_written_procap(alloc, word),
