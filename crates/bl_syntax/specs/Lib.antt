@@ -1,6 +1,7 @@
 pub mod Assignment
 pub mod BeginsWith
 pub mod Binders
+pub mod Citable
 pub mod Codec
 pub mod ConditionTests
 pub mod Entailment

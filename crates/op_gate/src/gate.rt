@@ -102,7 +102,7 @@ impl Gate {
     ghost use Rattle.op_gate.specs.Decides.{Decides};
     ghost use Rattle.op_gate.specs.Decision.{IsDenial};
     ghost use Rattle.access_history.specs.Authority.{sayings};
-    ghost use Rattle.access_history.specs.Citing.{AreCitable};
+    ghost use Rattle.bl_syntax.specs.Citable.{AreCitable};
     ghost use Rattle.access_history.specs.History.{authority_with};
     ghost use Rattle.op_gate.specs.Issued.{HasNone, IsProcapOf};
     ghost use Rattle.op_gate.specs.Citations.{GivesCitation as AreStatements};

@@ -9,7 +9,7 @@ use Rattle.access_history.specs.declared.event.Event.{Event}
 use Rattle.access_history.specs.declared.request.StepRequest.{StepRequest}
 use Rattle.access_history.specs.declared.reply.StepReply.{StepReply}
 use Rattle.access_history.specs.Answer.{Answers}
-use Rattle.access_history.specs.Citing.{AreCitable}
+use Rattle.bl_syntax.specs.Citable.{AreCitable}
 use Rattle.line_forms.specs.declared.command.Command.{Command}
 use Rattle.line_forms.specs.declared.command.Command.TheVariants.{At, As, Register, Procap, Verify, Check, Do}
 use Rattle.line_forms.specs.declared.fault.LineFault.{LineFault}

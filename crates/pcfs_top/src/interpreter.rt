@@ -72,7 +72,7 @@ impl Interpreter {
     ghost use Rattle.std.specs.Prelude.{Option};
     ghost use Rattle.access_history.specs.declared.event.Event.{Event};
     ghost use Rattle.access_history.specs.WellFormed.{IsWellFormed};
-    ghost use Rattle.access_history.specs.Citing.{AreCitable};
+    ghost use Rattle.bl_syntax.specs.Citable.{AreCitable};
     ghost use Rattle.bl_syntax.specs.Statement.{IsStatement};
     ghost use Rattle.file_world.specs.Effect.{IsOperation};
     ghost use Rattle.file_world.specs.Needs.{slots, bytes_to_write};
