@@ -1,23 +1,16 @@
 -- What the calls read is what the definitions read: proofs with their length, and lists.
-use Rattle.std.proofs.Common.{◌≡◌, ℕ, suc, ◌-◌, ◌+◌, ◌≤◌, ◌<◌, false, eqb, List, [], ◌∷◌, ◌++◌, length, take, drop, Result, Ok, Err, refl, sym, ap, subst, ◌∙◌, append_assoc, arith}
+use Rattle.std.proofs.Common.{◌≡◌, ℕ, suc, ◌-◌, ◌+◌, ◌≤◌, ◌<◌, false, eqb, List, [], ◌∷◌, ◌++◌, length, Result, Ok, Err, refl, sym, ap, subst, ◌∙◌, append_assoc, arith}
 use Rattle.std.proofs.lemmas.Bool.{eqb-true, eq-eqb, false_from_ne_true}
-use Rattle.std.proofs.lemmas.List.{append-nil, drop_at, length-append}
+use Rattle.std.proofs.lemmas.List.{append-nil}
 use Rattle.bl_syntax.specs.declared.codec_fault.CodecFault.{CodecFault}
 use Rattle.bl_syntax.specs.declared.codec_fault.CodecFault.TheVariants as faults
-use Rattle.bl_syntax.specs.Grant.{GrantView}
-use Rattle.bl_syntax.specs.Reading.{◌>>=◌, Reading, place, reading}
-use Rattle.bl_syntax.specs.Codec.{AreBytes, IsCodec, ReportsFault}
-use Rattle.bl_syntax.proofs.CodecLemmas.{bind_ok, ok_is}
+use Rattle.bl_syntax.specs.Reading.{◌>>=◌, Reading, place}
+use Rattle.bl_syntax.specs.Codec.{ReportsFault}
 use Rattle.bl_syntax.proofs.StopsWithLemmas.{stops, hands_on}
 use Rattle.proof_term.specs.declared.fault.ProofFault.{ProofFault}
 use Rattle.proof_term.specs.declared.fault.ProofFault.TheVariants as proof_faults
 use Rattle.proof_term.specs.Proof.{ProofView}
 use Rattle.proof_term.specs.ProofReading.{kept_proof_at, ReportsProofFault}
-use Rattle.procap.specs.GrantSpelling.{grant_spelling, IsSpellableGrant}
-use Rattle.procap.specs.GrantReading.{grant_at}
-use Rattle.procap.specs.Procap.{procap_at}
-use Rattle.procap.proofs.GrantLemmas.{grant_codec}
-use Rattle.procap.proofs.ProcapLemmas.{sealed, grant_stops, tag_is_short, procap_is_read}
 use Rattle.record_parts.specs.Fields.{u32_at}
 use Rattle.record_parts.specs.Parts.{many_at, of_proof, as_part, sized_proof_at}
 use Rattle.record_parts.proofs.CodecLemmas.{done}

@@ -3,7 +3,7 @@ use Rattle.std.proofs.Common.{Option, sym, ap, ◌∙◌, subst}
 use Rattle.file_tree.specs.declared.ready.Ready.{Ready}
 use Rattle.file_tree.specs.Index.{rows_of, published_nodes, IsTreeIndex}
 use Rattle.file_tree.proofs.CopyLemmas.{copied_kept}
-use Rattle.file_tree.proofs.copying.copied.Goals as goal
+use Rattle.file_tree.proofs.copying.copy_nodes.Goals as goal
 
 pub forget-requires : goal.forget-requires
 forget-requires c =

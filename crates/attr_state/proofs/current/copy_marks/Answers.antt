@@ -1,7 +1,7 @@
 -- A clone shows the same, so what is ready in it can be given up.
 use Rattle.std.proofs.Common.{◌∙◌}
 use Rattle.attr_state.proofs.CopyLemmas.{marks_copied, AreOrdered-same, marks_in-same}
-use Rattle.attr_state.proofs.settled.copied.Goals as goal
+use Rattle.attr_state.proofs.current.copy_marks.Goals as goal
 
 pub forget-requires : goal.forget-requires
 forget-requires c =

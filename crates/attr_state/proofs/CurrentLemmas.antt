@@ -22,20 +22,20 @@ held_missing (Some (Made node owner parent)) entries number kept e =
     (ap (λ (marks : Marks). mark_at marks node) (marks-removed entries node) ∙ lookup-removed_same node (marks_of entries) (rising_marks entries kept.ordered.rising))
 
 -- every other one is
-pub settled_same : (ready : Option MetaReady) (entries : MarkEntries) (number : ℕ) → is_held ready number ≡ false → mark_at (marks_in ready entries) number ≡ mark_at (marks_of entries) number
-settled_same None entries number e = refl
-settled_same (Some Nothing) entries number e = refl
-settled_same (Some (Room node len)) entries number e = refl
-settled_same (Some (Made node owner parent)) entries number e =
+pub current_same : (ready : Option MetaReady) (entries : MarkEntries) (number : ℕ) → is_held ready number ≡ false → mark_at (marks_in ready entries) number ≡ mark_at (marks_of entries) number
+current_same None entries number e = refl
+current_same (Some Nothing) entries number e = refl
+current_same (Some (Room node len)) entries number e = refl
+current_same (Some (Made node owner parent)) entries number e =
     ap (λ (marks : Marks). mark_at marks number) (marks-removed entries node) ∙ lookup-removed_other node number (marks_of entries) (λ h. eqb-false node number e (sym h))
 
 shown_copied : (result : Option (Bor Kept)) → option_map (λ (mark : Bor Kept). shown mark.now) result ≡ option_map shown (option_copied result)
 shown_copied None = refl
 shown_copied (Some mark) = refl
 
-pub settled_found : (ready : Option MetaReady) (entries : MarkEntries) (number : ℕ) (result : Option (Bor Kept)) → is_held ready number ≡ false → option_copied result ≡ kept_at entries number → option_map (λ (mark : Bor Kept). shown mark.now) result ≡ mark_at (marks_in ready entries) number
-settled_found ready entries number result e found =
-    shown_copied result ∙ (ap (option_map shown) found ∙ sym (settled_same ready entries number e ∙ mark_at-shown entries number))
+pub current_found : (ready : Option MetaReady) (entries : MarkEntries) (number : ℕ) (result : Option (Bor Kept)) → is_held ready number ≡ false → option_copied result ≡ kept_at entries number → option_map (λ (mark : Bor Kept). shown mark.now) result ≡ mark_at (marks_in ready entries) number
+current_found ready entries number result e found =
+    shown_copied result ∙ (ap (option_map shown) found ∙ sym (current_same ready entries number e ∙ mark_at-shown entries number))
 
 pub found_sorted : (entries : MarkEntries) (number : ℕ) (result : Option (Bor Kept)) → AreOrdered entries → option_copied result ≡ kept_at entries number → IfSome result (λ (mark : Bor Kept). AreSorted mark.now.attributes.items)
 found_sorted entries number None ordered found = tt

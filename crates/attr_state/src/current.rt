@@ -19,7 +19,7 @@ fn is_held(ready: &Option<MetaReady>, number: u64) -> bool
 }
 
 /// The mark of the node of that number; none also of one that is only ready to be made.
-pub fn settled_mark<'a>(
+pub fn current_mark<'a>(
     marks: &'a KeptMarks,
     ready: &Option<MetaReady>,
     number: u64,
@@ -35,7 +35,7 @@ pub fn settled_mark<'a>(
 }
 
 /// The same marks in memory of their own, with nothing ready.
-pub fn copied(marks: &KeptMarks, ready: &Option<MetaReady>) -> Result<KeptMarks, NoMemory>
+pub fn copy_marks(marks: &KeptMarks, ready: &Option<MetaReady>) -> Result<KeptMarks, NoMemory>
     requires { AreOrdered marks.now.entries }
     ensures kept { IfOk result (λ copied. IsMarkIndex copied.entries None) }
     ensures same { IfOk result (λ copied. marks_of copied.entries ≡ marks_in ready.now marks.now.entries) }
