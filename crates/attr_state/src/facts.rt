@@ -6,9 +6,9 @@ ghost use Rattle.file_world.specs.Facts.{facts_of_marks};
 ghost use Rattle.attr_state.specs.Index.{shown, marks_in, mark_named, AreSorted, IsMarkIndex};
 
 use crate::attributes::value_among;
+use crate::current::current_mark;
 use crate::mark::{KeptMark, KeptMarks};
 use crate::ready::MetaReady;
-use crate::current::current_mark;
 use bl_syntax::{NodeId, Term};
 use file_world::ROOT_NUMBER;
 

@@ -8,12 +8,12 @@ ghost use Rattle.attr_state.specs.State.{ReservesMeta, IsMetaReady};
 
 use crate::applying::change;
 use crate::attributes::value_among;
+use crate::current::{copy_marks, current_mark};
 use crate::facts::{has_value, is_in, is_owner};
 use crate::mark::{KeptMark, KeptMarks};
 use crate::preparing::{forget, prepare};
 use crate::ready::MetaReady;
 use crate::refusals::{refusal, reply};
-use crate::current::{copy_marks, current_mark};
 use bl_syntax::{NoMemory, NodeId, Principal, StatePred, Text};
 use condition_set::Facts;
 use file_world::{MetaOp, MetaReply, OpFault, ROOT_NUMBER};
