@@ -3,6 +3,7 @@ pub mod BeginsWith
 pub mod Binders
 pub mod Codec
 pub mod ConditionTests
+pub mod Copying
 pub mod Entailment
 pub mod Equality
 pub mod FirstFailing
