@@ -4,6 +4,7 @@ pub mod Binders
 pub mod Citable
 pub mod Codec
 pub mod ConditionTests
+pub mod Copying
 pub mod Entailment
 pub mod Equality
 pub mod FirstFailing
