@@ -25,4 +25,3 @@ pub mod ViableLemmas
 pub mod ViableTexts
 pub mod FirstTokensLemmas
 pub mod WordLemmas
-pub mod WrittenLemmas

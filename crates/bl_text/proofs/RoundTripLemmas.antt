@@ -33,7 +33,7 @@ use Rattle.bl_text.specs.Pieces.{count, term_of, require_sayable, require_sort, 
 use Rattle.bl_text.specs.Grammar.{primary, is_quantifier, is_saying, is_call, one_simple}
 use Rattle.bl_text.specs.Printed.{time_text, term_text, formula_text, span_text, statement_text}
 use Rattle.bl_text.specs.PrintedTokens.{term_token}
-use Rattle.bl_text.specs.RoundTrip.{IsNoParameter, NamesSpeakers, HasRoundTrip}
+use Rattle.bl_text.specs.RoundTrip.{IsNoParameter, NamesSpeakers, IsPrintable}
 use Rattle.bl_text.specs.Texts.{beginning, is_end, IsFormulaText, whole, expect_word, time_constant, principal_name, opening, at_end, span, whole_saying, IsStatementText}
 use Rattle.bl_text.proofs.WordLemmas.{word_lexed, name_lexed}
 use Rattle.bl_text.proofs.PrintedTerms.{term_lexed}
@@ -353,7 +353,7 @@ all_terms_as P Q (exists_ s a) g h = all_terms_as P Q a g h
 all_terms_as P Q (says k a) g h = (g k h.0, all_terms_as P Q a g h.1)
 all_terms_as P Q (on a u v) g h = (all_terms_as P Q a g h.0, (g u h.1.0, g v h.1.1))
 
-pub printed_formula : (parameters : List Sort) (f : FormulaView) → HasRoundTrip parameters f → IsFormulaText (formula_text 0 f) f
+pub printed_formula : (parameters : List Sort) (f : FormulaView) → IsPrintable parameters f → IsFormulaText (formula_text 0 f) f
 printed_formula parameters f h =
     let text = formula_text 0 f in
     let limits = h.formula.within_limits in

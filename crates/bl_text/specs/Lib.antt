@@ -12,4 +12,3 @@ pub mod Sentences
 pub mod ViablePrefix
 pub mod FirstFaults
 pub mod Texts
-pub mod Written

@@ -7,7 +7,7 @@ ghost use Rattle.bl_tokens.specs.declared.faults.TextFault.{TextFault};
 ghost use Rattle.bl_text.specs.Texts.{IsFormulaText, FormulaFault, IsSayingText, IsStatementText, StatementFault, AreOneFault};
 ghost use Rattle.bl_text.specs.Exact.{IsExact};
 ghost use Rattle.bl_text.specs.Printed.{constraint_text, state_text, formula_text, statement_text};
-ghost use Rattle.bl_text.specs.RoundTrip.{HasRoundTrip};
+ghost use Rattle.bl_text.specs.RoundTrip.{IsPrintable};
 ghost use Rattle.bl_syntax.specs.FormulaSpelling.{IsSpellableStatement};
 ghost use Rattle.bl_syntax.specs.declared.terms.Sort.{Sort};
 ghost use Rattle.bl_syntax.specs.declared.terms.Constraint.{Constraint};
@@ -79,17 +79,17 @@ pub fn sayable_text()
 /// What a formula is written as is a text of it, where it is closed and well sorted within the limits, has a
 /// spelling, and has no parameter before a `says`.
 pub fn formula_round_trip()
-    ensures { (parameters : List Sort) (f : FormulaView) → HasRoundTrip parameters f → IsFormulaText (formula_text 0 f) f }
+    ensures { (parameters : List Sort) (f : FormulaView) → IsPrintable parameters f → IsFormulaText (formula_text 0 f) f }
 {}
 
 /// What a condition on time is written as is a text of it, likewise.
 pub fn constraint_round_trip()
-    ensures { (parameters : List Sort) (c : Constraint) → HasRoundTrip parameters (compare c) → IsFormulaText (constraint_text 0 c) (compare c) }
+    ensures { (parameters : List Sort) (c : Constraint) → IsPrintable parameters (compare c) → IsFormulaText (constraint_text 0 c) (compare c) }
 {}
 
 /// What a condition on the server's state is written as is a text of it, likewise.
 pub fn state_round_trip()
-    ensures { (parameters : List Sort) (s : StatePred) → HasRoundTrip parameters (state s) → IsFormulaText (state_text 0 s) (state s) }
+    ensures { (parameters : List Sort) (s : StatePred) → IsPrintable parameters (state s) → IsFormulaText (state_text 0 s) (state s) }
 {}
 
 /// What a statement is written as is a text of it, where it has a spelling.

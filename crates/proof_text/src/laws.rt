@@ -4,7 +4,7 @@ ghost use Rattle.std.specs.Prelude.{◌≡◌, ◌≢◌, ◌⊎◌, ℕ, List, 
 ghost use Rattle.bl_tokens.specs.declared.faults.TextFault.{TextFault};
 ghost use Rattle.bl_text.specs.Texts.{AreOneFault};
 ghost use Rattle.proof_term.specs.Proof.{ProofView};
-ghost use Rattle.proof_text.specs.RoundTrip.{HasProofRoundTrip};
+ghost use Rattle.proof_text.specs.RoundTrip.{IsPrintableProof};
 ghost use Rattle.proof_text.specs.Printed.{proof_text};
 ghost use Rattle.proof_text.specs.Sentences.{IsAfterViablePrefix, IsProofSentenceText};
 ghost use Rattle.proof_text.specs.SameTokens.{fault_place, SameUpTo};
@@ -54,7 +54,7 @@ pub fn text_of_a_sentence()
 /// The text that a proof is written as is a text of it, where it is within the limits, its hypotheses have
 /// numbers below 65,536, its terms have a spelling and are no variables, and those of an implication are times.
 pub fn proof_round_trip()
-    ensures { (d : ProofView) → HasProofRoundTrip d → IsProofText (proof_text d) d }
+    ensures { (d : ProofView) → IsPrintableProof d → IsProofText (proof_text d) d }
 {}
 
 /// Each text is one of a proof or has a fault other than out of memory.
