@@ -33,7 +33,7 @@ use Rattle.bl_text.specs.Pieces.{count, expect_sign, term_of, require_sayable, r
 use Rattle.bl_text.specs.Grammar.{Level, is_saying, AreArguments, one, further, IsCall, call, Is, for_every, for_some, implication, one_disjunction, or_further, one_conjunction, and_further, one_unary, saying, one_postfix, on_interval, one_primary, group, called, one_simple}
 use Rattle.bl_text.specs.Texts.{beginning, expect_word, time_constant, principal_name, opening, at_end, span, IsSayingText, whole_saying}
 use Rattle.bl_syntax.proofs.StatementLemmas.{IsStatement-from_parts}
-use Rattle.bl_text.proofs.SameTokensLemmas.{bind_ok, expected_ok}
+use Rattle.bl_text.proofs.PieceLemmas.{bind_ok, expected_ok}
 use Rattle.bl_text.proofs.LexedLemmas.{IsWritten, IsLexed, token_lexed}
 
 pub ok_same : {A : Type 0} {a b : A} → ◌≡◌ {A = Result A TextFault} (Ok a) (Ok b) → a ≡ b

@@ -30,7 +30,7 @@ use Rattle.bl_text.specs.PrintedTokens.{EndsRun, term_token}
 use Rattle.bl_text.proofs.ReadLemmas.{expected-Ok}
 use Rattle.bl_text.proofs.WordLemmas.{word_lexed, name_lexed, variable_lexed}
 use Rattle.bl_text.proofs.PlaceLemmas.{Stands, stands_behind, stands_at, space_skipped}
-use Rattle.bl_text.proofs.PrintedLemmas.{scope_of, IsPrintable, term_read, sort_fits, Word, word, spaced_word, term_word, count_ok, sorted_ok, argument_ok, time_argument_ok, if_true, if_false, arguments_more}
+use Rattle.bl_text.proofs.PrintedLemmas.{scope_of, IsPrintableTerm, term_read, sort_fits, Word, word, spaced_word, term_word, count_ok, sorted_ok, argument_ok, time_argument_ok, if_true, if_false, arguments_more}
 use Rattle.bl_text.proofs.PrintedFormulas.{Ends, at_ends, Reading, Reader, operand_read, postfix_place, unary_place, formula_place, place_left}
 
 -- ---- binders
@@ -211,7 +211,7 @@ says_is : is_word keywords.Says (tokens.Keyword keywords.Says) ≡ true
 unfolding is_word
 says_is = refl
 
-pub says_read : (st : Bool) (parameters binders : List Sort) (k : Term) (a : FormulaView) → length binders ≤ 512 → IsPrintable parameters binders st k → HasSort parameters binders sorts.Principal k → IsSpeakerToken (term_token (length binders) k) → Reader st binders a → Reader st binders (says k a)
+pub says_read : (st : Bool) (parameters binders : List Sort) (k : Term) (a : FormulaView) → length binders ≤ 512 → IsPrintableTerm parameters binders st k → HasSort parameters binders sorts.Principal k → IsSpeakerToken (term_token (length binders) k) → Reader st binders a → Reader st binders (says k a)
 says_read st parameters binders k a few printable sort speaks read text depth from left rest deep nodes ends stands =
     let d = length binders in
     let ta = operand 3 (rank a) (formula_text d a) in
@@ -264,7 +264,7 @@ interval_parts a u v rest =
     append_assoc a (codes " @ [" ++ (u ++ (codes "," ++ (v ++ codes "]")))) rest
     ∙ ap (λ bs. a ++ (codes " @ [" ++ bs)) (append_assoc u (codes "," ++ (v ++ codes "]")) rest ∙ ap (λ bs. u ++ (44 ∷ bs)) (append_assoc v (codes "]") rest))
 
-pub on_read : (st : Bool) (parameters binders : List Sort) (a : FormulaView) (u v : Term) → length binders ≤ 512 → IsPrintable parameters binders st u → IsPrintable parameters binders st v → HasSort parameters binders sorts.Time u → HasSort parameters binders sorts.Time v
+pub on_read : (st : Bool) (parameters binders : List Sort) (a : FormulaView) (u v : Term) → length binders ≤ 512 → IsPrintableTerm parameters binders st u → IsPrintableTerm parameters binders st v → HasSort parameters binders sorts.Time u → HasSort parameters binders sorts.Time v
     → Reader st binders a → Reader st binders (on a u v)
 on_read st parameters binders a u v few pu pv su sv read text depth from left rest deep nodes ends stands =
     let d = length binders in
@@ -356,7 +356,7 @@ others_end depth [] rest = (refl, refl)
 others_end depth (t ∷ others) rest = (refl, refl)
 
 -- a name with these arguments, where it may be applied to them
-pub applied_read : (st : Bool) (parameters binders : List Sort) (name : List ℕ) (terms : List Term) (f : FormulaView) → length binders ≤ 512 → is_principal_name name ≡ true → AllByRecursion (IsPrintable parameters binders st) terms
+pub applied_read : (st : Bool) (parameters binders : List Sort) (name : List ℕ) (terms : List Term) (f : FormulaView) → length binders ≤ 512 → is_principal_name name ≡ true → AllByRecursion (IsPrintableTerm parameters binders st) terms
     → (is_predicate_name name ≡ true → length terms ≤ 8) → ((at : ℕ) → apply_predicate (scope_of binders) at name terms ≡ Ok f) → size f ≡ 1 + length terms
     → (text : List ℕ) (depth from left : ℕ) (rest : List ℕ) → size f ≤ left → Ends rest → Stands text from ((name ++ arguments_text (length binders) terms) ++ rest)
     → Reading text st primary (scope_of binders) depth (token_from text from left) left 5 f rest
@@ -448,7 +448,7 @@ unfolding apply_predicate apply_state apply_directory
 directory_ok parameters binders file directory at f o =
     if_true _ _ (and_true (is_of_wanted_sort (scope_of binders) sorts.File file) (is_of_wanted_sort (scope_of binders) sorts.File directory) (sort_fits parameters binders sorts.File file f) (sort_fits parameters binders sorts.File directory o))
 
-pub atom_read : (st : Bool) (parameters binders : List Sort) (name : List ℕ) (terms : List Term) → length binders ≤ 512 → is_principal_name name ≡ true → is_predicate_name name ≡ true → AllByRecursion (IsPrintable parameters binders st) terms → length terms ≤ 8
+pub atom_read : (st : Bool) (parameters binders : List Sort) (name : List ℕ) (terms : List Term) → length binders ≤ 512 → is_principal_name name ≡ true → is_predicate_name name ≡ true → AllByRecursion (IsPrintableTerm parameters binders st) terms → length terms ≤ 8
     → FitsPredicate parameters binders name terms → Reader st binders (atom name terms)
 atom_read st parameters binders name terms few named predicate all ninth h text depth from left rest deep nodes ends stands =
     applied_read st parameters binders name terms (atom name terms) few named all (λ is. ninth) (λ at. atom_ok parameters binders name terms at h predicate) refl text depth from left rest nodes ends stands
@@ -461,7 +461,7 @@ three_text depth name a b c =
     ap (λ bs. name ++ (40 ∷ (term_text depth a ++ bs))) (append_assoc (codes "," ++ term_text depth b) ((codes "," ++ term_text depth c) ++ []) (codes ")")
     ∙ append_assoc (codes ",") (term_text depth b) (((codes "," ++ term_text depth c) ++ []) ++ codes ")") ∙ ap (λ bs. 44 ∷ (term_text depth b ++ bs)) (append_assoc (codes "," ++ term_text depth c) [] (codes ")")))
 
-pub state_read : (st : Bool) (parameters binders : List Sort) (s : StatePred) → length binders ≤ 512 → AllByRecursion (IsPrintable parameters binders st) (terms_of_state s) → IsSortedState parameters binders s → Reader st binders (state s)
+pub state_read : (st : Bool) (parameters binders : List Sort) (s : StatePred) → length binders ≤ 512 → AllByRecursion (IsPrintableTerm parameters binders st) (terms_of_state s) → IsSortedState parameters binders s → Reader st binders (state s)
 state_read st parameters binders (Owner a b) few all h text depth from left rest deep nodes ends stands =
     applied_read st parameters binders (codes "owner") (a ∷ b ∷ []) (state (Owner a b)) few refl all (λ is. absurd (false≢true is)) (λ at. owner_ok parameters binders a b at h.0 h.1) refl text depth from left rest nodes ends
     (stands_at refl (ap (λ bs. bs ++ rest) (sym (two_text (length binders) (codes "owner") a b))) stands)

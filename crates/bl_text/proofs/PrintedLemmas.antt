@@ -68,7 +68,7 @@ place_found (s ∷ binders) (suc n) less few =
 -- ---- terms
 
 -- the term may stand in the text
-pub record IsPrintable (parameters binders : List Sort) (st : Bool) (t : Term) : Type 0 where
+pub record IsPrintableTerm (parameters binders : List Sort) (st : Bool) (t : Term) : Type 0 where
   pub spellable : IsSpellable t
   pub in_scope : IsInScope parameters binders t
   pub sayable : (at : ℕ) → require_sayable st at t ≡ Ok tt
@@ -188,7 +188,7 @@ term_good depth Ctime = refl
 term_good depth (Param n) = refl
 term_good depth (Bound n) = refl
 
-pub term_word : {text : List ℕ} {from : ℕ} (left : ℕ) (parameters binders : List Sort) (st : Bool) (t : Term) (rest : List ℕ) → IsPrintable parameters binders st t → length binders ≤ 512 → EndsRun rest → Stands text from (term_text (length binders) t ++ rest)
+pub term_word : {text : List ℕ} {from : ℕ} (left : ℕ) (parameters binders : List Sort) (st : Bool) (t : Term) (rest : List ℕ) → IsPrintableTerm parameters binders st t → length binders ≤ 512 → EndsRun rest → Stands text from (term_text (length binders) t ++ rest)
     → Word text (token_from text from left) left (term_token (length binders) t) rest
 term_word left parameters binders st t rest p few ends stands =
     word left (term_text (length binders) t) rest (term_token (length binders) t) stands (term_lexed (length binders) t rest p.spellable (in_depth parameters binders t p.in_scope few) ends) (term_good (length binders) t)
@@ -247,7 +247,7 @@ others_end depth (t ∷ others) rest = (refl, refl)
 others_parts : (depth : ℕ) (t : Term) (others : List Term) (rest : List ℕ) → terms_text depth (t ∷ others) ++ 41 ∷ rest ≡ codes "," ++ (term_text depth t ++ (terms_text depth others ++ 41 ∷ rest))
 others_parts depth t others rest = ap (λ bs. 44 ∷ bs) (append_assoc (term_text depth t) (terms_text depth others) (41 ∷ rest))
 
-pub arguments_more : {text : List ℕ} {st : Bool} {is_atom : Bool} {start : Cursor} (parameters binders : List Sort) (others terms : List Term) (from left : ℕ) (rest : List ℕ) → length binders ≤ 512 → AllByRecursion (IsPrintable parameters binders st) others
+pub arguments_more : {text : List ℕ} {st : Bool} {is_atom : Bool} {start : Cursor} (parameters binders : List Sort) (others terms : List Term) (from left : ℕ) (rest : List ℕ) → length binders ≤ 512 → AllByRecursion (IsPrintableTerm parameters binders st) others
     → AreArguments text st (scope_of binders) is_atom start (token_from text from left) terms → Stands text from (terms_text (length binders) others ++ 41 ∷ rest) → length others ≤ left → (is_atom ≡ true → length terms + length others ≤ 8)
     → Arguments text st (scope_of binders) is_atom start (left - length others) (terms ++ others) (41 ∷ rest)
 arguments_more {text} {st} {is_atom} {start} parameters binders [] terms from left rest few all are stands nodes ninth =

@@ -33,12 +33,12 @@ use Rattle.bl_text.specs.Pieces.{count, term_of, require_sayable, require_sort, 
 use Rattle.bl_text.specs.Grammar.{primary, is_quantifier, is_saying, is_call, one_simple}
 use Rattle.bl_text.specs.Printed.{time_text, term_text, formula_text, span_text, statement_text}
 use Rattle.bl_text.specs.PrintedTokens.{term_token}
-use Rattle.bl_text.specs.RoundTrip.{IsNoParameter, NamesSpeakers, HasRoundTrip}
+use Rattle.bl_text.specs.RoundTrip.{IsNoParameter, NamesSpeakers, IsPrintable}
 use Rattle.bl_text.specs.Texts.{beginning, is_end, IsFormulaText, whole, expect_word, time_constant, principal_name, opening, at_end, span, whole_saying, IsStatementText}
 use Rattle.bl_text.proofs.WordLemmas.{word_lexed, name_lexed}
 use Rattle.bl_text.proofs.PrintedTerms.{term_lexed}
 use Rattle.bl_text.proofs.PlaceLemmas.{Stands, stands_behind, stands_at, space_skipped, token_stands}
-use Rattle.bl_text.proofs.PrintedLemmas.{scope_of, IsPrintable, term_read, sort_fits, Word, word, spaced_word, term_word, count_ok, sorted_ok, time_argument_ok, if_true}
+use Rattle.bl_text.proofs.PrintedLemmas.{scope_of, IsPrintableTerm, term_read, sort_fits, Word, word, spaced_word, term_word, count_ok, sorted_ok, time_argument_ok, if_true}
 use Rattle.bl_text.proofs.PrintedFormulas.{Ends, Reading, Reader, to_formula, both_read, either_read, implies_read}
 use Rattle.bl_text.proofs.PrintedAtoms.{IsSpeakerToken, saying_at, forall_read, exists_read, says_read, on_read, atom_read, state_read}
 
@@ -147,7 +147,7 @@ comparison_ok : (text : List ℕ) (st : Bool) (scope : List Variable) (here : Cu
 unfolding comparison
 comparison_ok text st scope here low high term room less said sort next last = rw (term, room, less, said, sort, next, last) refl
 
-pub compare_read : (st : Bool) (parameters binders : List Sort) (c : Constraint) → length binders ≤ 512 → IsPrintable parameters binders st c.low → IsPrintable parameters binders st c.high → HasSort parameters binders sorts.Time c.low → HasSort parameters binders sorts.Time c.high → Reader st binders (compare c)
+pub compare_read : (st : Bool) (parameters binders : List Sort) (c : Constraint) → length binders ≤ 512 → IsPrintableTerm parameters binders st c.low → IsPrintableTerm parameters binders st c.high → HasSort parameters binders sorts.Time c.low → HasSort parameters binders sorts.Time c.high → Reader st binders (compare c)
 compare_read st parameters binders c few pu pv su sv text depth from left rest deep nodes ends stands =
     let d = length binders in
     let tv = term_text d c.high ++ rest in
@@ -255,10 +255,10 @@ sayable_ok true parameters binders (Param n) none now scoped at = absurd (false�
 sayable_ok false parameters binders (Param n) none now scoped at = refl
 sayable_ok st parameters binders (Bound n) none now scoped at = refl
 
-printable : (st : Bool) (parameters binders : List Sort) (t : Term) → (st ≡ true → parameters ≡ []) → IsWritable st t → IsInScope parameters binders t → IsPrintable parameters binders st t
+printable : (st : Bool) (parameters binders : List Sort) (t : Term) → (st ≡ true → parameters ≡ []) → IsWritable st t → IsInScope parameters binders t → IsPrintableTerm parameters binders st t
 printable st parameters binders t none w scoped = record { spellable = w.0; in_scope = scoped; sayable = sayable_ok st parameters binders t none w.1 scoped }
 
-all_printable : (st : Bool) (parameters binders : List Sort) (terms : List Term) → (st ≡ true → parameters ≡ []) → AllByRecursion (IsWritable st) terms → AllByRecursion (IsInScope parameters binders) terms → AllByRecursion (IsPrintable parameters binders st) terms
+all_printable : (st : Bool) (parameters binders : List Sort) (terms : List Term) → (st ≡ true → parameters ≡ []) → AllByRecursion (IsWritable st) terms → AllByRecursion (IsInScope parameters binders) terms → AllByRecursion (IsPrintableTerm parameters binders st) terms
 all_printable st parameters binders [] none all scoped = tt
 all_printable st parameters binders (t ∷ terms) none all scoped = (printable st parameters binders t none all.0 scoped.0, all_printable st parameters binders terms none all.1 scoped.1)
 
@@ -353,7 +353,7 @@ all_terms_as P Q (exists_ s a) g h = all_terms_as P Q a g h
 all_terms_as P Q (says k a) g h = (g k h.0, all_terms_as P Q a g h.1)
 all_terms_as P Q (on a u v) g h = (all_terms_as P Q a g h.0, (g u h.1.0, g v h.1.1))
 
-pub printed_formula : (parameters : List Sort) (f : FormulaView) → HasRoundTrip parameters f → IsFormulaText (formula_text 0 f) f
+pub printed_formula : (parameters : List Sort) (f : FormulaView) → IsPrintable parameters f → IsFormulaText (formula_text 0 f) f
 printed_formula parameters f h =
     let text = formula_text 0 f in
     let limits = h.formula.within_limits in

@@ -20,10 +20,11 @@ use Rattle.bl_text.specs.Grammar.{Level, formula, disjunction, conjunction, unar
 use Rattle.bl_text.specs.FirstFaults.{ArgumentsHaveFirstFault, in_first_argument, in_argument, CallHasFirstFault, at_name, in_arguments, before_close, by_sorts, HasFirstFault, in_binder, in_body, in_premise, at_implies, in_conclusion, in_first_disjunct, at_or, in_disjunct, in_first_conjunct, at_and, in_conjunct, in_speaker, in_said, in_postfix, in_primary, in_interval, too_deep, in_group, not_closed, in_call, in_simple}
 use Rattle.bl_text.specs.Texts.{beginning, is_end, IsFormulaText, whole, FormulaFault, in_formula, behind_formula, opening, span, IsSayingText, whole_saying, IsStatementText, StatementFault, in_opening, in_span}
 use Rattle.bl_text.specs.Texts as texts
-use Rattle.bl_text.specs.Met.{unexpected, too_large}
+use Rattle.bl_text.specs.Met.{unexpected}
 use Rattle.bl_text.proofs.ReadLemmas.{expected-Ok, is_call-name, formula_ended}
 use Rattle.bl_text.proofs.IsStatementLemmas.{statement_said}
-use Rattle.bl_text.proofs.PieceTotalLemmas.{IsOfText, of_text, Any, answered, left_behind, left_node, count_answers, expected_answers, argument_answers, next_argument_answers, interval_answers, binder_answers, speaker_answers, applied_answers, simple_answers, opening_answers, span_answers}
+use Rattle.bl_text.proofs.PieceLemmas.{too_large}
+use Rattle.bl_text.proofs.PieceTotalLemmas.{IsOfText, of_text, misread_of_text, Any, answered, left_behind, left_node, count_answers, expected_answers, argument_answers, next_argument_answers, interval_answers, binder_answers, speaker_answers, applied_answers, simple_answers, opening_answers, span_answers}
 
 -- ---- tests
 
@@ -232,7 +233,7 @@ outcome text st level scope depth here = below_all text st (suc (measure level d
 pub formula_or_its_fault : (text : List ℕ) → ((f : FormulaView) × IsFormulaText text f) ⊎ ((e : TextFault) × FormulaFault text e × IsOfText e)
 formula_or_its_fault text =
     come_out (outcome text false formula [] 0 (beginning text))
-    (λ place f d ended left. by_test (is_end place.token) (λ end. inl (f, whole place d end)) (λ more. inr (Unexpected place.at, behind_formula place f d ended more, of_text unexpected)))
+    (λ place f d ended left. by_test (is_end place.token) (λ end. inl (f, whole place d end)) (λ more. inr (Unexpected place.at, behind_formula place f d ended more, misread_of_text unexpected)))
     (λ e h n. inr (e, in_formula e h, n))
 
 pub stated : {text : List ℕ} {s : StatementView} → IsSayingText text s → IsStatementText text s
