@@ -85,4 +85,6 @@ reply_first (replies.Step step) = step_first step
 reply_first (replies.Checked g) = refl
 reply_first (replies.Unproved fault) = unproved_first fault
 reply_first (replies.Faulty fault) = fault_first fault
+reply_first replies.Full = refl
+reply_first replies.Stopped = refl
 reply_first replies.NoMemory = refl

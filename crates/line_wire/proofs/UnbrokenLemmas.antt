@@ -252,4 +252,6 @@ reply_unbroken (replies.Step step) h = step_unbroken step h
 reply_unbroken (replies.Checked g) h = checked_unbroken g h
 reply_unbroken (replies.Unproved fault) h = unproved_unbroken fault
 reply_unbroken (replies.Faulty fault) h = fault_unbroken fault
+reply_unbroken replies.Full h = refl
+reply_unbroken replies.Stopped h = refl
 reply_unbroken replies.NoMemory h = refl

@@ -52,4 +52,6 @@ reply_word (replies.Step step) = step_word step
 reply_word (replies.Checked g) = codes "ok"
 reply_word (replies.Unproved fault) = unproved_word fault
 reply_word (replies.Faulty fault) = fault_word fault
+reply_word replies.Full = codes "full"
+reply_word replies.Stopped = codes "stopped"
 reply_word replies.NoMemory = codes "nomemory"

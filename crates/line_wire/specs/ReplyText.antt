@@ -33,6 +33,8 @@ reply_text (replies.Step step) = step_text step
 reply_text (replies.Checked g) = checked_text g
 reply_text (replies.Unproved fault) = unproved_text fault
 reply_text (replies.Faulty fault) = fault_text fault
+reply_text replies.Full = codes "full"
+reply_text replies.Stopped = codes "stopped"
 reply_text replies.NoMemory = codes "nomemory"
 
 -- each reply as a line, with its end

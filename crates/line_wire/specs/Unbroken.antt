@@ -88,4 +88,6 @@ IsUnbrokenReply (replies.Step step) = IsUnbrokenStep step
 IsUnbrokenReply (replies.Checked g) = IsUnbrokenGrant g
 IsUnbrokenReply (replies.Unproved fault) = Unit {0}
 IsUnbrokenReply (replies.Faulty fault) = Unit {0}
+IsUnbrokenReply replies.Full = Unit {0}
+IsUnbrokenReply replies.Stopped = Unit {0}
 IsUnbrokenReply replies.NoMemory = Unit {0}

@@ -18,6 +18,10 @@ pub enum LineReply {
     Unproved(CheckFault),
     /// The line asks for nothing. Out of memory is no fault of a line: it is written as `NoMemory` is.
     Faulty(LineFault),
+    /// The event that it would keep has no room in the area, or no number, and nothing changed.
+    Full,
+    /// A disk failed, and nothing is kept any more.
+    Stopped,
     /// Out of memory, and nothing changed.
     NoMemory,
 }

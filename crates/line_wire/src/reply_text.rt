@@ -47,6 +47,8 @@ fn write_text(alloc: Global, out: &mut Bytes, reply: &LineReply) -> Result<(), N
         LineReply::Checked(grant) => write_checked(out, grant),
         LineReply::Unproved(fault) => write_unproved(out, *fault),
         LineReply::Faulty(fault) => write_fault(out, *fault),
+        LineReply::Full => put_text(out, "full"),
+        LineReply::Stopped => put_text(out, "stopped"),
         LineReply::NoMemory => put_text(out, "nomemory"),
     }
 }
