@@ -2,8 +2,15 @@
 use Rattle.std.specs.Prelude.{ℕ, List, Option}
 
 -- the bytes that the input still has to give and those that the output holds, if they are told; and how many faults each has had
-pub record Ports : Type 0 where
+pub record Streams : Type 0 where
   pub left : Option (List ℕ)
   pub read_faults : ℕ
   pub held : Option (List ℕ)
   pub write_faults : ℕ
+
+-- the bytes of the two disks, if they are told; and how many faults each has had
+pub record Disks : Type 0 where
+  pub a : Option (List ℕ)
+  pub b : Option (List ℕ)
+  pub a_faults : ℕ
+  pub b_faults : ℕ
