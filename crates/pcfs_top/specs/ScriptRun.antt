@@ -10,7 +10,8 @@ use Rattle.line_wire.specs.declared.reply.LineReply.TheVariants as replies
 use Rattle.pcfs_secrets.specs.declared.secrets.Secrets.{Secrets}
 use Rattle.pcfs_top.specs.Asker.{Asker, IsAsker, first_asker}
 use Rattle.pcfs_top.specs.LineAnswer.{authority_under, AnswersLine}
-use Rattle.pcfs_top.specs.Room.{used_with, IsFull}
+use Rattle.pcfs_store.specs.StoredHistory.{IsFull}
+use Rattle.pcfs_top.specs.Room.{used_with}
 
 -- where a line is answered: under which secrets, over which base and the events since, and for whom. The area has so many bytes before its closed gate. Once a disk failed for an event, nothing more is kept
 pub record Standing : Type 0 where
