@@ -5,16 +5,16 @@
 //! kept. After a fault of a disk a store is stopped, and touches no disk any more.
 #![tactic(auto)]
 
+mod areas;
 mod format;
 mod image;
 mod keeping;
 pub mod laws;
-mod newer;
 mod reply;
 mod store;
 
+pub use areas::newer;
 pub use format::{FormatFault, format_store};
 pub use image::FRESH_IMAGE;
-pub use newer::newer;
 pub use reply::StoreReply;
 pub use store::Store;

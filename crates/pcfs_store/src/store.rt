@@ -1,6 +1,6 @@
 //! The store.
 
-ghost use Rattle.std.specs.Prelude.{◌≡◌, ◌≢◌, ◌↔◌, ◌×◌, ◌≤◌, ◌+◌, ◌-◌, ◌^◌, ◌++◌, ◌∷◌, [], Some, None, ℕ, List, IsSome, IsTrue, length, is_some};
+ghost use Rattle.std.specs.Prelude.{◌≡◌, ◌≢◌, ◌↔◌, ◌≤◌, ◌+◌, ◌-◌, ◌^◌, ◌++◌, ◌∷◌, [], Some, None, ℕ, List, IsSome, IsTrue, length, is_some};
 ghost use Rattle.journal_core.specs.Area.{area_bytes, IsGeneration};
 ghost use Rattle.access_history.specs.Replay.{fresh};
 ghost use Rattle.pcfs_store.specs.Image.{fresh_image};
@@ -28,15 +28,14 @@ pub struct Store<D: Disk> {
 }
 
 impl<D: Disk> Model for Store<D> {
-    ghost use Rattle.std.specs.Prelude.{◌≡◌, None};
-    ghost use Rattle.pcfs_store.specs.StoreView.{StoreView, IsStore};
-    ghost use Rattle.pcfs_store.specs.Inside.{shown_by, IsKeeping};
+    ghost use Rattle.pcfs_store.specs.StoreView.{StoreView};
+    ghost use Rattle.pcfs_store.specs.Inside.{store_of, IsKeeping};
 
     ghost Value = { StoreView D };
 
-    ghost view = { shown_by };
+    ghost view = { λ s. store_of s.active s.other s.second_active s.generation s.gate s.stop };
 
-    ghost invariant = { IsKeeping };
+    ghost invariant = { λ s. IsKeeping s.active s.other s.second_active s.generation s.gate s.stop };
 }
 
 impl<D: Disk> Store<D> {
@@ -63,8 +62,18 @@ impl<D: Disk> Store<D> {
         requires spelled { AreSpellable gate.events }
         requires used { active.end ≡ length (area_bytes generation fresh_image (payloads_of gate.events)) }
         requires nothing_pending { gate.pending ≡ None }
-        ensures { result ≡ record { active = active.disk; other = other; second_active = second_active; generation = generation; used = active.end;
-            key = gate.key; ring = gate.ring; base = gate.base; events = gate.events; stop = None } }
+        ensures { result ≡ record {
+          active = active.disk;
+          other = other;
+          second_active = second_active;
+          generation = generation;
+          used = active.end;
+          key = gate.key;
+          ring = gate.ring;
+          base = gate.base;
+          events = gate.events;
+          stop = None;
+        } }
     {
         Store {
             active,
