@@ -4,7 +4,7 @@ use Rattle.std.specs.Int.{w32, w64, to_be_bytes, from_be_bytes}
 use Rattle.std.proofs.lemmas.Nat.{be_bytes_4, be_bytes_8, from_be_bytes-to_be_bytes_4, from_be_bytes-to_be_bytes_8}
 use Rattle.std.proofs.lemmas.List.{append-nil, take_at, drop_at, take-take, drop-drop, drop_more, get_or_past}
 use Rattle.std.proofs.lemmas.Bool.{cases_lt}
-use Rattle.journal_core.specs.Area.{area_limit, magic, area_bytes, record_bytes, records, IsShut, Begins, StandsForBody, IsGeneration, IsArea, HasNoBase, BreaksAfter, IsBroken}
+use Rattle.journal_core.specs.Area.{area_limit, magic, area_bytes, record_bytes, records, IsShut, Begins, StandsForBody, IsGeneration, IsArea, IsFront, HasNoBase, BreaksAfter, IsBroken}
 use Rattle.journal_core.specs.Reports.{BaseEndsAt, RecordEndsAt, NoRecordAt, RecordsEndAt, BreaksAt}
 use Rattle.journal_core.specs.Faults.{BrokeAt, IsReported}
 use Rattle.journal_core.specs.declared.scan.ScanFault.{ScanFault}
@@ -207,6 +207,14 @@ module _ (bytes : List ℕ) (generation from end : ℕ) (base : BaseEndsAt bytes
         (subst (λ (n : ℕ). Begins (record_bytes payload) (drop n bytes)) area_long (begins_rest (area_bytes generation image_there payloads) (record_bytes payload) bytes begins));
   }
 
+  pub front_found : (get_or bytes end 0 ≡ 1 → NoRecordAt bytes end) → IsFront bytes generation image_there payloads
+  front_found none = record {
+    generated = base.generated;
+    fits = omega (arith, area_long, ends.high);
+    front = area_begins;
+    last = λ is_open. (area_broken (ap (λ (n : ℕ). get_or bytes n 0) (sym area_long) ∙ is_open) (none (ap (λ (n : ℕ). get_or bytes n 0) (sym area_long) ∙ is_open))).none;
+  }
+
 -- ---- bytes past the limit
 
 module _ (bytes : List ℕ) where
@@ -230,6 +238,14 @@ module _ (bytes : List ℕ) where
       front = longer (area_bytes generation image payloads) is.fits is.stands.front;
       shut = λ is_open. is.stands.shut (byte (length (area_bytes generation image payloads)) is.fits ∙ is_open);
     };
+  }
+
+  pub front_past : (generation : ℕ) (image : List ℕ) (payloads : List (List ℕ)) → IsFront cut generation image payloads → IsFront bytes generation image payloads
+  front_past generation image payloads is = record {
+    generated = is.generated;
+    fits = is.fits;
+    front = longer (area_bytes generation image payloads) is.fits is.front;
+    last = λ is_open payload fits begins. is.last (byte (length (area_bytes generation image payloads)) is.fits ∙ is_open) payload fits (shorter (area_bytes generation image payloads ++ record_bytes payload) fits begins);
   }
 
   pub shut_past : IsShut cut → IsShut bytes

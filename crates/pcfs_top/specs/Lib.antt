@@ -14,3 +14,4 @@ pub mod Run
 pub mod ScriptEnds
 pub mod ScriptRun
 pub mod Stored
+pub mod Words
