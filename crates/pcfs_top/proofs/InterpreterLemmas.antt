@@ -1,6 +1,6 @@
 -- What an interpreter makes of requests, commands and lines.
-use Rattle.std.proofs.Common.{◌≡◌, ℕ, ℤ, List, [], ◌∷◌, ◌++◌, Option, Some, None, Err, ⊎_elim, refl, sym, ap, subst, ◌∙◌, append-nil}
-use Rattle.std.specs.Prelude.{◌≢◌, IfSome}
+use Rattle.std.proofs.Common.{◌≡◌, ℕ, ℤ, List, Option, Some, None, Err, ⊎_elim, refl, sym, subst, ◌∙◌}
+use Rattle.std.specs.Prelude.{◌≢◌}
 use Rattle.bl_syntax.specs.declared.grant.Goal.{Goal}
 use Rattle.bl_syntax.specs.Statement.{StatementView}
 use Rattle.bl_syntax.specs.Grant.{GrantView}
@@ -13,23 +13,20 @@ use Rattle.proof_verifier.specs.Cited.{statements_of}
 use Rattle.proof_verifier.specs.CheckedView.{CheckedView, checked_view, IsChecked, IsGranted}
 use Rattle.proof_verifier.specs.Run.{IsFault}
 use Rattle.proof_verifier.specs.Verdict.{verdict}
-use Rattle.policy_statement.specs.Ring.{KeyView}
-use Rattle.pcfs_secrets.specs.declared.secrets.Secrets.{Secrets}
 use Rattle.file_world.specs.declared.operation.Op.{Op}
-use Rattle.access_history.specs.declared.event.Event.{Event}
 use Rattle.access_history.specs.declared.request.StepRequest.{StepRequest}
 use Rattle.access_history.specs.declared.request.StepRequest.TheVariants as requests
 use Rattle.access_history.specs.declared.reply.StepReply.{StepReply}
 use Rattle.access_history.specs.declared.reply.StepReply.TheVariants.{Absent}
-use Rattle.access_history.specs.Base.{BaseView}
-use Rattle.access_history.specs.Answer.{Answers}
 use Rattle.access_history.specs.Authority.{sayings}
 use Rattle.access_history.specs.Citing.{AreFound}
-use Rattle.access_history.specs.Replay.{replay}
 use Rattle.op_gate.specs.declared.cite.Citation.{Citation}
 use Rattle.op_gate.specs.declared.cite.Citation.TheVariants as citations
 use Rattle.op_gate.specs.Citations.{GivesCitation}
-use Rattle.op_gate.specs.Decision.{GateView}
+use Rattle.pcfs_store.specs.declared.reply.StoreReply.TheVariants as stores
+use Rattle.pcfs_store.specs.StoreView.{StoreView}
+use Rattle.pcfs_store.specs.Steps.{Steps}
+use Rattle.pcfs_store.specs.Steps as steps
 use Rattle.line_words.specs.declared.procap_word.ProcapWord.{ProcapWord}
 use Rattle.line_forms.specs.declared.command.Command.{Command}
 use Rattle.line_forms.specs.declared.command.Command.TheVariants as commands
@@ -38,115 +35,75 @@ use Rattle.line_forms.specs.declared.fault.LineFault.TheVariants as line_faults
 use Rattle.line_forms.specs.Lines.{IsLine, IsLineFault, IsUnread}
 use Rattle.line_wire.specs.declared.reply.LineReply.{LineReply}
 use Rattle.line_wire.specs.declared.reply.LineReply.TheVariants as replies
-use Rattle.pcfs_top.specs.Asker.{asker_after}
+use Rattle.pcfs_top.specs.Asker.{Asker, asker_after}
 use Rattle.pcfs_top.specs.Procaps.{AreBrought, IsFirstUnissued}
 use Rattle.pcfs_top.specs.Proved.{IsUnproved, cites_none, proves_none, IsProved}
-use Rattle.pcfs_top.specs.LineAnswer.{authority_under, signature_under, replied, requested, ComesTo, AnswersCommand, at_once, decided, faulty, asks}
+use Rattle.pcfs_top.specs.InterpreterView.{InterpreterView, standing_over, standing_of}
+use Rattle.pcfs_top.specs.LineAnswer.{signature_under, replied, requested, ComesTo, AnswersCommand, at_once, decided, faulty, asks}
 use Rattle.pcfs_top.specs.LineAnswer as line_answer
-use Rattle.pcfs_top.specs.ScriptRun.{Standing, state_of_standing, standing_after, IsReplied, answered, without_memory}
+use Rattle.pcfs_top.specs.ScriptRun.{Standing, state_of_standing, Becomes, kept, full, stopped, IsReplied, answered, without_memory}
+use Rattle.pcfs_top.proofs.StoredLemmas.{none_some}
 use Rattle.pcfs_top.specs.Interpreter.{IsDecidedAs, IsFollowed, unread_reply}
-
-abbrev standing : Secrets → BaseView → List Event → ℕ → ℤ → List ℕ → Option (List ℕ) → Standing
-standing secrets base events pass clock caller sees = record { secrets = secrets; base = base; events = events; asker = record { pass = pass; clock = clock; caller = caller; sees = sees } }
 
 -- ---- requests
 
-abbrev under : List ℕ → List KeyView → Secrets
-under key ring = record { seal_key = key; ring = ring }
+-- a store's reply that is a step's
+pub IsDecidedAs-step : {D : Type 0} (faults : D → ℕ) (old new : StoreView D) (asker : Asker) (request : StepRequest) (reply : StepReply) → Steps faults old asker.pass asker.clock request (stores.Step reply) new → IsDecidedAs (standing_over old asker) request (replies.Step reply) (standing_over new asker)
+IsDecidedAs-step faults old _ asker request _ (steps.answered reply running answer) = record { told = reply; event = None; answer = answer; becomes = kept None tt }
+IsDecidedAs-step faults old _ asker request _ (steps.kept reply event active running answer room) = record { told = reply; event = Some event; answer = answer; becomes = kept (Some event) room }
 
-same_standing : (key key' : List ℕ) (ring ring' : List KeyView) (base base' : BaseView) (events events' : List Event) (pass : ℕ) (clock : ℤ) (caller : List ℕ) (sees : Option (List ℕ)) → key ≡ key' → ring ≡ ring' → base ≡ base' → events ≡ events' →
-    standing (under key ring) base events pass clock caller sees ≡ standing (under key' ring') base' events' pass clock caller sees
-same_standing key key' ring ring' base base' events events' pass clock caller sees keys rings bases all =
-    ap (λ (k : List ℕ). standing (under k ring) base events pass clock caller sees) keys
-    ∙ ap (λ (r : List KeyView). standing (under key' r) base events pass clock caller sees) rings
-    ∙ ap (λ (b : BaseView). standing (under key' ring') b events pass clock caller sees) bases
-    ∙ ap (λ (es : List Event). standing (under key' ring') base' es pass clock caller sees) all
+-- there is no room
+pub IsDecidedAs-full : {D : Type 0} (faults : D → ℕ) (old new : StoreView D) (asker : Asker) (request : StepRequest) → Steps faults old asker.pass asker.clock request stores.Full new → IsDecidedAs (standing_over old asker) request replies.Full (standing_over new asker)
+IsDecidedAs-full faults old _ asker request (steps.full reply event running answer is_full) = record { told = reply; event = Some event; answer = answer; becomes = full event is_full }
 
--- the gate stands under the same key and ring, over the same base
-pub record IsSameGate (gate : GateView) (key : List ℕ) (ring : List KeyView) (base : BaseView) (events : List Event) : Type 0 where
-  pub key_is : gate.key ≡ key
-  pub ring_is : gate.ring ≡ ring
-  pub base_is : gate.base ≡ base
-  pub events_are : gate.events ≡ events
+-- a disk failed
+pub IsDecidedAs-stopped : {D : Type 0} (faults : D → ℕ) (old new : StoreView D) (asker : Asker) (request : StepRequest) → old.met ≡ None → Steps faults old asker.pass asker.clock request stores.Stopped new → IsDecidedAs (standing_over old asker) request replies.Stopped (standing_over new asker)
+IsDecidedAs-stopped faults old _ asker request running (steps.failed reply event active is answer room risen) = record { told = reply; event = Some event; answer = answer; becomes = stopped event room }
+IsDecidedAs-stopped faults old _ asker request running (steps.stopped event is) = absurd (none_some event (sym running ∙ is))
 
--- what is decided and kept is answered
-pub IsDecidedAs-keep : (seated : Standing) (key : List ℕ) (ring : List KeyView) (base : BaseView) (events : List Event) (pass : ℕ) (clock shown : ℤ) (caller : List ℕ) (sees : Option (List ℕ)) (gate kept : GateView) (request : StepRequest) (reply : StepReply) →
-    seated ≡ standing (under key ring) base events pass clock caller sees → IsSameGate gate key ring base events → shown ≡ clock →
-    ((event : Event) × Answers (authority_under (under key ring)) (replay base events) pass shown request reply (Some event) × (gate.pending ≡ Some event)) →
-    IfSome gate.pending (λ event. kept ≡ record gate { events = gate.events ++ event ∷ []; pending = None }) →
-    IsDecidedAs seated request (replies.Step reply) (standing (under kept.key kept.ring) kept.base kept.events pass clock caller sees)
-IsDecidedAs-keep seated key ring base events pass clock shown caller sees gate kept request reply is same clock_is answer keep =
-    let k = subst (λ (p : Option Event). IfSome p (λ event. kept ≡ record gate { events = gate.events ++ event ∷ []; pending = None })) answer.2 keep in
-    let more : kept.events ≡ events ++ answer.0 ∷ [] = ap (λ (g : GateView). g.events) k ∙ ap (λ (es : List Event). es ++ answer.0 ∷ []) same.events_are in
-    subst (λ (s : Standing). IsDecidedAs s request (replies.Step reply) (standing (under kept.key kept.ring) kept.base kept.events pass clock caller sees)) (sym is)
-    (record {
-      told = reply;
-      event = Some answer.0;
-      answer = subst (λ (z : ℤ). Answers (authority_under (under key ring)) (replay base events) pass z request reply (Some answer.0)) clock_is answer.1;
-      reply_is = refl;
-      after_is = same_standing kept.key key kept.ring ring kept.base base kept.events (events ++ answer.0 ∷ []) pass clock caller sees
-          (ap (λ (g : GateView). g.key) k ∙ same.key_is) (ap (λ (g : GateView). g.ring) k ∙ same.ring_is) (ap (λ (g : GateView). g.base) k ∙ same.base_is) more;
-    })
-
--- what is decided without an event is answered
-pub IsDecidedAs-answer : (seated : Standing) (key : List ℕ) (ring : List KeyView) (base : BaseView) (events : List Event) (pass : ℕ) (clock shown : ℤ) (caller : List ℕ) (sees : Option (List ℕ)) (gate : GateView) (request : StepRequest) (reply : StepReply) →
-    seated ≡ standing (under key ring) base events pass clock caller sees → IsSameGate gate key ring base events → shown ≡ clock →
-    Answers (authority_under (under key ring)) (replay base events) pass shown request reply None × (gate.pending ≡ None) →
-    IsDecidedAs seated request (replies.Step reply) (standing (under gate.key gate.ring) gate.base gate.events pass clock caller sees)
-IsDecidedAs-answer seated key ring base events pass clock shown caller sees gate request reply is same clock_is answer =
-    subst (λ (s : Standing). IsDecidedAs s request (replies.Step reply) (standing (under gate.key gate.ring) gate.base gate.events pass clock caller sees)) (sym is)
-    (record {
-      told = reply;
-      event = None;
-      answer = subst (λ (z : ℤ). Answers (authority_under (under key ring)) (replay base events) pass z request reply None) clock_is answer.0;
-      reply_is = refl;
-      after_is = same_standing gate.key key gate.ring ring gate.base base gate.events (events ++ []) pass clock caller sees same.key_is same.ring_is same.base_is (same.events_are ∙ sym (append-nil events));
-    })
+-- memory ran out
+pub same-without_memory : {D : Type 0} (faults : D → ℕ) (old new : StoreView D) (pass : ℕ) (clock : ℤ) (request : StepRequest) → Steps faults old pass clock request stores.NoMemory new → new ≡ old
+same-without_memory faults old _ pass clock request (steps.without_memory running) = refl
 
 -- ---- commands
 
-same_after : (s : Standing) → s ≡ standing_after s None s.asker
-same_after s = ap (λ (es : List Event). record s { events = es }) (sym (append-nil s.events))
-
 -- a command that is answered at once leaves all as it was
 followed_at_once : (s : Standing) (command : Command) (reply : LineReply) → asker_after s.asker command ≡ s.asker → ComesTo s.secrets (state_of_standing s) s.asker command (replied reply) → IsFollowed s command reply s
-followed_at_once s command reply stays look = record { event = None; answer = at_once reply look; after_is = same_after s ∙ ap (standing_after s None) (sym stays) }
+followed_at_once s command reply stays look =
+    record { told = reply; event = None; answer = at_once reply look; becomes = subst (λ (k : Asker). Becomes s reply k None reply s) (sym stays) (kept None tt) }
 
 -- a command that leads to a request gets its answer
 followed_by : (before after : Standing) (command : Command) (request : StepRequest) (reply : LineReply) → asker_after before.asker command ≡ before.asker → ComesTo before.secrets (state_of_standing before) before.asker command (requested request) → IsDecidedAs before request reply after →
     IsFollowed before command reply after
 followed_by before after command request reply stays look asked = record {
+  told = replies.Step asked.told;
   event = asked.event;
-  answer = subst (λ (r : LineReply). AnswersCommand before.secrets (state_of_standing before) before.asker command r asked.event) (sym asked.reply_is) (decided request asked.told asked.event look asked.answer);
-  after_is = asked.after_is ∙ ap (standing_after before asked.event) (sym stays);
+  answer = decided request asked.told asked.event look asked.answer;
+  becomes = subst (λ (k : Asker). Becomes before (replies.Step asked.told) k asked.event reply after) (sym stays) asked.becomes;
 }
 
 pub IsFollowed-same : (before after : Standing) (command other : Command) (reply : LineReply) → command ≡ other → IsFollowed before other reply after → IsFollowed before command reply after
 IsFollowed-same before after command other reply same followed = subst (λ (c : Command). IsFollowed before c reply after) (sym same) followed
 
+abbrev viewed : {D : Type 0} → StoreView D → ℕ → ℤ → List ℕ → Option (List ℕ) → InterpreterView D
+viewed store pass clock caller sees = record { store = store; asker = record { pass = pass; clock = clock; caller = caller; sees = sees } }
+
 -- the clock is set
-pub IsFollowed-at : (seated : Standing) (secrets : Secrets) (base : BaseView) (events : List Event) (pass : ℕ) (clock : ℤ) (caller : List ℕ) (sees : Option (List ℕ)) (command : Command) (second shown : ℤ) → seated ≡ standing secrets base events pass clock caller sees → command ≡ commands.At second →
-    shown ≡ second → IsFollowed seated command replies.Done (standing secrets base events pass shown caller sees)
-IsFollowed-at seated secrets base events pass clock caller sees command second shown is asked same =
-    subst (λ (s : Standing). IsFollowed s command replies.Done (standing secrets base events pass shown caller sees)) (sym is)
-    (subst (λ (c : Command). IsFollowed (standing secrets base events pass clock caller sees) c replies.Done (standing secrets base events pass shown caller sees)) (sym asked)
-    (record {
-      event = None;
-      answer = at_once replies.Done (line_answer.sets_clock second);
-      after_is = ap (λ (z : ℤ). standing secrets base events pass z caller sees) same ∙ ap (λ (es : List Event). standing secrets base es pass second caller sees) (sym (append-nil events));
-    }))
+pub IsFollowed-at : {D : Type 0} (seated : InterpreterView D) (store : StoreView D) (pass : ℕ) (clock : ℤ) (caller : List ℕ) (sees : Option (List ℕ)) (command : Command) (second shown : ℤ) → seated ≡ viewed store pass clock caller sees → command ≡ commands.At second →
+    shown ≡ second → IsFollowed (standing_of seated) command replies.Done (standing_of (viewed store pass shown caller sees))
+IsFollowed-at {D} seated store pass clock caller sees command second shown is asked same =
+    subst (λ (v : InterpreterView D). IsFollowed (standing_of v) command replies.Done (standing_of (viewed store pass shown caller sees))) (sym is)
+    (subst (λ (c : Command). IsFollowed (standing_of (viewed store pass clock caller sees)) c replies.Done (standing_of (viewed store pass shown caller sees))) (sym asked)
+    (subst (λ (z : ℤ). IsFollowed (standing_of (viewed store pass clock caller sees)) (commands.At second) replies.Done (standing_of (viewed store pass z caller sees))) (sym same)
+    (record { told = replies.Done; event = None; answer = at_once replies.Done (line_answer.sets_clock second); becomes = kept None tt })))
 
 -- the caller is set
-pub IsFollowed-as : (seated : Standing) (secrets : Secrets) (base : BaseView) (events : List Event) (pass : ℕ) (clock : ℤ) (caller : List ℕ) (sees : Option (List ℕ)) (command : Command) (who : List ℕ) → seated ≡ standing secrets base events pass clock caller sees → command ≡ commands.As who →
-    IsFollowed seated command replies.Done (standing secrets base events pass clock who sees)
-IsFollowed-as seated secrets base events pass clock caller sees command who is asked =
-    subst (λ (s : Standing). IsFollowed s command replies.Done (standing secrets base events pass clock who sees)) (sym is)
-    (subst (λ (c : Command). IsFollowed (standing secrets base events pass clock caller sees) c replies.Done (standing secrets base events pass clock who sees)) (sym asked)
-    (record {
-      event = None;
-      answer = at_once replies.Done (line_answer.sets_caller who);
-      after_is = ap (λ (es : List Event). standing secrets base es pass clock who sees) (sym (append-nil events));
-    }))
+pub IsFollowed-as : {D : Type 0} (seated : InterpreterView D) (store : StoreView D) (pass : ℕ) (clock : ℤ) (caller : List ℕ) (sees : Option (List ℕ)) (command : Command) (who : List ℕ) → seated ≡ viewed store pass clock caller sees → command ≡ commands.As who →
+    IsFollowed (standing_of seated) command replies.Done (standing_of (viewed store pass clock who sees))
+IsFollowed-as {D} seated store pass clock caller sees command who is asked =
+    subst (λ (v : InterpreterView D). IsFollowed (standing_of v) command replies.Done (standing_of (viewed store pass clock who sees))) (sym is)
+    (subst (λ (c : Command). IsFollowed (standing_of (viewed store pass clock caller sees)) c replies.Done (standing_of (viewed store pass clock who sees))) (sym asked)
+    (record { told = replies.Done; event = None; answer = at_once replies.Done (line_answer.sets_caller who); becomes = kept None tt }))
 
 pub IsFollowed-register : (before after : Standing) (signature : Option (List ℕ)) (statement : StatementView) (given : List ℕ) (reply : LineReply) → given ≡ signature_under before.secrets.ring statement signature →
     IsDecidedAs before (requests.Register statement given) reply after → IsFollowed before (commands.Register signature statement) reply after
@@ -228,24 +185,24 @@ IsFollowed-do before after op words procaps caller reply caller_is brought asked
 -- ---- lines
 
 -- what a line asks for was done
-pub IsReplied-followed : (before after : Standing) (line : List ℕ) (command : Command) (reply : LineReply) → IsLine line command → IsFollowed before command reply after → (event : Option Event) × IsReplied before line reply event after
+pub IsReplied-followed : (before after : Standing) (line : List ℕ) (command : Command) (reply : LineReply) → IsLine line command → IsFollowed before command reply after → IsReplied before line reply after
 IsReplied-followed before after line command reply is followed =
-    (followed.event, subst (IsReplied before line reply followed.event) (sym followed.after_is) (answered reply followed.event (asker_after before.asker command) (asks command reply followed.event is followed.answer)))
+    answered followed.told followed.event (asker_after before.asker command) reply after (asks command followed.told followed.event is followed.answer) followed.becomes
 
 -- memory ran out, and nothing changed
-pub IsReplied-without_memory : (before after : Standing) (line : List ℕ) → after ≡ before → (event : Option Event) × IsReplied before line replies.NoMemory event after
-IsReplied-without_memory before after line same = (None, subst (IsReplied before line replies.NoMemory None) (sym same) without_memory)
+pub IsReplied-without_memory : (before after : Standing) (line : List ℕ) → after ≡ before → IsReplied before line replies.NoMemory after
+IsReplied-without_memory before after line same = subst (IsReplied before line replies.NoMemory) (sym same) without_memory
 
 -- a line with a fault
-faulty_line : (s : Standing) (line : List ℕ) (fault : LineFault) → IsLineFault line fault → (event : Option Event) × IsReplied s line (replies.Faulty fault) event s
-faulty_line s line fault bad = (None, subst (IsReplied s line (replies.Faulty fault) None) (sym (same_after s)) (answered (replies.Faulty fault) None s.asker (faulty fault bad)))
+faulty_line : (s : Standing) (line : List ℕ) (fault : LineFault) → IsLineFault line fault → IsReplied s line (replies.Faulty fault) s
+faulty_line s line fault bad = answered (replies.Faulty fault) None s.asker (replies.Faulty fault) s (faulty fault bad) (kept None tt)
 
-unread_line : (s : Standing) (line : List ℕ) (fault : LineFault) → IsUnread line fault → (event : Option Event) × IsReplied s line (unread_reply fault) event s
+unread_line : (s : Standing) (line : List ℕ) (fault : LineFault) → IsUnread line fault → IsReplied s line (unread_reply fault) s
 unread_line s line (line_faults.BadWord place) bad = faulty_line s line (line_faults.BadWord place) bad
 unread_line s line line_faults.BadCount bad = faulty_line s line line_faults.BadCount bad
 unread_line s line (line_faults.BadText fault) bad = faulty_line s line (line_faults.BadText fault) bad
-unread_line s line line_faults.NoMemory bad = (None, without_memory)
+unread_line s line line_faults.NoMemory bad = without_memory
 
 -- what is returned to a line that was not read
-pub IsReplied-unread : (s : Standing) (line : List ℕ) (fault : LineFault) (reply : LineReply) → reply ≡ unread_reply fault → IsUnread line fault → (event : Option Event) × IsReplied s line reply event s
-IsReplied-unread s line fault reply is bad = subst (λ (r : LineReply). (event : Option Event) × IsReplied s line r event s) (sym is) (unread_line s line fault bad)
+pub IsReplied-unread : (s : Standing) (line : List ℕ) (fault : LineFault) (reply : LineReply) → reply ≡ unread_reply fault → IsUnread line fault → IsReplied s line reply s
+IsReplied-unread s line fault reply is bad = subst (λ (r : LineReply). IsReplied s line r s) (sym is) (unread_line s line fault bad)
