@@ -146,10 +146,10 @@ survives_beside second active other generation base events told stands behind =
 
 -- ---- stores
 
-at_some : (told : Option (List ℕ)) (P : List ℕ → Type 0) (bytes : List ℕ) → told ≡ Some bytes → IfSome told P → P bytes
+pub at_some : (told : Option (List ℕ)) (P : List ℕ → Type 0) (bytes : List ℕ) → told ≡ Some bytes → IfSome told P → P bytes
 at_some told P bytes is holds = let Q : Option (List ℕ) → Type 0 = λ o. IfSome o P in subst Q is holds
 
-if_some : (told : Option (List ℕ)) (P : List ℕ → Type 0) (bytes : List ℕ) → told ≡ Some bytes → P bytes → IfSome told P
+pub if_some : (told : Option (List ℕ)) (P : List ℕ → Type 0) (bytes : List ℕ) → told ≡ Some bytes → P bytes → IfSome told P
 if_some told P bytes is holds = let Q : Option (List ℕ) → Type 0 = λ o. IfSome o P in subst Q (sym is) holds
 
 module _ {D : Type 0} where
