@@ -95,7 +95,7 @@ line_stands s after line _ _ _ reply stands (asks command told event is answer) 
     becomes_stands s after told (asker_after s.asker command) event reply stands (asker_stays s.asker line command stands.asker is)
     (answer_follows s.secrets (state_of_standing s) s.asker line command told event stands.asker (IsLawfulBase-lawful (authority_under s.secrets) s.base s.events stands.lawful) is answer) becomes
 
-pub IsLawfulStanding-replied : (s after : Standing) (line : List ℕ) (reply : LineReply) → IsLawfulStanding s → IsReplied s line reply after → IsLawfulStanding after
+pub IsLawfulStanding-replied : (s after : Standing) (line : List ℕ) (reply : LineReply) → IsLawfulStanding s → IsReplied line s reply after → IsLawfulStanding after
 IsLawfulStanding-replied s after line _ stands (answered told event asker reply _ answer becomes) = line_stands s after line told event asker reply stands answer becomes
 IsLawfulStanding-replied s _ line _ stands without_memory = stands
 
@@ -118,7 +118,7 @@ becomes_on s _ told asker _ _ (kept event room) = kept_on s event asker
 becomes_on s _ told asker _ _ (full event is_full) = stays_on s
 becomes_on s _ told asker _ _ (stopped event room) = record { added = []; secrets = refl; base = refl; events = sym (append-nil s.events) }
 
-replied_on : (s after : Standing) (line : List ℕ) (reply : LineReply) → IsReplied s line reply after → GoesOn s after
+replied_on : (s after : Standing) (line : List ℕ) (reply : LineReply) → IsReplied line s reply after → GoesOn s after
 replied_on s after line _ (answered told event asker reply _ answer becomes) = becomes_on s after told asker event reply becomes
 replied_on s _ line _ without_memory = stays_on s
 

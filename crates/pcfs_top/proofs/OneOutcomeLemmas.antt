@@ -28,7 +28,7 @@ becomes_once s told asker _ _ _ _ _ _ same (kept event room) going (full other i
 becomes_once s told asker _ _ _ _ _ _ same (full event is_full) going (kept other room) going' = absurd (subst (HasRoom s) (sym same) room is_full)
 becomes_once s told asker _ _ _ _ _ _ same (full event is_full) going (full other is_full') going' = record { reply = refl; after_is = refl }
 
-replied_once : (s : Standing) (line : List ℕ) (first second : LineReply) (after later : Standing) → IsLawful (authority_under s.secrets) s.base s.events → IsReplied s line first after → IsUndisturbed first → IsReplied s line second later → IsUndisturbed second →
+replied_once : (s : Standing) (line : List ℕ) (first second : LineReply) (after later : Standing) → IsLawful (authority_under s.secrets) s.base s.events → IsReplied line s first after → IsUndisturbed first → IsReplied line s second later → IsUndisturbed second →
     AreOne first second after later
 replied_once s line _ _ _ _ lawful without_memory calm replied calm' = absurd (calm.had_memory refl)
 replied_once s line _ _ _ _ lawful (answered told event asker reply after answer becomes) calm without_memory calm' = absurd (calm'.had_memory refl)

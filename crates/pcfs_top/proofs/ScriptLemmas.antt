@@ -29,7 +29,7 @@ GoesOn start now done told =
     (lines : List (List ℕ)) (replies : List LineReply) (end : Standing) → ScriptRun now lines replies end → ScriptRun start (done ++ lines) (told ++ replies) end
 
 -- a run that went on after one line more
-went_on : (start now next : Standing) (done : List (List ℕ)) (told : List LineReply) (line : List ℕ) (reply : LineReply) → GoesOn start now done told → now.met ≡ None → IsReplied now line reply next →
+went_on : (start now next : Standing) (done : List (List ℕ)) (told : List LineReply) (line : List ℕ) (reply : LineReply) → GoesOn start now done told → now.met ≡ None → IsReplied line now reply next →
     GoesOn start next (done ++ line ∷ []) (told ++ reply ∷ [])
 went_on start now next done told line reply so_far going replied lines replies end run =
     ScriptRun-same start end (done ++ line ∷ lines) ((done ++ line ∷ []) ++ lines) (told ++ reply ∷ replies) ((told ++ reply ∷ []) ++ replies)
@@ -62,7 +62,7 @@ parts-more : (bytes rest others line : List ℕ) (done : List (List ℕ)) → li
 parts-more bytes rest others line done parts first = parts ∙ ap (λ (l : List (List ℕ)). done ++ l) first ∙ sym (append_assoc done (line ∷ []) (lines_of others))
 
 -- one more line was answered, and its reply is on its way
-pub HasRun-more : (start now next : Standing) (bytes rest others line : List ℕ) (reply : LineReply) (held mid new : Option (List ℕ)) (collected after : List ℕ) → HasRun start now bytes rest held mid collected → now.met ≡ None → lines_of rest ≡ line ∷ lines_of others → IsReplied now line reply next →
+pub HasRun-more : (start now next : Standing) (bytes rest others line : List ℕ) (reply : LineReply) (held mid new : Option (List ℕ)) (collected after : List ℕ) → HasRun start now bytes rest held mid collected → now.met ≡ None → lines_of rest ≡ line ∷ lines_of others → IsReplied line now reply next →
     GoesOut mid (collected ++ (reply_text reply ++ 10 ∷ [])) new after → HasRun start next bytes others held new after
 HasRun-more start now next bytes rest others line reply held mid new collected after h going first replied out = record {
   done = h.done ++ line ∷ [];
@@ -123,7 +123,7 @@ HasRun-out start now bytes rest held mid new collected stands h out =
 
 -- one more line was answered, and some first part of the replies is out
 pub HasRun-cut : (start now next : Standing) (bytes rest others line : List ℕ) (reply : LineReply) (held mid new : Option (List ℕ)) (collected : List ℕ) → IsLawfulStanding start → HasRun start now bytes rest held mid collected → now.met ≡ None →
-    lines_of rest ≡ line ∷ lines_of others → IsReplied now line reply next → HoldsSome mid new (collected ++ (reply_text reply ++ 10 ∷ [])) → (written : List ℕ) × RunsPart start bytes next written × HoldsSome held new written
+    lines_of rest ≡ line ∷ lines_of others → IsReplied line now reply next → HoldsSome mid new (collected ++ (reply_text reply ++ 10 ∷ [])) → (written : List ℕ) × RunsPart start bytes next written × HoldsSome held new written
 HasRun-cut start now next bytes rest others line reply held mid new collected stands h going first replied some = (
   output_of (h.told ++ reply ∷ []),
   record {

@@ -247,6 +247,6 @@ has_outcome start [] stands going = ([], start, ended start, tt)
 has_outcome start (line ∷ lines) stands going =
     let first = line_has_answer start line stands in
     let goes = goes_well start first.0 first.2 first.1 going (calm_reply start line first.0 first.1 first.2 first.3) in
-    let step : IsReplied start line goes.reply goes.after = answered first.0 first.1 first.2 goes.reply goes.after first.3 goes.becomes in
+    let step : IsReplied line start goes.reply goes.after = answered first.0 first.1 first.2 goes.reply goes.after first.3 goes.becomes in
     let rest = has_outcome goes.after lines (IsLawfulStanding-replied start goes.after line goes.reply stands step) goes.going in
     (goes.reply ∷ rest.0, rest.1, one_more start line lines goes.reply rest.0 goes.after rest.1 going step rest.2, (goes.calm, rest.3))

@@ -21,14 +21,14 @@ use Rattle.pcfs_top.specs.LineAnswer.{authority_under, AnswersCommand}
 use Rattle.pcfs_top.specs.ScriptRun.{Standing, state_of_standing, Becomes}
 
 -- the request is answered, and this becomes of the answer
-pub record IsDecidedAs (before : Standing) (request : StepRequest) (reply : LineReply) (after : Standing) : Type 0 where
+pub record IsDecidedAs (request : StepRequest) (before : Standing) (reply : LineReply) (after : Standing) : Type 0 where
   pub told : StepReply
   pub event : Option Event
   pub answer : Answers (authority_under before.secrets) (state_of_standing before) before.asker.pass before.asker.clock request told event
   pub becomes : Becomes before (replies.Step told) before.asker event reply after
 
 -- the command is answered, and this becomes of the answer
-pub record IsFollowed (before : Standing) (command : Command) (reply : LineReply) (after : Standing) : Type 0 where
+pub record IsFollowed (command : Command) (before : Standing) (reply : LineReply) (after : Standing) : Type 0 where
   pub told : LineReply
   pub event : Option Event
   pub answer : AnswersCommand before.secrets (state_of_standing before) before.asker command told event

@@ -1,6 +1,6 @@
 -- How a script ends that is read from an input and answered from a start: its status, what was taken and what was written. If the input does not tell what it has, or the output what it
 -- holds, nothing is said of that (this project's own).
-use Rattle.std.specs.Prelude.{◌≡◌, ℕ, List, [], ◌∷◌, ◌++◌, codes, Some, None}
+use Rattle.std.specs.Prelude.{◌≡◌, ℕ, List, [], ◌∷◌, ◌++◌, codes, Option, Some, None, Result, Ok, Err}
 use Rattle.std.specs.List.{flat_map}
 use Rattle.pcfs_ports.specs.Faults.{HasRisen}
 use Rattle.pcfs_ports.specs.Told.{with_front, with_back, ReadsToEnd, TakesFirst, HoldsSome}
@@ -12,6 +12,8 @@ use Rattle.line_wire.specs.ReplyText.{output_of}
 use Rattle.pcfs_top.specs.LineAnswer.{authority_under}
 use Rattle.pcfs_top.specs.ScriptRun.{Standing, state_of_standing, ScriptRun}
 use Rattle.pcfs_top.specs.Ports.{Streams}
+use Rattle.pcfs_top.specs.declared.script.ScriptFault.{ScriptFault}
+use Rattle.pcfs_top.specs.declared.script.ScriptFault.TheVariants.{Write, NoMemory, Stopped}
 
 -- a line with its end
 abbrev pub with_line_end : List ℕ → List ℕ
@@ -33,6 +35,14 @@ pub record RunsPart (start : Standing) (bytes : List ℕ) (end : Standing) (writ
   pub others : List (List ℕ)
   pub parts : lines_of bytes ≡ front ++ others
   pub run : RunsOver start front end written
+
+-- what a call has written that answers these bytes of a script from a start, and where it ends: replies to all lines; or to the first lines, of which the last met the fault of a disk; or, after another fault,
+-- some first part of the replies to the first lines
+abbrev pub HasAnswered : Standing → List ℕ → Option (List ℕ) → Result (Unit {0}) ScriptFault → Standing → Option (List ℕ) → Type 0
+HasAnswered start bytes held (Ok done) end held_after = (end.met ≡ None) × ((written : List ℕ) × RunsOver start (lines_of bytes) end written × (held_after ≡ with_back held written))
+HasAnswered start bytes held (Err Stopped) end held_after = ((met : Event) × (end.met ≡ Some met)) × ((written : List ℕ) × RunsPart start bytes end written × (held_after ≡ with_back held written))
+HasAnswered start bytes held (Err Write) end held_after = (written : List ℕ) × RunsPart start bytes end written × HoldsSome held held_after written
+HasAnswered start bytes held (Err NoMemory) end held_after = (written : List ℕ) × RunsPart start bytes end written × HoldsSome held held_after written
 
 -- these lines were taken of the input, each with its end, and then some rest
 pub record AreTaken (before after : Streams) (lines : List (List ℕ)) : Type 0 where

@@ -52,16 +52,16 @@ pub data Becomes (before : Standing) (told : LineReply) (asker : Asker) : Option
   stopped : (event : Event) → HasRoom before (Some event) → Becomes before told asker (Some event) replies.Stopped (record before { met = Some event })
 
 -- a line is answered; or memory runs out instead of its reply, and nothing changes
-pub data IsReplied (before : Standing) (line : List ℕ) : LineReply → Standing → Type 0 where
+pub data IsReplied (line : List ℕ) (before : Standing) : LineReply → Standing → Type 0 where
   answered : (told : LineReply) (event : Option Event) (asker : Asker) (reply : LineReply) (after : Standing) → AnswersLine before.secrets (state_of_standing before) before.asker line told event asker →
-      Becomes before told asker event reply after → IsReplied before line reply after
-  without_memory : IsReplied before line replies.NoMemory before
+      Becomes before told asker event reply after → IsReplied line before reply after
+  without_memory : IsReplied line before replies.NoMemory before
 
 -- a run of these lines from a start: a reply for each, and where it ends. After a disk failed no line is answered
 pub data ScriptRun : Standing → List (List ℕ) → List LineReply → Standing → Type 0 where
   ended : (start : Standing) → ScriptRun start [] [] start
   one_more : (start : Standing) (line : List ℕ) (lines : List (List ℕ)) (reply : LineReply) (others : List LineReply) (next end : Standing) → start.met ≡ None →
-      IsReplied start line reply next → ScriptRun next lines others end → ScriptRun start (line ∷ lines) (reply ∷ others) end
+      IsReplied line start reply next → ScriptRun next lines others end → ScriptRun start (line ∷ lines) (reply ∷ others) end
 
 -- the line was answered, and not with that memory ran out or a disk failed
 pub record IsUndisturbed (reply : LineReply) : Type 0 where

@@ -1,13 +1,12 @@
 //! A script that is read from an input and answered over a store.
 
-ghost use Rattle.std.specs.Prelude.{◌≡◌, ◌⊎◌};
+ghost use Rattle.std.specs.Prelude.{◌≡◌, ◌⊎◌, None};
 ghost use Rattle.pcfs_ports.specs.Faults.{HasRisen};
 ghost use Rattle.pcfs_ports.specs.Told.{with_back, HoldsSome};
 ghost use Rattle.pcfs_top.specs.Asker.{Asker, first_asker};
 ghost use Rattle.pcfs_top.specs.InterpreterView.{standing_of, standing_over};
-ghost use Rattle.pcfs_top.specs.ScriptEnds.{ScriptEnds};
 ghost use Rattle.pcfs_top.specs.ScriptRun.{IsLawfulStanding, script_pass};
-ghost use Rattle.pcfs_top.specs.Stored.{StoreGoesOn};
+ghost use Rattle.pcfs_top.specs.Stored.{AnswersInput};
 
 use crate::interpreter::Interpreter;
 use crate::script::{ScriptFault, answer_lines};
@@ -52,12 +51,11 @@ fn answer_input<D: Disk, I: Source, O: Sink>(
     enough: usize,
     output: &mut O,
 ) -> u8
-    requires lawful { IsLawfulStanding (standing_of interpreter.old) }
-    requires running { interpreter.old.store.met ≡ None }
-    ensures ends { ScriptEnds (standing_of interpreter.old) (standing_of interpreter.new)
-        (record { left = I.left input.old; read_faults = I.faults input.old; held = O.held output.old; write_faults = O.faults output.old })
-        (record { left = I.left input.new; read_faults = I.faults input.new; held = O.held output.new; write_faults = O.faults output.new }) result }
-    ensures goes_on { StoreGoesOn D.clock D.left_since D.image D.faults interpreter.old.store interpreter.new.store }
+    requires lawful { IsLawfulStanding (standing_of interpreter.old None) }
+    requires running { interpreter.old.store.stop ≡ None }
+    ensures { AnswersInput D.clock D.left_since D.image D.faults interpreter.old
+        (record { left = I.left input.old; read_faults = I.faults input.old; held = O.held output.old; write_faults = O.faults output.old }) result interpreter.new
+        (record { left = I.left input.new; read_faults = I.faults input.new; held = O.held output.new; write_faults = O.faults output.new }) }
 {
     let bytes = match read_to_end(alloc, input) {
         Ok(bytes) => bytes,
@@ -82,12 +80,11 @@ pub fn run_over<D: Disk, I: Source, O: Sink>(
     enough: usize,
     output: &mut O,
 ) -> (u8, Store<D>)
-    requires lawful { IsLawfulStanding (standing_over store (first_asker script_pass)) }
-    requires running { store.met ≡ None }
-    ensures ends { (asker : Asker) × ScriptEnds (standing_over store (first_asker script_pass)) (standing_over result.1 asker)
-        (record { left = I.left input.old; read_faults = I.faults input.old; held = O.held output.old; write_faults = O.faults output.old })
-        (record { left = I.left input.new; read_faults = I.faults input.new; held = O.held output.new; write_faults = O.faults output.new }) result.0 }
-    ensures goes_on { StoreGoesOn D.clock D.left_since D.image D.faults store result.1 }
+    requires lawful { IsLawfulStanding (standing_over store None (first_asker script_pass)) }
+    requires running { store.stop ≡ None }
+    ensures { (asker : Asker) × AnswersInput D.clock D.left_since D.image D.faults (record { store = store; asker = first_asker script_pass })
+        (record { left = I.left input.old; read_faults = I.faults input.old; held = O.held output.old; write_faults = O.faults output.old }) result.0 (record { store = result.1; asker = asker })
+        (record { left = I.left input.new; read_faults = I.faults input.new; held = O.held output.new; write_faults = O.faults output.new }) }
 {
     let mut interpreter = Interpreter::over(store);
     let status = answer_input(alloc, &mut interpreter, input, enough, output);

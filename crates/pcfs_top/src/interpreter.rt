@@ -1,6 +1,6 @@
 //! The interpreter, which answers the lines of an operator's script.
 
-ghost use Rattle.std.specs.Prelude.{◌≡◌, ◌≢◌, ◌≤◌, ◌↔◌, None, length, IfOk, OnOk, OnErr, IsSome, IsTrue};
+ghost use Rattle.std.specs.Prelude.{◌≡◌, ◌≢◌, ◌≤◌, ◌↔◌, None, length, IfOk, OnErr, IsSome, IsTrue};
 ghost use Rattle.pcfs_top.specs.Interpreter.{unread_reply};
 
 use crate::brought::add_procaps;
@@ -74,9 +74,9 @@ impl<D: Disk> Interpreter<D> {
     ghost use Rattle.file_world.specs.Needs.{slots, bytes_to_write};
     ghost use Rattle.line_forms.specs.declared.command.Command.TheVariants.{Register, Procap as ShowProcap, Verify, Check, Do};
     ghost use Rattle.pcfs_top.specs.Asker.{first_asker};
-    ghost use Rattle.pcfs_top.specs.ScriptRun.{IsReplied, script_pass};
+    ghost use Rattle.pcfs_top.specs.ScriptRun.{IsLawfulStanding, IsReplied, script_pass};
     ghost use Rattle.pcfs_top.specs.InterpreterView.{standing_of};
-    ghost use Rattle.pcfs_top.specs.Stored.{StoreGoesOn};
+    ghost use Rattle.pcfs_top.specs.Stored.{LeadsTo};
     ghost use Rattle.pcfs_top.specs.Interpreter.{IsDecidedAs, IsFollowed, IsAllowed};
 
     /// An interpreter over this store, where an operator's script begins.
@@ -101,17 +101,17 @@ impl<D: Disk> Interpreter<D> {
 
     /// Whether a disk failed. Then no further line is to be answered.
     pub fn is_stopped(&self) -> bool
-        ensures { IsTrue result ↔ IsSome self.now.store.met }
+        ensures { IsTrue result ↔ IsSome self.now.store.stop }
     {
         self.store.is_stopped()
     }
 
     // Asks the store.
     fn ask(&mut self, alloc: Global, request: StepRequest) -> Result<LineReply, NoMemory>
-        requires running { self.old.store.met ≡ None }
+        requires running { self.old.store.stop ≡ None }
+        requires lawful { IsLawfulStanding (standing_of self.old None) }
         requires well_formed { IsWellFormed request }
-        ensures ok { IfOk result (λ reply. IsDecidedAs (standing_of self.old) request reply (standing_of self.new)) }
-        ensures goes_on { OnOk result (StoreGoesOn D.clock D.left_since D.image D.faults self.old.store self.new.store) }
+        ensures ok { IfOk result (λ reply. LeadsTo D.clock D.left_since D.image D.faults (IsDecidedAs request) self.old reply self.new) }
         ensures err { OnErr result (self.new ≡ self.old) }
     {
         match self.store.step(alloc, self.pass, request, self.clock) {
@@ -130,10 +130,10 @@ impl<D: Disk> Interpreter<D> {
         numbers: &Numbers,
         proof: ProofTree,
     ) -> Result<LineReply, NoMemory>
-        requires running { self.old.store.met ≡ None }
+        requires running { self.old.store.stop ≡ None }
+        requires lawful { IsLawfulStanding (standing_of self.old None) }
         requires citable { AreCitable numbers.now }
-        ensures ok { IfOk result (λ reply. IsFollowed (standing_of self.old) (Verify goal numbers.now proof) reply (standing_of self.new)) }
-        ensures goes_on { OnOk result (StoreGoesOn D.clock D.left_since D.image D.faults self.old.store self.new.store) }
+        ensures ok { IfOk result (λ reply. LeadsTo D.clock D.left_since D.image D.faults (IsFollowed (Verify goal numbers.now proof)) self.old reply self.new) }
         ensures err { OnErr result (self.new ≡ self.old) }
     {
         match self.store.gate().cite(alloc, numbers.as_slice())? {
@@ -154,7 +154,7 @@ impl<D: Disk> Interpreter<D> {
         proof: &ProofTree,
     ) -> Result<LineReply, NoMemory>
         requires { AreCitable numbers.now }
-        ensures { IfOk result (λ reply. IsFollowed (standing_of self.now) (Check goal.now numbers.now proof.now) reply (standing_of self.now)) }
+        ensures { IfOk result (λ reply. IsFollowed (Check goal.now numbers.now proof.now) (standing_of self.now None) reply (standing_of self.now None)) }
     {
         match self.store.gate().cite(alloc, numbers.as_slice())? {
             Citation::Absent(number) => Ok(LineReply::Step(StepReply::Absent(number as u64))),
@@ -172,10 +172,10 @@ impl<D: Disk> Interpreter<D> {
         signature: Option<Bytes>,
         statement: Statement,
     ) -> Result<LineReply, NoMemory>
-        requires running { self.old.store.met ≡ None }
+        requires running { self.old.store.stop ≡ None }
+        requires lawful { IsLawfulStanding (standing_of self.old None) }
         requires statement { IsStatement statement }
-        ensures ok { IfOk result (λ reply. IsFollowed (standing_of self.old) (Register signature statement) reply (standing_of self.new)) }
-        ensures goes_on { OnOk result (StoreGoesOn D.clock D.left_since D.image D.faults self.old.store self.new.store) }
+        ensures ok { IfOk result (λ reply. LeadsTo D.clock D.left_since D.image D.faults (IsFollowed (Register signature statement)) self.old reply self.new) }
         ensures err { OnErr result (self.new ≡ self.old) }
     {
         let signature = signature_of(alloc, self.store.gate().ring(), &statement, signature)?;
@@ -184,9 +184,9 @@ impl<D: Disk> Interpreter<D> {
 
     // Shows the procap of the issue of this number.
     fn show(&mut self, alloc: Global, number: u64) -> Result<LineReply, NoMemory>
-        requires { self.old.store.met ≡ None }
-        ensures ok { IfOk result (λ reply. IsFollowed (standing_of self.old) (ShowProcap number) reply (standing_of self.new)) }
-        ensures goes_on { OnOk result (StoreGoesOn D.clock D.left_since D.image D.faults self.old.store self.new.store) }
+        requires running { self.old.store.stop ≡ None }
+        requires lawful { IsLawfulStanding (standing_of self.old None) }
+        ensures ok { IfOk result (λ reply. LeadsTo D.clock D.left_since D.image D.faults (IsFollowed (ShowProcap number)) self.old reply self.new) }
         ensures err { OnErr result (self.new ≡ self.old) }
     {
         self.ask(alloc, StepRequest::ShowProcap(number, self.sees))
@@ -194,12 +194,12 @@ impl<D: Disk> Interpreter<D> {
 
     // Does the operation under the procaps that the words bring.
     fn act(&mut self, alloc: Global, op: Op, words: &ProcapWords) -> Result<LineReply, NoMemory>
-        requires running { self.old.store.met ≡ None }
+        requires running { self.old.store.stop ≡ None }
+        requires lawful { IsLawfulStanding (standing_of self.old None) }
         requires operation { IsOperation op }
         requires one_each { length words.now ≡ slots op }
         requires few_bytes { bytes_to_write op ≤ 65536 }
-        ensures ok { IfOk result (λ reply. IsFollowed (standing_of self.old) (Do op words.now) reply (standing_of self.new)) }
-        ensures goes_on { OnOk result (StoreGoesOn D.clock D.left_since D.image D.faults self.old.store self.new.store) }
+        ensures ok { IfOk result (λ reply. LeadsTo D.clock D.left_since D.image D.faults (IsFollowed (Do op words.now)) self.old reply self.new) }
         ensures err { OnErr result (self.new ≡ self.old) }
     {
         let mut procaps = Procaps::new(alloc);
@@ -211,10 +211,10 @@ impl<D: Disk> Interpreter<D> {
 
     // Does what a line of a script asks for.
     fn follow(&mut self, alloc: Global, command: Command) -> Result<LineReply, NoMemory>
-        requires running { self.old.store.met ≡ None }
+        requires running { self.old.store.stop ≡ None }
+        requires lawful { IsLawfulStanding (standing_of self.old None) }
         requires allowed { IsAllowed command }
-        ensures ok { IfOk result (λ reply. IsFollowed (standing_of self.old) command reply (standing_of self.new)) }
-        ensures goes_on { OnOk result (StoreGoesOn D.clock D.left_since D.image D.faults self.old.store self.new.store) }
+        ensures ok { IfOk result (λ reply. LeadsTo D.clock D.left_since D.image D.faults (IsFollowed command) self.old reply self.new) }
         ensures err { OnErr result (self.new ≡ self.old) }
     {
         match command {
@@ -239,9 +239,9 @@ impl<D: Disk> Interpreter<D> {
     /// The reply to a line of a script, which is given without its end; out of memory, and then nothing changes, if
     /// there is none for it.
     pub fn reply_to(&mut self, alloc: Global, line: &[u8]) -> LineReply
-        requires { self.old.store.met ≡ None }
-        ensures replied { IsReplied (standing_of self.old) line.now result (standing_of self.new) }
-        ensures goes_on { StoreGoesOn D.clock D.left_since D.image D.faults self.old.store self.new.store }
+        requires running { self.old.store.stop ≡ None }
+        requires lawful { IsLawfulStanding (standing_of self.old None) }
+        ensures { LeadsTo D.clock D.left_since D.image D.faults (IsReplied line.now) self.old result self.new }
     {
         match read_line(alloc, line) {
             Ok(command) => match self.follow(alloc, command) {

@@ -1,13 +1,11 @@
 //! The run of a script: each line of an input in order, with its reply written.
 
-ghost use Rattle.std.specs.Prelude.{◌≡◌, ◌≤◌, List, ℕ, None, OnOk, OnErr, IsErrOf, IsSome};
+ghost use Rattle.std.specs.Prelude.{◌≡◌, ◌≤◌, None, IsErrOf};
 ghost use Rattle.pcfs_ports.specs.Faults.{HasRisen};
 ghost use Rattle.pcfs_ports.specs.Told.{with_back, HoldsSome};
-ghost use Rattle.line_text.specs.Lines.{lines_of};
 ghost use Rattle.pcfs_top.specs.InterpreterView.{standing_of};
 ghost use Rattle.pcfs_top.specs.ScriptRun.{IsLawfulStanding};
-ghost use Rattle.pcfs_top.specs.ScriptEnds.{RunsOver, RunsPart};
-ghost use Rattle.pcfs_top.specs.Stored.{StoreGoesOn};
+ghost use Rattle.pcfs_top.specs.Stored.{AnswersAll};
 ghost use Rattle.pcfs_top.specs.declared.script.ScriptFault.TheVariants.{NoMemory as OutOfMemory, Write as WriteFailed};
 
 use crate::interpreter::Interpreter;
@@ -71,13 +69,9 @@ pub fn answer_lines<D: Disk, O: Sink>(
     enough: usize,
     output: &mut O,
 ) -> Result<(), ScriptFault>
-    requires lawful { IsLawfulStanding (standing_of interpreter.old) }
-    requires running { interpreter.old.store.met ≡ None }
-    ensures ok { OnOk result ((written : List ℕ) × RunsOver (standing_of interpreter.old) (lines_of input.now) (standing_of interpreter.new) written × (O.held output.new ≡ with_back (O.held output.old) written)) }
-    ensures runs_on { OnOk result (interpreter.new.store.met ≡ None) }
-    ensures stopped { IsErrOf result ScriptFault.Stopped → IsSome interpreter.new.store.met × ((written : List ℕ) × RunsPart (standing_of interpreter.old) input.now (standing_of interpreter.new) written × (O.held output.new ≡ with_back (O.held output.old) written)) }
-    ensures err { OnErr result ((written : List ℕ) × RunsPart (standing_of interpreter.old) input.now (standing_of interpreter.new) written × HoldsSome (O.held output.old) (O.held output.new) written) }
-    ensures goes_on { StoreGoesOn D.clock D.left_since D.image D.faults interpreter.old.store interpreter.new.store }
+    requires lawful { IsLawfulStanding (standing_of interpreter.old None) }
+    requires running { interpreter.old.store.stop ≡ None }
+    ensures answered { AnswersAll D.clock D.left_since D.image D.faults input.now interpreter.old (O.held output.old) result interpreter.new (O.held output.new) }
     ensures risen { IsErrOf result ScriptFault.Write → HasRisen (O.faults output.old) (O.faults output.new) }
     ensures never_falls { O.faults output.old ≤ O.faults output.new }
 {
