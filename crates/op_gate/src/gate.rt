@@ -112,6 +112,7 @@ impl Gate {
     ghost use Rattle.access_history.specs.History.{authority_with};
     ghost use Rattle.op_gate.specs.Issued.{HasNone, IsProcapOf};
     ghost use Rattle.op_gate.specs.Citations.{GivesCitation as AreStatements};
+    ghost use Rattle.access_history.specs.Lawful.{MayFollow};
 
     /// A gate over a store before its first event, which seals procaps under this key and accepts the signatures that
     /// this ring accepts.
@@ -217,6 +218,17 @@ impl Gate {
                 Ok(())
             }
             Err(fault) => Err(fault),
+        }
+    }
+
+    /// The event that was decided and is not kept yet; none exactly if nothing is pending. It may come next.
+    pub fn pending(&self) -> Option<&Event>
+        ensures event { MatchOption result (self.now.pending ≡ None) (λ event. self.now.pending ≡ Some event.now) }
+        ensures may_follow { IfSome result (λ event. MayFollow (authority_with self.now.key self.now.ring) (replay self.now.base self.now.events) event.now) }
+    {
+        match &self.pending {
+            Some(pending) => Some(&pending.event),
+            None => None,
         }
     }
 
