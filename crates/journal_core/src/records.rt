@@ -5,7 +5,7 @@ ghost use Rattle.std.specs.Int.{w32, from_be_bytes};
 ghost use Rattle.journal_core.specs.Area.{area_limit, area_bytes, IsShut, IsArea, IsFront, HasNoBase, IsBroken};
 ghost use Rattle.journal_core.specs.ScanView.{all_bytes_at};
 ghost use Rattle.journal_core.specs.Reports.{BaseEndsAt, RecordEndsAt, NoRecordAt, RecordsEndAt, BreaksAt};
-ghost use Rattle.journal_core.specs.Faults.{BrokeAt, IsReported};
+ghost use Rattle.journal_core.specs.Faults.{BrokeAt, IsReported, IsFrontReported};
 
 use crate::area::{AREA_LIMIT, MAGIC};
 use crate::contents::{Scan, Span};
@@ -151,7 +151,7 @@ pub fn find_contents(alloc: Global, bytes: Bytes) -> Result<(Scan, usize), ScanF
 /// The image and the whole records at the front of the bytes of an area, which may break after them.
 pub fn find_front(alloc: Global, bytes: Bytes) -> Result<Scan, ScanFault>
     ensures ok { IfOk result (λ found. IsFront bytes found.generation found.image found.payloads) }
-    ensures err { IfErr result (λ fault. IsReported fault bytes) }
+    ensures err { IfErr result (λ fault. IsFrontReported fault bytes) }
 {
     let area = bytes.as_slice();
     if !is_open(area, 0) {

@@ -4,7 +4,7 @@ ghost use Rattle.std.specs.Prelude.{◌≡◌, ◌≢◌, ◌↔◌, ◌+◌, �
 ghost use Rattle.pcfs_ports.specs.Faults.{HasRisen};
 ghost use Rattle.pcfs_ports.specs.Disk.{IsPinned, Idles};
 ghost use Rattle.journal_core.specs.Area.{area_limit, area_bytes, IsArea, IsFront, IsShut, IsBroken, IsGeneration};
-ghost use Rattle.journal_core.specs.Faults.{IsReported};
+ghost use Rattle.journal_core.specs.Faults.{IsReported, IsFrontReported};
 ghost use Rattle.journal_core.specs.declared.scan.ScanFault.TheVariants.{Disk as DiskFailed, NoMemory as OutOfMemory};
 
 use crate::area::{AREA_LIMIT, Area};
@@ -137,7 +137,7 @@ fn scan_disk<D: Disk>(alloc: Global, disk: &mut D) -> Result<(Scan, usize), Scan
 pub fn scan_front<D: Disk>(alloc: Global, disk: &mut D) -> Result<Scan, ScanFault>
     ensures ok { IfOk result (λ found. IfSome (D.image disk.old) (λ bytes.
         IsFront bytes found.generation found.image found.payloads)) }
-    ensures reported { IfErr result (λ fault. fault ≢ ScanFault.Disk → IfSome (D.image disk.old) (IsReported fault)) }
+    ensures reported { IfErr result (λ fault. fault ≢ ScanFault.Disk → IfSome (D.image disk.old) (IsFrontReported fault)) }
     ensures same { result ≢ Err ScanFault.Disk → D.image disk.new ≡ D.image disk.old }
     ensures pinned { result ≢ Err ScanFault.Disk → IsPinned D.clock D.left_since D.image disk.new }
     ensures told { is_some (D.image disk.new) ≡ is_some (D.image disk.old) }

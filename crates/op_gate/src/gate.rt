@@ -192,17 +192,6 @@ impl Gate {
         }
     }
 
-    /// The event that was decided and is not kept yet; none exactly if nothing is pending. It may come next.
-    pub fn pending(&self) -> Option<&Event>
-        ensures event { MatchOption result (self.now.pending ≡ None) (λ event. self.now.pending ≡ Some event.now) }
-        ensures may_follow { IfSome result (λ event. MayFollow (authority_with self.now.key self.now.ring) (replay self.now.base self.now.events) event.now) }
-    {
-        match &self.pending {
-            Some(pending) => Some(&pending.event),
-            None => None,
-        }
-    }
-
     /// Keeps an event that was read from an area, exactly if it may come next; otherwise it reports the event's first damage.
     /// Its signature, its proof, its procaps with their seals and conditions, and its effect are tested again. What was
     /// pending is dropped.
@@ -229,6 +218,17 @@ impl Gate {
                 Ok(())
             }
             Err(fault) => Err(fault),
+        }
+    }
+
+    /// The event that was decided and is not kept yet; none exactly if nothing is pending. It may come next.
+    pub fn pending(&self) -> Option<&Event>
+        ensures event { MatchOption result (self.now.pending ≡ None) (λ event. self.now.pending ≡ Some event.now) }
+        ensures may_follow { IfSome result (λ event. MayFollow (authority_with self.now.key self.now.ring) (replay self.now.base self.now.events) event.now) }
+    {
+        match &self.pending {
+            Some(pending) => Some(&pending.event),
+            None => None,
         }
     }
 

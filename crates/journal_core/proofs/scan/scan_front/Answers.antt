@@ -1,11 +1,11 @@
 use Rattle.std.proofs.Common.{◌≡◌, ◌≢◌, ◌<◌, ℕ, List, length, take, IfSome, IfOk, IfErr, Result, Ok, Err, ap, subst, ◌∙◌}
 use Rattle.std.proofs.lemmas.Result.{IfOk-weaker, IfErr-weaker}
 use Rattle.journal_core.specs.Area.{area_limit, area_bytes, IsFront}
-use Rattle.journal_core.specs.Faults.{IsReported}
+use Rattle.journal_core.specs.Faults.{IsFrontReported}
 use Rattle.journal_core.specs.declared.scan.ScanFault.{ScanFault}
 use Rattle.journal_core.specs.declared.scan.ScanFault.TheVariants.{Disk}
 use Rattle.journal_core.proofs.RestsLemmas.{if_told, at_told, idle_pinned}
-use Rattle.journal_core.proofs.RecordLemmas.{front_past, reported_past}
+use Rattle.journal_core.proofs.RecordLemmas.{front_past, front_reported_past}
 use Rattle.journal_core.proofs.scan.scan_front.Goals as goal
 
 pub returns-in-Err-clause-pinned : goal.returns-in-Err-clause-pinned
@@ -38,9 +38,9 @@ returns-in-Ok-clause-reported g c =
     let bytes = c.in-Ok.bytes in
     let told = g.D.Disk.image c.args.disk.now in
     IfErr-weaker c.find_front.result
-    (λ fault. IsReported fault bytes)
-    (λ fault. fault ≢ Disk → IfSome told (IsReported fault))
-    (λ fault report not_disk. if_told told (IsReported fault) (λ b is.
+    (λ fault. IsFrontReported fault bytes)
+    (λ fault. fault ≢ Disk → IfSome told (IsFrontReported fault))
+    (λ fault report not_disk. if_told told (IsFrontReported fault) (λ b is.
     let cut : bytes ≡ take area_limit b = at_told (g.D.Disk.image c.sync.new.self) (λ image. bytes ≡ take area_limit image) b (c.in_ok-sync.ensures.same ∙ is) c.in-Ok.ensures.ok in
-    reported_past b fault (subst (λ (bs : List ℕ). IsReported fault bs) cut report)))
+    front_reported_past b fault (subst (λ (bs : List ℕ). IsFrontReported fault bs) cut report)))
     c.find_front.ensures.err
