@@ -1,0 +1,3 @@
+pub mod SurvivalLemmas
+pub mod FittingLemmas
+pub mod StepLemmas
