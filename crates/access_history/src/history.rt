@@ -86,6 +86,20 @@ impl History {
         &self.ring
     }
 
+    /// The state with which it begins.
+    pub fn base(&self) -> &Base
+        ensures { result.now ≡ self.now.base }
+    {
+        &self.base
+    }
+
+    /// The events since, in their order.
+    pub fn events(&self) -> &[Event]
+        ensures { result.now ≡ self.now.events }
+    {
+        self.events.as_slice()
+    }
+
     /// The world.
     pub fn world(&self) -> &World
         ensures { result.now ≡ world_of self.now }

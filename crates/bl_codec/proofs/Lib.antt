@@ -4,7 +4,6 @@ pub mod FormulaCodec
 pub mod FormulaLemmas
 pub mod FormulaMemory
 pub mod NodesFoundLemmas
-pub mod KeptLemmas
 pub mod LeafLemmas
 pub mod NodeLemmas
 pub mod StatementCodec

@@ -1,11 +1,11 @@
 //! Statements, both ways.
 
 ghost use Rattle.std.specs.Prelude.{◌≡◌, ◌++◌, OnOk, OnErr};
+ghost use Rattle.bl_syntax.specs.BeginsWith.{BeginsWith};
 ghost use Rattle.bl_syntax.specs.Reading.{reading};
 ghost use Rattle.bl_syntax.specs.FormulaSpelling.{IsSpellableStatement, statement_spelling};
 ghost use Rattle.bl_syntax.specs.FormulaReading.{statement_at};
 ghost use Rattle.bl_syntax.specs.Codec.{GivesReadingOrReports, ReadsFront};
-ghost use Rattle.bl_codec.specs.Kept.{Keeps};
 ghost use Rattle.bl_codec.specs.StatementBody.{body_at};
 
 use crate::formula_reading::whole_formula_at;
@@ -29,11 +29,11 @@ pub fn write_statement(s: &Statement, out: &mut Bytes) -> Result<(), NoMemory>
 }
 
 /// Adds the spelling of a statement, or a front of it where there is no memory for more.
-#[tactic(auto, using(crate::proofs::KeptLemmas::kept), unfolding(bl_syntax::specs::FormulaSpelling::statement_spelling))]
+#[tactic(auto, using(bl_syntax::proofs::BeginsWithLemmas::writing), unfolding(bl_syntax::specs::FormulaSpelling::statement_spelling))]
 fn put_statement(s: &Statement, out: &mut Bytes) -> Result<(), NoMemory>
     ensures ok { OnOk result (out.new ≡ out.old ++ statement_spelling s.now) }
     ensures spelled { OnOk result (IsSpellableStatement s.now) }
-    ensures err { OnErr result (Keeps out.old out.new) }
+    ensures err { OnErr result (BeginsWith out.new out.old) }
 {
     write_name(s.who(), out)?;
     write_formula(s.body(), out)?;

@@ -17,7 +17,7 @@ use Rattle.access_history.specs.declared.reply.DenialCause.{DenialCause}
 use Rattle.access_history.specs.Base.{BaseView}
 use Rattle.access_history.specs.Numbered.{IsNumbered}
 use Rattle.access_history.specs.Admission.{Admits, Denies, IsAdmitted, IsDenied, IsNeedMet, Passes, checks, goal_of}
-use Rattle.access_history.proofs.ListLemmas.{AllByRecursion-push}
+use Rattle.bl_syntax.proofs.GrantLemmas.{AllByRecursion-push}
 use Rattle.access_history.proofs.NumberedLemmas.{none_fails, numbered_item}
 
 abbrev Pair : Type 0

@@ -6,16 +6,21 @@ ghost use Rattle.op_gate.specs.Decision.{IsPlanned};
 ghost use Rattle.access_history.specs.WellFormed.{IsWellFormed};
 
 use crate::act::{decide_act, deny};
+use crate::admit::admit;
 use crate::cite::{Citation, cite};
+use crate::damage::{AdmitFault, Damage};
 use crate::decide::{decide_issue, decide_register, decide_show, issued_procap};
 use crate::planned::{Pending, Planned};
-use access_history::{Denial, History, Procaps, StepReply, StepRequest};
+use access_history::{Denial, Event, History, Procaps, StepReply, StepRequest};
 use bl_syntax::{NoMemory, Principal};
 use file_world::Op;
 use policy_statement::Keyring;
 use procap::{Procap, SealKey};
 use std::alloc::Global;
 use std::marker::Model;
+
+/// The greatest number of an event.
+const LAST_NUMBER: u64 = 0xffff_ffff_ffff;
 
 /// What the gate decided.
 #[derive(Debug, Drop)]
@@ -100,12 +105,14 @@ impl Gate {
     ghost use Rattle.access_history.specs.Answer.{moment_of};
     ghost use Rattle.access_history.specs.Replay.{replay, fresh};
     ghost use Rattle.op_gate.specs.Decides.{Decides};
+    ghost use Rattle.op_gate.specs.Damage.{TellsDamage};
     ghost use Rattle.op_gate.specs.Decision.{IsDenial};
     ghost use Rattle.access_history.specs.Authority.{sayings};
-    ghost use Rattle.access_history.specs.Citing.{AreCitable};
+    ghost use Rattle.bl_syntax.specs.Citable.{AreCitable};
     ghost use Rattle.access_history.specs.History.{authority_with};
     ghost use Rattle.op_gate.specs.Issued.{HasNone, IsProcapOf};
     ghost use Rattle.op_gate.specs.Citations.{GivesCitation as AreStatements};
+    ghost use Rattle.access_history.specs.Lawful.{MayFollow};
 
     /// A gate over a store before its first event, which seals procaps under this key and accepts the signatures that
     /// this ring accepts.
@@ -182,6 +189,46 @@ impl Gate {
                 Decision::Keep(reply)
             }
             Planned::NoMemory => Decision::NoMemory,
+        }
+    }
+
+    /// Keeps an event that was read from an area, exactly if it may come next; otherwise it reports the event's first damage.
+    /// Its signature, its proof, its procaps with their seals and conditions, and its effect are tested again. What was
+    /// pending is dropped.
+    pub fn admit_event(&mut self, alloc: Global, event: Event) -> Result<(), AdmitFault>
+        ensures key { self.new.key ≡ self.old.key }
+        ensures ring { self.new.ring ≡ self.old.ring }
+        ensures base { self.new.base ≡ self.old.base }
+        ensures pending { self.new.pending ≡ None }
+        ensures answer { TellsDamage (authority_with self.old.key self.old.ring) (replay self.old.base self.old.events) event result }
+        ensures kept { OnOk result (self.new.events ≡ self.old.events ++ event ∷ []) }
+        ensures left_out { OnErr result (self.new.events ≡ self.old.events) }
+    {
+        self.forget();
+        if LAST_NUMBER <= self.history.count() {
+            return Err(AdmitFault::Damaged(Damage::Shape));
+        }
+        if self.history.reserve().is_err() {
+            return Err(AdmitFault::NoMemory);
+        }
+        match admit(alloc, &mut self.history, event) {
+            Ok(pending) => {
+                let Pending { event, entry } = pending;
+                self.history.keep(event, entry);
+                Ok(())
+            }
+            Err(fault) => Err(fault),
+        }
+    }
+
+    /// The event that was decided and is not kept yet; none exactly if nothing is pending. It may come next.
+    pub fn pending(&self) -> Option<&Event>
+        ensures event { MatchOption result (self.now.pending ≡ None) (λ event. self.now.pending ≡ Some event.now) }
+        ensures may_follow { IfSome result (λ event. MayFollow (authority_with self.now.key self.now.ring) (replay self.now.base self.now.events) event.now) }
+    {
+        match &self.pending {
+            Some(pending) => Some(&pending.event),
+            None => None,
         }
     }
 

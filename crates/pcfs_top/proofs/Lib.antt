@@ -11,3 +11,4 @@ pub mod OneOutcomeLemmas
 pub mod OutboxLemmas
 pub mod ScriptLemmas
 pub mod TotalLemmas
+pub mod StoredLemmas

@@ -2,12 +2,16 @@ pub mod Admin
 pub mod Asker
 pub mod Brought
 pub mod Interpreter
+pub mod InterpreterView
 pub mod Laws
 pub mod LineAnswer
 pub mod Outbox
 pub mod Ports
 pub mod Procaps
 pub mod Proved
+pub mod Room
 pub mod Run
+pub mod ScriptEnds
 pub mod ScriptRun
-pub mod StandingCode
+pub mod Stored
+pub mod Words

@@ -19,6 +19,7 @@ use crate::cites::Cite;
 use crate::facts::FactList;
 use crate::fault::CheckFault;
 use crate::hypotheses::{Hypotheses, HypothesisRef};
+use crate::instance::{Instance, TermList};
 use crate::position::Position;
 use bl_syntax::{Formula, Goal, Grant, NoMemory, Principal, Sequence, Term, Word};
 use condition_set::Collect;
@@ -45,7 +46,11 @@ impl Checker {
                 let who = Term::Prin(*cite.statement.who());
                 let from = Term::Time(cite.statement.from());
                 let to = Term::Time(cite.statement.to());
-                let claim = HypothesisRef::Claim(&who, cite.statement.body(), &from, &to);
+                let body = Instance {
+                    formula: cite.statement.body(),
+                    terms: &TermList::None,
+                };
+                let claim = HypothesisRef::Claim(&who, body, &from, &to);
                 let hypotheses = Hypotheses::More(place.hypotheses, claim);
                 let further = Position {
                     hypotheses: &hypotheses,
@@ -100,7 +105,10 @@ fn follow_from_root(
         who: &loc,
         begins: &now,
         ends: &now,
-        goal: wanted,
+        goal: Instance {
+            formula: wanted,
+            terms: &TermList::None,
+        },
         from: &now,
         to: &now,
     };

@@ -8,12 +8,12 @@ ghost use Rattle.record_parts.specs.RecordReading.{registered_at, proved_at, iss
 
 use crate::fields::{moment_field_at, sized_bytes_at};
 use crate::operation_reading::operation_at;
-use crate::parts::{grant_at, numbers_at, procaps_at, sized_proof_at};
+use crate::parts::{numbers_at, procaps_at, sized_proof_at};
 use bl_codec::statement_at;
 use bl_syntax::fields::name_at;
 use bl_syntax::{Bytes, CodecFault, Grant, Numbers, Principal, Sequence, Statement};
 use file_world::Op;
-use procap::Procap;
+use procap::{Procap, grant_at};
 use proof_term::ProofTree;
 use std::alloc::Global;
 
