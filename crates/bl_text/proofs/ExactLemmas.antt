@@ -1,7 +1,7 @@
 -- A fault of a part of a formula's text is met at one token: what was read before it can be completed to a sentence, and the tokens up to it decide the fault.
 use Rattle.std.proofs.Common.{◌≡◌, ℕ, zero, suc, ◌+◌, ◌-◌, ◌≤◌, Bool, true, false, List, [], ◌∷◌, ◌++◌, length, append_assoc, append-nil, refl, sym, ap, ◌∙◌, subst, arith, Result, Ok, Err, ◌⊎◌, inl, inr}
 use Rattle.std.specs.Prelude.{if◌then◌else◌, ◌||◌}
-use Rattle.std.proofs.lemmas.Bool.{false≢true}
+use Rattle.std.proofs.lemmas.Bool.{false≢true, or_right}
 use Rattle.std.proofs.lemmas.List.{length-append}
 use Rattle.bl_syntax.specs.declared.terms.Sort.TheVariants as sorts
 use Rattle.bl_syntax.specs.declared.terms.Term.{Term}
@@ -28,51 +28,12 @@ use Rattle.bl_text.specs.Met.{IsMisread, unexpected, unknown_name, bad_date, end
 use Rattle.bl_text.specs.Sentences.{IsSign, IsTerm, principal, constant, IsSpeaker, AreTerms, one_term, further_term, FormulaSentence, quantified, implication, one_disjunction, or_further, one_conjunction, and_further, one_unary, saying, one_postfix, on_interval, one_primary, group, called, alone, compared, truth, falsity}
 use Rattle.bl_text.proofs.ReadLemmas.{expected-Ok, is_at, stops_at, is_call-name}
 use Rattle.bl_text.proofs.FirstTokensLemmas.{bare as bared, one_token, walk, walk_from, tokens_from, same_first, behind_parts, met_shifted}
-use Rattle.bl_text.proofs.PieceLemmas.{err_cases, never_err, err_first, ok_then, misread_is, Only, only_is, if_only, count_only, term_misreads, sayable_only, sorted_only, variable_misreads_by, sort_misreads_by, less_misreads, expected_misreads, applied_only, expected_ok, call_opened, saying_same, call_same}
+use Rattle.bl_text.proofs.PieceLemmas.{err_cases, never_err, err_first, ok_then, misread_is, Only, only_is, if_only, count_only, term_misreads, sayable_only, sorted_only, variable_misreads_by, sort_misreads_by, less_misreads, expected_misreads, applied_only, expected_ok, call_opened, saying_same, call_same, colon_sign, dot_sign, comma_sign, up_to_sign, close_sign, open_interval_sign, close_interval_sign, says_keyword, not_expected}
 use Rattle.bl_text.proofs.TotalLemmas.{by_test}
 use Rattle.bl_text.proofs.PartLemmas.{between, between_plus, between_bare, joined, Part, part_with, part_then, part_peeks, part_token, part_behind, part_node, part_sign, term_is, speaker_is_by, argument_is, variable_is_by, sort_is_by, time_argument_is, binder_part, says_word, speaker_part, less_is, name_by, name_before, alone_before, arguments_at, arguments_part, call_part, call_met, spelled}
+use Rattle.bl_text.proofs.IsStatementLemmas.{name_term}
 
 -- ---- the ends of what may go on
-
-colon_sign : is_sign signs.Colon (tokens.Sign signs.Colon) ≡ true
-unfolding is_sign
-colon_sign = refl
-
-dot_sign : is_sign signs.Dot (tokens.Sign signs.Dot) ≡ true
-unfolding is_sign
-dot_sign = refl
-
-comma_sign : is_sign signs.Comma (tokens.Sign signs.Comma) ≡ true
-unfolding is_sign
-comma_sign = refl
-
-up_to_sign : is_sign signs.UpTo (tokens.Sign signs.UpTo) ≡ true
-unfolding is_sign
-up_to_sign = refl
-
-pub close_sign : is_sign signs.Close (tokens.Sign signs.Close) ≡ true
-unfolding is_sign
-close_sign = refl
-
-open_interval_sign : is_sign signs.OpenInterval (tokens.Sign signs.OpenInterval) ≡ true
-unfolding is_sign
-open_interval_sign = refl
-
-close_interval_sign : is_sign signs.CloseInterval (tokens.Sign signs.CloseInterval) ≡ true
-unfolding is_sign
-close_interval_sign = refl
-
-pub says_keyword : is_word keywords.Says (Keyword keywords.Says) ≡ true
-unfolding is_word
-says_keyword = refl
-
-pub from_keyword : is_word keywords.From (Keyword keywords.From) ≡ true
-unfolding is_word
-from_keyword = refl
-
-pub to_keyword : is_word keywords.To (Keyword keywords.To) ≡ true
-unfolding is_word
-to_keyword = refl
 
 -- `true` stands in each place
 pub default : (level : Level) (scope : List Variable) → FormulaSentence level scope (Keyword keywords.True ∷ [])
@@ -231,10 +192,6 @@ term_exact {here = here} others (large_term t is) f p = (here_limit others is (f
 
 -- ---- pieces
 
-not_expected : (b : Bool) (x y : Cursor) (u e : TextFault) → (if b then Ok x else Err u) ≡ Err e → (if b then Ok y else Err u) ≡ Err e
-not_expected true x y u e h = never_err h
-not_expected false x y u e h = h
-
 expected_err : (text other : List ℕ) (sign : Sign') (here : Cursor) {e : TextFault} → expect_sign text sign here ≡ Err e → expect_sign other sign here ≡ Err e
 unfolding expect_sign
 expected_err text other sign here {e} h = not_expected (is_sign sign here.token) (cursor_after text here) (cursor_after other here) (Unexpected here.at) e h
@@ -369,10 +326,6 @@ told_full {level = level} {scope} {mid = mid} {ts = ts} p sentence g full =
 
 less_ends : (token : Token) → IsSign signs.UpTo token → ends_term token ≡ true
 less_ends token h = ap (λ b. b || is_word keywords.Says token) h
-
-or_right : (a b : Bool) → b ≡ true → (a || b) ≡ true
-or_right true b h = refl
-or_right false b h = h
 
 says_ends : (token : Token) → is_word keywords.Says token ≡ true → ends_term token ≡ true
 says_ends token h = or_right (is_sign signs.UpTo token) (is_word keywords.Says token) h
@@ -519,10 +472,6 @@ comparison_err text st scope here bad = err_first (term_of scope here) _ bad
 unsaid : (st : Bool) (scope : List Variable) (depth : ℕ) (here : Cursor) (e : TextFault) → term_of scope here ≡ Err e → ((o : List ℕ) → HasFirstFault o st postfix scope depth here e) → (o : List ℕ) → HasFirstFault o st unary scope depth here e
 unsaid st scope depth here e bad all o = by_test (is_saying o here) (λ said. in_speaker scope depth here e said (speaker_err o scope here bad)) (λ none. in_postfix scope depth here e none (all o))
 
-name_is_term : (scope : List Variable) (here : Cursor) (name : List ℕ) → here.token ≡ tokens.Name name → term_of scope here ≡ Ok (Prin name)
-unfolding term_of
-name_is_term scope here name is = rw is
-
 variable_closed : (here : Cursor) (name : List ℕ) → here.token ≡ tokens.Variable name → is_sign signs.Open here.token ≡ false
 unfolding is_sign
 variable_closed here name is = rw is refl
@@ -534,7 +483,7 @@ no_speaker text here (tokens.Variable name) is n v = absurd (v name refl)
 no_speaker text here t is n v = rw is refl
 
 told_term : (text : List ℕ) (st : Bool) (scope : List Variable) (depth : ℕ) (here : Cursor) (e : TextFault) (t : Token) → here.token ≡ t → is_saying text here ≡ true → term_of scope here ≡ Err e → Told text st unary scope depth here e
-told_term text st scope depth here e (tokens.Name name) is said bad = never_err (sym (name_is_term scope here name is) ∙ bad)
+told_term text st scope depth here e (tokens.Name name) is said bad = never_err (sym (name_term scope here name is) ∙ bad)
 told_term text st scope depth here e (tokens.Variable name) is said bad =
     first bad (unsaid st scope depth here e bad (λ o. in_primary scope depth here e (in_simple scope depth here e (variable_closed here name is) (unnamed_calls_not o here (tokens.Variable name) is tt)
     (simple_from o st scope here (tokens.Variable name) is ∙ comparison_err o st scope here bad))))

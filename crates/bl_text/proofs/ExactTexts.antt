@@ -23,12 +23,12 @@ use Rattle.bl_text.specs.Met.{IsMisread, unexpected, unknown_name, bad_date, IsM
 use Rattle.bl_text.specs.Sentences.{IsSentence, FormulaSentence, IsStatementSentence, statement, IsSentenceText}
 use Rattle.bl_text.proofs.ReadLemmas.{is_at, stops_at}
 use Rattle.bl_text.proofs.FirstTokensLemmas.{bare_token, one_token, walk_number, tokens_from, met_shifted}
-use Rattle.bl_text.proofs.PieceLemmas.{err_cases, never_err, err_first, ok_then, misread_is, name_misreads_by, time_misreads_by, ended_misreads, word_misreads}
+use Rattle.bl_text.proofs.PieceLemmas.{err_cases, never_err, err_first, ok_then, misread_is, name_misreads_by, time_misreads_by, ended_misreads, word_misreads, says_keyword, from_keyword, to_keyword, not_expected}
 use Rattle.bl_text.proofs.TextLemmas.{formula_or_fault, formula_fault_once, statement_or_fault, statement_fault_once}
 use Rattle.bl_text.proofs.SentenceTexts.{sentence_is_formula, sentence_is_statement}
 use Rattle.bl_text.proofs.PartLemmas.{part_then, part_token, part_behind, spelled}
 use Rattle.bl_text.proofs.TextSentences.{first_between, word_is, part_word, time_is_by, name_is_by, opening_part}
-use Rattle.bl_text.proofs.ExactLemmas.{default, says_keyword, from_keyword, to_keyword, Exact, exact_with, later_after, later_next, later_at, here_misread, told_exact, OrMemory, or_met, told_stops}
+use Rattle.bl_text.proofs.ExactLemmas.{default, Exact, exact_with, later_after, later_next, later_at, here_misread, told_exact, OrMemory, or_met, told_stops}
 
 -- ---- whole texts
 
@@ -60,13 +60,9 @@ exact_formula {text} (behind_formula mid f d ended_ more) =
 
 -- ---- statements
 
-not_word : (b : Bool) (x y : Cursor) (u e : TextFault) → (if b then Ok x else Err u) ≡ Err e → (if b then Ok y else Err u) ≡ Err e
-not_word true x y u e h = never_err h
-not_word false x y u e h = h
-
 word_err : (text other : List ℕ) (word : Word) (here : Cursor) {e : TextFault} → expect_word text word here ≡ Err e → expect_word other word here ≡ Err e
 unfolding expect_word
-word_err text other word here {e} h = not_word (is_word word here.token) (cursor_after text here) (cursor_after other here) (Unexpected here.at) e h
+word_err text other word here {e} h = not_expected (is_word word here.token) (cursor_after text here) (cursor_after other here) (Unexpected here.at) e h
 
 -- from always on
 abbrev always : List Token

@@ -1,7 +1,7 @@
 -- What stands between two places of a text: the tokens there, and that another text with the same tokens reads the same there. What was read is a sentence of the grammar over tokens.
 use Rattle.std.proofs.Common.{◌≡◌, ℕ, zero, suc, ◌+◌, ◌-◌, ◌≤◌, Bool, true, false, List, [], ◌∷◌, ◌++◌, length, append_assoc, append-nil, refl, sym, ap, ◌∙◌, subst, arith, Result, Ok, Err, inl, inr}
 use Rattle.std.specs.Prelude.{◌<◌, ◌&&◌, Option, Some, None, IsSome, if◌then◌else◌}
-use Rattle.std.proofs.lemmas.Bool.{false≢true, cases_lt}
+use Rattle.std.proofs.lemmas.Bool.{false≢true, cases_lt, and_parts}
 use Rattle.std.proofs.lemmas.List.{length-append}
 use Rattle.bl_syntax.specs.declared.terms.Sort.{Sort as TermSort}
 use Rattle.bl_syntax.specs.declared.terms.Sort.TheVariants as sorts
@@ -30,8 +30,8 @@ use Rattle.bl_text.specs.Sentences.{IsSign, IsTerm, principal, constant, variabl
 use Rattle.bl_text.proofs.ReadLemmas.{expected-Ok, is_at, every_quantifies, some_quantifies}
 use Rattle.bl_text.proofs.OneFaultLemmas.{other_sign}
 use Rattle.bl_text.proofs.FirstTokensLemmas.{bare as bared, bare_token, one_token, walk, walk_next, walk_from, tokens_from, same_first, behind_parts}
-use Rattle.bl_text.proofs.PieceLemmas.{bind_ok, ok_then, expected_ok, and_right, call_opened, saying_same, call_same}
-use Rattle.bl_text.proofs.IsStatementLemmas.{ok_same, refused, unread_speaker, at_place, variable_term, not_saying}
+use Rattle.bl_text.proofs.PieceLemmas.{bind_ok, ok_then, expected_ok, call_opened, saying_same, call_same}
+use Rattle.bl_text.proofs.IsStatementLemmas.{ok_same, refused, unread_speaker, at_place, variable_term, not_saying, named_time_never}
 
 -- ---- the tokens from a place on
 
@@ -174,7 +174,7 @@ speaker_is_by text scope here t says h (tokens.Sign sign) is = absurd (unread_sp
 speaker_is_by text scope here t says h End is = absurd (unread_speaker scope here t End is refl h)
 speaker_is_by text scope here t says h Bad is = absurd (unread_speaker scope here t Bad is refl h)
 
-variable_found : (here : Cursor) (name : List ℕ) → here.token ≡ tokens.Variable name → variable_name here ≡ Ok name
+pub variable_found : (here : Cursor) (name : List ℕ) → here.token ≡ tokens.Variable name → variable_name here ≡ Ok name
 unfolding variable_name
 variable_found here name is = rw is
 
@@ -255,7 +255,7 @@ binder_part text here place name s h =
 
 pub says_word : (text : List ℕ) (here : Cursor) → is_saying text here ≡ true → is_word keywords.Says (cursor_after_node text here).token ≡ true
 unfolding is_saying
-says_word text here h = and_right _ _ h
+says_word text here h = (and_parts _ _ h).1
 
 pub record SpeakerPart (text : List ℕ) (scope : List Variable) (here place : Cursor) (who : Term) : Type 0 where
   pub word : Token
@@ -371,16 +371,12 @@ bare_place text scope name here place f h =
     let form = bind_ok (apply_predicate scope here.at name []) _ (f, place) h in
     let room = bind_ok (count here) _ (f, place) form.1.1 in ap (λ (p : FormulaView × Cursor). p.1) (ok_same room.1.1)
 
-named_time_no : (here place : Cursor) (f : FormulaView) → named_time here ≡ Ok (f, place) → ⊥
-unfolding named_time
-named_time_no here place f h = let room = bind_ok (count here) _ (f, place) h in refused room.1.1
-
 name_place : (text : List ℕ) (scope : List Variable) (name : List ℕ) (here place : Cursor) (f : FormulaView) → name_alone text scope name here ≡ Ok (f, place) → cursor_after_node text here ≡ place
 unfolding name_alone
 name_place text scope name here place f h = chosen (is_sign signs.UpTo (cursor_after_node text here).token) h
   where
     chosen : (b : Bool) → (if b then named_time here else bare_predicate text scope name here) ≡ Ok (f, place) → cursor_after_node text here ≡ place
-    chosen true k = absurd (named_time_no here place f k)
+    chosen true k = absurd (named_time_never here place f k)
     chosen false k = bare_place text scope name here place f k
 
 constant_place : (text : List ℕ) (c : FormulaView) (here place : Cursor) (f : FormulaView) → constant_formula text c here ≡ Ok (f, place) → cursor_after_node text here ≡ place

@@ -15,6 +15,7 @@ use Rattle.bl_tokens.specs.declared.faults.TextFault.TheVariants.{Unexpected, Un
 use Rattle.bl_tokens.specs.declared.tokens.Sign.{Sign as Sign'}
 use Rattle.bl_tokens.specs.declared.tokens.Sign.TheVariants as signs
 use Rattle.bl_tokens.specs.declared.tokens.Keyword.{Keyword as Word}
+use Rattle.bl_tokens.specs.declared.tokens.Keyword.TheVariants as keywords
 use Rattle.bl_tokens.specs.declared.tokens.Token.{Token}
 use Rattle.bl_tokens.specs.declared.tokens.Token.TheVariants.{Name, LongWord, Constant, BadDate, SortName, Keyword, End, Bad}
 use Rattle.bl_tokens.specs.declared.tokens.Token.TheVariants as tokens
@@ -265,6 +266,10 @@ applied_errs scope at name terms = sort_errs at (apply_predicate scope at name t
 
 -- ---- signs
 
+pub not_expected : (b : Bool) (x y : Cursor) (u e : TextFault) → (if b then Ok x else Err u) ≡ Err e → (if b then Ok y else Err u) ≡ Err e
+not_expected true x y u e h = never_err h
+not_expected false x y u e h = h
+
 pub expected_ok : (text : List ℕ) (sign : Sign') (here there : Cursor) → expect_sign text sign here ≡ Ok there → (is_sign sign here.token ≡ true) × (there ≡ cursor_after text here)
 unfolding expect_sign
 expected_ok text sign here there h = chosen (is_sign sign here.token) (cursor_after text here) (Unexpected here.at) there h
@@ -272,10 +277,6 @@ expected_ok text sign here there h = chosen (is_sign sign here.token) (cursor_af
     chosen : (b : Bool) (x : Cursor) (e : TextFault) (y : Cursor) → (if b then Ok x else Err e) ≡ Ok y → (b ≡ true) × (y ≡ x)
     chosen true x e y h = (refl, (let same : ◌≡◌ {A = Result Cursor TextFault} (Ok x) (Ok y) = h in cc))
     chosen false x e y h = absurd (let never : ◌≡◌ {A = Result Cursor TextFault} (Err e) (Ok y) = h in cc)
-
-pub and_right : (a b : Bool) → (a && b) ≡ true → b ≡ true
-and_right true b h = h
-and_right false b h = absurd (false≢true h)
 
 call_token_opened : (token : Token) (b : Bool) → is_call_token token b ≡ true → b ≡ true
 call_token_opened (Name name) b h = h
@@ -300,3 +301,57 @@ saying_same text other here same h = rw same h
 pub call_same : (text other : List ℕ) (here : Cursor) {b : Bool} → token_from other here.end (here.left - 1) ≡ token_from text here.end (here.left - 1) → is_call text here ≡ b → is_call other here ≡ b
 unfolding is_call cursor_after_node
 call_same text other here same h = rw same h
+
+pub left_behind : (text : List ℕ) (here : Cursor) → (cursor_after text here).left ≡ here.left
+unfolding cursor_after token_from
+left_behind text here = refl
+
+pub left_node : (text : List ℕ) (here : Cursor) → (cursor_after_node text here).left ≡ here.left - 1
+unfolding cursor_after_node token_from
+left_node text here = refl
+
+-- ---- signs and words by themselves
+
+pub open_sign : is_sign signs.Open (tokens.Sign signs.Open) ≡ true
+unfolding is_sign
+open_sign = refl
+
+pub colon_sign : is_sign signs.Colon (tokens.Sign signs.Colon) ≡ true
+unfolding is_sign
+colon_sign = refl
+
+pub dot_sign : is_sign signs.Dot (tokens.Sign signs.Dot) ≡ true
+unfolding is_sign
+dot_sign = refl
+
+pub comma_sign : is_sign signs.Comma (tokens.Sign signs.Comma) ≡ true
+unfolding is_sign
+comma_sign = refl
+
+pub up_to_sign : is_sign signs.UpTo (tokens.Sign signs.UpTo) ≡ true
+unfolding is_sign
+up_to_sign = refl
+
+pub close_sign : is_sign signs.Close (tokens.Sign signs.Close) ≡ true
+unfolding is_sign
+close_sign = refl
+
+pub open_interval_sign : is_sign signs.OpenInterval (tokens.Sign signs.OpenInterval) ≡ true
+unfolding is_sign
+open_interval_sign = refl
+
+pub close_interval_sign : is_sign signs.CloseInterval (tokens.Sign signs.CloseInterval) ≡ true
+unfolding is_sign
+close_interval_sign = refl
+
+pub says_keyword : is_word keywords.Says (Keyword keywords.Says) ≡ true
+unfolding is_word
+says_keyword = refl
+
+pub from_keyword : is_word keywords.From (Keyword keywords.From) ≡ true
+unfolding is_word
+from_keyword = refl
+
+pub to_keyword : is_word keywords.To (Keyword keywords.To) ≡ true
+unfolding is_word
+to_keyword = refl

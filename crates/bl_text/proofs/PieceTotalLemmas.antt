@@ -19,7 +19,7 @@ use Rattle.bl_text.specs.Scope.{Variable}
 use Rattle.bl_text.specs.Pieces.{◌>>=◌, count, expect_sign, term_of, require_sayable, require_sort, argument, next_argument, time_argument, interval, variable_name, sort_at, binder, speaker, less_sign, comparison, apply_predicate, bare_predicate, named_time, name_alone, constant_formula, simple_by, simple_formula}
 use Rattle.bl_text.specs.Texts.{expect_word, time_constant, principal_name, opening, at_end, span}
 use Rattle.bl_text.specs.Met.{IsMisread, unexpected, unknown_name, bad_date}
-use Rattle.bl_text.proofs.PieceLemmas.{IsAt, misread_there, wrong_sort, too_large, ErrsAt, Misreads, term_errs, sayable_errs, sorted_errs, variable_misreads_by, sort_misreads_by, less_misreads, applied_errs, name_misreads_by, time_misreads_by, ended_misreads}
+use Rattle.bl_text.proofs.PieceLemmas.{IsAt, misread_there, wrong_sort, too_large, ErrsAt, Misreads, term_errs, sayable_errs, sorted_errs, variable_misreads_by, sort_misreads_by, less_misreads, applied_errs, name_misreads_by, time_misreads_by, ended_misreads, left_behind, left_node}
 
 -- a fault of the text itself
 abbrev pub IsOfText : TextFault → Type 0
@@ -61,7 +61,7 @@ answered P r h read stopped = resolved IsOfText P r h read stopped
 abbrev pub Any : {A : Type 0} → A → Type 0
 Any a = Unit {0}
 
-errs_answers : {A : Type 0} (at : ℕ) (r : Result A TextFault) → ErrsAt at r → Answers r Any
+pub errs_answers : {A : Type 0} (at : ℕ) (r : Result A TextFault) → ErrsAt at r → Answers r Any
 errs_answers at (Ok a) h = tt
 errs_answers at (Err e) h = of_text h
 
@@ -73,14 +73,6 @@ if_answers : {A : Type 0} (P : A → Type 0) (b : Bool) (x y : Result A TextFaul
 if_answers P b x y hx hy = decided IsOfText P b x y hx hy
 
 -- ---- the nodes that are left
-
-pub left_behind : (text : List ℕ) (here : Cursor) → (cursor_after text here).left ≡ here.left
-unfolding cursor_after token_from
-left_behind text here = refl
-
-pub left_node : (text : List ℕ) (here : Cursor) → (cursor_after_node text here).left ≡ here.left - 1
-unfolding cursor_after_node token_from
-left_node text here = refl
 
 pub count_answers : (here : Cursor) → Answers (count here) (λ u. 1 ≤ here.left)
 unfolding count

@@ -30,6 +30,8 @@ use Rattle.bl_text.specs.PrintedTokens.{EndsRun, term_token, IsInDepth}
 use Rattle.bl_text.proofs.ReadLemmas.{expected-Ok}
 use Rattle.bl_text.proofs.PrintedTerms.{term_lexed}
 use Rattle.bl_text.proofs.PlaceLemmas.{Stands, stands_behind, stands_at, is_bad, here_at, token_stands, space_skipped}
+use Rattle.bl_text.proofs.PieceLemmas.{comma_sign}
+use Rattle.bl_text.proofs.IsStatementLemmas.{at_place, variable_term, name_term, length_more}
 
 -- ---- binders
 
@@ -87,21 +89,9 @@ in_depth parameters binders Ctime h few = tt
 in_depth parameters binders (Param n) h few = tt
 in_depth parameters binders (Bound n) h few = let found = some_is (slice_get binders n) h in (slice_get_within binders n found.0 found.1, few)
 
-abbrev at_place : ℕ → Option ℕ → Result Term TextFault
-at_place at None = Err (TextFault.UnknownName at)
-at_place at (Some inner) = Ok (Bound inner)
-
-variable_term : (scope : List Variable) (here : Cursor) (name : List ℕ) → here.token ≡ tokens.Variable name → term_of scope here ≡ at_place here.at (place_of scope name)
-unfolding term_of
-variable_term scope here name is = rw is
-
 constant_term : (scope : List Variable) (here : Cursor) (c : Term) → here.token ≡ tokens.Constant c → term_of scope here ≡ Ok c
 unfolding term_of
 constant_term scope here c is = rw is
-
-name_term : (scope : List Variable) (here : Cursor) (name : List ℕ) → here.token ≡ tokens.Name name → term_of scope here ≡ Ok (Prin name)
-unfolding term_of
-name_term scope here name is = rw is
 
 pub term_read : (parameters binders : List Sort) (here : Cursor) (t : Term) → here.token ≡ term_token (length binders) t → IsInScope parameters binders t → length binders ≤ 512 → term_of (scope_of binders) here ≡ Ok t
 term_read parameters binders here (Prin name) is h few = name_term (scope_of binders) here name is
@@ -219,14 +209,6 @@ pub time_argument_ok : (st : Bool) (scope : List Variable) (here : Cursor) (t : 
 unfolding time_argument
 time_argument_ok st scope here t term said fit some = rw (term, said, sorted_ok scope sorts.Time here.at t fit, count_ok here some) refl
 
-length_more : {A : Type 0} (xs : List A) (x : A) → length (xs ++ x ∷ []) ≡ length xs + 1
-length_more [] x = refl
-length_more (y ∷ ys) x = let more = length_more ys x in ap suc more ∙ omega arith
-
-comma_is : is_sign signs.Comma (tokens.Sign signs.Comma) ≡ true
-unfolding is_sign
-comma_is = refl
-
 -- terms that were read, and where the reading stands
 pub record Arguments (text : List ℕ) (st : Bool) (scope : List Variable) (is_atom : Bool) (start : Cursor) (left : ℕ) (terms : List Term) (rest : List ℕ) : Type 0 where
   pub to : ℕ
@@ -240,7 +222,7 @@ close_ends : (rest : List ℕ) → EndsRun (41 ∷ rest)
 close_ends rest = (refl, refl)
 
 -- what stands after an argument ends it
-others_end : (depth : ℕ) (others : List Term) (rest : List ℕ) → EndsRun (terms_text depth others ++ 41 ∷ rest)
+pub others_end : (depth : ℕ) (others : List Term) (rest : List ℕ) → EndsRun (terms_text depth others ++ 41 ∷ rest)
 others_end depth [] rest = (refl, refl)
 others_end depth (t ∷ others) rest = (refl, refl)
 
@@ -261,7 +243,7 @@ arguments_more {text} {st} {is_atom} {start} parameters binders (t ∷ others) t
     let mid = token_from text from left in
     let place = token_from text comma.to left in
     let read : argument st (scope_of binders) place ≡ Ok t = argument_ok st (scope_of binders) place t (term_read parameters binders place t found.token all.0.in_scope few) (all.0.sayable place.at) (let n = found.nodes in omega arith) in
-    let here : expect_sign text signs.Comma mid ≡ Ok place = expected-Ok text signs.Comma mid (ap (is_sign signs.Comma) comma.token ∙ comma_is) ∙ ap Ok comma.next in
+    let here : expect_sign text signs.Comma mid ≡ Ok place = expected-Ok text signs.Comma mid (ap (is_sign signs.Comma) comma.token ∙ comma_sign) ∙ ap Ok comma.next in
     let step : AreArguments text st (scope_of binders) is_atom start (token_from text found.to (left - 1)) (terms ++ t ∷ []) =
     subst (λ (p : Cursor). AreArguments text st (scope_of binders) is_atom start p (terms ++ t ∷ [])) found.node
     (further mid place terms t are here (next_argument_ok st (scope_of binders) is_atom (length terms) place t read (λ is. (let most = ninth is in omega arith)))) in

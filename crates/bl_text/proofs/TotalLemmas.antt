@@ -23,8 +23,9 @@ use Rattle.bl_text.specs.Texts as texts
 use Rattle.bl_text.specs.Met.{unexpected}
 use Rattle.bl_text.proofs.ReadLemmas.{expected-Ok, is_call-name, formula_ended}
 use Rattle.bl_text.proofs.IsStatementLemmas.{statement_said}
-use Rattle.bl_text.proofs.PieceLemmas.{too_large}
-use Rattle.bl_text.proofs.PieceTotalLemmas.{IsOfText, of_text, misread_of_text, Any, answered, left_behind, left_node, count_answers, expected_answers, argument_answers, next_argument_answers, interval_answers, binder_answers, speaker_answers, applied_answers, simple_answers, opening_answers, span_answers}
+use Rattle.bl_text.proofs.PieceLemmas.{too_large, left_behind, left_node}
+use Rattle.bl_text.proofs.PieceTotalLemmas.{IsOfText, of_text, misread_of_text, Any, answered, count_answers, expected_answers, argument_answers, next_argument_answers, interval_answers, binder_answers, speaker_answers, applied_answers, simple_answers, opening_answers, span_answers}
+use Rattle.std.proofs.lemmas.Bool.{or_from}
 
 -- ---- tests
 
@@ -35,10 +36,6 @@ by_test false holds fails = fails refl
 or_parts : {V : Type 0} (a b : Bool) → (a || b) ≡ true → (a ≡ true → V) → (b ≡ true → V) → V
 or_parts true b h left right = left refl
 or_parts false b h left right = right h
-
-ended_two : (a t : Bool) → a ≡ false → t ≡ false → (a || t) ≡ false
-ended_two false t h rest = rest
-ended_two true t h rest = absurd (let never : true ≡ false = h in cc)
 
 ended_three : (o a t : Bool) → o ≡ false → (a || t) ≡ false → (o || a || t) ≡ false
 ended_three false a t h rest = rest
@@ -162,7 +159,7 @@ and_out text st scope depth here next (suc k) mid a few d ended left =
     (λ place b e ended' less. and_out text st scope depth here next k place (both a b) (omega (arith, left_node text mid)) (and_further scope depth here mid place a b d sign room e) ended' (omega (arith, left_node text mid)))
     (λ e h n. stops e (in_conjunct scope depth here mid a e d sign room h) n))
     (λ e full n. stops e (at_and scope depth here mid a e d sign full) n))
-    (λ no. reads mid a d (ended_two _ _ no ended) left)
+    (λ no. reads mid a d (or_from _ _ no ended) left)
 
 conjunction_out : (text : List ℕ) (st : Bool) (scope : List Variable) (depth : ℕ) (here : Cursor) → Below text st (measure conjunction depth here) → Outcome text st conjunction scope depth here
 conjunction_out text st scope depth here below =

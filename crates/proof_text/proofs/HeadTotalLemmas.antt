@@ -15,8 +15,8 @@ use Rattle.bl_tokens.specs.Tokens.{is_sign}
 use Rattle.bl_text.specs.Pieces.{◌>>=◌, term_of, require_sort}
 use Rattle.bl_text.specs.Met.{unexpected, unknown_name}
 use Rattle.bl_text.specs.Texts.{is_end}
-use Rattle.bl_text.proofs.PieceLemmas.{too_large, ErrsAt, term_errs, sorted_errs}
-use Rattle.bl_text.proofs.PieceTotalLemmas.{IsOfText, of_text, misread_of_text, Answers, Any, chained, decided}
+use Rattle.bl_text.proofs.PieceLemmas.{too_large, term_errs, sorted_errs}
+use Rattle.bl_text.proofs.PieceTotalLemmas.{IsOfText, of_text, misread_of_text, Answers, Any, chained, decided, errs_answers}
 use Rattle.proof_term.specs.declared.rule.Rule.{Rule}
 use Rattle.proof_term.specs.declared.rule.Rule.TheVariants as rules
 use Rattle.proof_term.specs.declared.rule.Axiom.TheVariants as axioms
@@ -36,10 +36,6 @@ use Rattle.proof_text.specs.Texts.{at_end}
 
 answers_then : {A B : Type 0} (Q : B → Type 0) (r : Result A TextFault) (k : A → Result B TextFault) → Answers r Any → ((a : A) → Answers (k a) Q) → Answers (r >>= k) Q
 answers_then Q r k h more = chained IsOfText Any Q r k h (λ a _. more a)
-
-errs_answers : {A : Type 0} (at : ℕ) (r : Result A TextFault) → ErrsAt at r → Answers r Any
-errs_answers at (Ok a) h = tt
-errs_answers at (Err e) h = of_text h
 
 -- ---- places
 
