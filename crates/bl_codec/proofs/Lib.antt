@@ -8,5 +8,4 @@ pub mod LeafLemmas
 pub mod NodeLemmas
 pub mod StatementCodec
 pub mod IsStatementLemmas
-pub mod ReportsFaultLemmas
 pub mod TermsLemmas

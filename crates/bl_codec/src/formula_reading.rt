@@ -146,7 +146,7 @@ fn atom_at(
 }
 
 /// The fields of a formula that has no formulas in it.
-#[tactic(auto, using(crate::proofs::ReportsFaultLemmas::hands_on, crate::proofs::ReportsFaultLemmas::stops), unfolding(crate::specs::Leaves::leaf_at))]
+#[tactic(auto, using(bl_syntax::proofs::ReportsFaultLemmas::hands_on, bl_syntax::proofs::ReportsFaultLemmas::stops), unfolding(crate::specs::Leaves::leaf_at))]
 fn leaf_at(
     alloc: Global,
     input: usize,
@@ -287,7 +287,7 @@ fn boxed_on(
 
 /// Two formulas.
 #[cycle(formula)]
-#[tactic(auto, using(crate::proofs::ReportsFaultLemmas::hands_on, crate::proofs::ReportsFaultLemmas::stops), unfolding(bl_syntax::specs::FormulaReading::pair_at))]
+#[tactic(auto, using(bl_syntax::proofs::ReportsFaultLemmas::hands_on, bl_syntax::proofs::ReportsFaultLemmas::stops), unfolding(bl_syntax::specs::FormulaReading::pair_at))]
 fn pair_at(
     alloc: Global,
     input: usize,
@@ -308,7 +308,7 @@ fn pair_at(
 
 /// A binder's sort, and the formula inside it.
 #[cycle(formula)]
-#[tactic(auto, using(crate::proofs::ReportsFaultLemmas::hands_on, crate::proofs::ReportsFaultLemmas::stops), unfolding(bl_syntax::specs::FormulaReading::binder_at))]
+#[tactic(auto, using(bl_syntax::proofs::ReportsFaultLemmas::hands_on, bl_syntax::proofs::ReportsFaultLemmas::stops), unfolding(bl_syntax::specs::FormulaReading::binder_at))]
 fn binder_at(
     alloc: Global,
     input: usize,
@@ -327,7 +327,7 @@ fn binder_at(
 
 /// Who says a formula, and the formula.
 #[cycle(formula)]
-#[tactic(auto, using(crate::proofs::ReportsFaultLemmas::hands_on, crate::proofs::ReportsFaultLemmas::stops), unfolding(bl_syntax::specs::FormulaReading::says_at))]
+#[tactic(auto, using(bl_syntax::proofs::ReportsFaultLemmas::hands_on, bl_syntax::proofs::ReportsFaultLemmas::stops), unfolding(bl_syntax::specs::FormulaReading::says_at))]
 fn says_at(
     alloc: Global,
     input: usize,
@@ -348,7 +348,7 @@ fn says_at(
 
 /// A formula, and the interval on which it holds.
 #[cycle(formula)]
-#[tactic(auto, using(crate::proofs::ReportsFaultLemmas::hands_on, crate::proofs::ReportsFaultLemmas::stops), unfolding(bl_syntax::specs::FormulaReading::on_at))]
+#[tactic(auto, using(bl_syntax::proofs::ReportsFaultLemmas::hands_on, bl_syntax::proofs::ReportsFaultLemmas::stops), unfolding(bl_syntax::specs::FormulaReading::on_at))]
 fn on_at(
     alloc: Global,
     input: usize,
@@ -375,7 +375,7 @@ fn is_formula_tag(tag: u8) -> bool
 
 /// The fields of a formula with that tag, which are its terms and formulas.
 #[cycle(formula)]
-#[tactic(auto, using(crate::proofs::ReportsFaultLemmas::hands_on, crate::proofs::ReportsFaultLemmas::stops), unfolding(bl_syntax::specs::FormulaReading::fields_at))]
+#[tactic(auto, using(bl_syntax::proofs::ReportsFaultLemmas::hands_on, bl_syntax::proofs::ReportsFaultLemmas::stops), unfolding(bl_syntax::specs::FormulaReading::fields_at))]
 fn fields_at(
     alloc: Global,
     input: usize,
@@ -405,7 +405,7 @@ fn fields_at(
 
 /// A formula as one of the nodes that are left, whose formulas are nested at most so deep.
 #[cycle(formula)]
-#[tactic(auto, using(crate::proofs::ReportsFaultLemmas::hands_on, crate::proofs::ReportsFaultLemmas::stops), unfolding(bl_syntax::specs::FormulaReading::node_at))]
+#[tactic(auto, using(bl_syntax::proofs::ReportsFaultLemmas::hands_on, bl_syntax::proofs::ReportsFaultLemmas::stops), unfolding(bl_syntax::specs::FormulaReading::node_at))]
 fn node_at(
     alloc: Global,
     input: usize,
@@ -465,7 +465,7 @@ fn formula_at(
 
 /// A formula within the limits: the reader that formats with formulas in them are made of. It reads at the front of
 /// `bytes`, the rest of an input of `input` bytes, and gives the formula and the bytes after it, or the first fault.
-#[tactic(auto, using(crate::proofs::ReportsFaultLemmas::hands_on), unfolding(bl_syntax::specs::FormulaReading::whole_formula_at))]
+#[tactic(auto, using(bl_syntax::proofs::ReportsFaultLemmas::hands_on), unfolding(bl_syntax::specs::FormulaReading::whole_formula_at))]
 pub fn whole_formula_at(
     alloc: Global,
     input: usize,
@@ -480,7 +480,7 @@ pub fn whole_formula_at(
 }
 
 /// The formula whose spelling begins the bytes, and how many bytes it takes, or the first fault. Bytes may follow it.
-#[tactic(auto, using(crate::proofs::ReportsFaultLemmas::hands_on))]
+#[tactic(auto, using(bl_syntax::proofs::ReportsFaultLemmas::hands_on))]
 pub fn read_formula(alloc: Global, bytes: &[u8]) -> Result<(Formula, usize), CodecFault>
     ensures exact { GivesReadingOrReports (λ x. (formula_view x.0, x.1)) result (reading whole_formula_at bytes.now) }
     ensures front { ReadsFront formula_view IsSpellableFormula formula_spelling bytes.now result }

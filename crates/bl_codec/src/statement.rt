@@ -42,7 +42,7 @@ fn put_statement(s: &Statement, out: &mut Bytes) -> Result<(), NoMemory>
 }
 
 /// The formula and the interval of what a principal says, in a statement that begins at `start`.
-#[tactic(auto, using(crate::proofs::ReportsFaultLemmas::hands_on, crate::proofs::ReportsFaultLemmas::stops), unfolding(crate::specs::StatementBody::body_at))]
+#[tactic(auto, using(bl_syntax::proofs::ReportsFaultLemmas::hands_on, bl_syntax::proofs::ReportsFaultLemmas::stops), unfolding(crate::specs::StatementBody::body_at))]
 fn body_at(
     alloc: Global,
     input: usize,
@@ -68,7 +68,7 @@ fn body_at(
 /// A statement: the reader that formats with statements in them are made of. It reads at the front of `bytes`, the rest
 /// of an input of `input` bytes, and gives the statement and the bytes after it, or the first fault. A statement whose
 /// bytes are whole, but that may not be made, has its fault at its first byte.
-#[tactic(auto, using(crate::proofs::ReportsFaultLemmas::hands_on, crate::proofs::ReportsFaultLemmas::stops), unfolding(bl_syntax::specs::FormulaReading::statement_at, crate::specs::StatementBody::body_at))]
+#[tactic(auto, using(bl_syntax::proofs::ReportsFaultLemmas::hands_on, bl_syntax::proofs::ReportsFaultLemmas::stops), unfolding(bl_syntax::specs::FormulaReading::statement_at, crate::specs::StatementBody::body_at))]
 pub fn statement_at(
     alloc: Global,
     input: usize,
@@ -85,7 +85,7 @@ pub fn statement_at(
 /// The statement whose spelling begins the bytes, and how many bytes it takes, or the first fault. Bytes may follow it.
 /// `NotCanonical(0)` comes also where the bytes are whole and the statement is not closed or not well sorted, or holds a
 /// parameter or the current time.
-#[tactic(auto, using(crate::proofs::ReportsFaultLemmas::hands_on))]
+#[tactic(auto, using(bl_syntax::proofs::ReportsFaultLemmas::hands_on))]
 pub fn read_statement(alloc: Global, bytes: &[u8]) -> Result<(Statement, usize), CodecFault>
     ensures exact { GivesReadingOrReports (λ x. x) result (reading statement_at bytes.now) }
     ensures front { ReadsFront (λ s. s) IsSpellableStatement statement_spelling bytes.now result }

@@ -8,7 +8,7 @@ use Rattle.bl_syntax.specs.declared.terms.StatePred.{StatePred}
 use Rattle.bl_syntax.specs.declared.grant.Goal.{Goal}
 use Rattle.bl_syntax.specs.Grant.{GrantView, IsTimeCondition, IsStateCondition}
 use Rattle.bl_syntax.proofs.GrantLemmas.{granted}
-use Rattle.bl_syntax.proofs.StopsWithLemmas.{stops, hands_on}
+use Rattle.bl_syntax.proofs.ReportsFaultLemmas.{stops, hands_on}
 use Rattle.bl_syntax.specs.Reading.{◌>>=◌, Reading, place}
 use Rattle.bl_syntax.specs.Codec.{AreBytes, ReportsFault}
 use Rattle.procap.specs.GrantReading.{time_condition_at, state_condition_at, may_follow_times, may_follow_states, items_at, count_at, conditions_at, head_at, grant_at}

@@ -6,7 +6,7 @@ use Rattle.bl_syntax.specs.declared.codec_fault.CodecFault.{CodecFault}
 use Rattle.bl_syntax.specs.declared.codec_fault.CodecFault.TheVariants as faults
 use Rattle.bl_syntax.specs.Reading.{◌>>=◌, Reading, place}
 use Rattle.bl_syntax.specs.Codec.{ReportsFault}
-use Rattle.bl_syntax.proofs.StopsWithLemmas.{stops, hands_on}
+use Rattle.bl_syntax.proofs.ReportsFaultLemmas.{stops, hands_on}
 use Rattle.proof_term.specs.declared.fault.ProofFault.{ProofFault}
 use Rattle.proof_term.specs.declared.fault.ProofFault.TheVariants as proof_faults
 use Rattle.proof_term.specs.Proof.{ProofView}

@@ -1,6 +1,6 @@
 use Rattle.std.proofs.Common.{◌≡◌, ◌-◌, [], length}
 use Rattle.procap.specs.GrantReading.{state_condition_at, may_follow_states}
-use Rattle.bl_syntax.proofs.StopsWithLemmas.{stops}
+use Rattle.bl_syntax.proofs.ReportsFaultLemmas.{stops}
 use Rattle.procap.proofs.ReadingLemmas.{conditions_fault, conditions_more}
 use Rattle.procap.proofs.reading.states_at.Goals as goal
 

@@ -1,6 +1,6 @@
 use Rattle.std.proofs.Common.{◌≡◌, []}
 use Rattle.procap.specs.GrantReading.{time_condition_at, may_follow_times}
-use Rattle.bl_syntax.proofs.StopsWithLemmas.{stops}
+use Rattle.bl_syntax.proofs.ReportsFaultLemmas.{stops}
 use Rattle.procap.proofs.ReadingLemmas.{conditions_fault, conditions_more}
 use Rattle.procap.proofs.reading.times_at.Goals as goal
 
