@@ -7,7 +7,7 @@ use Rattle.bl_syntax.specs.declared.terms.Term.{Term}
 use Rattle.bl_syntax.specs.declared.terms.Term.TheVariants.{Ctime}
 use Rattle.bl_tokens.specs.declared.classes.Class.TheVariants as classes
 use Rattle.bl_tokens.specs.declared.faults.TextFault.{TextFault}
-use Rattle.bl_tokens.specs.declared.faults.TextFault.TheVariants.{Unexpected, UnknownName, TooLarge, NoMemory}
+use Rattle.bl_tokens.specs.declared.faults.TextFault.TheVariants.{Unexpected, TooLarge, NoMemory}
 use Rattle.bl_tokens.specs.declared.faults.TextFault.TheVariants as faults
 use Rattle.bl_tokens.specs.declared.tokens.Sign.{Sign as Sign'}
 use Rattle.bl_tokens.specs.declared.tokens.Sign.TheVariants as signs
