@@ -1,11 +1,11 @@
 -- A fault of a part of a formula's text is met at one token: what was read before it can be completed to a sentence, and the tokens up to it decide the fault.
-use Rattle.std.proofs.Common.{◌≡◌, ℕ, zero, suc, ◌+◌, ◌-◌, ◌≤◌, Bool, true, false, List, [], ◌∷◌, ◌++◌, length, append_assoc, append-nil, refl, sym, ap, ◌∙◌, subst, arith, Result, Ok, Err, ◌⊎◌, inl, inr}
-use Rattle.std.specs.Prelude.{if◌then◌else◌, ◌||◌}
+use Rattle.std.proofs.Common.{◌≡◌, ℕ, ◌+◌, ◌-◌, ◌≤◌, Bool, true, false, List, [], ◌∷◌, ◌++◌, length, append_assoc, append-nil, refl, sym, ap, ◌∙◌, subst, arith, Result, Ok, Err, ◌⊎◌, inl, inr}
+use Rattle.std.specs.Prelude.{◌||◌}
 use Rattle.std.proofs.lemmas.Bool.{false≢true, or_right}
 use Rattle.std.proofs.lemmas.List.{length-append}
 use Rattle.bl_syntax.specs.declared.terms.Sort.TheVariants as sorts
 use Rattle.bl_syntax.specs.declared.terms.Term.{Term}
-use Rattle.bl_syntax.specs.declared.terms.Term.TheVariants.{Prin, Ctime}
+use Rattle.bl_syntax.specs.declared.terms.Term.TheVariants.{Ctime}
 use Rattle.bl_syntax.specs.Formula.{FormulaView}
 use Rattle.bl_syntax.specs.Formula as forms
 use Rattle.bl_syntax.specs.Names.{is_predicate_name}
@@ -20,17 +20,17 @@ use Rattle.bl_tokens.specs.declared.tokens.Token.TheVariants as tokens
 use Rattle.bl_tokens.specs.declared.tokens.Cursor.{Cursor}
 use Rattle.bl_tokens.specs.Tokens.{token_from, cursor_after, cursor_after_node, is_sign, is_word}
 use Rattle.bl_text.specs.Scope.{Variable}
-use Rattle.bl_text.specs.Pieces.{◌>>=◌, count, expect_sign, term_of, require_sayable, require_sort, argument, next_argument, time_argument, interval, variable_name, sort_at, binder, speaker, less_sign, comparison, apply_predicate, name_alone, constant_formula, simple_by, simple_formula}
+use Rattle.bl_text.specs.Pieces.{count, expect_sign, term_of, require_sayable, require_sort, argument, next_argument, time_argument, interval, variable_name, sort_at, binder, speaker, less_sign, comparison, apply_predicate, name_alone, constant_formula, simple_by, simple_formula}
 use Rattle.bl_text.specs.Grammar.{Level, formula, disjunction, conjunction, unary, postfix, primary, is_quantifier, is_saying, is_call, is_call_token, AreArguments}
 use Rattle.bl_text.specs.FirstFaults.{ArgumentsHaveFirstFault, no_memory_for_arguments, in_first_argument, in_argument, CallHasFirstFault, at_name, in_arguments, before_close, by_sorts, HasFirstFault, no_memory, in_binder, in_body, in_premise, at_implies, in_conclusion, in_first_disjunct, at_or, in_disjunct, in_first_conjunct, at_and, in_conjunct, in_speaker, in_said, in_postfix, in_primary, in_interval, too_deep, in_group, not_closed, in_call, in_simple}
 use Rattle.bl_text.specs.FirstTokens.{SameTokens}
 use Rattle.bl_text.specs.Met.{IsMisread, unexpected, unknown_name, bad_date, ends_term, IsMetAt, misread, at_term, before_sign, at_close, without_arguments, at_limit, allowed}
-use Rattle.bl_text.specs.Sentences.{IsSign, IsTerm, principal, constant, IsSpeaker, AreTerms, one_term, further_term, FormulaSentence, quantified, implication, one_disjunction, or_further, one_conjunction, and_further, one_unary, saying, one_postfix, on_interval, one_primary, group, called, alone, compared, truth, falsity}
+use Rattle.bl_text.specs.Sentences.{IsSign, IsTerm, principal, constant, AreTerms, one_term, further_term, FormulaSentence, quantified, implication, one_disjunction, or_further, one_conjunction, and_further, one_unary, saying, one_postfix, on_interval, one_primary, group, called, alone, compared, truth, falsity}
 use Rattle.bl_text.proofs.ReadLemmas.{expected-Ok, is_at, stops_at, is_call-name}
-use Rattle.bl_text.proofs.FirstTokensLemmas.{bare as bared, one_token, walk, walk_from, tokens_from, same_first, behind_parts, met_shifted}
-use Rattle.bl_text.proofs.PieceLemmas.{err_cases, never_err, err_first, ok_then, misread_is, Only, only_is, if_only, count_only, term_misreads, sayable_only, sorted_only, variable_misreads_by, sort_misreads_by, less_misreads, expected_misreads, applied_only, expected_ok, call_opened, saying_same, call_same, colon_sign, dot_sign, comma_sign, up_to_sign, close_sign, open_interval_sign, close_interval_sign, says_keyword, not_expected}
+use Rattle.bl_text.proofs.FirstTokensLemmas.{one_token, walk, walk_from, tokens_from, same_first, behind_parts, met_shifted}
+use Rattle.bl_text.proofs.PieceLemmas.{err_cases, never_err, err_first, ok_then, misread_is, only_is, if_only, count_only, term_misreads, sayable_only, sorted_only, variable_misreads_by, sort_misreads_by, less_misreads, expected_misreads, applied_only, expected_ok, call_opened, saying_same, call_same, colon_sign, dot_sign, comma_sign, up_to_sign, close_sign, open_interval_sign, close_interval_sign, says_keyword, not_expected}
 use Rattle.bl_text.proofs.TotalLemmas.{by_test}
-use Rattle.bl_text.proofs.PartLemmas.{between, between_plus, between_bare, joined, Part, part_with, part_then, part_peeks, part_token, part_behind, part_node, part_sign, term_is, speaker_is_by, argument_is, variable_is_by, sort_is_by, time_argument_is, binder_part, says_word, speaker_part, less_is, name_by, name_before, alone_before, arguments_at, arguments_part, call_part, call_met, spelled}
+use Rattle.bl_text.proofs.PartLemmas.{between, between_plus, between_bare, joined, Part, part_then, part_peeks, part_token, part_behind, part_node, part_sign, term_is, speaker_is_by, argument_is, variable_is_by, sort_is_by, time_argument_is, binder_part, says_word, speaker_part, less_is, name_by, name_before, alone_before, arguments_at, arguments_part, call_part, call_met, spelled}
 use Rattle.bl_text.proofs.IsStatementLemmas.{name_term}
 
 -- ---- the ends of what may go on

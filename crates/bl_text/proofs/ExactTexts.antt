@@ -1,8 +1,6 @@
 -- The fault of a whole text is exact, and where one of the grammar is met no sentence goes on.
-use Rattle.std.proofs.Common.{◌≡◌, ℕ, suc, ◌+◌, Bool, true, false, List, [], ◌∷◌, ◌++◌, append-nil, refl, sym, ap, ◌∙◌, subst, arith, Ok, Err, ◌⊎◌, inl, inr}
-use Rattle.std.specs.Prelude.{if◌then◌else◌}
+use Rattle.std.proofs.Common.{◌≡◌, ℕ, suc, ◌+◌, true, List, [], ◌∷◌, ◌++◌, append-nil, refl, sym, ap, ◌∙◌, subst, arith, Err, ◌⊎◌, inl, inr}
 use Rattle.bl_syntax.specs.declared.terms.Term.TheVariants.{Time}
-use Rattle.bl_syntax.specs.declared.terms.TimePoint.{TimePoint}
 use Rattle.bl_syntax.specs.declared.terms.TimePoint.TheVariants as times
 use Rattle.bl_syntax.specs.Formula.{FormulaView}
 use Rattle.bl_syntax.specs.Statement.{StatementView}

@@ -1,5 +1,5 @@
 -- The tokens after a token, and two texts that have so many of them in common.
-use Rattle.std.proofs.Common.{◌≡◌, ℕ, zero, suc, ◌+◌, ◌-◌, ◌≤◌, true, false, List, refl, sym, ap, ◌∙◌, subst, arith}
+use Rattle.std.proofs.Common.{◌≡◌, ℕ, zero, suc, ◌+◌, ◌-◌, ◌≤◌, false, List, refl, sym, ap, ◌∙◌, subst, arith}
 use Rattle.bl_tokens.specs.declared.faults.TextFault.{TextFault}
 use Rattle.bl_tokens.specs.declared.faults.TextFault.TheVariants.{Sort, TooLarge}
 use Rattle.bl_tokens.specs.declared.tokens.Sign.{Sign as Sign'}

@@ -1,6 +1,6 @@
 -- What stands between two places of a text: the tokens there, and that another text with the same tokens reads the same there. What was read is a sentence of the grammar over tokens.
-use Rattle.std.proofs.Common.{◌≡◌, ℕ, zero, suc, ◌+◌, ◌-◌, ◌≤◌, Bool, true, false, List, [], ◌∷◌, ◌++◌, length, append_assoc, append-nil, refl, sym, ap, ◌∙◌, subst, arith, Result, Ok, Err, inl, inr}
-use Rattle.std.specs.Prelude.{◌<◌, ◌&&◌, Option, Some, None, IsSome, if◌then◌else◌}
+use Rattle.std.proofs.Common.{◌≡◌, ℕ, zero, suc, ◌+◌, ◌-◌, ◌≤◌, Bool, true, false, List, [], ◌∷◌, ◌++◌, length, refl, sym, ap, ◌∙◌, subst, arith, Result, Ok, Err, inl, inr}
+use Rattle.std.specs.Prelude.{◌<◌, Option, Some, None, IsSome, if◌then◌else◌}
 use Rattle.std.proofs.lemmas.Bool.{false≢true, cases_lt, and_parts}
 use Rattle.std.proofs.lemmas.List.{length-append}
 use Rattle.bl_syntax.specs.declared.terms.Sort.{Sort as TermSort}
@@ -22,7 +22,7 @@ use Rattle.bl_tokens.specs.declared.tokens.Cursor.{Cursor}
 use Rattle.bl_tokens.specs.Tokens.{token_from, cursor_after, cursor_after_node, is_sign, is_word}
 use Rattle.bl_text.specs.Scope.{Variable, place_of}
 use Rattle.bl_text.specs.Pieces.{◌>>=◌, count, expect_sign, term_of, require_sayable, require_sort, argument, next_argument, time_argument, interval, variable_name, sort_at, binder, speaker, less_sign, comparison, apply_predicate, bare_predicate, named_time, name_alone, constant_formula, simple_by, simple_formula}
-use Rattle.bl_text.specs.Grammar.{Level, formula, disjunction, conjunction, unary, postfix, primary, is_quantifier, is_saying, is_call, AreArguments, IsCall}
+use Rattle.bl_text.specs.Grammar.{Level, primary, is_saying, is_call, AreArguments, IsCall}
 use Rattle.bl_text.specs.Grammar as grammar
 use Rattle.bl_text.specs.FirstTokens.{SameTokens}
 use Rattle.bl_text.specs.Met.{IsCallOf}

@@ -1,5 +1,5 @@
 -- Each piece of a text answers, and never because memory runs out. What it takes is counted.
-use Rattle.std.proofs.Common.{◌≡◌, ℕ, ◌+◌, ◌-◌, ◌≤◌, Bool, true, false, List, [], refl, arith, Result, Ok, Err}
+use Rattle.std.proofs.Common.{◌≡◌, ℕ, ◌+◌, ◌≤◌, Bool, true, false, List, [], refl, arith, Result, Ok, Err}
 use Rattle.std.specs.Prelude.{◌≢◌, ◌&&◌, nat_le, MatchResult, if◌then◌else◌}
 use Rattle.std.proofs.lemmas.Bool.Decides.{nat_tests}
 use Rattle.bl_syntax.specs.declared.terms.Sort.TheVariants as sorts
@@ -14,7 +14,7 @@ use Rattle.bl_tokens.specs.declared.tokens.Keyword.TheVariants as keywords
 use Rattle.bl_tokens.specs.declared.tokens.Token.{Token}
 use Rattle.bl_tokens.specs.declared.tokens.Token.TheVariants as tokens
 use Rattle.bl_tokens.specs.declared.tokens.Cursor.{Cursor}
-use Rattle.bl_tokens.specs.Tokens.{token_from, cursor_after, cursor_after_node, is_sign, is_word}
+use Rattle.bl_tokens.specs.Tokens.{cursor_after, cursor_after_node, is_sign, is_word}
 use Rattle.bl_text.specs.Scope.{Variable}
 use Rattle.bl_text.specs.Pieces.{◌>>=◌, count, expect_sign, term_of, require_sayable, require_sort, argument, next_argument, time_argument, interval, variable_name, sort_at, binder, speaker, less_sign, comparison, apply_predicate, bare_predicate, named_time, name_alone, constant_formula, simple_by, simple_formula}
 use Rattle.bl_text.specs.Texts.{expect_word, time_constant, principal_name, opening, at_end, span}

@@ -349,7 +349,7 @@ both_read st binders a b read_a read_b text depth from left rest deep nodes ends
     record {
       to = second.to;
       stands = second.stands;
-      is = place_left second.to same (and_further (scope_of binders) depth (token_from text from left) (token_from text first.to (left - size a)) (token_from text second.to (left - size a - 1 - size b)) a b first.is sign.is_it sign.room (is_at (sym sign.next) second.is));
+      is = place_left second.to same (and_further (scope_of binders) depth (token_from text from left) (token_from text first.to (left - size a)) (token_from text second.to (left - size a - 1 - size b)) a b first.is sign.is_it sign.room (is_at {place = token_from text sign.to (left - size a - 1)} {place' = cursor_after_node text (token_from text first.to (left - size a))} {there = token_from text second.to (left - size a - 1 - size b)} (sym sign.next) second.is));
       plain = λ h. first.plain refl;
       silent = λ h. absurd (false≢true h);
     }
@@ -365,7 +365,7 @@ either_read st binders a b read_a read_b text depth from left rest deep nodes en
     record {
       to = second.to;
       stands = second.stands;
-      is = place_left second.to same (or_further (scope_of binders) depth (token_from text from left) (token_from text first.to (left - size a)) (token_from text second.to (left - size a - 1 - size b)) a b first.is sign.is_it sign.room (is_at (sym sign.next) second.is));
+      is = place_left second.to same (or_further (scope_of binders) depth (token_from text from left) (token_from text first.to (left - size a)) (token_from text second.to (left - size a - 1 - size b)) a b first.is sign.is_it sign.room (is_at {place = token_from text sign.to (left - size a - 1)} {place' = cursor_after_node text (token_from text first.to (left - size a))} {there = token_from text second.to (left - size a - 1 - size b)} (sym sign.next) second.is));
       plain = λ h. first.plain refl;
       silent = λ h. absurd (false≢true h);
     }
@@ -381,7 +381,7 @@ implies_read st binders a b read_a read_b text depth from left rest deep nodes e
     record {
       to = second.to;
       stands = second.stands;
-      is = place_left second.to same (implication (scope_of binders) depth (token_from text from left) (token_from text first.to (left - size a)) (token_from text second.to (left - size a - 1 - size b)) a b (first.plain refl) first.is sign.is_it sign.room (is_at (sym sign.next) second.is));
+      is = place_left second.to same (implication (scope_of binders) depth (token_from text from left) (token_from text first.to (left - size a)) (token_from text second.to (left - size a - 1 - size b)) a b (first.plain refl) first.is sign.is_it sign.room (is_at {place = token_from text sign.to (left - size a - 1)} {place' = cursor_after_node text (token_from text first.to (left - size a))} {there = token_from text second.to (left - size a - 1 - size b)} (sym sign.next) second.is));
       plain = λ h. absurd (false≢true h);
       silent = λ h. absurd (false≢true h);
     }

@@ -1,8 +1,8 @@
 -- Steps of a reading.
 use Rattle.std.proofs.Common.{◌≡◌, ℕ, Bool, true, false, List, refl, sym, subst, arith, Result, Ok, Err}
-use Rattle.std.specs.Prelude.{◌<◌, ◌≤◌, ◌&&◌, ◌||◌, nat_lt, IfOk, IfErr, MatchResult}
+use Rattle.std.specs.Prelude.{◌<◌, ◌≤◌, ◌||◌, nat_lt, IfOk, IfErr, MatchResult}
 use Rattle.std.proofs.lemmas.Bool.Decides.{nat_tests}
-use Rattle.std.proofs.lemmas.Bool.{false≢true, and_parts, or_left, or_right}
+use Rattle.std.proofs.lemmas.Bool.{false≢true, or_left, or_right}
 use Rattle.bl_syntax.specs.declared.terms.Term.{Term}
 use Rattle.bl_tokens.specs.declared.faults.TextFault.{TextFault}
 use Rattle.bl_syntax.specs.Formula.{FormulaView}

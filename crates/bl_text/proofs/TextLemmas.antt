@@ -18,7 +18,6 @@ use Rattle.bl_tokens.specs.declared.tokens.Token.TheVariants.{Name, LongWord, Co
 use Rattle.bl_tokens.specs.declared.tokens.Token.TheVariants as tokens
 use Rattle.bl_tokens.specs.declared.tokens.Cursor.{Cursor}
 use Rattle.bl_tokens.specs.Tokens.{cursor_after, is_sign, is_word}
-use Rattle.bl_text.specs.Pieces.{◌>>=◌}
 use Rattle.bl_text.specs.Grammar.{formula, is_continued_by, Is}
 use Rattle.bl_text.specs.FirstFaults.{HasFirstFault}
 use Rattle.bl_text.specs.Texts.{beginning, is_end, IsFormulaText, whole, FormulaFault, in_formula, behind_formula, opening, span, expect_word, at_end, IsSayingText, whole_saying, IsStatementText, StatementFault, in_opening, in_body, in_span, AreOneFault}

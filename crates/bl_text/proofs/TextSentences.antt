@@ -1,5 +1,5 @@
 -- The tokens of a text that writes a formula or a statement are a sentence.
-use Rattle.std.proofs.Common.{◌≡◌, ℕ, zero, suc, ◌+◌, true, List, [], ◌∷◌, ◌++◌, length, refl, sym, ap, ◌∙◌, subst, arith, Ok, Err}
+use Rattle.std.proofs.Common.{◌≡◌, ℕ, zero, suc, ◌+◌, true, List, [], ◌∷◌, ◌++◌, length, refl, sym, ap, ◌∙◌, subst, Ok, Err}
 use Rattle.bl_syntax.specs.declared.terms.Term.TheVariants.{Prin, File, Perm, Time, Text, Ctime, Param, Bound}
 use Rattle.bl_syntax.specs.declared.terms.TimePoint.{TimePoint}
 use Rattle.bl_syntax.specs.Formula.{FormulaView}
@@ -13,12 +13,11 @@ use Rattle.bl_tokens.specs.declared.tokens.Token.TheVariants as tokens
 use Rattle.bl_tokens.specs.declared.tokens.Cursor.{Cursor}
 use Rattle.bl_tokens.specs.Tokens.{token_from, cursor_after, is_word}
 use Rattle.bl_text.specs.Texts.{beginning, is_end, IsFormulaText, whole, expect_word, time_constant, principal_name, opening, at_end, span, IsSayingText, whole_saying}
-use Rattle.bl_text.specs.FirstTokens.{token_number}
 use Rattle.bl_text.specs.Sentences.{IsSentence, IsStatementSentence, statement, first_tokens, IsSentenceText}
 use Rattle.bl_text.proofs.FirstTokensLemmas.{bare_token, walk_number}
 use Rattle.bl_text.proofs.PieceLemmas.{bind_ok, ok_then}
 use Rattle.bl_text.proofs.IsStatementLemmas.{ok_same, refused, if_ok, word_place, timed, untimed, badly_timed}
-use Rattle.bl_text.proofs.PartLemmas.{between, Reads, reads_then, Part, part_with, part_then, part_place, part_token, part_behind, Spelled, spelled}
+use Rattle.bl_text.proofs.PartLemmas.{between, Reads, reads_then, Part, part_with, part_then, part_place, part_token, part_behind, spelled}
 
 pub first_between : (text : List ℕ) (n from left : ℕ) → first_tokens text n from ≡ between text n (token_from text from left)
 first_between text zero from left = refl

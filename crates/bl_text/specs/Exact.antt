@@ -6,8 +6,8 @@ use Rattle.bl_text.specs.FirstTokens.{token_number, SameTokens}
 use Rattle.bl_text.specs.Met.{IsMetAt, allowed}
 use Rattle.bl_text.specs.Sentences.{first_tokens}
 
--- the fault is met at the token with that number. The tokens before it can be completed to a sentence, and with it too, where the fault is one of sorts or size. Each text with the same tokens up to it has
--- the fault too; where the node has no room, or a predicate no arguments, each one in which the next token is the same as well
+-- the fault is met at the token with that number. The tokens before it can be completed to a sentence, and with it too, where the fault is one of sorts or size. Each text with the same tokens up to it, and
+-- the same one after it where that is needed, has the fault too
 pub record IsExact (HasFault : List ℕ → TextFault → Type 0) (IsOne : List Token → Type 0) (text : List ℕ) (e : TextFault) : Type 0 where
   pub number : ℕ
   pub ahead : ℕ

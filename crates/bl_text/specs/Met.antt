@@ -1,5 +1,6 @@
--- The token at which a fault is met, by its number (this project's own). It is the one at the fault's place, but for two kinds of sorts: those of a predicate's arguments are met at its closing parenthesis,
--- and that of a term before `<=` or `says` at that sign.
+-- The token at which a fault is met, by its number, and how many tokens after it are needed to tell it (this project's own). A fault of the grammar is met at its own token, and so is one of size, for which
+-- the next token is needed too. A fault of sorts is met at one of four tokens: at the term, if what stands before it asks for a sort; at `<=` or `says`, if that stands after it; at the parenthesis that closes
+-- a predicate's arguments; or at a predicate's name without arguments, which the next token shows.
 use Rattle.std.specs.Prelude.{◌≡◌, ℕ, ◌+◌, ◌<◌, List, Bool, true, false, ◌||◌}
 use Rattle.bl_tokens.specs.declared.faults.TextFault.{TextFault}
 use Rattle.bl_tokens.specs.declared.faults.TextFault.TheVariants.{Unexpected, UnknownName, BadDate, Sort, TooLarge}

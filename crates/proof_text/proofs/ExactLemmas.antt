@@ -1,5 +1,5 @@
 -- A proof's fault is exact, and where it is not one of size no sentence goes on.
-use Rattle.std.proofs.Common.{◌≡◌, ℕ, List, sym, ap, ◌∙◌, Some, None, ◌⊎◌, inl, inr}
+use Rattle.std.proofs.Common.{◌≡◌, ℕ, List, sym, ap, ◌∙◌, Some, ◌⊎◌, inl, inr}
 use Rattle.std.specs.Prelude.{◌≢◌, Option}
 use Rattle.bl_tokens.specs.declared.faults.TextFault.{TextFault}
 use Rattle.bl_tokens.specs.declared.faults.TextFault.TheVariants.{TooLarge, NoMemory}

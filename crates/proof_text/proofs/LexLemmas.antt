@@ -1,13 +1,11 @@
 -- The tokens of what is written: each ends where the sign after it begins.
-use Rattle.std.proofs.Common.{◌≡◌, ℕ, zero, suc, ◌+◌, ◌-◌, ◌^◌, ◌<◌, Bool, true, false, cond, List, [], ◌∷◌, ◌++◌, length, take, drop, get_or, refl, ap, ◌∙◌, arith, IsTrue, Some, None, Result, Ok, Err}
-use Rattle.std.specs.Prelude.{if◌then◌else◌, ◌&&◌, ◌==◌, nat_lt}
+use Rattle.std.proofs.Common.{◌≡◌, ℕ, suc, ◌+◌, ◌-◌, ◌^◌, ◌<◌, Bool, true, false, cond, List, [], ◌∷◌, ◌++◌, length, take, drop, refl, ap, ◌∙◌, arith, IsTrue, Some, Result, Ok, Err}
+use Rattle.std.specs.Prelude.{if◌then◌else◌, ◌==◌}
 use Rattle.std.specs.List.{prefix_len, take_while, list_all}
 use Rattle.std.specs.Fmt.{decimal}
-use Rattle.std.specs.Str.Parse.{digits_value}
-use Rattle.std.proofs.lemmas.Bool.{false≢true, and_from}
 use Rattle.std.proofs.lemmas.List.{length-drop, take_all}
 use Rattle.std.proofs.lemmas.Bool.Decides.{nat_tests}
-use Rattle.std.proofs.lemmas.Fmt.{decimal_digit, decimal_nonempty, first_decimal, digits_decimal, digits_value-decimal}
+use Rattle.std.proofs.lemmas.Fmt.{decimal_nonempty, digits_decimal}
 use Rattle.std.proofs.Math.Seq.{take-append_seam}
 use Rattle.bl_syntax.specs.Names.{is_digit}
 use Rattle.bl_tokens.specs.declared.classes.Class.TheVariants as classes
@@ -18,7 +16,6 @@ use Rattle.bl_tokens.specs.declared.tokens.Token.TheVariants as tokens
 use Rattle.bl_tokens.specs.declared.tokens.Lexeme.{Lexeme}
 use Rattle.bl_tokens.specs.declared.tokens.Cursor.{Cursor}
 use Rattle.bl_tokens.specs.Classes.{is_in}
-use Rattle.bl_tokens.specs.Numerals.{is_numeral, numeral_below}
 use Rattle.bl_tokens.specs.Tokens.{token_from, first_lexeme, sized_lexeme, sign_code, is_sign}
 use Rattle.bl_tokens.proofs.DateLemmas.{both_true}
 use Rattle.bl_tokens.proofs.NumeralLemmas.{is_numeral_model}

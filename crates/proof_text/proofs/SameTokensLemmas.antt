@@ -35,13 +35,17 @@ use Rattle.proof_text.specs.Proofs.{IsProof, no_premise, one_premise, two_premis
 use Rattle.proof_text.specs.FirstFaults.{ProofHasFirstFault, no_memory, in_head, in_premise, behind_premise, in_first, behind_first, in_second, behind_second}
 use Rattle.proof_text.specs.Texts.{at_end, ProofTextFault, in_proof, behind_proof}
 use Rattle.proof_text.specs.SameTokens.{fault_place, SameNext, SameUpTo}
-use Rattle.bl_text.proofs.IsStatementLemmas.{ok_same}
-use Rattle.bl_text.proofs.PieceLemmas.{never_err, err_first}
 
 -- ---- values and faults
 
+value_is : {A : Type 0} (x y : A) → ◌≡◌ {A = Result A TextFault} (Ok x) (Ok y) → x ≡ y
+value_is x y h = cc
+
 fault_is : {A : Type 0} (d e : TextFault) → ◌≡◌ {A = Result A TextFault} (Err d) (Err e) → d ≡ e
 fault_is d e h = cc
+
+no_fault : {A B : Type 0} (x : A) (e : TextFault) → ◌≡◌ {A = Result A TextFault} (Ok x) (Err e) → B
+no_fault x e h = absurd (cc)
 
 no_value : {A B : Type 0} (e : TextFault) (x : A) → ◌≡◌ {A = Result A TextFault} (Err e) (Ok x) → B
 no_value e x h = absurd (cc)
@@ -59,6 +63,9 @@ bind_err (Err d) f e h = inl (ap Err (fault_is d e h))
 
 bound : {A B : Type 0} (r : Result A TextFault) (f : A → Result B TextFault) (x : A) (s : Result B TextFault) → r ≡ Ok x → f x ≡ s → (r >>= f) ≡ s
 bound r f x s h k = ap (λ r. r >>= f) h ∙ k
+
+bound_err : {A B : Type 0} (r : Result A TextFault) (f : A → Result B TextFault) (e : TextFault) → r ≡ Err e → (r >>= f) ≡ Err e
+bound_err r f e h = ap (λ r. r >>= f) h
 
 abbrev IsAt : ℕ → TextFault → Type 0
 IsAt at e = fault_place e ≡ Some at
@@ -114,9 +121,9 @@ of_token place from f same goes late = record {
 -- a value without a reading
 of_value : {A : Type 0} (place : A → ProofCursor) (x : A) → Settles place (place x).from (λ text. Ok x)
 of_value place x = record {
-  goes = λ text y h. let same = ok_same x y h in subst (λ y. (place x).from ≤ (place y).from) same (omega arith);
+  goes = λ text y h. let same = value_is x y h in subst (λ y. (place x).from ≤ (place y).from) same (omega arith);
   again = λ text other y alike h. h;
-  late = λ text e at is h. never_err x e h;
+  late = λ text e at is h. no_fault x e h;
   fails = λ text other e at is alike h. h;
 }
 
@@ -141,7 +148,7 @@ module _ {A B : Type 0} (p : A → ProofCursor) (q : B → ProofCursor) (from : 
       let n = (second b.0).late text e at is b.1.1 in omega (arith, m, n)
 
   fails_by : (text other : List ℕ) (e : TextFault) (at : ℕ) → IsAt at e → SameUpTo text other at → (f text ≡ Err e) ⊎ Bound (f text) (λ x. g x text) (Err e) → (f other >>= (λ x. g x other)) ≡ Err e
-  fails_by text other e at is alike (inl h) = err_first (f other) (λ x. g x other) e (first.fails text other e at is alike h)
+  fails_by text other e at is alike (inl h) = bound_err (f other) (λ x. g x other) e (first.fails text other e at is alike h)
   fails_by text other e at is alike (inr b) =
       let n = (second b.0).late text e at is b.1.1 in
       bound (f other) (λ x. g x other) b.0 (Err e) (first.again text other b.0 (sooner n alike) b.1.0) ((second b.0).fails text other e at is alike b.1.1)
@@ -168,11 +175,11 @@ abbrev sign_by : Sign' → Cursor → Result ProofCursor TextFault
 sign_by sign token = if is_sign sign token.token then Ok (cursor_after_token token) else Err (Unexpected token.at)
 
 sign_ok : (b : Bool) (token : Cursor) (x : ProofCursor) → ◌≡◌ {A = Result ProofCursor TextFault} (if b then Ok (cursor_after_token token) else Err (Unexpected token.at)) (Ok x) → cursor_after_token token ≡ x
-sign_ok true token x h = ok_same _ x h
+sign_ok true token x h = value_is _ x h
 sign_ok false token x h = no_value _ x h
 
 sign_err : (b : Bool) (token : Cursor) (e : TextFault) → ◌≡◌ {A = Result ProofCursor TextFault} (if b then Ok (cursor_after_token token) else Err (Unexpected token.at)) (Err e) → Unexpected token.at ≡ e
-sign_err true token e h = never_err _ e h
+sign_err true token e h = no_fault _ e h
 sign_err false token e h = fault_is _ e h
 
 sign_settles : (sign : Sign') (here : ProofCursor) → Settles (λ (p : ProofCursor). p) here.from (λ text. cursor_after_sign text sign here)
@@ -186,8 +193,8 @@ sign_settles sign here = of_token (λ (p : ProofCursor). p) here.from (λ text. 
 
 term_at_token : (at : ℕ) (token : Token) (end left : ℕ) (e : TextFault) → ◌≡◌ {A = Result Term TextFault} (term_of [] (record { at = at; token = token; end = end; left = left })) (Err e) → {n : ℕ} → IsAt n e → n ≡ at
 unfolding term_of
-term_at_token at (Name name) end left e h is = never_err _ e h
-term_at_token at (Constant t) end left e h is = never_err _ e h
+term_at_token at (Name name) end left e h is = no_fault _ e h
+term_at_token at (Constant t) end left e h is = no_fault _ e h
 term_at_token at LongWord end left e h is = at_unexpected (moved (fault_is _ e h) is)
 term_at_token at (Variable name) end left e h is = at_unknown (moved (fault_is _ e h) is)
 term_at_token at tokens.BadDate end left e h is = at_date (moved (fault_is _ e h) is)
@@ -201,7 +208,7 @@ term_fault : (token : Cursor) (e : TextFault) (n : ℕ) → term_of [] token ≡
 term_fault token e n h is = term_at_token token.at token.token token.end token.left e h is
 
 sort_fault : (b : Bool) (at : ℕ) (e : TextFault) (n : ℕ) → ◌≡◌ {A = Result (Unit {0}) TextFault} (if b then Ok tt else Err (faults.Sort at)) (Err e) → IsAt n e → n ≡ at
-sort_fault true at e n h is = never_err _ e h
+sort_fault true at e n h is = no_fault _ e h
 sort_fault false at e n h is = at_sort (moved (fault_is _ e h) is)
 
 sorted_fault : (token : Cursor) (t : Term) (e : TextFault) (n : ℕ) → require_sort [] sorts.Time token.at t ≡ Err e → IsAt n e → n ≡ token.at
@@ -216,20 +223,20 @@ time_by token = term_of [] token >>= (λ t. require_sort [] sorts.Time token.at 
 
 term_ok : (token : Cursor) (x : Term × ProofCursor) → term_by token ≡ Ok x → cursor_after_token token ≡ x.1
 term_ok token x h =
-    let b = bind_ok (term_of [] token) (λ t. Ok (t, cursor_after_token token)) x h in ap (λ (p : Term × ProofCursor). p.1) (ok_same _ x b.1.1)
+    let b = bind_ok (term_of [] token) (λ t. Ok (t, cursor_after_token token)) x h in ap (λ (p : Term × ProofCursor). p.1) (value_is _ x b.1.1)
 
 time_ok : (token : Cursor) (x : Term × ProofCursor) → time_by token ≡ Ok x → cursor_after_token token ≡ x.1
 time_ok token x h =
     let b = bind_ok (term_of [] token) (λ t. require_sort [] sorts.Time token.at t >>= (λ _. Ok (t, cursor_after_token token))) x h in
-    let k = bind_ok (require_sort [] sorts.Time token.at b.0) (λ _. Ok (b.0, cursor_after_token token)) x b.1.1 in ap (λ (p : Term × ProofCursor). p.1) (ok_same _ x k.1.1)
+    let k = bind_ok (require_sort [] sorts.Time token.at b.0) (λ _. Ok (b.0, cursor_after_token token)) x b.1.1 in ap (λ (p : Term × ProofCursor). p.1) (value_is _ x k.1.1)
 
 term_err : (token : Cursor) (e : TextFault) (n : ℕ) → IsAt n e → (term_of [] token ≡ Err e) ⊎ Bound {B = Term × ProofCursor} (term_of [] token) (λ t. Ok (t, cursor_after_token token)) (Err e) → n ≡ token.at
 term_err token e n is (inl h) = term_fault token e n h is
-term_err token e n is (inr b) = never_err _ e b.1.1
+term_err token e n is (inr b) = no_fault _ e b.1.1
 
 time_sort : (token : Cursor) (t : Term) (e : TextFault) (n : ℕ) → IsAt n e → (require_sort [] sorts.Time token.at t ≡ Err e) ⊎ Bound {B = Term × ProofCursor} (require_sort [] sorts.Time token.at t) (λ _. Ok (t, cursor_after_token token)) (Err e) → n ≡ token.at
 time_sort token t e n is (inl h) = sorted_fault token t e n h is
-time_sort token t e n is (inr b) = never_err _ e b.1.1
+time_sort token t e n is (inr b) = no_fault _ e b.1.1
 
 time_err : (token : Cursor) (e : TextFault) (n : ℕ) → IsAt n e
     → (term_of [] token ≡ Err e) ⊎ Bound {B = Term × ProofCursor} (term_of [] token) (λ t. require_sort [] sorts.Time token.at t >>= (λ _. Ok (t, cursor_after_token token))) (Err e) → n ≡ token.at
@@ -263,11 +270,11 @@ first_behind text here = omega arith
 
 numbered_ok : (from at size left : ℕ) (o : Option ℕ) (x : ℕ × ProofCursor) → from ≤ at → hypothesis_reading at size left o ≡ Ok x → from ≤ x.1.from
 numbered_ok from at size left None x le h = no_value _ x h
-numbered_ok from at size left (Some n) x le h = subst (λ (y : ℕ × ProofCursor). from ≤ y.1.from) (ok_same _ x h) (omega (arith, le))
+numbered_ok from at size left (Some n) x le h = subst (λ (y : ℕ × ProofCursor). from ≤ y.1.from) (value_is _ x h) (omega (arith, le))
 
 numbered_err : (at size left : ℕ) (o : Option ℕ) (e : TextFault) (n : ℕ) → IsAt n e → hypothesis_reading at size left o ≡ Err e → n ≡ at
 numbered_err at size left None e n is h = at_unexpected (moved (fault_is _ e h) is)
-numbered_err at size left (Some k) e n is h = never_err _ e h
+numbered_err at size left (Some k) e n is h = no_fault _ e h
 
 hypothesis_settles : (here : ProofCursor) → Settles by_place here.from (λ text. hypothesis_at text here)
 unfolding hypothesis_at
@@ -278,11 +285,11 @@ hypothesis_settles here = of_token by_place here.from (λ text. hypothesis_at te
 
 named_ok : (from at size left : ℕ) (o : Option RuleName) (x : RuleName × ProofCursor) → from ≤ at → rule_reading at size left o ≡ Ok x → from ≤ x.1.from
 named_ok from at size left None x le h = no_value _ x h
-named_ok from at size left (Some n) x le h = subst (λ (y : RuleName × ProofCursor). from ≤ y.1.from) (ok_same _ x h) (omega (arith, le))
+named_ok from at size left (Some n) x le h = subst (λ (y : RuleName × ProofCursor). from ≤ y.1.from) (value_is _ x h) (omega (arith, le))
 
 named_err : (at size left : ℕ) (o : Option RuleName) (e : TextFault) (n : ℕ) → IsAt n e → rule_reading at size left o ≡ Err e → n ≡ at
 named_err at size left None e n is h = at_unknown (moved (fault_is _ e h) is)
-named_err at size left (Some k) e n is h = never_err _ e h
+named_err at size left (Some k) e n is h = no_fault _ e h
 
 rule_ok : (b : Bool) (from at size left : ℕ) (o : Option RuleName) (x : RuleName × ProofCursor) → from ≤ at → ◌≡◌ {A = Result (RuleName × ProofCursor) TextFault} (if b then rule_reading at size left o else Err (Unexpected at)) (Ok x) → from ≤ x.1.from
 rule_ok true from at size left o x le h = named_ok from at size left o x le h
@@ -397,7 +404,7 @@ room_same text other levels here same =
     ap (room_by (nat_le 1 here.left && nat_le 1 levels)) (first_same text other here same)
 
 large_fault : (b : Bool) (at : ℕ) (e : TextFault) (n : ℕ) → ◌≡◌ {A = Result (Unit {0}) TextFault} (if b then Ok tt else Err (TooLarge at)) (Err e) → IsAt n e → n ≡ at
-large_fault true at e n h is = never_err _ e h
+large_fault true at e n h is = no_fault _ e h
 large_fault false at e n h is = at_large (moved (fault_is _ e h) is)
 
 room_fault : (text : List ℕ) (levels : ℕ) (here : ProofCursor) (e : TextFault) (n : ℕ) → room text levels here ≡ Err e → IsAt n e → n ≡ first_byte text here
@@ -438,14 +445,14 @@ module _ (levels : ℕ) (here : ProofCursor) where
 
   fails_behind : (text other : List ℕ) (name : RuleName × ProofCursor) (e : TextFault) (at : ℕ) → IsAt at e → SameUpTo text other at → SameNext text other here.from
       → (room text levels here ≡ Err e) ⊎ Bound (room text levels here) (λ _. named_head text name.0 (take_rule name.1)) (Err e) → Behind other name ≡ Err e
-  fails_behind text other name e at is alike same (inl h) = err_first (room other levels here) (λ _. named_head other name.0 (take_rule name.1)) e (room_same text other levels here same ∙ h)
+  fails_behind text other name e at is alike same (inl h) = bound_err (room other levels here) (λ _. named_head other name.0 (take_rule name.1)) e (room_same text other levels here same ∙ h)
   fails_behind text other name e at is alike same (inr k) =
       bound (room other levels here) (λ _. named_head other name.0 (take_rule name.1)) k.0 (Err e) (room_same text other levels here same ∙ k.1.0)
       ((named_settles name.0 (take_rule name.1)).fails text other e at is alike k.1.1)
 
   head_fails : (text other : List ℕ) (e : TextFault) (at : ℕ) → IsAt at e → SameUpTo text other at → (rule_at text here ≡ Err e) ⊎ Bound (rule_at text here) (λ name. Behind text name) (Err e)
       → (rule_at other here >>= (λ name. Behind other name)) ≡ Err e
-  head_fails text other e at is alike (inl h) = err_first (rule_at other here) (λ name. Behind other name) e ((rule_settles here).fails text other e at is alike h)
+  head_fails text other e at is alike (inl h) = bound_err (rule_at other here) (λ name. Behind other name) e ((rule_settles here).fails text other e at is alike h)
   head_fails text other e at is alike (inr b) =
       let behind = bind_err (room text levels here) (λ _. named_head text b.0.0 (take_rule b.0.1)) e b.1.1 in
       let same = alike here.from (late_behind text b.0 e at is ((rule_settles here).goes text b.0 b.1.0) behind) in
@@ -564,7 +571,7 @@ abbrev end_by : Cursor → Result (Unit {0}) TextFault
 end_by token = if is_end token.token then Ok tt else Err (Unexpected token.at)
 
 end_fault : (b : Bool) (at : ℕ) (e : TextFault) (n : ℕ) → ◌≡◌ {A = Result (Unit {0}) TextFault} (if b then Ok tt else Err (Unexpected at)) (Err e) → IsAt n e → n ≡ at
-end_fault true at e n h is = never_err _ e h
+end_fault true at e n h is = no_fault _ e h
 end_fault false at e n h is = at_unexpected (moved (fault_is _ e h) is)
 
 ended_late : (text : List ℕ) (here : ProofCursor) (e : TextFault) (n : ℕ) → at_end text here ≡ Err e → IsAt n e → here.from ≤ n

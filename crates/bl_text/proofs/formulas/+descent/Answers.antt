@@ -5,7 +5,7 @@ use Rattle.bl_syntax.specs.Formula.{formula_view}
 use Rattle.bl_tokens.specs.declared.faults.TextFault.TheVariants.{NoMemory}
 use Rattle.bl_tokens.specs.declared.tokens.Sign.TheVariants as signs
 use Rattle.bl_tokens.specs.Tokens.{is_sign}
-use Rattle.bl_text.specs.Grammar.{is_saying, is_call}
+use Rattle.bl_text.specs.Grammar.{is_saying}
 use Rattle.bl_text.specs.Grammar as g
 use Rattle.bl_text.specs.FirstFaults as s
 use Rattle.bl_text.proofs.ReadLemmas.{passed, stops_at, is_at, is_form, every_quantifies, some_quantifies, formula_ended, lt_true, lt_false, stops_at_interval}
