@@ -219,14 +219,6 @@ fn is_leaf_tag(tag: u8) -> bool
     (16 <= tag && tag <= 20) || tag == 24 || tag == 25
 }
 
-#[inline(never)]
-fn box_formula(alloc: Global, f: Formula) -> Result<Box<Formula>, CodecFault>
-    ensures ok { IfOk result (λ b. formula_view b.value ≡ formula_view f) }
-    ensures err { IfErr result (λ fault. fault ≡ NoMemory) }
-{
-    Ok(Box::new(alloc, f)?)
-}
-
 /// Two formulas joined by the connective of that tag.
 #[inline(never)]
 fn boxed_pair(
@@ -238,11 +230,12 @@ fn boxed_pair(
     ensures ok { IfOk result (λ f. formula_view f.value ≡ join_formulas tag (formula_view a.value) (formula_view b.value)) }
     ensures err { IfErr result (λ fault. fault ≡ NoMemory) }
 {
-    match tag {
-        21 => box_formula(alloc, Formula::And(a, b)),
-        22 => box_formula(alloc, Formula::Or(a, b)),
-        _ => box_formula(alloc, Formula::Imp(a, b)),
-    }
+    let f = match tag {
+        21 => Formula::And(a, b),
+        22 => Formula::Or(a, b),
+        _ => Formula::Imp(a, b),
+    };
+    Ok(Box::new(alloc, f)?)
 }
 
 /// A formula inside the binder of that tag.
@@ -256,10 +249,11 @@ fn boxed_binder(
     ensures ok { IfOk result (λ f. formula_view f.value ≡ bind_formula tag sort (formula_view body.value)) }
     ensures err { IfErr result (λ fault. fault ≡ NoMemory) }
 {
-    match tag {
-        26 => box_formula(alloc, Formula::Forall(sort, body)),
-        _ => box_formula(alloc, Formula::Exists(sort, body)),
-    }
+    let f = match tag {
+        26 => Formula::Forall(sort, body),
+        _ => Formula::Exists(sort, body),
+    };
+    Ok(Box::new(alloc, f)?)
 }
 
 /// What a principal says.
@@ -268,7 +262,7 @@ fn boxed_says(alloc: Global, who: &Term, body: Box<Formula>) -> Result<Box<Formu
     ensures ok { IfOk result (λ f. formula_view f.value ≡ says who.now (formula_view body.value)) }
     ensures err { IfErr result (λ fault. fault ≡ NoMemory) }
 {
-    box_formula(alloc, Formula::Says(*who, body))
+    Ok(Box::new(alloc, Formula::Says(*who, body))?)
 }
 
 /// A formula on an interval.
@@ -282,7 +276,7 @@ fn boxed_on(
     ensures ok { IfOk result (λ f. formula_view f.value ≡ on (formula_view body.value) from.now to.now) }
     ensures err { IfErr result (λ fault. fault ≡ NoMemory) }
 {
-    box_formula(alloc, Formula::At(body, *from, *to))
+    Ok(Box::new(alloc, Formula::At(body, *from, *to))?)
 }
 
 /// Two formulas.

@@ -27,13 +27,9 @@ use bl_tokens::{
 };
 use std::alloc::Global;
 
-/// Drops what was read so far; the fault is the answer. No caller has room for a formula.
+/// Drops what was read so far. No caller has room for a formula.
 #[inline(never)]
-fn refuse(_read: Box<Formula>, fault: TextFault) -> Result<Box<Formula>, TextFault>
-    ensures { result ≡ Err fault }
-{
-    Err(fault)
-}
+fn discard(_read: Box<Formula>) {}
 
 /// The formula on the interval after the sign `@` at that place. It goes past the interval.
 #[inline(never)]
@@ -210,7 +206,8 @@ fn call_here(
     Ok(Box::new(alloc, f)?)
 }
 
-/// Reads the formula at that place, and goes past it.
+/// Reads the formula at that place, and goes past it. It only chooses the function that does, so it takes no frame.
+#[inline(always)]
 #[cycle(descent)]
 pub fn formula_at(
     alloc: Global,
@@ -284,6 +281,7 @@ fn for_some(
 }
 
 /// Reads the formula at that place, which begins with no quantifier.
+#[inline(never)]
 #[cycle(descent)]
 fn implication(
     alloc: Global,
@@ -309,10 +307,16 @@ fn implication(
             step_node(text, here);
             match formula_at(alloc, text, in_statement, scope, depth, here, ahead) {
                 Ok(b) => Ok(implies_of(alloc, a, b)?),
-                Err(fault) => refuse(a, fault),
+                Err(fault) => {
+                    discard(a);
+                    Err(fault)
+                }
             }
         }
-        Err(fault) => refuse(a, fault),
+        Err(fault) => {
+            discard(a);
+            Err(fault)
+        }
     }
 }
 
@@ -340,10 +344,16 @@ fn disjunction(
                 step_node(text, here);
                 match conjunction(alloc, text, in_statement, scope, depth, here, ahead) {
                     Ok(b) => a = either_of(alloc, a, b)?,
-                    Err(fault) => return refuse(a, fault),
+                    Err(fault) => {
+                        discard(a);
+                        return Err(fault);
+                    }
                 }
             }
-            Err(fault) => return refuse(a, fault),
+            Err(fault) => {
+                discard(a);
+                return Err(fault);
+            }
         }
     }
     Ok(a)
@@ -373,10 +383,16 @@ fn conjunction(
                 step_node(text, here);
                 match unary(alloc, text, in_statement, scope, depth, here, ahead) {
                     Ok(b) => a = both_of(alloc, a, b)?,
-                    Err(fault) => return refuse(a, fault),
+                    Err(fault) => {
+                        discard(a);
+                        return Err(fault);
+                    }
                 }
             }
-            Err(fault) => return refuse(a, fault),
+            Err(fault) => {
+                discard(a);
+                return Err(fault);
+            }
         }
     }
     Ok(a)
@@ -514,6 +530,9 @@ fn group(
     let a = formula_at(alloc, text, in_statement, scope, depth + 1, here, ahead)?;
     match go_behind(text, Sign::Close, here) {
         Ok(()) => Ok(a),
-        Err(fault) => refuse(a, fault),
+        Err(fault) => {
+            discard(a);
+            Err(fault)
+        }
     }
 }

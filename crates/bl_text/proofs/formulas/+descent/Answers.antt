@@ -59,10 +59,10 @@ implication-returns-then-not-is_sign-clause-read t c =
     record { is_text = g.one_disjunction _ _ _ _ _ c.requires.no_quantifier read.is_text; ended = formula_ended c.disjunction.new.here.token none read.ended; left = read.left; within = read.within }
 
 pub implication-returns-in-Err-clause-fault : goal.implication-returns-in-Err-clause-fault
-implication-returns-in-Err-clause-fault t c = passed c.refuse-in-Err.result c.in-Err.fault _ c.refuse-in-Err.ensures (s.at_implies _ _ _ c.disjunction.new.here (formula_view c.in_ok-a.a.value) _ c.requires.no_quantifier c.in_ok-a.ensures.read.is_text (let sign : is_sign signs.Implies c.disjunction.new.here.token ≡ true = search rules in sign) (sym c.in-Err.ensures.value))
+implication-returns-in-Err-clause-fault t c = s.at_implies _ _ _ c.disjunction.new.here (formula_view c.in_ok-a.a.value) _ c.requires.no_quantifier c.in_ok-a.ensures.read.is_text (let sign : is_sign signs.Implies c.disjunction.new.here.token ≡ true = search rules in sign) (sym c.in-Err.ensures.value)
 
 pub implication-returns-in-Err-formula_at-clause-fault : goal.implication-returns-in-Err-formula_at-clause-fault
-implication-returns-in-Err-formula_at-clause-fault t c = passed c.refuse.result c.in-Err-formula_at.fault _ c.refuse.ensures (s.in_conclusion _ _ _ c.disjunction.new.here (formula_view c.in_ok-a.a.value) _ c.requires.no_quantifier c.in_ok-a.ensures.read.is_text (let sign : is_sign signs.Implies c.disjunction.new.here.token ≡ true = search rules in sign) (sym c.in-Ok.ensures.value) (stops_at c.step_node.ensures.same c.in-Err-formula_at.ensures.fault))
+implication-returns-in-Err-formula_at-clause-fault t c = s.in_conclusion _ _ _ c.disjunction.new.here (formula_view c.in_ok-a.a.value) _ c.requires.no_quantifier c.in_ok-a.ensures.read.is_text (let sign : is_sign signs.Implies c.disjunction.new.here.token ≡ true = search rules in sign) (sym c.in-Ok.ensures.value) (stops_at c.step_node.ensures.same c.in-Err-formula_at.ensures.fault)
 
 pub implication-returns-in_err-implies_of-in-Ok-formula_at-clause-fault : goal.implication-returns-in_err-implies_of-in-Ok-formula_at-clause-fault
 implication-returns-in_err-implies_of-in-Ok-formula_at-clause-fault t c = passed c.from_residual-in_err-implies_of-in-Ok-formula_at.result NoMemory _ (search rules) (s.no_memory _ _ _ _)
@@ -88,10 +88,10 @@ disjunction-or-init t c =
     record { is_text = g.one_conjunction _ _ _ _ _ read.is_text; ended = read.ended; left = read.left; within = read.within }
 
 pub disjunction-returns-in-Err-clause-fault : goal.disjunction-returns-in-Err-clause-fault
-disjunction-returns-in-Err-clause-fault t c = passed c.refuse-in-Err.result c.in-Err.fault _ c.refuse-in-Err.ensures (s.at_or _ _ _ c.or.here (formula_view c.or.a.value) _ c.or.invariant.is_text (let sign : is_sign signs.Or c.or.here.token ≡ true = search rules in sign) (sym c.in-Err.ensures.value))
+disjunction-returns-in-Err-clause-fault t c = s.at_or _ _ _ c.or.here (formula_view c.or.a.value) _ c.or.invariant.is_text (let sign : is_sign signs.Or c.or.here.token ≡ true = search rules in sign) (sym c.in-Err.ensures.value)
 
 pub disjunction-returns-in-Err-conjunction-clause-fault : goal.disjunction-returns-in-Err-conjunction-clause-fault
-disjunction-returns-in-Err-conjunction-clause-fault t c = passed c.refuse.result c.in-Err-conjunction.fault _ c.refuse.ensures (s.in_disjunct _ _ _ c.or.here (formula_view c.or.a.value) _ c.or.invariant.is_text (let sign : is_sign signs.Or c.or.here.token ≡ true = search rules in sign) (sym c.in-Ok.ensures.value) (stops_at c.step_node.ensures.same c.in-Err-conjunction.ensures.fault))
+disjunction-returns-in-Err-conjunction-clause-fault t c = s.in_disjunct _ _ _ c.or.here (formula_view c.or.a.value) _ c.or.invariant.is_text (let sign : is_sign signs.Or c.or.here.token ≡ true = search rules in sign) (sym c.in-Ok.ensures.value) (stops_at c.step_node.ensures.same c.in-Err-conjunction.ensures.fault)
 
 pub disjunction-returns-in_err-a-in-Ok-conjunction-clause-fault : goal.disjunction-returns-in_err-a-in-Ok-conjunction-clause-fault
 disjunction-returns-in_err-a-in-Ok-conjunction-clause-fault t c = passed c.from_residual-in_err-a-in-Ok-conjunction.result NoMemory _ (search rules) (s.no_memory _ _ _ _)
@@ -117,10 +117,10 @@ conjunction-and-init t c =
     record { is_text = g.one_unary _ _ _ _ _ read.is_text; ended = read.ended; left = read.left; within = read.within }
 
 pub conjunction-returns-in-Err-clause-fault : goal.conjunction-returns-in-Err-clause-fault
-conjunction-returns-in-Err-clause-fault t c = passed c.refuse-in-Err.result c.in-Err.fault _ c.refuse-in-Err.ensures (s.at_and _ _ _ c.and.here (formula_view c.and.a.value) _ c.and.invariant.is_text (let sign : is_sign signs.And c.and.here.token ≡ true = search rules in sign) (sym c.in-Err.ensures.value))
+conjunction-returns-in-Err-clause-fault t c = s.at_and _ _ _ c.and.here (formula_view c.and.a.value) _ c.and.invariant.is_text (let sign : is_sign signs.And c.and.here.token ≡ true = search rules in sign) (sym c.in-Err.ensures.value)
 
 pub conjunction-returns-in-Err-unary-clause-fault : goal.conjunction-returns-in-Err-unary-clause-fault
-conjunction-returns-in-Err-unary-clause-fault t c = passed c.refuse.result c.in-Err-unary.fault _ c.refuse.ensures (s.in_conjunct _ _ _ c.and.here (formula_view c.and.a.value) _ c.and.invariant.is_text (let sign : is_sign signs.And c.and.here.token ≡ true = search rules in sign) (sym c.in-Ok.ensures.value) (stops_at c.step_node.ensures.same c.in-Err-unary.ensures.fault))
+conjunction-returns-in-Err-unary-clause-fault t c = s.in_conjunct _ _ _ c.and.here (formula_view c.and.a.value) _ c.and.invariant.is_text (let sign : is_sign signs.And c.and.here.token ≡ true = search rules in sign) (sym c.in-Ok.ensures.value) (stops_at c.step_node.ensures.same c.in-Err-unary.ensures.fault)
 
 pub conjunction-returns-in_err-a-in-Ok-unary-clause-fault : goal.conjunction-returns-in_err-a-in-Ok-unary-clause-fault
 conjunction-returns-in_err-a-in-Ok-unary-clause-fault t c = passed c.from_residual-in_err-a-in-Ok-unary.result NoMemory _ (search rules) (s.no_memory _ _ _ _)
@@ -208,7 +208,7 @@ pub group-returns-in_err-a-clause-fault : goal.group-returns-in_err-a-clause-fau
 group-returns-in_err-a-clause-fault t c = passed c.from_residual.result c.in_err-a.field-0.0 _ (search rules) (s.in_group _ _ _ _ c.requires.open (lt_true c.args.depth 512 (omega arith)) (stops_at c.step_into.ensures.same c.in_err-a.ensures.fault))
 
 pub group-returns-in-Err-clause-fault : goal.group-returns-in-Err-clause-fault
-group-returns-in-Err-clause-fault t c = passed c.refuse.result c.in-Err.fault _ c.refuse.ensures (s.not_closed _ _ _ _ (formula_view c.in_ok-a.a.value) _ c.requires.open (lt_true c.args.depth 512 (omega arith)) (is_at c.step_into.ensures.same c.in_ok-a.ensures.read.is_text) c.in_ok-a.ensures.read.ended c.in-Err.ensures.value)
+group-returns-in-Err-clause-fault t c = s.not_closed _ _ _ _ (formula_view c.in_ok-a.a.value) _ c.requires.open (lt_true c.args.depth 512 (omega arith)) (is_at c.step_into.ensures.same c.in_ok-a.ensures.read.is_text) c.in_ok-a.ensures.read.ended c.in-Err.ensures.value
 
 pub group-returns-in-Ok-clause-read : goal.group-returns-in-Ok-clause-read
 group-returns-in-Ok-clause-read t c =
