@@ -8,3 +8,4 @@ pub mod Entries
 pub mod Ready
 pub mod Steps
 pub mod Formats
+pub mod Laws

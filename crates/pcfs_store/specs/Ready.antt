@@ -5,7 +5,7 @@ use Rattle.journal_core.specs.Area.{StandsForBody, generation_of}
 use Rattle.journal_core.specs.Rest.{Rests}
 use Rattle.access_history.specs.declared.event.Event.{Event}
 use Rattle.access_history.specs.Base.{BaseView}
-use Rattle.pcfs_store.specs.Newest.{SurvivesWhole, Survives}
+use Rattle.pcfs_store.specs.Newest.{SurvivesWhole}
 use Rattle.pcfs_store.specs.StoreView.{StoreView, first_disk, second_disk, body_of}
 
 -- what a generation that is equal lacks to count: the first area counts then
@@ -17,6 +17,10 @@ tie true = 1
 abbrev pub IsBehind : Bool → ℕ → Option ℕ → Type 0
 IsBehind second_active generation None = Unit {0}
 IsBehind second_active generation (Some found) = found + tie second_active ≤ generation
+
+-- the history survives, or with it one event that met a fault
+abbrev pub SurvivesWithOrWithout : BaseView → List Event → Event → List ℕ → List ℕ → Type 0
+SurvivesWithOrWithout base events met first second = SurvivesWhole base events first second ⊎ SurvivesWhole base (events ++ met ∷ []) first second
 
 -- Below, `clock d` is the present moment of a disk d, `left_since d t bytes` says that a crash at some moment since t may have left these bytes, and `image d` is what a read gives, if d tells it.
 module _ {D : Type 0} (clock : D → ℕ) (left_since : D → ℕ → List ℕ → Type 0) (image : D → Option (List ℕ)) where
@@ -43,10 +47,6 @@ module _ {D : Type 0} (clock : D → ℕ) (left_since : D → ℕ → List ℕ �
   -- a crash now leaves only pairs with P
   abbrev pub StopsNow : StoreView D → (List ℕ → List ℕ → Type 0) → Type 0
   StopsNow s P = StopsLeave s s P
-
-  -- the history survives, or with it one event that met a fault
-  abbrev pub SurvivesWithOrWithout : BaseView → List Event → Event → List ℕ → List ℕ → Type 0
-  SurvivesWithOrWithout base events met first second = SurvivesWhole base events first second ⊎ SurvivesWhole base (events ++ met ∷ []) first second
 
   -- What a store keeps through all its steps: it is ready; or a disk failed, and a crash now leaves its history, or with it the event that met the fault.
   pub data Keeps (s : StoreView D) : Type 0 where

@@ -141,7 +141,7 @@ impl<D: Disk> Store<D> {
         // After a fault of a disk both remain possible.
         ensures met { IsReady D.clock D.left_since D.image self.old → result ≡ StoreReply.Stopped →
             (reply : StepReply) × (event : Event) × AnswersIn self.old pass clock request reply (Some event)
-            × StopsNow D.clock D.left_since D.image self.new (SurvivesWithOrWithout D.clock D.left_since D.image self.old.base self.old.events event) }
+            × StopsNow D.clock D.left_since D.image self.new (SurvivesWithOrWithout self.old.base self.old.events event) }
 
         ensures first_told { is_some (D.image (first_disk self.new)) ≡ is_some (D.image (first_disk self.old)) }
         ensures second_told { is_some (D.image (second_disk self.new)) ≡ is_some (D.image (second_disk self.old)) }

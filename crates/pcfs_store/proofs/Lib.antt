@@ -1,0 +1,4 @@
+pub mod SurvivalLemmas
+pub mod FittingLemmas
+pub mod StepLemmas
+pub mod FormatLemmas
