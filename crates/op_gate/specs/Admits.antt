@@ -12,11 +12,12 @@ use Rattle.proof_verifier.specs.CheckedView.{IsGranted}
 use Rattle.proof_verifier.specs.declared.fault.CheckFault.{CheckFault}
 use Rattle.proof_verifier.specs.declared.fault.CheckFault.TheVariants as checks
 use Rattle.bl_syntax.specs.Grant.{GrantView}
+use Rattle.bl_syntax.specs.Statement.{StatementView}
 use Rattle.policy_statement.specs.declared.registry.RegisterFault.{RegisterFault}
 use Rattle.policy_statement.specs.declared.registry.RegisterFault.TheVariants as registry
 use Rattle.access_history.specs.declared.event.Entry.TheVariants as entries
 use Rattle.access_history.specs.declared.event.Event.{Event}
-use Rattle.access_history.specs.declared.event.Event.TheVariants.{Issued}
+use Rattle.access_history.specs.declared.event.Event.TheVariants.{Registered, Issued}
 use Rattle.access_history.specs.Citing.{numbers_of}
 use Rattle.access_history.specs.History.{HistoryView, authority_of, state_of, entry_of, IsReadyFor}
 use Rattle.access_history.specs.Lawful.{MayFollow}
@@ -45,6 +46,10 @@ pub record IsTimely (state : BaseView) (op : Op) (procaps : List Procap) (moment
   pub not_before : state.moment ≤ℤ moment
   pub slots : length procaps ≡ slots op
   pub few_bytes : bytes_to_write op ≤ 65536
+
+-- what the state keeps of a statement, pending with its event
+abbrev pub pending_statement : ℕ → StatementView → List ℕ → Pending
+pending_statement pass statement signature = record { event = Registered pass statement signature; entry = entries.Statement statement signature }
 
 -- what the state keeps of an issue, pending with its event
 abbrev pub pending_issue : ℕ → List ℕ → ProofView → GrantView → Pending

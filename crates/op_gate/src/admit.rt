@@ -4,7 +4,7 @@ ghost use Rattle.std.specs.Prelude.{◌≡◌, ◌↔◌, ◌<◌, ◌-◌, ◌^
 ghost use Rattle.access_history.specs.declared.event.Event.TheVariants as events;
 ghost use Rattle.access_history.specs.Citing.{AreCitable, DoNumbersRise, numbers_of};
 ghost use Rattle.access_history.specs.History.{authority_of, state_of};
-ghost use Rattle.op_gate.specs.Admits.{GivesPending, GivesIssue, IsTimely, pending_issue, proof_damage, register_damage};
+ghost use Rattle.op_gate.specs.Admits.{GivesPending, GivesIssue, IsTimely, pending_issue, pending_statement, proof_damage, register_damage};
 ghost use Rattle.op_gate.specs.Damage.{IsDamagedBy};
 
 use crate::act::decide_act;
@@ -14,7 +14,7 @@ use crate::damage::{AdmitFault, Damage};
 use crate::decide::{issue_parts, issued, registered};
 use crate::planned::{Pending, Planned};
 use access_history::{Event, History, Procaps};
-use bl_syntax::{Bytes, Grant, Numbers, Principal, Statement, is_moment};
+use bl_syntax::{Bytes, Constraint, Grant, Numbers, Principal, StatePred, Statement, is_moment};
 use file_world::Op;
 use policy_statement::RegisterFault as RegistryFault;
 use procap::Procap;
@@ -40,6 +40,22 @@ fn register_damage(fault: RegistryFault) -> AdmitFault
     }
 }
 
+// The statement, pending under its signature.
+fn register_again(
+    alloc: Global,
+    pass: u64,
+    statement: Statement,
+    signature: Bytes,
+) -> Result<Pending, AdmitFault>
+    ensures ok { IfOk result (λ pending. pending ≡ pending_statement pass statement signature) }
+    ensures err { IfErr result (λ fault. fault ≡ AdmitFault.NoMemory) }
+{
+    match registered(alloc, pass, statement, signature) {
+        Ok(pending) => Ok(pending),
+        Err(_) => Err(AdmitFault::NoMemory),
+    }
+}
+
 // A statement that was registered: its signature, whether it is new, and the room for it are tested again.
 fn admit_registered(
     alloc: Global,
@@ -54,10 +70,7 @@ fn admit_registered(
     let _from = statement.from();
     let registry = history.registry();
     match registry.test(alloc, history.ring(), &statement, signature.as_slice()) {
-        Ok(()) => match registered(alloc, pass, statement, signature) {
-            Ok(pending) => Ok(pending),
-            Err(_) => Err(AdmitFault::NoMemory),
-        },
+        Ok(()) => register_again(alloc, pass, statement, signature),
         Err(fault) => Err(register_damage(fault)),
     }
 }
@@ -79,13 +92,31 @@ fn are_citable(numbers: &[u32]) -> bool
     !numbers.is_empty() && numbers.len() <= MOST_CITED && do_rise(numbers)
 }
 
+// Whether they are the same conditions on time in the same order.
+fn are_same_times(times: &[Constraint], others: &[Constraint]) -> bool
+    ensures { IsTrue result ↔ (times.now ≡ others.now) }
+{
+    times == others
+}
+
+// Whether they are the same conditions on the state in the same order.
+fn are_same_states(states: &[StatePred], others: &[StatePred]) -> bool
+    ensures { IsTrue result ↔ (states.now ≡ others.now) }
+{
+    states == others
+}
+
 // Whether they grant the same under the same conditions.
 fn is_same_grant(first: &Grant, second: &Grant) -> bool
     ensures { IsTrue result ↔ (first.now ≡ second.now) }
 {
-    first.goal().is_same(&second.goal())
-        && first.times() == second.times()
-        && first.states() == second.states()
+    if !first.goal().is_same(&second.goal()) {
+        return false;
+    }
+    if !are_same_times(first.times(), second.times()) {
+        return false;
+    }
+    are_same_states(first.states(), second.states())
 }
 
 // Why a proof is refused, as damage.
