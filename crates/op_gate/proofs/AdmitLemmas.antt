@@ -2,6 +2,7 @@
 use Rattle.std.proofs.Common.{◌≡◌, ◌<◌, ◌≤◌, ◌-◌, ◌^◌, ℕ, List, [], ◌∷◌, ◌++◌, length, refl, sym, ap, subst, ◌∙◌, arith, ⊎_elim, Some, None}
 use Rattle.std.specs.Prelude.{ℤ, ◌≤ℤ◌, Contains, Result, Ok, Err, IfOk, IfErr, IsTrue, Option, ◌⊎◌}
 use Rattle.std.specs.List.{AllByRecursion}
+use Rattle.std.specs.Option.{option_map}
 use Rattle.std.proofs.lemmas.Bool.{false≢true}
 use Rattle.std.proofs.lemmas.Int.{ints, clamps}
 use Rattle.std.proofs.lemmas.List.{length-map}
@@ -52,8 +53,8 @@ use Rattle.op_gate.specs.declared.damage.AdmitFault.{AdmitFault}
 use Rattle.op_gate.specs.declared.damage.AdmitFault.TheVariants.{Damaged, NoMemory}
 use Rattle.op_gate.specs.declared.planned.Pending.{Pending}
 use Rattle.op_gate.specs.declared.planned.Planned.TheVariants.{Answer, Keep}
-use Rattle.op_gate.specs.Admits.{IsPendingAs, GivesPending, IsTimely, GivesIssue, pending_issue, pending_statement, proof_damage, register_damage}
-use Rattle.op_gate.specs.Damage.{HasShape, TakesEffect, IsNewAmong, IsFreeOf, IsDamagedBy, MayComeNext, event_damages}
+use Rattle.op_gate.specs.Admits.{FindsCited, IsPendingAs, GivesPending, IsTimely, GivesIssue, LacksNext, pending_issue, pending_statement, proof_damage, register_damage}
+use Rattle.op_gate.specs.Damage.{HasShape, TakesEffect, IsNewAmong, IsFreeOf, IsDamagedBy, MayComeNext, TellsDamage, event_damages}
 use Rattle.op_gate.specs.DamageLaws.{IsTypedEvent}
 use Rattle.op_gate.specs.Decision.{IsPlanned}
 use Rattle.op_gate.proofs.RegistryLemmas.{new_to_registry, said_from_registry, may_register}
@@ -240,6 +241,45 @@ issued_found h pass cited proof g cites (Err (Damaged damage)) counted citable f
     (λ good. gives.1 (subst (λ (cs : List Cite). IsGranted (statements_of cs) g.goal proof g)
     (cites_determined (sayings (state_of h).statements) good.cites cites (sym good.cited ∙ sym found.numbers_are) good.stand found.stand) good.granted)))
 issued_found h pass cited proof g cites (Err NoMemory) counted citable found gives = tt
+
+-- what is found of an issue whose statements were looked up, or not found
+pub issued_cited : (h : HistoryView) (pass : ℕ) (cited : List ℕ) (proof : ProofView) (g : GrantView) (cites : List Cite) (told : Result Pending AdmitFault) (shown : List RegisteredView) (numbers : List ℕ) → (state_of h).count < 2 ^ 48 - 1 → shown ≡ (state_of h).statements → numbers ≡ cited →
+    FindsCited (sayings shown) numbers (Ok cites) → GivesIssue pass cites proof g told → GivesPending h h (Issued pass cited proof g) told
+issued_cited h pass cited proof g cites told shown numbers counted shown_is numbers_are finds gives =
+    let all : AreCitable cited × AreFound (sayings (state_of h).statements) cited cites =
+    subst (λ (ns : List ℕ). AreCitable ns × AreFound (sayings (state_of h).statements) ns cites) numbers_are (subst (λ (es : List RegisteredView). AreCitable numbers × AreFound (sayings es) numbers cites) shown_is finds) in
+    issued_found h pass cited proof g cites told counted all.0 all.1 gives
+
+pub issued_uncited : (h : HistoryView) (pass : ℕ) (cited : List ℕ) (proof : ProofView) (g : GrantView) (fault : AdmitFault) (shown : List RegisteredView) (numbers : List ℕ) → (state_of h).count < 2 ^ 48 - 1 → shown ≡ (state_of h).statements → numbers ≡ cited →
+    FindsCited (sayings shown) numbers (Err fault) → GivesPending h h (Issued pass cited proof g) (Err fault)
+issued_uncited h pass cited proof g (Damaged damage) shown numbers counted shown_is numbers_are finds =
+    subst (λ (d : Damage). IsDamagedBy (authority_of h) (state_of h) (Issued pass cited proof g) d) (sym finds.0)
+    (damaged_unproved (authority_of h) (state_of h) counted pass cited proof g
+    (λ good. finds.1 proof g (subst (λ (ns : List ℕ). IsGoodIssue (sayings shown) (record { cited = ns; proof = proof; grant = g })) (sym numbers_are)
+    (subst (λ (es : List RegisteredView). IsGoodIssue (sayings es) (record { cited = cited; proof = proof; grant = g })) (sym shown_is) good))))
+issued_uncited h pass cited proof g NoMemory shown numbers counted shown_is numbers_are finds = tt
+
+-- ---- the gate
+
+-- nothing is pending
+pub none_pending : (pending : Option Pending) → option_map (λ (p : Pending). p.event) pending ≡ None → pending ≡ None
+none_pending None is = refl
+none_pending (Some p) is = absurd cc
+
+-- there is no number for the event
+pub lacks_next : (authority : Authority) (state shown : BaseView) (event : Event) (fault : AdmitFault) → shown ≡ state → LacksNext shown fault → TellsDamage authority state event (Err fault)
+lacks_next authority state shown event (Damaged damage) same lacks =
+    subst (λ (d : Damage). IsDamagedBy authority state event d) (sym lacks.0)
+    (damaged_shape authority state event (λ has. omega (arith, has.0, lacks.1, ap (λ (s : BaseView). s.count) same)))
+lacks_next authority state shown event NoMemory same lacks = tt
+
+-- what is told of the event that is kept, and of one that is not
+pub told_kept : (before after : HistoryView) (event : Event) (pending : Pending) → (state_of before).count < 2 ^ 48 - 1 → IsPendingAs before after event pending → MayComeNext (authority_of before) (state_of before) event
+told_kept before after event pending counted is = record { counted = counted; follows = is.follows }
+
+pub told_damaged : (before after : HistoryView) (event : Event) (fault : AdmitFault) → GivesPending before after event (Err fault) → TellsDamage (authority_of before) (state_of before) event (Err fault)
+told_damaged before after event (Damaged damage) gives = gives
+told_damaged before after event NoMemory gives = tt
 
 -- ---- operations
 

@@ -2,6 +2,7 @@
 use Rattle.std.proofs.Common.{subst, sym, List}
 use Rattle.std.specs.Prelude.{ℤ}
 use Rattle.std.specs.Int.{w64}
+use mir.Val.{to_z, of_z}
 use Rattle.std.proofs.lemmas.Int.{to_z-of_z}
 use Rattle.procap.specs.declared.procap.Procap.{Procap}
 use Rattle.access_history.specs.declared.event.Event.TheVariants.{Acted}
@@ -12,7 +13,7 @@ use Rattle.op_gate.proofs.admit.admit_acted.Goals as goal
 
 pub admit_timely-requires-clause-timely : goal.admit_timely-requires-clause-timely
 admit_timely-requires-clause-timely c =
-    subst (λ (ps : List Procap). IsTimely (state_of c.args.history.now) c.args.op ps _) c.as_slice.ensures (c.in-None.ensures c.args.pass c.args.caller)
+    subst (λ (ps : List Procap). IsTimely (state_of c.args.history.now) c.args.op ps (to_z w64 (of_z w64 c.args.moment))) c.as_slice.ensures (c.in-None.ensures c.args.pass c.args.caller)
 
 pub returns-in-Some-clause-pending : goal.returns-in-Some-clause-pending
 returns-in-Some-clause-pending c =
