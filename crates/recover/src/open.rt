@@ -20,12 +20,7 @@ use policy_statement::Keyring;
 use std::alloc::Global;
 
 // What is wrong first with the area of a disk that breaks: a record before the break may be damaged too.
-fn damage_before_break<D: Disk>(
-    alloc: Global,
-    disk: &mut D,
-    key: &[u8],
-    ring: Keyring,
-) -> OpenFault
+fn damage_before_break<D: Disk>(alloc: Global, disk: &mut D, key: &[u8], ring: Keyring) -> OpenFault
     ensures why { (number : ℕ) → IfSome (D.image disk.old) (λ bytes. IsBroken number bytes → IsWhy (authority_with key.now ring) bytes result) }
     ensures risen { result ≡ OpenFault.Disk → HasRisen (D.faults disk.old) (D.faults disk.new) }
     ensures same { result ≢ OpenFault.Disk → D.image disk.new ≡ D.image disk.old }
