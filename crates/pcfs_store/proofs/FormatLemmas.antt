@@ -1,19 +1,27 @@
 -- What the making of a store leaves.
-use Rattle.std.proofs.Common.{◌≡◌, ◌≢◌, ◌⊎◌, ◌×◌, ℕ, ◌≤◌, List, [], length, get_or, Some, None, Bool, true, false, refl, sym, ◌∙◌, ap, subst, inl, inr, ⊎_elim, arith}
+use Rattle.std.proofs.Common.{◌≡◌, ◌≢◌, ◌⊎◌, ℕ, ◌≤◌, List, [], ◌∷◌, ◌++◌, length, get_or, Some, None, Bool, true, false, refl, sym, ◌∙◌, ap, subst, inl, inr, ⊎_elim, arith}
 use Rattle.std.specs.Prelude.{Option, is_some, ltb, nat_lt, ◌==◌, ◌||◌, if◌then◌else◌}
 use Rattle.std.specs.Option.{option_map}
 use Rattle.std.specs.Int.{w64, from_be_bytes}
-use Rattle.std.specs.Prelude.{take, drop}
+use Rattle.std.specs.Prelude.{take, drop, Result, Ok, Err, IfOk, MatchResult}
 use Rattle.std.proofs.lemmas.Bool.{ne_eqb}
-use Rattle.pcfs_ports.specs.Disk.{IsPinned, Idles, LeavesOnly}
+use Rattle.pcfs_ports.specs.Disk.{written, IsPinned, Idles, LeavesOnly}
 use Rattle.journal_core.specs.Area.{area_limit, area_bytes, IsShut, IsGeneration, generation_of}
-use Rattle.journal_core.specs.Rest.{IsOldOrShutOrNew}
+use Rattle.journal_core.specs.AreaView.{AreaView}
+use Rattle.journal_core.specs.Rest.{Rests, IsOldOrShutOrNew}
+use Rattle.journal_core.proofs.AreaLemmas.{closed_written}
 use Rattle.journal_core.proofs.RestsLemmas.{some_same}
+use Rattle.policy_statement.specs.Ring.{KeyView}
+use Rattle.op_gate.specs.Decision.{GateView}
+use Rattle.access_history.specs.declared.event.Event.{Event}
 use Rattle.access_history.specs.Replay.{fresh}
 use Rattle.pcfs_store.specs.Image.{fresh_image}
 use Rattle.pcfs_store.specs.Newest.{newest, one_of, newer, SurvivesWhole}
-use Rattle.pcfs_store.specs.Ready.{IsBehind}
-use Rattle.pcfs_store.specs.Formats.{IsNoneOrFresh, PairsLeft}
+use Rattle.pcfs_store.specs.StoredHistory.{payloads_of}
+use Rattle.pcfs_store.specs.StoreView.{StoreView, body_of}
+use Rattle.pcfs_store.specs.Inside.{store_of}
+use Rattle.pcfs_store.specs.Ready.{IsBehind, IsReady}
+use Rattle.pcfs_store.specs.Formats.{IsNewStore, IsNoneOrFresh, PairsLeft}
 use Rattle.pcfs_store.proofs.SurvivalLemmas.{IsTellable, survives_beside}
 
 -- an area that is shut has no generation, and one that has none is shut
@@ -91,3 +99,49 @@ module _ {D : Type 0} (clock : D → ℕ) (left_since : D → ℕ → List ℕ �
       (λ before. inl (idle_left a mid_a first x told_a pinned_a idles_a before))
       (λ now. now)
       (leaves.since (clock a) x idles_a.later left_x))
+
+  -- the disk of a new store is at rest
+  pub new_rests : (a : D) (active : AreaView D) (other : D) (gate : GateView) (s : StoreView D) (first : List ℕ) → s ≡ store_of active other false 1 gate None → gate.events ≡ [] →
+      image active.disk ≡ option_map (written 0 (area_bytes 1 fresh_image [] ++ 0 ∷ [])) (image a) → IsPinned clock left_since image active.disk → image a ≡ Some first → Rests clock left_since image s.active (body_of s)
+  new_rests a active other gate s first is none made pinned told =
+      subst (λ (new : StoreView D). Rests clock left_since image new.active (body_of new)) (sym is)
+      (subst (λ (events : List Event). Rests clock left_since image active.disk (area_bytes 1 fresh_image (payloads_of events))) (sym none)
+      (record {
+        bytes = written 0 (area_bytes 1 fresh_image [] ++ 0 ∷ []) first;
+        told = made ∙ ap (option_map (written 0 (area_bytes 1 fresh_image [] ++ 0 ∷ []))) told;
+        closed = closed_written [] (area_bytes 1 fresh_image []) first refl;
+        pinned = pinned;
+      }))
+
+  -- ---- what was made
+
+  module _ {F : Type 0} (a b mid_a mid_b : D) where
+    pub format_ready : (key : List ℕ) (ring : List KeyView) (made : Result (StoreView D) (F × D × D)) → image mid_a ≡ image a → image mid_b ≡ image b → IsPinned clock left_since image mid_b →
+        ((first second : List ℕ) → image a ≡ Some first → image b ≡ Some second → IsShut first × IsShut second) →
+        IfOk made (IsNewStore key ring) → IfOk made (λ s. (first : List ℕ) → image mid_a ≡ Some first → Rests clock left_since image s.active (body_of s)) →
+        MatchResult made (λ s. s.other ≡ mid_b) (λ e. e.2 ≡ mid_b) →
+        IfOk made (λ s. (first second : List ℕ) → image a ≡ Some first → image b ≡ Some second → IsReady clock left_since image s)
+    format_ready key ring (Ok s) same_a same_b pinned_b shut new rests is_b = λ first second told_a told_b. record {
+      running = new.running;
+      rests = rests first (same_a ∙ told_a);
+      other_bytes = second;
+      other_told = ap image is_b ∙ same_b ∙ told_b;
+      other_pinned = subst (IsPinned clock left_since image) (sym is_b) pinned_b;
+      behind = subst (IsBehind s.second_active s.generation) (sym (none_shut second (shut first second told_a told_b).1)) tt;
+    }
+    format_ready key ring (Err e) same_a same_b pinned_b shut new rests is_b = tt
+
+    pub format_any_moment : (made : Result (StoreView D) (F × D × D)) (first second : List ℕ) → image a ≡ Some first → image b ≡ Some second → IsPinned clock left_since image a → IsPinned clock left_since image b →
+        IsShut first → IsShut second → Idles clock left_since a mid_a → Idles clock left_since b mid_b →
+        MatchResult made (λ s. LeavesOnly clock left_since mid_a s.active (IsOldOrShutOrNew first (area_bytes 1 fresh_image []))) (λ e. LeavesOnly clock left_since mid_a e.1 (IsOldOrShutOrNew first (area_bytes 1 fresh_image []))) →
+        MatchResult made (λ s. s.other ≡ mid_b) (λ e. e.2 ≡ mid_b) →
+        MatchResult made (λ s. PairsLeft clock left_since IsNoneOrFresh a b s.active s.other) (λ e. PairsLeft clock left_since IsNoneOrFresh a b e.1 e.2)
+    format_any_moment (Ok s) first second told_a told_b pinned_a pinned_b shut_a shut_b idles_a idles_b leaves is_b =
+        format_pairs a b mid_a s.active s.other first second told_a told_b pinned_a pinned_b shut_a shut_b idles_a (subst (λ (d : D). Idles clock left_since b d) (sym is_b) idles_b) leaves
+    format_any_moment (Err e) first second told_a told_b pinned_a pinned_b shut_a shut_b idles_a idles_b leaves is_b =
+        format_pairs a b mid_a e.1 e.2 first second told_a told_b pinned_a pinned_b shut_a shut_b idles_a (subst (λ (d : D). Idles clock left_since b d) (sym is_b) idles_b) leaves
+
+  pub format_shut : {F : Type 0} (a b : D) (made : Result (StoreView D) (F × D × D)) → ((first second : List ℕ) → image a ≡ Some first → image b ≡ Some second → IsShut first × IsShut second) →
+      IfOk made (λ s. (first second : List ℕ) → image a ≡ Some first → image b ≡ Some second → IsShut first × IsShut second)
+  format_shut a b (Ok s) shut = shut
+  format_shut a b (Err e) shut = tt

@@ -2,6 +2,7 @@ pub mod Image
 pub mod StoredHistory
 pub mod Newest
 pub mod StoreView
+pub mod StoreCode
 pub mod Inside
 pub mod Keeping
 pub mod Entries
