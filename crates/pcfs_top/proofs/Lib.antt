@@ -1,4 +1,5 @@
 pub mod AllowedLemmas
+pub mod AnsweredLemmas
 pub mod BroughtLemmas
 pub mod EndsWithLemmas
 pub mod ExactLemmas

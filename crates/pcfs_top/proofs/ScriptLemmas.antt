@@ -91,6 +91,10 @@ RunsOver-done : (start now : Standing) (done : List (List ℕ)) (told : List Lin
 RunsOver-done start now done told stands goes_on =
     RunsOver-ran start now done told stands (ScriptRun-same start now (done ++ []) done (told ++ []) told (append-nil done) (append-nil told) (goes_on [] [] now (script.ended now)))
 
+-- where a run stands is lawful
+pub HasRun-lawful : (start now : Standing) (bytes rest : List ℕ) (held mid : Option (List ℕ)) (collected : List ℕ) → IsLawfulStanding start → HasRun start now bytes rest held mid collected → IsLawfulStanding now
+HasRun-lawful start now bytes rest held mid collected stands h = (runs_lawfully start now (h.done ++ []) (h.told ++ []) stands (h.goes_on [] [] now (script.ended now))).stands
+
 -- each line was answered, and all replies are out
 pub HasRun-whole : (start now : Standing) (bytes rest : List ℕ) (held mid new : Option (List ℕ)) (collected : List ℕ) → IsLawfulStanding start → HasRun start now bytes rest held mid collected → rest ≡ [] → new ≡ with_back mid collected →
     (written : List ℕ) × RunsOver start (lines_of bytes) now written × (new ≡ with_back held written)

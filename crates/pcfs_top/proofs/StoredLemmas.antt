@@ -1,5 +1,5 @@
 -- A store while a script goes on.
-use Rattle.std.proofs.Common.{◌≡◌, ◌⊎◌, inl, inr, ℕ, ℤ, ◌≤◌, ◌<◌, ◌-◌, ◌^◌, Bool, true, false, List, Option, Some, None, refl, sym, subst, ◌∙◌, arith}
+use Rattle.std.proofs.Common.{◌≡◌, ◌⊎◌, inl, inr, ℕ, ℤ, ◌≤◌, ◌<◌, ◌-◌, ◌^◌, Bool, true, false, List, Option, Some, None, refl, sym, ap, subst, ◌∙◌, arith}
 use Rattle.std.specs.Prelude.{◌≢◌}
 use Rattle.pcfs_ports.specs.Faults.{HasRisen}
 use Rattle.access_history.specs.declared.event.Event.{Event}
@@ -68,6 +68,12 @@ module _ {D : Type 0} (clock : D → ℕ) (left_since : D → ℕ → List ℕ �
         (reply : StepReply) × (event : Event) × AnswersIn old asker.pass asker.clock request reply (Some event) × StopsNow clock left_since image new (SurvivesWithOrWithout old.base old.events event)
     pub first_never_falls : faults (first_disk old) ≤ faults (first_disk new)
     pub second_never_falls : faults (second_disk old) ≤ faults (second_disk new)
+
+  -- the same of the moment that was given, which is the one that the clock shows
+  pub Stepped-shown : (old new : StoreView D) (pass : ℕ) (at shown : ℤ) (caller : List ℕ) (sees : Option (List ℕ)) (request : StepRequest) (result : StoreReply) → shown ≡ at → Stepped old (record { pass = pass; clock = shown; caller = caller; sees = sees }) request result new →
+      Stepped old (record { pass = pass; clock = at; caller = caller; sees = sees }) request result new
+  Stepped-shown old new pass at shown caller sees request result same stepped =
+      subst (λ (z : ℤ). Stepped old (record { pass = pass; clock = z; caller = caller; sees = sees }) request result new) same stepped
 
   goes_running : (old new : StoreView D) (asker : Asker) (request : StepRequest) (result : StoreReply) → result ≢ stores.Stopped → Stepped old asker request result new → StoreGoesOn clock left_since image faults old new None
   goes_running old new asker request result going s = record {
@@ -147,6 +153,21 @@ module _ {D : Type 0} (clock : D → ℕ) (left_since : D → ℕ → List ℕ �
 
   pub LeadsTo-same : (R : Standing → LineReply → Standing → Type 0) (i : InterpreterView D) (reply : LineReply) → i.store.stop ≡ None → R (standing_of i None) reply (standing_of i None) → LeadsTo clock left_since image faults R i reply i
   LeadsTo-same R i reply running holds = record { met = None; holds = holds; goes_on = StoreGoesOn-same i.store running }
+
+  pub LeadsTo-unchanged : (R : Standing → LineReply → Standing → Type 0) (i new : InterpreterView D) (reply : LineReply) → new ≡ i → i.store.stop ≡ None → R (standing_of i None) reply (standing_of i None) → LeadsTo clock left_since image faults R i reply new
+  LeadsTo-unchanged R i new reply same running holds = subst (λ (n : InterpreterView D). LeadsTo clock left_since image faults R i reply n) (sym same) (LeadsTo-same R i reply running holds)
+
+  -- the store is as it was, and another asks, or at another moment
+  pub LeadsTo-changed : (R : Standing → LineReply → Standing → Type 0) (inside seated new : InterpreterView D) (reply : LineReply) → inside ≡ seated → seated.store.stop ≡ None → R (standing_of seated None) reply (standing_of (record new { store = inside.store }) None) →
+      LeadsTo clock left_since image faults R seated reply (record new { store = inside.store })
+  LeadsTo-changed R inside seated new reply same running holds = record {
+    met = None;
+    holds = holds;
+    goes_on = subst (λ (i : InterpreterView D). StoreGoesOn clock left_since image faults i.store inside.store None) same (StoreGoesOn-same inside.store (ap (λ (i : InterpreterView D). i.store.stop) same ∙ running));
+  }
+
+  pub LeadsTo-seated : (R : Standing → LineReply → Standing → Type 0) (inside seated new : InterpreterView D) (reply : LineReply) → inside ≡ seated → LeadsTo clock left_since image faults R inside reply new → LeadsTo clock left_since image faults R seated reply new
+  LeadsTo-seated R inside seated new reply same l = subst (λ (i : InterpreterView D). LeadsTo clock left_since image faults R i reply new) same l
 
   -- a call that says more of where it leads
   pub LeadsTo-also : (R Q : Standing → LineReply → Standing → Type 0) (old new : InterpreterView D) (reply : LineReply) → ((met : Option Event) → R (standing_of old None) reply (standing_of new met) → Q (standing_of old None) reply (standing_of new met)) →

@@ -2,6 +2,7 @@ pub mod Admin
 pub mod Asker
 pub mod Brought
 pub mod Interpreter
+pub mod InterpreterCode
 pub mod InterpreterView
 pub mod Laws
 pub mod LineAnswer

@@ -5,14 +5,16 @@ use Rattle.std.specs.String.{string_bytes}
 use Rattle.std.specs.declared.alloc.Global.{Global}
 use Rattle.pcfs_ports.specs.Faults.{HasRisen}
 use Rattle.pcfs_ports.specs.Told.{with_back, HoldsSome}
-use Rattle.journal_core.specs.Area.{Closed, area_bytes, IsGeneration}
+use Rattle.journal_core.specs.Area.{Closed, area_bytes}
+use Rattle.access_history.specs.Replay.{fresh}
 use Rattle.access_history.specs.declared.event.Event.{Event}
 use Rattle.op_gate.specs.declared.damage.Damage.{Damage}
 use Rattle.op_gate.specs.declared.damage.Damage.TheVariants.{Header, Shape, Unsigned, Unproved, NotAdmitted, MomentFalls, Duplicate}
 use Rattle.pcfs_store.specs.Image.{fresh_image}
 use Rattle.pcfs_store.specs.StoredHistory.{payloads_of}
-use Rattle.pcfs_store.specs.Newest.{newest, SurvivesWhole, SurvivesWithOrWithout}
-use Rattle.recover.specs.AreaDamage.{IsDamagedArea}
+use Rattle.pcfs_store.specs.Newest.{newest, SurvivesWhole}
+use Rattle.pcfs_store.specs.Ready.{SurvivesWithOrWithout}
+use Rattle.recover.specs.Opening.{IsNewestHistory, IsNewestDamaged, IsNewestClosed}
 use Rattle.pcfs_secrets.specs.declared.secrets.Secrets.{Secrets}
 use Rattle.pcfs_top.specs.Asker.{first_asker}
 use Rattle.pcfs_top.specs.LineAnswer.{authority_under}
@@ -56,41 +58,31 @@ damaged_text record_number damage = codes "damaged " ++ (decimal record_number +
 abbrev pub HasNoArea : List ℕ → List ℕ → Type 0
 HasNoArea x y = newest x y ≡ None
 
--- the newest area is closed: bytes follow what it stands for
-abbrev pub IsNewestClosed : List ℕ → List ℕ → Type 0
-IsNewestClosed x y = (bytes : List ℕ) → newest x y ≡ Some bytes → (generation : ℕ) (payloads : List (List ℕ)) → length (area_bytes generation fresh_image payloads) ≡ length bytes → ⊥
-
--- the first damage of the newest area
-pub record IsNewestDamaged (secrets : Secrets) (number : ℕ) (damage : Damage) (x y : List ℕ) : Type 0 where
-  pub bytes : List ℕ
-  pub counts : newest x y ≡ Some bytes
-  pub damaged : IsDamagedArea (authority_under secrets) bytes number damage
-
--- a store was opened, and a script begins over it: its history is lawful, and the newest area stands for it, with as many bytes before its closed gate
-pub record IsOpened (secrets : Secrets) (before : Disks) (start : Standing) : Type 0 where
+-- a store was opened whose area has this generation, and a script begins over it: its history is that of the newest area, and lawful, and the area has so many bytes before its closed gate
+pub record IsOpened (secrets : Secrets) (generation : ℕ) (before : Disks) (start : Standing) : Type 0 where
   pub secrets_are : start.secrets ≡ secrets
   pub asker_is : start.asker ≡ first_asker script_pass
   pub running : start.met ≡ None
   pub lawful : IsLawfulStanding start
-  pub generation : ℕ
+  pub base_is : start.base ≡ fresh
   pub used_is : start.used ≡ length (area_bytes generation fresh_image (payloads_of start.events))
-  pub found : IfTold before (SurvivesWhole start.base start.events)
+  pub found : IfTold before (IsNewestHistory (authority_under secrets) generation start.events)
 
--- What comes back of the disks of a store where a script ended: unless a disk failed, the newest area stands for the history at the end. If one failed, its count rose; and if nothing was pending at first and the
--- newest area was closed, the newest one that comes back stands for the history at the end, or for it with the one event that met the fault.
-pub record Returns (at_rest : Type 0) (before after : Disks) (end : Standing) : Type 0 where
-  pub whole : end.met ≡ None → IfTold after (SurvivesWhole end.base end.events)
+-- What comes back of the disks of a store that was opened, where a script ended. Unless a disk failed, the newest area stands for the history at the end. If one failed, its count rose; and if nothing was pending
+-- at first and the newest area had its closed gate, the newest one that comes back stands for the history at the end, or for it with the one event that met the fault.
+pub record Returns (at_rest : Type 0) (generation : ℕ) (before after : Disks) (start end : Standing) : Type 0 where
+  pub whole : IfTold before (λ x y. end.met ≡ None → IfTold after (SurvivesWhole end.base end.events))
   pub failed : (met : Event) → end.met ≡ Some met → HasDiskFailed before after
-  pub survives : at_rest → (x y : List ℕ) → before.a ≡ Some x → before.b ≡ Some y → IsNewestClosed x y → (met : Event) → end.met ≡ Some met → IfTold after (SurvivesWithOrWithout end.base end.events met)
+  pub survives : at_rest → IfTold before (λ x y. IsNewestClosed generation start.events x y → (met : Event) → end.met ≡ Some met → IfTold after (SurvivesWithOrWithout end.base end.events met))
 
 -- what a run has to write if it ends with this status without an answer to a line: one line with the cause
 pub data HasCause (secrets : Secrets) (words : List (String Global)) (at_rest : Type 0) (before after : Disks) : ℕ → List ℕ → Type 0 where
   usage : (AreKnown words → ⊥) → after ≡ before → HasCause secrets words at_rest before after 1 (codes "usage")
-  made : IsInit words → IfTold before HasNoArea → IfSome after.a (Closed (area_bytes 1 fresh_image [])) → after.b ≡ before.b → HasCause secrets words at_rest before after 0 (codes "ok")
+  made : IsInit words → IfTold before (λ x y. HasNoArea x y × IfSome after.a (Closed (area_bytes 1 fresh_image []))) → after.b ≡ before.b → HasCause secrets words at_rest before after 0 (codes "ok")
   exists : IsInit words → IfTold before (λ x y. HasNoArea x y → ⊥) → AreBytesKept before after → HasCause secrets words at_rest before after 10 (codes "exists")
   not_made : IsInit words → HasDiskFailed before after → HasCause secrets words at_rest before after 5 (codes "stopped")
   no_store : IsStored words → IfTold before HasNoArea → AreBytesKept before after → HasCause secrets words at_rest before after 4 (codes "nostore")
-  damaged : (number : ℕ) (damage : Damage) → IsStored words → IfTold before (IsNewestDamaged secrets number damage) → AreBytesKept before after → HasCause secrets words at_rest before after 3 (damaged_text number damage)
+  damaged : (number : ℕ) (damage : Damage) → IsStored words → IfTold before (IsNewestDamaged (authority_under secrets) number damage) → AreBytesKept before after → HasCause secrets words at_rest before after 3 (damaged_text number damage)
   not_opened : IsStored words → HasDiskFailed before after → (at_rest → AreBytesKept before after) → HasCause secrets words at_rest before after 5 (codes "stopped")
 
 -- The status that a run ends with, and its cause. A script in memory ends as its lines say, and leaves the disks alone; its own disks are in memory, and fail only if memory runs out. A script over the areas
@@ -98,7 +90,7 @@ pub data HasCause (secrets : Secrets) (words : List (String Global)) (at_rest : 
 pub data EndsWith (secrets : Secrets) (words : List (String Global)) (at_rest : Type 0) (before after : Ports) : ℕ → Type 0 where
   in_memory : (status : ℕ) (end : Standing) → IsScript words → after.disks ≡ before.disks → status ≢ 5 → ScriptEnds (fresh_start secrets) end before.streams after.streams status → EndsWith secrets words at_rest before after status
   memory_failed : (end : Standing) → IsScript words → after.disks ≡ before.disks → ScriptEnds (fresh_start secrets) end before.streams after.streams 5 → EndsWith secrets words at_rest before after 9
-  stored : (status : ℕ) (start end : Standing) → IsStored words → IsOpened secrets before.disks start → Returns at_rest before.disks after.disks end → ScriptEnds start end before.streams after.streams status →
+  stored : (status generation : ℕ) (start end : Standing) → IsStored words → IsOpened secrets generation before.disks start → Returns at_rest generation before.disks after.disks start end → ScriptEnds start end before.streams after.streams status →
       EndsWith secrets words at_rest before after status
   told : (status : ℕ) (line : List ℕ) → HasCause secrets words at_rest before.disks after.disks status line → after.streams.left ≡ before.streams.left → after.streams.held ≡ with_back before.streams.held (with_line_end line) →
       EndsWith secrets words at_rest before after status

@@ -37,9 +37,12 @@ impl<D: Disk> Model for Interpreter<D> {
     ghost use Rattle.std.specs.Prelude.{IsTrue};
     ghost use Rattle.bl_syntax.specs.Names.{is_principal_name};
     ghost use Rattle.bl_syntax.specs.TimeOrder.{IsMoment};
+    ghost use Rattle.pcfs_top.specs.InterpreterCode.{interpreter_code};
     ghost use Rattle.pcfs_top.specs.InterpreterView.{InterpreterView};
 
     ghost Value = { InterpreterView D };
+
+    ghost coded = { interpreter_code D.code };
 
     ghost view = { λ d. record { store = d.store; asker = record { pass = d.pass; clock = d.clock; caller = d.caller; sees = d.sees } } };
 

@@ -1,6 +1,6 @@
 //! Replies on their way out: they are collected, and written in large pieces.
 
-ghost use Rattle.std.specs.Prelude.{◌≡◌, ◌≤◌, ◌++◌, ◌∷◌, [], OnOk, OnErr, IsErrOf};
+ghost use Rattle.std.specs.Prelude.{◌≡◌, ◌≢◌, ◌≤◌, ◌++◌, ◌∷◌, [], OnOk, OnErr, IfErr, IsErrOf};
 ghost use Rattle.pcfs_ports.specs.Faults.{HasRisen};
 ghost use Rattle.pcfs_ports.specs.Told.{with_back, HoldsSome};
 ghost use Rattle.line_wire.specs.ReplyText.{reply_text};
@@ -44,6 +44,7 @@ fn flush_if_enough<O: Sink>(
 
 // Writes what was collected, after memory ran out.
 fn give_up<O: Sink>(collected: &mut Bytes, output: &mut O) -> ScriptFault
+    ensures not_stopped { result ≢ ScriptFault.Stopped }
     ensures some { HoldsSome (O.held output.old) (O.held output.new) collected.old }
     ensures risen { (result ≡ ScriptFault.Write) → HasRisen (O.faults output.old) (O.faults output.new) }
     ensures never_falls { O.faults output.old ≤ O.faults output.new }
@@ -65,6 +66,7 @@ pub fn send<O: Sink>(
 ) -> Result<(), ScriptFault>
     ensures ok { OnOk result (GoesOut (O.held output.old) (collected.old ++ (reply_text reply.now ++ 10 ∷ [])) (O.held output.new) collected.new) }
     ensures err { OnErr result (HoldsSome (O.held output.old) (O.held output.new) (collected.old ++ (reply_text reply.now ++ 10 ∷ []))) }
+    ensures not_stopped { IfErr result (λ fault. fault ≢ ScriptFault.Stopped) }
     ensures risen { IsErrOf result ScriptFault.Write → HasRisen (O.faults output.old) (O.faults output.new) }
     ensures never_falls { O.faults output.old ≤ O.faults output.new }
 {

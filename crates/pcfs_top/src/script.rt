@@ -81,11 +81,17 @@ pub fn answer_lines<D: Disk, O: Sink>(
         let reply = interpreter.reply_to(alloc, line);
         let sent = send(alloc, &mut collected, &reply, enough, output);
         drop(reply);
-        sent?;
+        match sent {
+            Ok(()) => {}
+            Err(fault) => return Err(fault),
+        }
         rest = others;
         if interpreter.is_stopped() {
             return Err(stop(&mut collected, output));
         }
     }
-    Ok(flush(&mut collected, output)?)
+    match flush(&mut collected, output) {
+        Ok(()) => Ok(()),
+        Err(_) => Err(ScriptFault::Write),
+    }
 }
