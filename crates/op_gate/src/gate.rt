@@ -60,7 +60,7 @@ fn put(place: &mut Option<Pending>, pending: Pending)
 }
 
 // The answer, or out of memory.
-fn answered(reply: Result<StepReply, NoMemory>) -> Planned
+fn plan_of_answer(reply: Result<StepReply, NoMemory>) -> Planned
     ensures { MatchResult reply (λ told. result ≡ Planned.Answer told) (λ _. result ≡ Planned.NoMemory) }
 {
     match reply {
@@ -90,7 +90,7 @@ fn decide_request(
             decide_act(alloc, history, pass, caller, op, procaps, clock)
         }
         StepRequest::ShowProcap(number, who) => {
-            answered(decide_show(alloc, history, number, &who))
+            plan_of_answer(decide_show(alloc, history, number, &who))
         }
     }
 }
@@ -205,8 +205,8 @@ impl Gate {
         match reserve_next(&mut self.history) {
             Ok(()) => match admit(alloc, &mut self.history, event) {
                 Ok(pending) => {
-                    let Pending { event, entry } = pending;
-                    self.history.keep(event, entry);
+                    let Pending { event, addition } = pending;
+                    self.history.keep(event, addition);
                     Ok(())
                 }
                 Err(fault) => Err(fault),
@@ -233,8 +233,8 @@ impl Gate {
         ensures kept { IfSome self.old.pending (λ event. self.new ≡ record self.old { events = self.old.events ++ event ∷ []; pending = None }) }
     {
         if let Some(pending) = self.pending.take() {
-            let Pending { event, entry } = pending;
-            self.history.keep(event, entry);
+            let Pending { event, addition } = pending;
+            self.history.keep(event, addition);
         }
     }
 

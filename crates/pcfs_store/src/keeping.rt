@@ -25,7 +25,7 @@ fn record_of(alloc: Global, event: &Event) -> Result<Framed, AreaFault>
     ensures full { result ≡ Err AreaFault.AreaFull → area_limit ≤ length (event_spelling event.now) }
 {
     let mut payload = Bytes::new(alloc);
-    if write_event(alloc, event, &mut payload).is_err() {
+    if write_event(event, &mut payload).is_err() {
         return Err(AreaFault::NoMemory);
     }
     if AREA_LIMIT <= payload.len() as u64 {

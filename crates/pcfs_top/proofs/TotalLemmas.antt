@@ -99,11 +99,11 @@ named_of_item issues number (inl found) = inl (found.item, found.numbered)
 named_of_item issues number (inr none) = inr (λ names. none names.0 names.1)
 
 named_or_not : (issues : List Issue) (word : ProcapWord) → OrNot (NamesIssue issues word)
-named_or_not issues (words.Held p) = inl tt
+named_or_not issues (words.Procap p) = inl tt
 named_or_not issues (words.Issue number) = named_of_item issues number (item_or_none issues number)
 
 bring : (key : List ℕ) (issues : List Issue) (word : ProcapWord) → NamesIssue issues word → (p : Sealed) × BringsProcap key issues word p
-bring key issues (words.Held p) names = (p, held p)
+bring key issues (words.Procap p) names = (p, held p)
 bring key issues (words.Issue number) names = (procap_of key names.0.grant, issued number names.0 names.1)
 
 bring_all : (key : List ℕ) (issues : List Issue) (given : List ProcapWord) → AllByRecursion (NamesIssue issues) given → (procaps : List Sealed) × AreBrought key issues given procaps
@@ -118,7 +118,7 @@ abbrev IsToldOfWords : List ℕ → List Issue → List ProcapWord → Type 0
 IsToldOfWords key issues given = ((procaps : List Sealed) × AreBrought key issues given procaps) ⊎ ((number : ℕ) × IsFirstUnissued issues given number)
 
 unissued : (issues : List Issue) (given : List ProcapWord) (place : ℕ) (word : ProcapWord) → IsFirstFailing (NamesIssue issues) given place word → (number : ℕ) × IsFirstUnissued issues given number
-unissued issues given place (words.Held p) first = absurd (first.fails tt)
+unissued issues given place (words.Procap p) first = absurd (first.fails tt)
 unissued issues given place (words.Issue number) first = (number, record { place = place; first = first })
 
 by_words : (key : List ℕ) (issues : List Issue) (given : List ProcapWord) → AllByRecursion (NamesIssue issues) given ⊎ HasFailing (NamesIssue issues) given → IsToldOfWords key issues given

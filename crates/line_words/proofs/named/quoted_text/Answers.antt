@@ -2,7 +2,7 @@
 use Rattle.std.proofs.Common.{◌++◌, [], ◌∷◌, refl}
 use Rattle.std.proofs.lemmas.Bool.{false≢true}
 use Rattle.line_words.proofs.GrammarLemmas.{only_text, reads_text}
-use Rattle.line_words.proofs.named.quoted.Goals as goal
+use Rattle.line_words.proofs.named.quoted_text.Goals as goal
 
 pub returns-in-None : goal.returns-in-None
 returns-in-None c text h = c.in-None.ensures (text ++ 34 ∷ []) h.word_is

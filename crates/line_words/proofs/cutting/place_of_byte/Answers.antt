@@ -3,7 +3,7 @@ use Rattle.std.proofs.Common.{arith, not}
 use Rattle.std.specs.Prelude.{◌==◌}
 use Rattle.std.proofs.lemmas.List.Sums.{prefix_len-le-length}
 use Rattle.line_text.proofs.WordLemmas.{stop_place-unwrap_or}
-use Rattle.line_words.proofs.cutting.place_of.Goals as goal
+use Rattle.line_words.proofs.cutting.place_of_byte.Goals as goal
 
 pub returns-clause-same : goal.returns-clause-same
 returns-clause-same c = stop_place-unwrap_or c.args.stop c.args.line.now c.first_stop.result c.unwrap_or.result c.first_stop.ensures c.unwrap_or.ensures
