@@ -137,15 +137,25 @@ conjunction-and-preserved t c =
       within = read.within;
     }
 
-pub unary-returns-else-is_saying-clause-read : goal.unary-returns-else-is_saying-clause-read
-unary-returns-else-is_saying-clause-read t c =
+pub unary-returns-then-is_sign-clause-read : goal.unary-returns-then-is_sign-clause-read
+unary-returns-then-is_sign-clause-read t c =
     let none : is_saying c.args.text.now c.args.here.now ≡ false = search rules in
-    IfOk-weaker c.postfix.result _ _ (λ f h. record { is_text = g.one_postfix _ _ _ _ _ none h.is_text; ended = h.ended; left = h.left; within = h.within }) c.postfix.ensures.read
+    IfOk-weaker c.grouped.result _ _ (λ f h. record { is_text = g.one_postfix _ _ _ _ _ none h.is_text; ended = h.ended; left = h.left; within = h.within }) c.grouped.ensures.read
 
-pub unary-returns-else-is_saying-clause-fault : goal.unary-returns-else-is_saying-clause-fault
-unary-returns-else-is_saying-clause-fault t c =
+pub unary-returns-then-is_sign-clause-fault : goal.unary-returns-then-is_sign-clause-fault
+unary-returns-then-is_sign-clause-fault t c =
     let none : is_saying c.args.text.now c.args.here.now ≡ false = search rules in
-    IfErr-weaker c.postfix.result _ _ (λ e h. s.in_postfix _ _ _ _ none h) c.postfix.ensures.fault
+    IfErr-weaker c.grouped.result _ _ (λ e h. s.in_postfix _ _ _ _ none h) c.grouped.ensures.fault
+
+pub unary-returns-else-is_sign-clause-read : goal.unary-returns-else-is_sign-clause-read
+unary-returns-else-is_sign-clause-read t c =
+    let none : is_saying c.args.text.now c.args.here.now ≡ false = search rules in
+    IfOk-weaker c.postfix.result _ _ (λ f h. let read = h c.args.depth in record { is_text = g.one_postfix _ _ _ _ _ none read.is_text; ended = read.ended; left = read.left; within = read.within }) c.postfix.ensures.read
+
+pub unary-returns-else-is_sign-clause-fault : goal.unary-returns-else-is_sign-clause-fault
+unary-returns-else-is_sign-clause-fault t c =
+    let none : is_saying c.args.text.now c.args.here.now ≡ false = search rules in
+    IfErr-weaker c.postfix.result _ _ (λ e h. s.in_postfix _ _ _ _ none (h c.args.depth)) c.postfix.ensures.fault
 
 pub says_formula-returns-in_err-who-clause-fault : goal.says_formula-returns-in_err-who-clause-fault
 says_formula-returns-in_err-who-clause-fault t c = passed c.from_residual.result c.in_err-who.field-0.0 _ (search rules) (s.in_speaker _ _ _ _ c.requires.saying c.in_err-who.ensures.value)
@@ -166,19 +176,19 @@ says_formula-returns-clause-read t c =
       within = read.within;
     }
 
-pub postfix-returns-in_err-first-clause-fault : goal.postfix-returns-in_err-first-clause-fault
-postfix-returns-in_err-first-clause-fault t c = passed c.from_residual.result c.in_err-first.field-0.0 _ (search rules) (s.in_primary _ _ _ _ c.in_err-first.ensures.fault)
+pub grouped-returns-in_err-first-clause-fault : goal.grouped-returns-in_err-first-clause-fault
+grouped-returns-in_err-first-clause-fault t c = passed c.from_residual.result c.in_err-first.field-0.0 _ (search rules) (s.in_primary _ _ _ _ c.in_err-first.ensures.fault)
 
-pub postfix-at-init : goal.postfix-at-init
-postfix-at-init t c =
+pub grouped-at-init : goal.grouped-at-init
+grouped-at-init t c =
     let read = c.in_ok-first.ensures.read in
     record { is_text = g.one_primary _ _ _ _ _ read.is_text; ended = refl; left = read.left; within = read.within }
 
-pub postfix-returns-in_err-a-clause-fault : goal.postfix-returns-in_err-a-clause-fault
-postfix-returns-in_err-a-clause-fault t c = passed c.from_residual-in_err-a.result c.in_err-a.field-0.0 _ (search rules) (stops_at_interval c.at.invariant.is_text (let sign : is_sign signs.At c.at.here.token ≡ true = search rules in sign) c.in_err-a.ensures.fault)
+pub grouped-returns-in_err-a-clause-fault : goal.grouped-returns-in_err-a-clause-fault
+grouped-returns-in_err-a-clause-fault t c = passed c.from_residual-in_err-a.result c.in_err-a.field-0.0 _ (search rules) (stops_at_interval c.at.invariant.is_text (let sign : is_sign signs.At c.at.here.token ≡ true = search rules in sign) c.in_err-a.ensures.fault)
 
-pub postfix-at-preserved : goal.postfix-at-preserved
-postfix-at-preserved t c =
+pub grouped-at-preserved : goal.grouped-at-preserved
+grouped-at-preserved t c =
     let l = c.at in
     let read = c.in_ok-a.ensures.read in
     let sign : is_sign signs.At l.here.token ≡ true = search rules in
@@ -188,18 +198,6 @@ postfix-at-preserved t c =
       left = omega (arith, l.invariant.left, read.left);
       within = read.within;
     }
-
-pub primary-returns-then-is_call-clause-read : goal.primary-returns-then-is_call-clause-read
-primary-returns-then-is_call-clause-read t c = IfOk-weaker c.call_here.result _ _ (λ f h. h c.args.depth) c.call_here.ensures.read
-
-pub primary-returns-then-is_call-clause-fault : goal.primary-returns-then-is_call-clause-fault
-primary-returns-then-is_call-clause-fault t c = IfErr-weaker c.call_here.result _ _ (λ e h. h c.args.depth) c.call_here.ensures.fault
-
-pub primary-returns-else-is_call-clause-read : goal.primary-returns-else-is_call-clause-read
-primary-returns-else-is_call-clause-read t c = IfOk-weaker c.simple_here.result _ _ (λ f h. h c.args.depth) c.simple_here.ensures.read
-
-pub primary-returns-else-is_call-clause-fault : goal.primary-returns-else-is_call-clause-fault
-primary-returns-else-is_call-clause-fault t c = IfErr-weaker c.simple_here.result _ _ (λ e h. h c.args.depth) c.simple_here.ensures.fault
 
 pub group-returns-then-depth-ge512-clause-fault : goal.group-returns-then-depth-ge512-clause-fault
 group-returns-then-depth-ge512-clause-fault t c = s.too_deep _ _ _ c.requires.open (lt_false c.args.depth 512 (omega arith))
