@@ -50,6 +50,28 @@ fn statement_entry(
     Ok(Entry::Statement(statement, signature))
 }
 
+/// The event that registers the statement, and what the registry keeps of it.
+pub fn registered(
+    alloc: Global,
+    pass: u64,
+    statement: Statement,
+    signature: Bytes,
+) -> Result<Pending, NoMemory>
+    ensures { IfOk result (λ pending. pending ≡ record { event = Event.Registered pass statement signature; entry = Entry.Statement statement signature }) }
+{
+    match statement_entry(alloc, &statement, &signature) {
+        Ok(entry) => {
+            let event = Event::Registered {
+                pass,
+                statement,
+                signature,
+            };
+            Ok(Pending { event, entry })
+        }
+        Err(refused) => Err(refused),
+    }
+}
+
 // Has the statement to be kept under that number.
 fn keep_statement(
     alloc: Global,
@@ -60,15 +82,8 @@ fn keep_statement(
 ) -> Planned
     ensures { Keeps (StepReply.Statement number) (Event.Registered pass statement signature) result }
 {
-    match statement_entry(alloc, &statement, &signature) {
-        Ok(entry) => {
-            let event = Event::Registered {
-                pass,
-                statement,
-                signature,
-            };
-            Planned::Keep(StepReply::Statement(number), Pending { event, entry })
-        }
+    match registered(alloc, pass, statement, signature) {
+        Ok(pending) => Planned::Keep(StepReply::Statement(number), pending),
         Err(_) => Planned::NoMemory,
     }
 }
@@ -164,14 +179,15 @@ fn issue_of(alloc: Global, checked: &Checked) -> Result<Issue, NoMemory>
     })
 }
 
-// What is made of a checked proof beside it: the numbers that it cites, and what the state keeps of its issue.
+/// What is made of a checked proof beside it: the numbers that it cites, and what the state keeps of its issue.
 #[derive(Debug, Drop)]
-struct IssueParts {
+pub struct IssueParts {
     cited: Numbers,
     issue: Issue,
 }
 
-fn issue_parts(alloc: Global, checked: &Checked) -> Result<IssueParts, NoMemory>
+/// What is made of the checked proof beside it.
+pub fn issue_parts(alloc: Global, checked: &Checked) -> Result<IssueParts, NoMemory>
     ensures cited { IfOk result (λ parts. parts.cited ≡ numbers_of checked.now.cited) }
     ensures issue { IfOk result (λ parts. parts.issue ≡ record { cited = numbers_of checked.now.cited; proof = checked.now.proof; grant = checked.now.grant }) }
 {
@@ -180,8 +196,8 @@ fn issue_parts(alloc: Global, checked: &Checked) -> Result<IssueParts, NoMemory>
     Ok(IssueParts { cited, issue })
 }
 
-// The event that issues the grant of the checked proof, and what the state keeps of it.
-fn issued(pass: u64, checked: Checked, parts: IssueParts) -> Pending
+/// The event that issues the grant of the checked proof, and what the state keeps of it.
+pub fn issued(pass: u64, checked: Checked, parts: IssueParts) -> Pending
     ensures { result ≡ record { event = Event.Issued pass parts.cited checked.proof checked.grant; entry = Entry.Issue parts.issue } }
 {
     let IssueParts { cited, issue } = parts;

@@ -6,7 +6,9 @@ ghost use Rattle.op_gate.specs.Decision.{IsPlanned};
 ghost use Rattle.access_history.specs.WellFormed.{IsWellFormed};
 
 use crate::act::{decide_act, deny};
+use crate::admit::{admit, reserve_next};
 use crate::cite::{Citation, cite};
+use crate::damage::AdmitFault;
 use crate::decide::{decide_issue, decide_register, decide_show, issued_procap};
 use crate::planned::{Pending, Planned};
 use access_history::{Denial, Event, History, Procaps, StepReply, StepRequest};
@@ -100,6 +102,7 @@ impl Gate {
     ghost use Rattle.access_history.specs.Answer.{moment_of};
     ghost use Rattle.access_history.specs.Replay.{replay, fresh};
     ghost use Rattle.op_gate.specs.Decides.{Decides};
+    ghost use Rattle.op_gate.specs.Damage.{TellsDamage};
     ghost use Rattle.op_gate.specs.Decision.{IsDenial};
     ghost use Rattle.access_history.specs.Authority.{sayings};
     ghost use Rattle.access_history.specs.Citing.{AreCitable};
@@ -183,6 +186,32 @@ impl Gate {
                 Decision::Keep(reply)
             }
             Planned::NoMemory => Decision::NoMemory,
+        }
+    }
+
+    /// Keeps an event that was read from an area, exactly if it may come next; otherwise it reports the event's first damage.
+    /// Its signature, its proof, its procaps with their seals and conditions, and its effect are tested again. What was
+    /// pending is dropped.
+    pub fn admit_event(&mut self, alloc: Global, event: Event) -> Result<(), AdmitFault>
+        ensures key { self.new.key ≡ self.old.key }
+        ensures ring { self.new.ring ≡ self.old.ring }
+        ensures base { self.new.base ≡ self.old.base }
+        ensures pending { self.new.pending ≡ None }
+        ensures answer { TellsDamage (authority_with self.old.key self.old.ring) (replay self.old.base self.old.events) event result }
+        ensures kept { OnOk result (self.new.events ≡ self.old.events ++ event ∷ []) }
+        ensures left_out { OnErr result (self.new.events ≡ self.old.events) }
+    {
+        self.forget();
+        match reserve_next(&mut self.history) {
+            Ok(()) => match admit(alloc, &mut self.history, event) {
+                Ok(pending) => {
+                    let Pending { event, entry } = pending;
+                    self.history.keep(event, entry);
+                    Ok(())
+                }
+                Err(fault) => Err(fault),
+            },
+            Err(fault) => Err(fault),
         }
     }
 

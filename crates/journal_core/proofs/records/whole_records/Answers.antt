@@ -3,7 +3,7 @@ use Rattle.std.proofs.lemmas.List.{map_push}
 use Rattle.journal_core.specs.ScanView.{bytes_at, all_bytes_at}
 use Rattle.journal_core.specs.Reports.{RecordsEndAt}
 use Rattle.journal_core.proofs.RecordLemmas.{one_more}
-use Rattle.journal_core.proofs.records.find_records.Goals as goal
+use Rattle.journal_core.proofs.records.whole_records.Goals as goal
 
 pub loop-to-preserved : goal.loop-to-preserved
 loop-to-preserved c =
