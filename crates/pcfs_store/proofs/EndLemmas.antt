@@ -168,11 +168,3 @@ module _ {D : Type 0} (clock : D → ℕ) (left_since : D → ℕ → List ℕ �
           subst (Ends Stopped) (sym (failed_is k.0 k.2))
           (ends Stopped (record before { active = area_after.disk; stop = Some pass })
           (has_failed clock left_since image faults before event area_after keeping.store k.0.writes earlier k.0.risen pass at request reply running answers k.1))
-
-      pub failed_keeps : (fault : AreaFault) → fault ≡ faults_of_area.Disk → IfSome after.pending (λ e. KeepsPending clock left_since image faults area after e (Err fault) area_after gate_after) → IsKeeping area_after other second generation gate_after (Some pass)
-      failed_keeps fault fault_is keeps =
-          let k = became (Err faults_of_area.Disk) (with_fault fault faults_of_area.Disk fault_is keeps) in
-          record {
-            store = subst IsStore (sym (failed_is k.0 k.2)) (record { generated = keeping.store.generated; is_image = keeping.store.is_image; spelled = keeping.store.spelled; used_is = keeping.store.used_is; fits = keeping.store.fits });
-            idle = ap (λ (g : GateView). g.pending) k.2;
-          }
