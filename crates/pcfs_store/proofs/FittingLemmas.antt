@@ -42,13 +42,13 @@ accepted_length (Some key) message signature e = sym (ap length ((bytes_eq-Decid
 name_fits : (name : List ℕ) → is_node_name name ≡ true → FitsOneByte name
 unfolding is_node_name
 name_fits name e =
-    let short = leb-true (length name) 64 (and_parts _ _ (and_parts _ _ (and_parts _ _ (and_parts _ _ e).0).0).0).1 in
+    let short : length name ≤ 64 = leb-true (length name) 64 (and_parts _ _ (and_parts _ _ (and_parts _ _ (and_parts _ _ e).0).0).0).1 in
     omega (arith, short)
 
 attribute_fits : (name : List ℕ) → is_attribute_name name ≡ true → FitsOneByte name
 unfolding is_attribute_name
 attribute_fits [] e = absurd cc
-attribute_fits (first ∷ others) e = let short = leb-true (length others) 63 (and_parts _ _ e).1 in omega (arith, short)
+attribute_fits (first ∷ others) e = let short : length others ≤ 63 = leb-true (length others) 63 (and_parts _ _ e).1 in omega (arith, short)
 
 -- ---- operations that are not refused
 
