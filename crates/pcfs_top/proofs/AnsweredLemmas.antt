@@ -6,6 +6,7 @@ use Rattle.line_text.specs.Lines.{lines_of}
 use Rattle.access_history.specs.declared.event.Event.{Event}
 use Rattle.line_wire.specs.declared.reply.LineReply.{LineReply}
 use Rattle.line_wire.specs.ReplyText.{reply_text}
+use Rattle.pcfs_store.specs.StoreView.{StoreView}
 use Rattle.pcfs_top.specs.InterpreterView.{InterpreterView, standing_of}
 use Rattle.pcfs_top.specs.Outbox.{GoesOut}
 use Rattle.pcfs_top.specs.ScriptEnds.{RunsPart}
@@ -29,7 +30,7 @@ met_some None (Some event) is some = absurd is
 met_some (Some pass) None is some = absurd is
 met_some (Some pass) (Some event) is some = (event, refl)
 
-not_some : (stop : Option ℕ) → (IsTrue false ↔ IsSome stop) → stop ≡ None
+pub not_some : (stop : Option ℕ) → (IsTrue false ↔ IsSome stop) → stop ≡ None
 not_some None tells = refl
 not_some (Some pass) tells = let is : IsTrue false = tells.1 refl in absurd cc
 
@@ -44,17 +45,15 @@ module _ {D : Type 0} (clock : D → ℕ) (left_since : D → ℕ → List ℕ �
   still : (line : List ℕ) (now next : InterpreterView D) (reply : LineReply) → (l : Leads line now reply next) → (IsTrue false ↔ IsSome next.store.stop) → l.met ≡ None
   still line now next reply l tells = met_nothing next.store.stop l.met l.goes_on.stop_for (not_some next.store.stop tells)
 
-  pub runs_further : (line : List ℕ) (now next : InterpreterView D) (reply : LineReply) → Leads line now reply next → (IsTrue false ↔ IsSome next.store.stop) → next.store.stop ≡ None
-  runs_further line now next reply l tells = not_some next.store.stop tells
+  pub goes_further : (start mid new : StoreView D) (met : Option Event) → StoreGoesOn clock left_since image faults start mid None → StoreGoesOn clock left_since image faults mid new met → (IsTrue false ↔ IsSome new.stop) → StoreGoesOn clock left_since image faults start new None
+  goes_further start mid new met one other tells =
+      StoreGoesOn-on clock left_since image faults start mid new None one
+      (subst (λ (m : Option Event). StoreGoesOn clock left_since image faults mid new m) (met_nothing new.stop met other.stop_for (not_some new.stop tells)) other)
 
-  pub goes_further : (line : List ℕ) (start now next : InterpreterView D) (reply : LineReply) → Goes start now None → Leads line now reply next → (IsTrue false ↔ IsSome next.store.stop) → Goes start next None
-  goes_further line start now next reply one l tells =
-      StoreGoesOn-on clock left_since image faults start.store now.store next.store None one (subst (Goes now next) (still line now next reply l tells) l.goes_on)
-
-  pub run_further : (start now next : InterpreterView D) (bytes rest others line : List ℕ) (reply : LineReply) (held mid new : Option (List ℕ)) (collected after : List ℕ) → HasRun (standing_of start None) (standing_of now None) bytes rest held mid collected →
-      lines_of rest ≡ line ∷ lines_of others → Leads line now reply next → GoesOut mid (collected ++ (reply_text reply ++ 10 ∷ [])) new after → (IsTrue false ↔ IsSome next.store.stop) → HasRun (standing_of start None) (standing_of next None) bytes others held new after
+  pub run_further : (start : Standing) (now next : InterpreterView D) (bytes rest others line : List ℕ) (reply : LineReply) (held mid new : Option (List ℕ)) (collected after : List ℕ) → HasRun start (standing_of now None) bytes rest held mid collected →
+      lines_of rest ≡ line ∷ lines_of others → Leads line now reply next → GoesOut mid (collected ++ (reply_text reply ++ 10 ∷ [])) new after → (IsTrue false ↔ IsSome next.store.stop) → HasRun start (standing_of next None) bytes others held new after
   run_further start now next bytes rest others line reply held mid new collected after h first l out tells =
-      HasRun-more (standing_of start None) (standing_of now None) (standing_of next None) bytes rest others line reply held mid new collected after h refl first
+      HasRun-more start (standing_of now None) (standing_of next None) bytes rest others line reply held mid new collected after h refl first
       (subst (λ (m : Option Event). IsReplied line (standing_of now None) reply (standing_of next m)) (still line now next reply l tells) l.holds) out
 
   -- the output or memory failed for the reply of one line more

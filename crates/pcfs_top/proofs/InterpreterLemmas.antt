@@ -1,5 +1,5 @@
 -- What an interpreter makes of requests, commands and lines.
-use Rattle.std.proofs.Common.{◌≡◌, ℕ, ℤ, List, Option, Some, None, Err, ⊎_elim, refl, sym, subst}
+use Rattle.std.proofs.Common.{◌≡◌, ℕ, ℤ, List, [], Option, Some, None, Err, ⊎_elim, refl, sym, ap, subst}
 use Rattle.std.specs.Prelude.{◌≢◌}
 use Rattle.bl_syntax.specs.declared.grant.Goal.{Goal}
 use Rattle.bl_syntax.specs.Statement.{StatementView}
@@ -23,10 +23,9 @@ use Rattle.access_history.specs.Citing.{AreFound}
 use Rattle.op_gate.specs.declared.cite.Citation.{Citation}
 use Rattle.op_gate.specs.declared.cite.Citation.TheVariants as citations
 use Rattle.op_gate.specs.Citations.{GivesCitation}
-use Rattle.pcfs_store.specs.declared.reply.StoreReply.TheVariants as stores
+use Rattle.op_gate.specs.Decision.{GateView}
+use Rattle.access_history.specs.Replay.{replay}
 use Rattle.pcfs_store.specs.StoreView.{StoreView}
-use Rattle.pcfs_store.specs.Steps.{Steps}
-use Rattle.pcfs_store.specs.Steps as steps
 use Rattle.line_words.specs.declared.procap_word.ProcapWord.{ProcapWord}
 use Rattle.line_forms.specs.declared.command.Command.{Command}
 use Rattle.line_forms.specs.declared.command.Command.TheVariants as commands
@@ -36,6 +35,7 @@ use Rattle.line_forms.specs.Lines.{IsLine, IsLineFault, IsUnread}
 use Rattle.line_wire.specs.declared.reply.LineReply.{LineReply}
 use Rattle.line_wire.specs.declared.reply.LineReply.TheVariants as replies
 use Rattle.pcfs_top.specs.Asker.{Asker, asker_after}
+use Rattle.pcfs_top.specs.Brought.{AreProcapsAdded}
 use Rattle.pcfs_top.specs.Procaps.{AreBrought, IsFirstUnissued}
 use Rattle.pcfs_top.specs.Proved.{IsUnproved, cites_none, proves_none, IsProved}
 use Rattle.pcfs_top.specs.InterpreterView.{InterpreterView, standing_of}
@@ -43,10 +43,7 @@ use Rattle.pcfs_top.specs.LineAnswer.{signature_under, replied, requested, Comes
 use Rattle.pcfs_top.specs.LineAnswer as line_answer
 use Rattle.pcfs_top.specs.ScriptRun.{Standing, state_of_standing, Becomes, kept, IsReplied, answered, without_memory}
 use Rattle.pcfs_top.specs.Interpreter.{IsDecidedAs, IsFollowed, unread_reply}
-
--- memory ran out, and the store is as it was
-pub same-without_memory : {D : Type 0} (faults : D → ℕ) (old new : StoreView D) (pass : ℕ) (clock : ℤ) (request : StepRequest) → Steps faults old pass clock request stores.NoMemory new → new ≡ old
-same-without_memory faults old _ pass clock request (steps.without_memory running) = refl
+use Rattle.pcfs_top.proofs.BroughtLemmas.{unissued_seated, brought_seated}
 
 -- ---- commands
 
@@ -100,10 +97,30 @@ IsFollowed-show before after number sees reply sees_is asked =
 
 -- ---- proofs
 
+-- the gate of a store
+abbrev gate_of : {D : Type 0} → StoreView D → GateView
+gate_of s = record { key = s.key; ring = s.ring; base = s.base; events = s.events; pending = None }
+
 -- the statements that an interpreter cites
-pub Cites-seated : (inside seated : Standing) (shown numbers : List ℕ) (citation : Citation) → inside ≡ seated → shown ≡ numbers → GivesCitation (sayings (state_of_standing inside).statements) shown citation → GivesCitation (sayings (state_of_standing seated).statements) numbers citation
-Cites-seated inside seated shown numbers citation same numbers_are found =
-    subst (λ (s : Standing). GivesCitation (sayings (state_of_standing s).statements) numbers citation) same (subst (λ (ns : List ℕ). GivesCitation (sayings (state_of_standing inside).statements) ns citation) numbers_are found)
+pub Cites-seated : {D : Type 0} (gate : GateView) (inside seated : InterpreterView D) (shown numbers : List ℕ) (citation : Citation) → gate ≡ gate_of inside.store → inside ≡ seated → shown ≡ numbers → GivesCitation (sayings (replay gate.base gate.events).statements) shown citation →
+    GivesCitation (sayings (state_of_standing (standing_of seated None)).statements) numbers citation
+Cites-seated {D} gate inside seated shown numbers citation is same numbers_are found =
+    subst (λ (i : InterpreterView D). GivesCitation (sayings (state_of_standing (standing_of i None)).statements) numbers citation) same
+    (subst (λ (ns : List ℕ). GivesCitation (sayings (state_of_standing (standing_of inside None)).statements) ns citation) numbers_are
+    (subst (λ (h : GateView). GivesCitation (sayings (replay h.base h.events).statements) shown citation) is found))
+
+-- what the words of a line bring where an interpreter stands
+pub unissued_here : {D : Type 0} (gate : GateView) (inside seated : InterpreterView D) (shown words : List ProcapWord) (none added : List Sealed) (told : Option ℕ) (number : ℕ) → gate ≡ gate_of inside.store → inside ≡ seated → shown ≡ words → told ≡ Some number →
+    AreProcapsAdded gate.key (replay gate.base gate.events).issues shown none added told → IsFirstUnissued (state_of_standing (standing_of seated None)).issues words number
+unissued_here {D} gate inside seated shown words none added told number is same words_are told_is all =
+    unissued_seated (standing_of inside None) (standing_of seated None) shown words none added told number (ap (λ (i : InterpreterView D). standing_of i None) same) words_are told_is
+    (subst (λ (h : GateView). AreProcapsAdded h.key (replay h.base h.events).issues shown none added told) is all)
+
+pub brought_here : {D : Type 0} (gate : GateView) (inside seated : InterpreterView D) (shown words : List ProcapWord) (none added : List Sealed) (told : Option ℕ) → gate ≡ gate_of inside.store → inside ≡ seated → shown ≡ words → told ≡ None → none ≡ [] →
+    AreProcapsAdded gate.key (replay gate.base gate.events).issues shown none added told → AreBrought (standing_of seated None).secrets.seal_key (state_of_standing (standing_of seated None)).issues words added
+brought_here {D} gate inside seated shown words none added told is same words_are told_is empty all =
+    brought_seated (standing_of inside None) (standing_of seated None) shown words none added told (ap (λ (i : InterpreterView D). standing_of i None) same) words_are told_is empty
+    (subst (λ (h : GateView). AreProcapsAdded h.key (replay h.base h.events).issues shown none added told) is all)
 
 absent : (statements : List StatementView) (goal : Goal) (numbers : List ℕ) (proof : ProofView) (citation : Citation) (number : ℕ) → citation ≡ citations.Absent number → GivesCitation statements numbers citation → IsUnproved statements goal numbers proof (replies.Step (Absent number))
 absent statements goal numbers proof citation number is found = cites_none number (subst (GivesCitation statements numbers) is found)

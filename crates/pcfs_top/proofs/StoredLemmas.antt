@@ -17,9 +17,9 @@ use Rattle.pcfs_store.specs.Ready.{IsReady, IsCurrent, StopsNow, SurvivesWithOrW
 use Rattle.pcfs_store.specs.Steps.{Steps}
 use Rattle.pcfs_store.specs.Steps as steps
 use Rattle.pcfs_top.specs.Asker.{Asker}
-use Rattle.pcfs_top.specs.Interpreter.{IsDecidedAs}
+use Rattle.pcfs_top.specs.Interpreter.{IsDecidedAs, IsToldAs}
 use Rattle.pcfs_top.specs.InterpreterView.{InterpreterView, standing_of}
-use Rattle.pcfs_top.specs.ScriptRun.{Standing, kept, full, stopped}
+use Rattle.pcfs_top.specs.ScriptRun.{Standing, IsLawfulStanding, kept, full, stopped}
 use Rattle.pcfs_top.specs.Stored.{IsStopFor, StoreGoesOn, LeadsTo}
 
 pub none_some : {A P : Type 0} (x : A) → None ≡ Some x → P
@@ -139,6 +139,28 @@ module _ {D : Type 0} (clock : D → ℕ) (left_since : D → ℕ → List ℕ �
       LeadsTo clock left_since image faults (IsDecidedAs request) (seen old asker) replies.Stopped (seen new asker)
   LeadsTo-stopped old new asker request lawful running s = by_fault old new asker request lawful running s s.answer
 
+  -- whatever the store says
+  by_told : (old new : StoreView D) (asker : Asker) (request : StepRequest) (reply : StoreReply) (told : LineReply) → IsLawful (authority_of_store old) old.base old.events → old.stop ≡ None → IsToldAs reply told → Stepped old asker request reply new →
+      LeadsTo clock left_since image faults (IsDecidedAs request) (seen old asker) told (seen new asker)
+  by_told old new asker request (stores.Step reply) told lawful running is s = subst (λ (t : LineReply). LeadsTo clock left_since image faults (IsDecidedAs request) (seen old asker) t (seen new asker)) (sym is) (LeadsTo-step old new asker request reply s)
+  by_told old new asker request stores.Full told lawful running is s = subst (λ (t : LineReply). LeadsTo clock left_since image faults (IsDecidedAs request) (seen old asker) t (seen new asker)) (sym is) (LeadsTo-full old new asker request s)
+  by_told old new asker request stores.Stopped told lawful running is s = subst (λ (t : LineReply). LeadsTo clock left_since image faults (IsDecidedAs request) (seen old asker) t (seen new asker)) (sym is) (LeadsTo-stopped old new asker request lawful running s)
+  by_told old new asker request stores.NoMemory told lawful running is s = absurd is
+
+  pub LeadsTo-told : (inside seated : InterpreterView D) (new : StoreView D) (request : StepRequest) (reply : StoreReply) (told : LineReply) → inside ≡ seated → IsLawfulStanding (standing_of seated None) → seated.store.stop ≡ None → IsToldAs reply told → Stepped inside.store inside.asker request reply new →
+      LeadsTo clock left_since image faults (IsDecidedAs request) seated told (seen new inside.asker)
+  LeadsTo-told inside seated new request reply told same stands running is s =
+      subst (λ (i : InterpreterView D). LeadsTo clock left_since image faults (IsDecidedAs request) i told (seen new inside.asker)) same
+      (by_told inside.store new inside.asker request reply told (subst (λ (i : InterpreterView D). IsLawfulStanding (standing_of i None)) (sym same) stands).lawful (ap (λ (i : InterpreterView D). i.store.stop) same ∙ running) is s)
+
+  -- memory ran out in a step
+  no_memory : (old new : StoreView D) (asker : Asker) (request : StepRequest) → Steps faults old asker.pass asker.clock request stores.NoMemory new → new ≡ old
+  no_memory old _ asker request (steps.without_memory running) = refl
+
+  pub same-without_memory : (inside seated : InterpreterView D) (new : StoreView D) (request : StepRequest) (reply : StoreReply) → inside ≡ seated → reply ≡ stores.NoMemory → Stepped inside.store inside.asker request reply new → seen new inside.asker ≡ seated
+  same-without_memory inside seated new request reply same is s =
+      ap (λ (n : StoreView D). seen n inside.asker) (no_memory inside.store new inside.asker request (subst (λ (r : StoreReply). Steps faults inside.store inside.asker.pass inside.asker.clock request r new) is s.answer)) ∙ same
+
   -- nothing happened
   pub StoreGoesOn-same : (s : StoreView D) → s.stop ≡ None → StoreGoesOn clock left_since image faults s s None
   StoreGoesOn-same s running = record {
@@ -158,9 +180,9 @@ module _ {D : Type 0} (clock : D → ℕ) (left_since : D → ℕ → List ℕ �
   LeadsTo-unchanged R i new reply same running holds = subst (λ (n : InterpreterView D). LeadsTo clock left_since image faults R i reply n) (sym same) (LeadsTo-same R i reply running holds)
 
   -- the store is as it was, and another asks, or at another moment
-  pub LeadsTo-changed : (R : Standing → LineReply → Standing → Type 0) (inside seated new : InterpreterView D) (reply : LineReply) → inside ≡ seated → seated.store.stop ≡ None → R (standing_of seated None) reply (standing_of (record new { store = inside.store }) None) →
-      LeadsTo clock left_since image faults R seated reply (record new { store = inside.store })
-  LeadsTo-changed R inside seated new reply same running holds = record {
+  pub LeadsTo-changed : (R : Standing → LineReply → Standing → Type 0) (inside seated : InterpreterView D) (asker : Asker) (reply : LineReply) → inside ≡ seated → seated.store.stop ≡ None → R (standing_of seated None) reply (standing_of (seen inside.store asker) None) →
+      LeadsTo clock left_since image faults R seated reply (seen inside.store asker)
+  LeadsTo-changed R inside seated asker reply same running holds = record {
     met = None;
     holds = holds;
     goes_on = subst (λ (i : InterpreterView D). StoreGoesOn clock left_since image faults i.store inside.store None) same (StoreGoesOn-same inside.store (ap (λ (i : InterpreterView D). i.store.stop) same ∙ running));

@@ -43,7 +43,8 @@ use Rattle.pcfs_top.specs.Procaps.{BringsProcap, held, issued, NamesIssue, AreBr
 use Rattle.pcfs_top.specs.Proved.{IsUnproved, cites_none, proves_none, IsProved}
 use Rattle.pcfs_top.specs.LineAnswer.{authority_under, signature_under, Look, replied, requested, ComesTo, AnswersCommand, at_once, decided, AnswersLine, faulty, asks}
 use Rattle.pcfs_top.specs.LineAnswer as line_answer
-use Rattle.pcfs_top.specs.Room.{used_with, IsFull}
+use Rattle.pcfs_store.specs.StoredHistory.{IsFull}
+use Rattle.pcfs_top.specs.Room.{used_with}
 use Rattle.pcfs_top.specs.ScriptRun.{Standing, state_of_standing, standing_after, IsLawfulStanding, HasRoom, Becomes, kept, full, IsReplied, answered, ScriptRun, ended, one_more, IsUndisturbed, AreUndisturbed}
 use Rattle.pcfs_top.proofs.FormedLemmas.{IsWellFormed-line}
 use Rattle.pcfs_top.proofs.LawfulRunLemmas.{IsLawfulStanding-replied}

@@ -1,19 +1,23 @@
 -- How a run of the program ends: its status, what it took, what it wrote, and what it leaves on its disks. If a port does not tell its bytes, nothing is said of them (this project's own).
-use Rattle.std.specs.Prelude.{◌≡◌, ◌≢◌, ℕ, List, [], ◌∷◌, ◌++◌, String, map, codes, length, Some, None, IfSome}
+use Rattle.std.specs.Prelude.{◌≡◌, ◌⊎◌, ℕ, List, [], ◌∷◌, ◌++◌, String, map, codes, length, Some, None, IfSome}
 use Rattle.std.specs.Fmt.{decimal}
 use Rattle.std.specs.String.{string_bytes}
 use Rattle.std.specs.declared.alloc.Global.{Global}
 use Rattle.pcfs_ports.specs.Faults.{HasRisen}
 use Rattle.pcfs_ports.specs.Told.{with_back, HoldsSome}
-use Rattle.journal_core.specs.Area.{Closed, area_bytes}
+use Rattle.journal_core.specs.Area.{IsShut, Closed, area_bytes}
 use Rattle.access_history.specs.Replay.{fresh}
 use Rattle.access_history.specs.declared.event.Event.{Event}
 use Rattle.op_gate.specs.declared.damage.Damage.{Damage}
 use Rattle.op_gate.specs.declared.damage.Damage.TheVariants.{Header, Shape, Unsigned, Unproved, NotAdmitted, MomentFalls, Duplicate}
 use Rattle.pcfs_store.specs.Image.{fresh_image}
 use Rattle.pcfs_store.specs.StoredHistory.{payloads_of}
-use Rattle.pcfs_store.specs.Newest.{newest, SurvivesWhole}
+use Rattle.pcfs_store.specs.Newest.{SurvivesWhole}
 use Rattle.pcfs_store.specs.Ready.{SurvivesWithOrWithout}
+use Rattle.pcfs_store.specs.declared.format.FormatFault.{FormatFault}
+use Rattle.pcfs_store.specs.declared.format.FormatFault.TheVariants as formats
+use Rattle.recover.specs.declared.fault.OpenFault.{OpenFault}
+use Rattle.recover.specs.declared.fault.OpenFault.TheVariants as opens
 use Rattle.recover.specs.Opening.{IsNewestHistory, IsNewestDamaged, IsNewestClosed}
 use Rattle.pcfs_secrets.specs.declared.secrets.Secrets.{Secrets}
 use Rattle.pcfs_top.specs.Asker.{first_asker}
@@ -36,9 +40,9 @@ IsInit words = map string_bytes words ≡ codes "init" ∷ []
 
 -- the words ask for something
 pub data AreKnown (words : List (String Global)) : Type 0 where
-  script : IsScript words → AreKnown words
-  stored : IsStored words → AreKnown words
-  init : IsInit words → AreKnown words
+  is_script : IsScript words → AreKnown words
+  is_stored : IsStored words → AreKnown words
+  is_init : IsInit words → AreKnown words
 
 -- the number under which a damage is reported
 abbrev pub damage_number : Damage → ℕ
@@ -56,7 +60,7 @@ damaged_text record_number damage = codes "damaged " ++ (decimal record_number +
 
 -- neither area is open
 abbrev pub HasNoArea : List ℕ → List ℕ → Type 0
-HasNoArea x y = newest x y ≡ None
+HasNoArea x y = IsShut x × IsShut y
 
 -- a store was opened whose area has this generation, and a script begins over it: its history is that of the newest area, and lawful, and the area has so many bytes before its closed gate
 pub record IsOpened (secrets : Secrets) (generation : ℕ) (before : Disks) (start : Standing) : Type 0 where
@@ -68,12 +72,17 @@ pub record IsOpened (secrets : Secrets) (generation : ℕ) (before : Disks) (sta
   pub used_is : start.used ≡ length (area_bytes generation fresh_image (payloads_of start.events))
   pub found : IfTold before (IsNewestHistory (authority_under secrets) generation start.events)
 
--- What comes back of the disks of a store that was opened, where a script ended. Unless a disk failed, the newest area stands for the history at the end. If one failed, its count rose; and if nothing was pending
--- at first and the newest area had its closed gate, the newest one that comes back stands for the history at the end, or for it with the one event that met the fault.
-pub record Returns (at_rest : Type 0) (generation : ℕ) (before after : Disks) (start end : Standing) : Type 0 where
+-- What comes back of the disks of a store that was opened, where a script ended. Unless a disk failed, the newest area stands for the history at the end. If one failed, its count rose; and if the newest area had its
+-- closed gate when the store was opened, the newest one that comes back stands for the history at the end, or for it with the one event that met the fault.
+pub record Returns (generation : ℕ) (before after : Disks) (start end : Standing) : Type 0 where
   pub whole : IfTold before (λ x y. end.met ≡ None → IfTold after (SurvivesWhole end.base end.events))
   pub failed : (met : Event) → end.met ≡ Some met → HasDiskFailed before after
-  pub survives : at_rest → IfTold before (λ x y. IsNewestClosed generation start.events x y → (met : Event) → end.met ≡ Some met → IfTold after (SurvivesWithOrWithout end.base end.events met))
+  pub survives : IfTold before (λ x y. IsNewestClosed generation start.events x y → (met : Event) → end.met ≡ Some met → IfTold after (SurvivesWithOrWithout end.base end.events met))
+
+-- how a script in memory ends: its own disks fail only if memory runs out
+pub data MemoryEnds (secrets : Secrets) (before after : Streams) : ℕ → Type 0 where
+  ended : (status : ℕ) (end : Standing) → (status ≡ 5 → ⊥) → ScriptEnds (fresh_start secrets) end before after status → MemoryEnds secrets before after status
+  disk_failed : (end : Standing) → ScriptEnds (fresh_start secrets) end before after 5 → MemoryEnds secrets before after 9
 
 -- what a run has to write if it ends with this status without an answer to a line: one line with the cause
 pub data HasCause (secrets : Secrets) (words : List (String Global)) (at_rest : Type 0) (before after : Disks) : ℕ → List ℕ → Type 0 where
@@ -85,12 +94,34 @@ pub data HasCause (secrets : Secrets) (words : List (String Global)) (at_rest : 
   damaged : (number : ℕ) (damage : Damage) → IsStored words → IfTold before (IsNewestDamaged (authority_under secrets) number damage) → AreBytesKept before after → HasCause secrets words at_rest before after 3 (damaged_text number damage)
   not_opened : IsStored words → HasDiskFailed before after → (at_rest → AreBytesKept before after) → HasCause secrets words at_rest before after 5 (codes "stopped")
 
+-- a last line was written, and the run ends with this status; or the output failed, and holds some first part of it
+abbrev pub IsTold : ℕ → List ℕ → Streams → ℕ → Streams → Type 0
+IsTold status line before result after =
+    ((result ≡ status) × (after.held ≡ with_back before.held (with_line_end line)))
+    ⊎ ((result ≡ 7) × HasRisen before.write_faults after.write_faults × HoldsSome before.held after.held (with_line_end line))
+
+-- memory ran out, and nothing was written
+abbrev pub IsUntold : Streams → ℕ → Streams → Type 0
+IsUntold before result after = (result ≡ 9) × (after.held ≡ before.held)
+
+-- what is told of why no store was opened
+abbrev pub TellsUnopened : OpenFault → Streams → ℕ → Streams → Type 0
+TellsUnopened opens.NoStore before result after = IsTold 4 (codes "nostore") before result after
+TellsUnopened (opens.Damaged number damage) before result after = IsTold 3 (damaged_text number damage) before result after ⊎ IsUntold before result after
+TellsUnopened opens.Disk before result after = IsTold 5 (codes "stopped") before result after
+TellsUnopened opens.NoMemory before result after = IsUntold before result after
+
+-- what is told of why no store was made
+abbrev pub TellsUnmade : FormatFault → Streams → ℕ → Streams → Type 0
+TellsUnmade formats.AlreadyStore before result after = IsTold 10 (codes "exists") before result after
+TellsUnmade formats.Disk before result after = IsTold 5 (codes "stopped") before result after
+TellsUnmade formats.NoMemory before result after = IsUntold before result after
+
 -- The status that a run ends with, and its cause. A script in memory ends as its lines say, and leaves the disks alone; its own disks are in memory, and fail only if memory runs out. A script over the areas
 -- begins where they stand. Any other run writes its line, or the output failed and holds some first part of it. Memory may run out before a store is made or opened, and then nothing changes.
 pub data EndsWith (secrets : Secrets) (words : List (String Global)) (at_rest : Type 0) (before after : Ports) : ℕ → Type 0 where
-  in_memory : (status : ℕ) (end : Standing) → IsScript words → after.disks ≡ before.disks → status ≢ 5 → ScriptEnds (fresh_start secrets) end before.streams after.streams status → EndsWith secrets words at_rest before after status
-  memory_failed : (end : Standing) → IsScript words → after.disks ≡ before.disks → ScriptEnds (fresh_start secrets) end before.streams after.streams 5 → EndsWith secrets words at_rest before after 9
-  stored : (status generation : ℕ) (start end : Standing) → IsStored words → IsOpened secrets generation before.disks start → Returns at_rest generation before.disks after.disks start end → ScriptEnds start end before.streams after.streams status →
+  in_memory : (status : ℕ) → IsScript words → after.disks ≡ before.disks → MemoryEnds secrets before.streams after.streams status → EndsWith secrets words at_rest before after status
+  stored : (status generation : ℕ) (start end : Standing) → IsStored words → IsOpened secrets generation before.disks start → Returns generation before.disks after.disks start end → ScriptEnds start end before.streams after.streams status →
       EndsWith secrets words at_rest before after status
   told : (status : ℕ) (line : List ℕ) → HasCause secrets words at_rest before.disks after.disks status line → after.streams.left ≡ before.streams.left → after.streams.held ≡ with_back before.streams.held (with_line_end line) →
       EndsWith secrets words at_rest before after status

@@ -1,7 +1,7 @@
 //! The interpreter, which answers the lines of an operator's script.
 
 ghost use Rattle.std.specs.Prelude.{◌≡◌, ◌≢◌, ◌≤◌, ◌↔◌, None, length, IfOk, OnErr, IsSome, IsTrue};
-ghost use Rattle.pcfs_top.specs.Interpreter.{unread_reply};
+ghost use Rattle.pcfs_top.specs.Interpreter.{IsToldAs, unread_reply};
 
 use crate::brought::add_procaps;
 use crate::signing::signature_of;
@@ -56,6 +56,19 @@ fn unproved(fault: CheckFault) -> Result<LineReply, NoMemory>
     match fault {
         CheckFault::NoMemory => Err(NoMemory),
         _ => Ok(LineReply::Unproved(fault)),
+    }
+}
+
+// What is returned to a line for which the store says this.
+fn told_as(reply: StoreReply) -> Result<LineReply, NoMemory>
+    ensures ok { IfOk result (λ told. IsToldAs reply told) }
+    ensures err { OnErr result (reply ≡ StoreReply.NoMemory) }
+{
+    match reply {
+        StoreReply::Step(reply) => Ok(LineReply::Step(reply)),
+        StoreReply::Full => Ok(LineReply::Full),
+        StoreReply::Stopped => Ok(LineReply::Stopped),
+        StoreReply::NoMemory => Err(NoMemory),
     }
 }
 
@@ -117,12 +130,8 @@ impl<D: Disk> Interpreter<D> {
         ensures ok { IfOk result (λ reply. LeadsTo D.clock D.left_since D.image D.faults (IsDecidedAs request) self.old reply self.new) }
         ensures err { OnErr result (self.new ≡ self.old) }
     {
-        match self.store.step(alloc, self.pass, request, self.clock) {
-            StoreReply::Step(reply) => Ok(LineReply::Step(reply)),
-            StoreReply::Full => Ok(LineReply::Full),
-            StoreReply::Stopped => Ok(LineReply::Stopped),
-            StoreReply::NoMemory => Err(NoMemory),
-        }
+        let reply = self.store.step(alloc, self.pass, request, self.clock);
+        told_as(reply)
     }
 
     // Checks the proof of the goal from the statements of these numbers, and asks for an issue.

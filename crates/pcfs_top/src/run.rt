@@ -1,8 +1,11 @@
 //! A run of the program: its words, its input and its output and its disks, and the status that it ends with.
 
-ghost use Rattle.std.specs.Prelude.{◌≡◌, ◌≢◌, ◌⊎◌, None, IfOk};
+ghost use Rattle.std.specs.Prelude.{◌≡◌, ◌⊎◌, ℕ, List, Option, String, None, IfOk};
+ghost use Rattle.std.specs.declared.alloc.Global.{Global};
 ghost use Rattle.pcfs_ports.specs.Disk.{IsPinned};
-ghost use Rattle.pcfs_top.specs.Run.{EndsWith, damage_number};
+ghost use Rattle.pcfs_store.specs.Formats.{IsNewStore};
+ghost use Rattle.pcfs_top.specs.ScriptEnds.{with_line_end};
+ghost use Rattle.pcfs_top.specs.Run.{IsStored, IsInit, MemoryEnds, EndsWith, TellsUnopened, TellsUnmade, damage_number, damaged_text};
 
 use crate::answering::{DISK_FAULT, DONE, OUT_OF_MEMORY, run_over, tell};
 use crate::words::{Task, task_of};
@@ -41,7 +44,9 @@ pub struct Ended<D> {
 }
 
 // A store before its first event on disks in memory.
-fn memory_store(alloc: Global, secrets: &Secrets) -> Result<Store<MemoryDisk>, NoMemory> {
+fn memory_store(alloc: Global, secrets: &Secrets) -> Result<Store<MemoryDisk>, NoMemory>
+    ensures { IfOk result (IsNewStore secrets.now.seal_key secrets.now.ring) }
+{
     let a = MemoryDisk::new(alloc, Bytes::new(alloc), Numbers::new(alloc))?;
     let b = MemoryDisk::new(alloc, Bytes::new(alloc), Numbers::new(alloc))?;
     let ring = secrets.ring.copy(alloc)?;
@@ -52,7 +57,9 @@ fn memory_store(alloc: Global, secrets: &Secrets) -> Result<Store<MemoryDisk>, N
 }
 
 // The status of a script in memory: its disks fail only if memory runs out.
-fn memory_status(status: u8) -> u8 {
+fn memory_status(status: u8) -> u8
+    ensures { ((status ≡ 5) × (result ≡ 9)) ⊎ ((status ≡ 5 → ⊥) × (result ≡ status)) }
+{
     if status == DISK_FAULT {
         OUT_OF_MEMORY
     } else {
@@ -66,7 +73,11 @@ fn run_in_memory<I: Source, O: Sink>(
     secrets: &Secrets,
     input: &mut I,
     output: &mut O,
-) -> u8 {
+) -> u8
+    ensures { MemoryEnds secrets.now
+        (record { left = I.left input.old; read_faults = I.faults input.old; held = O.held output.old; write_faults = O.faults output.old })
+        (record { left = I.left input.new; read_faults = I.faults input.new; held = O.held output.new; write_faults = O.faults output.new }) result }
+{
     match memory_store(alloc, secrets) {
         Ok(store) => {
             let (status, _store) = run_over(alloc, store, input, ENOUGH, output);
@@ -92,7 +103,9 @@ fn number_of(damage: Damage) -> u64
 }
 
 // The line that reports the damage of a record.
-fn damaged_line(alloc: Global, record_number: u64, damage: Damage) -> Result<Bytes, NoMemory> {
+fn damaged_line(alloc: Global, record_number: u64, damage: Damage) -> Result<Bytes, NoMemory>
+    ensures { IfOk result (λ line. line ≡ with_line_end (damaged_text record_number damage)) }
+{
     let mut line = Bytes::new(alloc);
     put_counted(&mut line, "damaged ", record_number)?;
     put_counted(&mut line, " ", number_of(damage))?;
@@ -106,7 +119,11 @@ fn tell_damage<O: Sink>(
     output: &mut O,
     record_number: u64,
     damage: Damage,
-) -> u8 {
+) -> u8
+    ensures { TellsUnopened (OpenFault.Damaged record_number damage)
+        (record { left = None; read_faults = 0; held = O.held output.old; write_faults = O.faults output.old }) result
+        (record { left = None; read_faults = 0; held = O.held output.new; write_faults = O.faults output.new }) }
+{
     match damaged_line(alloc, record_number, damage) {
         Ok(line) => tell(output, line.as_slice(), DAMAGED),
         Err(_) => OUT_OF_MEMORY,
@@ -114,7 +131,11 @@ fn tell_damage<O: Sink>(
 }
 
 // Writes why no store was opened, and returns the status to end with.
-fn tell_unopened<O: Sink>(alloc: Global, output: &mut O, fault: OpenFault) -> u8 {
+fn tell_unopened<O: Sink>(alloc: Global, output: &mut O, fault: OpenFault) -> u8
+    ensures { TellsUnopened fault
+        (record { left = None; read_faults = 0; held = O.held output.old; write_faults = O.faults output.old }) result
+        (record { left = None; read_faults = 0; held = O.held output.new; write_faults = O.faults output.new }) }
+{
     match fault {
         OpenFault::NoStore => tell(output, b"nostore\n", NO_STORE),
         OpenFault::Damaged(number, damage) => tell_damage(alloc, output, number, damage),
@@ -131,7 +152,11 @@ fn run_stored<I: Source, O: Sink, D: Disk>(
     output: &mut O,
     a: D,
     b: D,
-) -> Ended<D> {
+) -> Ended<D>
+    ensures { (words : List (String Global)) → IsStored words → EndsWith secrets.now words (IsPinned D.clock D.left_since D.image a × IsPinned D.clock D.left_since D.image b)
+        (record { streams = record { left = I.left input.old; read_faults = I.faults input.old; held = O.held output.old; write_faults = O.faults output.old }; disks = record { a = D.image a; b = D.image b; a_faults = D.faults a; b_faults = D.faults b } })
+        (record { streams = record { left = I.left input.new; read_faults = I.faults input.new; held = O.held output.new; write_faults = O.faults output.new }; disks = record { a = D.image result.a; b = D.image result.b; a_faults = D.faults result.a; b_faults = D.faults result.b } }) result.status }
+{
     let ring = match secrets.ring.copy(alloc) {
         Ok(ring) => ring,
         Err(_) => return Ended {
@@ -142,7 +167,9 @@ fn run_stored<I: Source, O: Sink, D: Disk>(
     };
     match open_store(alloc, a, b, secrets.seal_key.as_slice(), ring) {
         Ok(store) => {
+            store.keeps();
             let (status, store) = run_over(alloc, store, input, 1, output);
+            store.keeps();
             let (a, b) = store.into_disks();
             Ended { status, a, b }
         }
@@ -155,7 +182,11 @@ fn run_stored<I: Source, O: Sink, D: Disk>(
 }
 
 // Writes why no store was made, and returns the status to end with.
-fn tell_unmade<O: Sink>(output: &mut O, fault: FormatFault) -> u8 {
+fn tell_unmade<O: Sink>(output: &mut O, fault: FormatFault) -> u8
+    ensures { TellsUnmade fault
+        (record { left = None; read_faults = 0; held = O.held output.old; write_faults = O.faults output.old }) result
+        (record { left = None; read_faults = 0; held = O.held output.new; write_faults = O.faults output.new }) }
+{
     match fault {
         FormatFault::AlreadyStore => tell(output, b"exists\n", ALREADY_STORE),
         FormatFault::Disk => tell(output, b"stopped\n", DISK_FAULT),
@@ -170,7 +201,11 @@ fn init<O: Sink, D: Disk>(
     output: &mut O,
     a: D,
     b: D,
-) -> Ended<D> {
+) -> Ended<D>
+    ensures { (words : List (String Global)) (left : Option (List ℕ)) (read_faults : ℕ) → IsInit words → EndsWith secrets.now words (IsPinned D.clock D.left_since D.image a × IsPinned D.clock D.left_since D.image b)
+        (record { streams = record { left = left; read_faults = read_faults; held = O.held output.old; write_faults = O.faults output.old }; disks = record { a = D.image a; b = D.image b; a_faults = D.faults a; b_faults = D.faults b } })
+        (record { streams = record { left = left; read_faults = read_faults; held = O.held output.new; write_faults = O.faults output.new }; disks = record { a = D.image result.a; b = D.image result.b; a_faults = D.faults result.a; b_faults = D.faults result.b } }) result.status }
+{
     let ring = match secrets.ring.copy(alloc) {
         Ok(ring) => ring,
         Err(_) => return Ended {

@@ -1,34 +1,22 @@
--- Each reply of the store is told.
-use Rattle.std.proofs.Common.{sym, ap, subst}
+-- What the store says is told.
 use Rattle.std.proofs.lemmas.Int.{to_z-of_z}
+use Rattle.std.proofs.lemmas.Result.{IfOk-weaker}
 use Rattle.std.specs.Int.{w64}
 use Rattle.access_history.proofs.HistoryLemmas.{SFits-moment}
-use Rattle.pcfs_store.specs.declared.reply.StoreReply.TheVariants as stores
-use Rattle.pcfs_top.specs.Interpreter.{IsDecidedAs}
-use Rattle.pcfs_top.specs.InterpreterView.{InterpreterView, standing_of}
-use Rattle.pcfs_top.specs.ScriptRun.{IsLawfulStanding}
-use Rattle.pcfs_top.proofs.InterpreterLemmas.{same-without_memory}
-use Rattle.pcfs_top.proofs.StoredLemmas.{Stepped-shown, LeadsTo-step, LeadsTo-full, LeadsTo-stopped, LeadsTo-seated}
+use Rattle.pcfs_top.proofs.OutboxLemmas.{OnErr-weaker}
+use Rattle.pcfs_top.proofs.StoredLemmas.{Stepped-shown, LeadsTo-told, same-without_memory}
 use Rattle.pcfs_top.proofs.interpreter.Interpreter.ask.Goals as goal
 
-pub returns-in-Step-clause-ok : goal.returns-in-Step-clause-ok
-returns-in-Step-clause-ok g c =
-    LeadsTo-seated g.D.Disk.clock g.D.Disk.left_since g.D.Disk.image g.D.Disk.faults (IsDecidedAs c.args.request) _ c.args.self.now _ _ c.self.view_is
-    (LeadsTo-step g.D.Disk.clock g.D.Disk.left_since g.D.Disk.image g.D.Disk.faults c.self.inside.store c.step.new.self _ c.args.request c.in-Step.reply
-    (Stepped-shown g.D.Disk.clock g.D.Disk.left_since g.D.Disk.image g.D.Disk.faults c.self.inside.store c.step.new.self _ c.self.inside.clock _ _ _ c.args.request (stores.Step c.in-Step.reply) (to_z-of_z w64 c.self.inside.clock (SFits-moment c.self.inside.clock c.self.invariant.0))
-    (record { answer = c.in-Step.ensures.answer; stays_ready = c.in-Step.ensures.ready; stays_current = c.in-Step.ensures.current; met = c.in-Step.ensures.met; first_never_falls = c.step.ensures.first_never_falls; second_never_falls = c.step.ensures.second_never_falls })))
+pub returns-clause-ok : goal.returns-clause-ok
+returns-clause-ok g c =
+    IfOk-weaker c.told_as.result _ _ (λ told is.
+    LeadsTo-told g.D.Disk.clock g.D.Disk.left_since g.D.Disk.image g.D.Disk.faults _ c.args.self.now c.step-reply.new.self c.args.request c.step-reply.result told c.self.view_is c.requires.lawful c.requires.running is
+    (Stepped-shown g.D.Disk.clock g.D.Disk.left_since g.D.Disk.image g.D.Disk.faults c.self.inside.store c.step-reply.new.self _ c.self.inside.clock _ _ _ c.args.request c.step-reply.result (to_z-of_z w64 c.self.inside.clock (SFits-moment c.self.inside.clock c.self.invariant.0))
+    (record { answer = c.step-reply.ensures.answer; stays_ready = c.step-reply.ensures.ready; stays_current = c.step-reply.ensures.current; met = c.step-reply.ensures.met; first_never_falls = c.step-reply.ensures.first_never_falls; second_never_falls = c.step-reply.ensures.second_never_falls }))) c.told_as.ensures.ok
 
-pub returns-in-Full-clause-ok : goal.returns-in-Full-clause-ok
-returns-in-Full-clause-ok g c =
-    LeadsTo-seated g.D.Disk.clock g.D.Disk.left_since g.D.Disk.image g.D.Disk.faults (IsDecidedAs c.args.request) _ c.args.self.now _ _ c.self.view_is
-    (LeadsTo-full g.D.Disk.clock g.D.Disk.left_since g.D.Disk.image g.D.Disk.faults c.self.inside.store c.step.new.self _ c.args.request
-    (Stepped-shown g.D.Disk.clock g.D.Disk.left_since g.D.Disk.image g.D.Disk.faults c.self.inside.store c.step.new.self _ c.self.inside.clock _ _ _ c.args.request stores.Full (to_z-of_z w64 c.self.inside.clock (SFits-moment c.self.inside.clock c.self.invariant.0))
-    (record { answer = c.in-Full.ensures.answer; stays_ready = c.in-Full.ensures.ready; stays_current = c.in-Full.ensures.current; met = c.in-Full.ensures.met; first_never_falls = c.step.ensures.first_never_falls; second_never_falls = c.step.ensures.second_never_falls })))
-
-pub returns-in-Stopped-clause-ok : goal.returns-in-Stopped-clause-ok
-returns-in-Stopped-clause-ok g c =
-    let lawful = subst (λ (i : InterpreterView _). IsLawfulStanding (standing_of i _)) (sym c.self.view_is) c.requires.lawful in
-    LeadsTo-seated g.D.Disk.clock g.D.Disk.left_since g.D.Disk.image g.D.Disk.faults (IsDecidedAs c.args.request) _ c.args.self.now _ _ c.self.view_is
-    (LeadsTo-stopped g.D.Disk.clock g.D.Disk.left_since g.D.Disk.image g.D.Disk.faults c.self.inside.store c.step.new.self _ c.args.request lawful.lawful (ap (λ i. i.store.stop) c.self.view_is ∙ c.requires.running)
-    (Stepped-shown g.D.Disk.clock g.D.Disk.left_since g.D.Disk.image g.D.Disk.faults c.self.inside.store c.step.new.self _ c.self.inside.clock _ _ _ c.args.request stores.Stopped (to_z-of_z w64 c.self.inside.clock (SFits-moment c.self.inside.clock c.self.invariant.0))
-    (record { answer = c.in-Stopped.ensures.answer; stays_ready = c.in-Stopped.ensures.ready; stays_current = c.in-Stopped.ensures.current; met = c.in-Stopped.ensures.met; first_never_falls = c.step.ensures.first_never_falls; second_never_falls = c.step.ensures.second_never_falls })))
+pub returns-clause-err : goal.returns-clause-err
+returns-clause-err g c =
+    OnErr-weaker c.told_as.result _ _ (λ is.
+    same-without_memory g.D.Disk.clock g.D.Disk.left_since g.D.Disk.image g.D.Disk.faults _ c.args.self.now c.step-reply.new.self c.args.request c.step-reply.result c.self.view_is is
+    (Stepped-shown g.D.Disk.clock g.D.Disk.left_since g.D.Disk.image g.D.Disk.faults c.self.inside.store c.step-reply.new.self _ c.self.inside.clock _ _ _ c.args.request c.step-reply.result (to_z-of_z w64 c.self.inside.clock (SFits-moment c.self.inside.clock c.self.invariant.0))
+    (record { answer = c.step-reply.ensures.answer; stays_ready = c.step-reply.ensures.ready; stays_current = c.step-reply.ensures.current; met = c.step-reply.ensures.met; first_never_falls = c.step-reply.ensures.first_never_falls; second_never_falls = c.step-reply.ensures.second_never_falls }))) c.told_as.ensures.err

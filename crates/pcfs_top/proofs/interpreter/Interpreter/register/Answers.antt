@@ -14,4 +14,4 @@ returns-clause-ok g c =
     IfOk-weaker c.ask.result _ _ (λ reply asked.
     LeadsTo-also g.D.Disk.clock g.D.Disk.left_since g.D.Disk.image g.D.Disk.faults (IsDecidedAs (requests.Register c.args.statement c.in_ok-signature.signature)) (IsFollowed (Register c.args.signature c.args.statement)) c.args.self.now c.ask.new.self reply (λ met decided.
     IsFollowed-register _ _ c.args.signature c.args.statement c.in_ok-signature.signature reply
-    (c.in_ok-signature.ensures ∙ ap (λ r. signature_under r c.args.statement c.args.signature) (c.ring.ensures ∙ ap (λ i. i.store.ring) c.self.view_is)) decided) asked) c.ask.ensures.ok
+    (c.in_ok-signature.ensures ∙ ap (λ r. signature_under r c.args.statement c.args.signature) (c.ring.ensures ∙ (ap (λ h. h.ring) c.gate.ensures ∙ ap (λ i. i.store.ring) c.self.view_is))) decided) asked) c.ask.ensures.ok
