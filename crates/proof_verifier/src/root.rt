@@ -97,6 +97,10 @@ fn follow_from_root(
 {
     let loc = Term::Prin(principal(b"loc"));
     let now = Term::Ctime;
+    let aim = Instance {
+        formula: &*wanted,
+        terms: &TermList::None,
+    };
     let place = Position {
         node: 0,
         hypotheses: &Hypotheses::None,
@@ -105,10 +109,7 @@ fn follow_from_root(
         who: &loc,
         begins: &now,
         ends: &now,
-        goal: Instance {
-            formula: wanted,
-            terms: &TermList::None,
-        },
+        goal: aim,
         from: &now,
         to: &now,
     };
