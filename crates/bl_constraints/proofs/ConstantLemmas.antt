@@ -39,17 +39,17 @@ module _ (psi : List Constraint) (t : Term) (words : List ℕ) where
     bound = λ place c point lt. absurd (omega (arith, lt));
   }
 
-  module _ (are_before : AreBefore psi t words) (seen : ℕ) (here : Constraint) (stands : StandsAt psi seen here) (latest : TimePoint) (so_far : IsLatestSoFar psi t words seen latest) where
-    pub latest_skip : (HasPlace words seen → ⊥) → IsLatestSoFar psi t words (seen + 1) latest
-    latest_skip out = record {
-      chain = so_far.chain;
-      own = so_far.own;
-      bound = λ place c point lt has stands_c begins.
-          by_cases (cases_eq place seen)
-          (λ same. absurd (out (subst (HasPlace words) same has)))
-          (λ other. so_far.bound place c point (omega (arith, lt, other)) has stands_c begins);
-    }
+  pub latest_skip : (seen : ℕ) (latest : TimePoint) → IsLatestSoFar psi t words seen latest → (HasPlace words seen → ⊥) → IsLatestSoFar psi t words (seen + 1) latest
+  latest_skip seen latest so_far out = record {
+    chain = so_far.chain;
+    own = so_far.own;
+    bound = λ place c point lt has stands_c begins.
+        by_cases (cases_eq place seen)
+        (λ same. absurd (out (subst (HasPlace words) same has)))
+        (λ other. so_far.bound place c point (omega (arith, lt, other)) has stands_c begins);
+  }
 
+  module _ (are_before : AreBefore psi t words) (seen : ℕ) (here : Constraint) (stands : StandsAt psi seen here) (latest : TimePoint) (so_far : IsLatestSoFar psi t words seen latest) where
     pub latest_more : (start later : TimePoint) → HasPlace words seen → IsLink [] (Time start) here.low → ((point : TimePoint) → here.low ≡ Time point → point ≡ start)
         → (later ≡ latest) ⊎ (later ≡ start) → IsUpTo latest later → IsUpTo start later → IsLatestSoFar psi t words (seen + 1) later
     latest_more start later has linked constant either first second =
@@ -93,17 +93,17 @@ module _ (psi : List Constraint) (u : Term) (words : List ℕ) where
     bound = λ place c point lt. absurd (omega (arith, lt));
   }
 
-  module _ (are_after : AreAfter psi u words) (seen : ℕ) (here : Constraint) (stands : StandsAt psi seen here) (earliest : TimePoint) (so_far : IsEarliestSoFar psi u words seen earliest) where
-    pub earliest_skip : (HasPlace words seen → ⊥) → IsEarliestSoFar psi u words (seen + 1) earliest
-    earliest_skip out = record {
-      chain = so_far.chain;
-      own = so_far.own;
-      bound = λ place c point lt has stands_c ends.
-          by_cases (cases_eq place seen)
-          (λ same. absurd (out (subst (HasPlace words) same has)))
-          (λ other. so_far.bound place c point (omega (arith, lt, other)) has stands_c ends);
-    }
+  pub earliest_skip : (seen : ℕ) (earliest : TimePoint) → IsEarliestSoFar psi u words seen earliest → (HasPlace words seen → ⊥) → IsEarliestSoFar psi u words (seen + 1) earliest
+  earliest_skip seen earliest so_far out = record {
+    chain = so_far.chain;
+    own = so_far.own;
+    bound = λ place c point lt has stands_c ends.
+        by_cases (cases_eq place seen)
+        (λ same. absurd (out (subst (HasPlace words) same has)))
+        (λ other. so_far.bound place c point (omega (arith, lt, other)) has stands_c ends);
+  }
 
+  module _ (are_after : AreAfter psi u words) (seen : ℕ) (here : Constraint) (stands : StandsAt psi seen here) (earliest : TimePoint) (so_far : IsEarliestSoFar psi u words seen earliest) where
     pub earliest_more : (end earlier : TimePoint) → HasPlace words seen → IsLink [] here.high (Time end) → ((point : TimePoint) → here.high ≡ Time point → point ≡ end)
         → (earlier ≡ earliest) ⊎ (earlier ≡ end) → IsUpTo earlier earliest → IsUpTo earlier end → IsEarliestSoFar psi u words (seen + 1) earlier
     earliest_more end earlier has linked constant either first second =

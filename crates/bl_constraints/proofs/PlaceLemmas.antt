@@ -1,12 +1,12 @@
 -- Places as bits of words.
 use Rattle.std.proofs.Common.{◌≡◌, ◌⊎◌, inl, inr, ℕ, ◌+◌, ◌*◌, ◌/◌, ◌%◌, ◌^◌, ◌<◌, ◌≤◌, List, get_or, set, length, refl, sym, subst, ap, ◌∙◌, arith}
-use Rattle.std.specs.Prelude.{◌↔◌, bit_and, bit_or}
-use Rattle.std.specs.Int.{bit_at, w64}
-use Rattle.std.proofs.lemmas.Bool.{cases_eq, cases_lt}
+use Rattle.std.specs.Prelude.{◌↔◌, true, not, nat_eq, bit_and, bit_or}
+use Rattle.std.specs.Int.{bit_at, trailing_zeros, w64}
+use Rattle.std.proofs.lemmas.Bool.{cases_eq, cases_lt, ne_eqb, false≢true}
 use Rattle.std.proofs.lemmas.List.{get_or-set_same, get_or-set_other, get_or_past}
 use Rattle.std.proofs.lemmas.Nat.{and_le_l}
 use Rattle.std.proofs.lemmas.Nat.Bits.{bit_at-zero, bit_at_and, bit_at_or, bit_at-lt, bit_at_set_same, bit_at_set_other, bit_at-trailing_zeros}
-use Rattle.bl_constraints.specs.Places.{HasPlace, Meet}
+use Rattle.bl_constraints.specs.Places.{HasPlace, ShareBit, Meet}
 use Rattle.bl_constraints.proofs.ChainLemmas.{by_cases}
 
 -- a bit of a disjunction
@@ -101,33 +101,37 @@ at_bit words w i lt h =
     let bit_is : (64 * w + i) % 64 ≡ i = omega (arith, lt) in
     ap (λ (k : ℕ). bit_at (get_or words k 0) ((64 * w + i) % 64)) word_is ∙ ap (bit_at (get_or words w 0)) bit_is ∙ h
 
-meet_at : (words others : List ℕ) (w i : ℕ) → i < 64 → bit_at (bit_and (get_or words w 0) (get_or others w 0)) i ≡ 1 → Meet words others
-meet_at words others w i lt h =
-    let a : ℕ = get_or words w 0 in
-    let b : ℕ = get_or others w 0 in
-    let both = bit_at_and a b i in
-    record {
-      place = 64 * w + i;
-      here = at_bit words w i lt (omega (arith, h, both, bit_at-lt a i, bit_at-lt b i));
-      there = at_bit others w i lt (omega (arith, h, both, bit_at-lt a i, bit_at-lt b i));
-    }
+pub meet_at : (words others : List ℕ) (w : ℕ) → ShareBit (get_or words w 0) (get_or others w 0) → Meet words others
+meet_at words others w share = record { place = 64 * w + share.bit; here = at_bit words w share.bit share.within share.here; there = at_bit others w share.bit share.within share.there }
 
-pub meet_here : (words others : List ℕ) (w : ℕ) → (bit_and (get_or words w 0) (get_or others w 0) ≡ 0 → ⊥) → get_or words w 0 < 18446744073709551616 → Meet words others
-meet_here words others w some range =
-    let a : ℕ = get_or words w 0 in
-    let b : ℕ = get_or others w 0 in
+pub sharing : (a b : ℕ) → a < 18446744073709551616 → (bit_and a b ≡ 0 → ⊥) → ShareBit a b
+sharing a b range some =
     let below : bit_and a b < 18446744073709551616 = omega (arith, range, and_le_l a b) in
     let positive : 0 < bit_and a b = by_cases (cases_eq (bit_and a b) 0) (λ e. absurd (some e)) (λ other. omega (arith, other)) in
     let found = bit_at-trailing_zeros w64 (bit_and a b) positive below in
-    meet_at words others w _ found.0 found.1
+    let both = bit_at_and a b (trailing_zeros w64 (bit_and a b)) in
+    let one = bit_at-lt a (trailing_zeros w64 (bit_and a b)) in
+    let other = bit_at-lt b (trailing_zeros w64 (bit_and a b)) in
+    let is = found.1 in
+    record { bit = trailing_zeros w64 (bit_and a b); within = found.0; here = omega (arith, is, both, one, other); there = omega (arith, is, both, one, other) }
+
+pub not_sharing : (a b : ℕ) → bit_and a b ≡ 0 → ShareBit a b → ⊥
+not_sharing a b none share =
+    let zero : bit_at (bit_and a b) share.bit ≡ bit_at 0 share.bit = ap (λ (w : ℕ). bit_at w share.bit) none in
+    let here = share.here in
+    let there = share.there in
+    absurd (omega (arith, zero, bit_at-zero share.bit, bit_at_and a b share.bit, here, there))
 
 -- no word is in both
-pub no_meeting : (words others : List ℕ) → length words ≡ 8 → ((w : ℕ) → w < 8 → bit_and (get_or words w 0) (get_or others w 0) ≡ 0) → Meet words others → ⊥
+pub no_meeting : (words others : List ℕ) → length words ≡ 8 → ((w : ℕ) → w < 8 → ShareBit (get_or words w 0) (get_or others w 0) → ⊥) → Meet words others → ⊥
 no_meeting words others eight none m =
     by_cases (cases_lt (m.place / 64) 8)
-    (λ lt.
-    let a : ℕ = get_or words (m.place / 64) 0 in
-    let b : ℕ = get_or others (m.place / 64) 0 in
-    let zero : bit_at (bit_and a b) (m.place % 64) ≡ bit_at 0 (m.place % 64) = ap (λ (w : ℕ). bit_at w (m.place % 64)) (none (m.place / 64) lt) in
-    absurd (omega (arith, zero, bit_at-zero (m.place % 64), bit_at_and a b (m.place % 64), m.here, m.there)))
+    (λ lt. none (m.place / 64) lt (record { bit = m.place % 64; within = omega arith; here = m.here; there = m.there }))
     (λ past. none_past words m.place (omega (arith, past, eight)) m.here)
+
+-- two words have a bit in common exactly if their conjunction is not 0
+pub sharing_told : (a b : ℕ) → a < 18446744073709551616 → not (nat_eq (bit_and a b) 0) ≡ true → ShareBit a b
+sharing_told a b range t = sharing a b range (λ e. absurd (false≢true (sym (ap (λ (n : ℕ). not (nat_eq n 0)) e) ∙ t)))
+
+pub sharing_test : (a b : ℕ) → ShareBit a b → not (nat_eq (bit_and a b) 0) ≡ true
+sharing_test a b share = ap not (ne_eqb (bit_and a b) 0 (λ e. absurd (not_sharing a b e share)))

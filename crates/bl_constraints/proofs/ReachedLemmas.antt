@@ -153,6 +153,13 @@ leading_none t words none = record { each = λ place. (λ h. absurd (none place 
     nothing_stands : (place : ℕ) (c : Constraint) → StandsAt [] place c → ⊥
     nothing_stands place c e = cc
 
+-- what stands at a place is there whatever the default
+pub is_itself : (items : List Tracked) (place : ℕ) (d : Tracked) → place < length items → get_or items place d ≡ get_or items place (get_or items place d)
+is_itself items place d within =
+    let here : slice_get items place ≡ Some (get_or items place d) = slice_get-get_or items place d within in
+    let there : slice_get items place ≡ Some (get_or items place (get_or items place d)) = slice_get-get_or items place (get_or items place d) within in
+    same_Some (get_or items place d) (get_or items place (get_or items place d)) (sym here ∙ there)
+
 -- the constraint at a place comes after those before it
 module _ (items : List Tracked) (place : ℕ) (item : Tracked) (within : place < length items) (is : item ≡ get_or items place item) where
   pub stands_here : slice_get items place ≡ Some item

@@ -1,7 +1,7 @@
 //! Sets of places below 512, a bit for each.
 
 ghost use Rattle.std.specs.Prelude.{◌≡◌, ◌<◌, ◌↔◌, ◌⊎◌, ℕ, IsTrue};
-ghost use Rattle.bl_constraints.specs.Places.{HasPlace, Meet};
+ghost use Rattle.bl_constraints.specs.Places.{HasPlace, ShareBit, Meet};
 
 /// A set of places below 512.
 #[derive(Clone, Copy, Debug)]
@@ -47,10 +47,16 @@ impl Places {
         ensures { IsTrue result ↔ Meet self.now.words other.now.words }
     {
         for word in 0..8 {
-            if self.words[word] & other.words[word] != 0 {
+            if share_bit(self.words[word], other.words[word]) {
                 return true;
             }
         }
         false
     }
+}
+
+fn share_bit(word: u64, other: u64) -> bool
+    ensures { IsTrue result ↔ ShareBit word other }
+{
+    word & other != 0
 }

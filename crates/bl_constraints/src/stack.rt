@@ -45,6 +45,7 @@ impl ConstraintStack {
     }
 
     /// Adds a constraint after the others.
+    #[inline(never)]
     pub fn push(&mut self, c: &Constraint) -> Result<(), NoMemory>
         requires { length self.old < 512 }
         ensures ok { OnOk result (self.new ≡ self.old ++ c.now ∷ []) }
@@ -63,6 +64,7 @@ impl ConstraintStack {
     }
 
     /// Whether the constraints entail that `u` is not after `v`. It takes no memory.
+    #[inline(never)]
     pub fn entails(&self, u: &Term, v: &Term) -> bool
         ensures { IsTrue result ↔ Entails self.now u.now v.now }
     {

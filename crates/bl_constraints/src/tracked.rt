@@ -44,7 +44,7 @@ pub fn contradict(items: &[Tracked]) -> bool
     requires { AreTracked items.now }
     ensures { IsTrue result ↔ IsContradictory (constraints_of items.now) }
 {
-    if items.is_empty() {
+    if items.len() == 0 {
         return false;
     }
     items[items.len() - 1].contradicts
