@@ -44,14 +44,12 @@ module _ (words : List ℕ) (place : ℕ) (eight : length words ≡ 8) (within :
         λ _. ap (λ (w : ℕ). bit_at w (k % 64)) here ∙ ap (bit_at word) same_bit ∙ bit_at_set_same w64 (get_or words (place / 64) 0) (place % 64) (omega arith),
       ))
       (λ other_bit.
-      let kept : bit_at word (k % 64) ≡ bit_at (get_or words (place / 64) 0) (k % 64) = bit_at_set_other w64 (get_or words (place / 64) 0) (place % 64) (omega arith) (k % 64) other_bit in
-      (
+      let kept : bit_at word (k % 64) ≡ bit_at (get_or words (place / 64) 0) (k % 64) = bit_at_set_other w64 (get_or words (place / 64) 0) (place % 64) (omega arith) (k % 64) other_bit in (
         λ h. inr (ap (λ (w : ℕ). bit_at w (k % 64)) old ∙ sym kept ∙ ap (λ (w : ℕ). bit_at w (k % 64)) (sym here) ∙ h),
         λ h. by_cases h (λ e. absurd (other_bit (ap (λ (n : ℕ). n % 64) e))) (λ was. ap (λ (w : ℕ). bit_at w (k % 64)) here ∙ kept ∙ ap (λ (w : ℕ). bit_at w (k % 64)) (sym old) ∙ was),
       )))
       (λ other_word.
-      let here : get_or (set words (place / 64) word) (k / 64) 0 ≡ get_or words (k / 64) 0 = get_or-set_other words (place / 64) (k / 64) word 0 other_word in
-      (
+      let here : get_or (set words (place / 64) word) (k / 64) 0 ≡ get_or words (k / 64) 0 = get_or-set_other words (place / 64) (k / 64) word 0 other_word in (
         λ h. inr (ap (λ (w : ℕ). bit_at w (k % 64)) (sym here) ∙ h),
         λ h. by_cases h (λ e. absurd (other_word (ap (λ (n : ℕ). n / 64) e))) (λ was. ap (λ (w : ℕ). bit_at w (k % 64)) here ∙ was),
       ))
@@ -84,8 +82,7 @@ pub added_all : (words others now : List ℕ) (done : ℕ) → IsAdding words ot
 added_all words others now done adding all eight eight_others k =
     by_cases (cases_lt (k / 64) 8)
     (λ lt.
-    let is = adding.added (k / 64) (omega (arith, lt, all)) in
-    (
+    let is = adding.added (k / 64) (omega (arith, lt, all)) in (
       λ h. or_told (get_or words (k / 64) 0) (get_or others (k / 64) 0) (k % 64) (ap (λ (w : ℕ). bit_at w (k % 64)) (sym is) ∙ h),
       λ h. ap (λ (w : ℕ). bit_at w (k % 64)) is ∙ or_test (get_or words (k / 64) 0) (get_or others (k / 64) 0) (k % 64) h,
     ))

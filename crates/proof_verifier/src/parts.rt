@@ -50,7 +50,10 @@ impl<'a> Instance<'a> {
             (λ fault. as_state node (instance_view self.now) ≡ Err fault) }
     {
         let predicate = shapes::as_state(self.formula, node)?;
-        Ok(FactRef { predicate, terms: self.terms })
+        Ok(FactRef {
+            predicate,
+            terms: self.terms,
+        })
     }
 
     /// A & B: both parts.

@@ -20,15 +20,15 @@ loop-place-preserved c =
     let words = c.args.after.now.words in
     let within = c.loop-place-test.true in
     elim c.if-has.branch [
-      then-has w ↦
-        subst (λ (point : TimePoint). IsEarliestSoFar (constraints_of items) u words (place + 1) point) (sym w.earliest-is)
-        (earliest_more (constraints_of items) u words c.requires.after place (get_or items place w.index-items-place.result).constraint
-        (constraint_stands items place (get_or items place w.index-items-place.result) within (is_itself items place w.index-items-place.result within))
-        c.loop-place.earliest c.loop-place.invariant w.end_of.result w.earlier_of-earliest.result (c.has.ensures.0 w.if-has.true) w.end_of.ensures.linked w.end_of.ensures.constant
-        w.earlier_of-earliest.ensures.either w.earlier_of-earliest.ensures.first w.earlier_of-earliest.ensures.second)
+      | then-has w ↦
+          subst (λ (point : TimePoint). IsEarliestSoFar (constraints_of items) u words (place + 1) point) (sym w.earliest-is)
+          (earliest_more (constraints_of items) u words c.requires.after place (get_or items place w.index-items-place.result).constraint
+          (constraint_stands items place (get_or items place w.index-items-place.result) within (is_itself items place w.index-items-place.result within))
+          c.loop-place.earliest c.loop-place.invariant w.end_of.result w.earlier_of-earliest.result (c.has.ensures.0 w.if-has.true) w.end_of.ensures.linked w.end_of.ensures.constant
+          w.earlier_of-earliest.ensures.either w.earlier_of-earliest.ensures.first w.earlier_of-earliest.ensures.second)
       | else-has w ↦
-        subst (λ (point : TimePoint). IsEarliestSoFar (constraints_of items) u words (place + 1) point) (sym w.earliest-is)
-        (earliest_skip (constraints_of items) u words place c.loop-place.earliest c.loop-place.invariant (λ h. absurd (false≢true (sym w.if-has.false ∙ c.has.ensures.1 h))))
+          subst (λ (point : TimePoint). IsEarliestSoFar (constraints_of items) u words (place + 1) point) (sym w.earliest-is)
+          (earliest_skip (constraints_of items) u words place c.loop-place.earliest c.loop-place.invariant (λ h. absurd (false≢true (sym w.if-has.false ∙ c.has.ensures.1 h))))
     ]
 
 pub returns : goal.returns

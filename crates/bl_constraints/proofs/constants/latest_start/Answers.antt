@@ -20,15 +20,15 @@ loop-place-preserved c =
     let words = c.args.before.now.words in
     let within = c.loop-place-test.true in
     elim c.if-has.branch [
-      then-has w ↦
-        subst (λ (point : TimePoint). IsLatestSoFar (constraints_of items) t words (place + 1) point) (sym w.latest-is)
-        (latest_more (constraints_of items) t words c.requires.before place (get_or items place w.index-items-place.result).constraint
-        (constraint_stands items place (get_or items place w.index-items-place.result) within (is_itself items place w.index-items-place.result within))
-        c.loop-place.latest c.loop-place.invariant w.start_of.result w.later_of-latest.result (c.has.ensures.0 w.if-has.true) w.start_of.ensures.linked w.start_of.ensures.constant
-        w.later_of-latest.ensures.either w.later_of-latest.ensures.first w.later_of-latest.ensures.second)
+      | then-has w ↦
+          subst (λ (point : TimePoint). IsLatestSoFar (constraints_of items) t words (place + 1) point) (sym w.latest-is)
+          (latest_more (constraints_of items) t words c.requires.before place (get_or items place w.index-items-place.result).constraint
+          (constraint_stands items place (get_or items place w.index-items-place.result) within (is_itself items place w.index-items-place.result within))
+          c.loop-place.latest c.loop-place.invariant w.start_of.result w.later_of-latest.result (c.has.ensures.0 w.if-has.true) w.start_of.ensures.linked w.start_of.ensures.constant
+          w.later_of-latest.ensures.either w.later_of-latest.ensures.first w.later_of-latest.ensures.second)
       | else-has w ↦
-        subst (λ (point : TimePoint). IsLatestSoFar (constraints_of items) t words (place + 1) point) (sym w.latest-is)
-        (latest_skip (constraints_of items) t words place c.loop-place.latest c.loop-place.invariant (λ h. absurd (false≢true (sym w.if-has.false ∙ c.has.ensures.1 h))))
+          subst (λ (point : TimePoint). IsLatestSoFar (constraints_of items) t words (place + 1) point) (sym w.latest-is)
+          (latest_skip (constraints_of items) t words place c.loop-place.latest c.loop-place.invariant (λ h. absurd (false≢true (sym w.if-has.false ∙ c.has.ensures.1 h))))
     ]
 
 pub returns : goal.returns

@@ -15,10 +15,10 @@ loop-place-preserved c =
     let item = c.index-items-place.result in
     let is = c.index-items-place.is in
     elim c.if-is_led_to.branch [
-      then-is_led_to w ↦
-        subst (λ (set : Places). AreAfter (take (place + 1) (constraints_of items)) u set.words) (sym w.reached-is)
-        (after_more items place item within is c.requires u c.loop-place.reached.words w.insert.new.self.words w.add_all.new.self.words c.is_led_to.result c.loop-place.invariant c.is_led_to.ensures w.if-is_led_to.true w.insert.ensures w.add_all.ensures)
+      | then-is_led_to w ↦
+          subst (λ (set : Places). AreAfter (take (place + 1) (constraints_of items)) u set.words) (sym w.reached-is)
+          (after_more items place item within is c.requires u c.loop-place.reached.words w.insert.new.self.words w.add_all.new.self.words c.is_led_to.result c.loop-place.invariant c.is_led_to.ensures w.if-is_led_to.true w.insert.ensures w.add_all.ensures)
       | else-is_led_to w ↦
-        subst (λ (set : Places). AreAfter (take (place + 1) (constraints_of items)) u set.words) (sym w.reached-is)
-        (after_same items place item within is c.requires u c.loop-place.reached.words c.is_led_to.result c.loop-place.invariant c.is_led_to.ensures (λ t. absurd (false≢true (sym w.if-is_led_to.false ∙ t))))
+          subst (λ (set : Places). AreAfter (take (place + 1) (constraints_of items)) u set.words) (sym w.reached-is)
+          (after_same items place item within is c.requires u c.loop-place.reached.words c.is_led_to.result c.loop-place.invariant c.is_led_to.ensures (λ t. absurd (false≢true (sym w.if-is_led_to.false ∙ t))))
     ]

@@ -15,10 +15,10 @@ loop-place-preserved c =
     let item = c.index-items-place.result in
     let is = c.index-items-place.is in
     elim c.if-leads_to.branch [
-      then-leads_to w ↦
-        subst (λ (set : Places). AreBefore (take (place + 1) (constraints_of items)) t set.words) (sym w.leading-is)
-        (before_more items place item within is c.requires t c.loop-place.leading.words w.insert.new.self.words w.add_all.new.self.words c.leads_to.result c.loop-place.invariant c.leads_to.ensures w.if-leads_to.true w.insert.ensures w.add_all.ensures)
+      | then-leads_to w ↦
+          subst (λ (set : Places). AreBefore (take (place + 1) (constraints_of items)) t set.words) (sym w.leading-is)
+          (before_more items place item within is c.requires t c.loop-place.leading.words w.insert.new.self.words w.add_all.new.self.words c.leads_to.result c.loop-place.invariant c.leads_to.ensures w.if-leads_to.true w.insert.ensures w.add_all.ensures)
       | else-leads_to w ↦
-        subst (λ (set : Places). AreBefore (take (place + 1) (constraints_of items)) t set.words) (sym w.leading-is)
-        (before_same items place item within is c.requires t c.loop-place.leading.words c.leads_to.result c.loop-place.invariant c.leads_to.ensures (λ t. absurd (false≢true (sym w.if-leads_to.false ∙ t))))
+          subst (λ (set : Places). AreBefore (take (place + 1) (constraints_of items)) t set.words) (sym w.leading-is)
+          (before_same items place item within is c.requires t c.loop-place.leading.words c.leads_to.result c.loop-place.invariant c.leads_to.ensures (λ t. absurd (false≢true (sym w.if-leads_to.false ∙ t))))
     ]

@@ -15,7 +15,7 @@ returns-clause-tracked c =
     let earliest = c.earliest_end-earliest.result in
     let contradicts : IsTrue c.if-contradict.result ↔ IsContradictory (psi ++ d ∷ []) =
     elim c.if-contradict.branch [
-      then-contradict w ↦ contradictory_before psi d latest earliest c.latest_start-latest.ensures c.earliest_end-earliest.ensures c.contradict.result c.if-contradict.result c.contradict.ensures w.if-contradict.true (w.result-is ∙ w.if-contradict.true)
+      | then-contradict w ↦ contradictory_before psi d latest earliest c.latest_start-latest.ensures c.earliest_end-earliest.ensures c.contradict.result c.if-contradict.result c.contradict.ensures w.if-contradict.true (w.result-is ∙ w.if-contradict.true)
       | else-contradict w ↦ contradictory_now psi d latest earliest c.latest_start-latest.ensures c.earliest_end-earliest.ensures c.contradict.result w.is_up_to.result c.if-contradict.result c.contradict.ensures (λ t. absurd (false≢true (sym w.if-contradict.false ∙ t))) w.is_up_to.ensures w.result-is
     ] in
     record { before = c.places_before-before.ensures; after = c.places_after-after.ensures; contradicts = contradicts }
