@@ -21,6 +21,7 @@ use crate::fault::CheckFault;
 use crate::hypotheses::{Hypotheses, HypothesisRef};
 use crate::instance::{Instance, TermList};
 use crate::position::Position;
+use bl_constraints::ConstraintStack;
 use bl_syntax::{Formula, Goal, Grant, NoMemory, Principal, Sequence, Term, Word};
 use condition_set::Collect;
 use proof_term::{Proof, ProofTree};
@@ -115,7 +116,7 @@ fn follow_from_root(
     };
     let mut checker = Checker {
         sorts: Sequence::new(alloc),
-        constraints: Sequence::new(alloc),
+        constraints: ConstraintStack::new(alloc),
         grant: Grant::collect(alloc, *goal),
     };
     checker.follow_with(alloc, cites, &place, proof.root())?;
