@@ -136,7 +136,14 @@ here_limit {text} {IsOne} {here} {e} {P} others is sentence p = subst (λ f. Lat
 
 here_term : {text : List ℕ} {IsOne : List Token → Type 0} {here : Cursor} {e : TextFault} {P : List ℕ → Type 0} (others : List Token) → e ≡ Sort here.at → IsOne (here.token ∷ others) → ((other : List ℕ) → P other) → Exact text IsOne here e P
 here_term {text} {IsOne} {here} {e} {P} others is sentence p = subst (λ f. Exact text IsOne here f P) (sym is) (record {
-  number = 0; ahead = 0; met = at_term; ts = here.token ∷ []; spelled = refl; others = others; sentence = sentence; holds = λ o same. p o;
+  number = 0;
+  ahead = 0;
+  met = at_term;
+  ts = here.token ∷ [];
+  spelled = refl;
+  others = others;
+  sentence = sentence;
+  holds = λ o same. p o;
 })
 
 -- the sort of a term, at the sign after it

@@ -10,7 +10,7 @@ ghost use Rattle.op_gate.specs.Decision.{IsPlanned, IsDenial, plan_of_fault};
 
 use crate::cause::denial_cause;
 use crate::planned::{Pending, Planned};
-use access_history::{Denial, Addition, Event, History, Procaps, StepReply};
+use access_history::{Addition, Denial, Event, History, Procaps, StepReply};
 use bl_syntax::{Goal, Principal};
 use file_world::{Op, OpFault};
 use procap::Procap;

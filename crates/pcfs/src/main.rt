@@ -109,6 +109,15 @@ fn main(rt: HostRuntime) -> ExitCode {
     let mut output = StdSink::new(io::writer(&rt));
     let a = FileDisk::new(&rt, FIRST_FILE);
     let b = FileDisk::new(&rt, SECOND_FILE);
-    let ended = run(&rt, rt.alloc(), &words, &secrets, &mut input, &mut output, a, b);
+    let ended = run(
+        &rt,
+        rt.alloc(),
+        &words,
+        &secrets,
+        &mut input,
+        &mut output,
+        a,
+        b,
+    );
     ExitCode::from(ended.status)
 }

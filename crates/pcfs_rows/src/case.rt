@@ -137,12 +137,7 @@ impl Area {
 }
 
 // Sets the bytes to those of the text.
-fn set_bytes(
-    alloc: Global,
-    texts: &Texts,
-    text: &str,
-    bytes: &mut Bytes,
-) -> Result<(), RowFault> {
+fn set_bytes(alloc: Global, texts: &Texts, text: &str, bytes: &mut Bytes) -> Result<(), RowFault> {
     bytes.clear();
     add_written_out(alloc, texts, text, bytes)
 }

@@ -206,7 +206,7 @@ module _ {D : Type 0} (clock : D → ℕ) (left_since : D → ℕ → List ℕ �
     first_never_falls = omega (arith, one.first_never_falls, other.first_never_falls);
     second_never_falls = omega (arith, one.second_never_falls, other.second_never_falls);
     failed = λ event same. elim (other.failed event same) [
-      inl first ↦ inl (HasRisen-earlier (faults (first_disk old)) (faults (first_disk mid)) (faults (first_disk new)) one.first_never_falls first)
+      | inl first ↦ inl (HasRisen-earlier (faults (first_disk old)) (faults (first_disk mid)) (faults (first_disk new)) one.first_never_falls first)
       | inr second ↦ inr (HasRisen-earlier (faults (second_disk old)) (faults (second_disk mid)) (faults (second_disk new)) one.second_never_falls second)
     ];
   }

@@ -215,7 +215,12 @@ impl<D: Disk> Interpreter<D> {
         ensures err { OnErr result (self.new ≡ self.old) }
     {
         let mut procaps = Procaps::new(alloc);
-        if let Some(number) = add_procaps(alloc, self.store.gate(), words.as_slice(), &mut procaps)? {
+        if let Some(number) = add_procaps(
+            alloc,
+            self.store.gate(),
+            words.as_slice(),
+            &mut procaps,
+        )? {
             return Ok(LineReply::Step(StepReply::Absent(number)));
         }
         self.ask(alloc, StepRequest::Act(self.caller, op, procaps))
