@@ -1,5 +1,5 @@
 -- The ends of a step, over what its parts say.
-use Rattle.std.proofs.Common.{◌≡◌, ◌≢◌, ◌⊎◌, ℕ, ◌+◌, ◌<◌, ◌≤◌, List, [], ◌∷◌, ◌++◌, length, Some, None, IfSome, Bool, true, false, refl, sym, ◌∙◌, ap, subst, inl, inr, ⊎_elim, arith}
+use Rattle.std.proofs.Common.{◌≡◌, ℕ, ◌+◌, ◌≤◌, List, [], ◌∷◌, ◌++◌, length, Some, None, IfSome, Bool, true, false, refl, sym, ◌∙◌, ap, subst, arith}
 use Rattle.std.specs.Prelude.{Option, is_some, ℤ, Result, Ok, Err}
 use Rattle.journal_core.specs.declared.area.AreaFault.{AreaFault}
 use Rattle.journal_core.specs.declared.area.AreaFault.TheVariants as faults_of_area
@@ -8,7 +8,6 @@ use Rattle.access_history.specs.declared.event.Event.{Event}
 use Rattle.access_history.specs.declared.request.StepRequest.{StepRequest}
 use Rattle.access_history.specs.declared.reply.StepReply.{StepReply}
 use Rattle.access_history.specs.Answer.{Answers}
-use Rattle.access_history.specs.Authority.{Authority}
 use Rattle.access_history.specs.History.{authority_with}
 use Rattle.access_history.specs.Replay.{replay}
 use Rattle.journal_records.specs.EventSpelling.{event_spelling}
@@ -17,8 +16,7 @@ use Rattle.pcfs_store.specs.declared.reply.StoreReply.{StoreReply}
 use Rattle.pcfs_store.specs.declared.reply.StoreReply.TheVariants.{Step, Full, Stopped, NoMemory}
 use Rattle.pcfs_store.specs.StoreView.{StoreView, IsStore}
 use Rattle.pcfs_store.specs.Inside.{store_of, IsKeeping}
-use Rattle.pcfs_store.specs.StoredHistory.{IsFull}
-use Rattle.pcfs_store.specs.Steps.{IsFullFor, with_event, Steps, answered, kept, full, failed, stopped, without_memory}
+use Rattle.pcfs_store.specs.Steps.{with_event, Steps, answered, full, stopped, without_memory}
 use Rattle.pcfs_store.specs.Keeping.{HasWritten, HasFailed, KeepsPending, with_kept, without_pending}
 use Rattle.pcfs_store.proofs.StepLemmas.{Clauses, nothing_changed, push_store, was_kept, has_failed}
 
@@ -51,10 +49,10 @@ module _ {D : Type 0} (clock : D → ℕ) (left_since : D → ℕ → List ℕ �
   ends result new e = subst (λ (old : StoreView D). Clauses clock left_since image faults old pass at request result new) view_is e
 
   -- a disk failed before
-  pub stopped_end : is_some stop ≡ true → Ends Stopped before
+  pub stopped_end : is_some stop ≡ true → Ends Stopped s
   stopped_end is =
       let earlier = is_some_from stop is in
-      ends Stopped before (nothing_changed clock left_since image faults before pass at request Stopped keeping.store (stopped earlier.0 earlier.1) (λ none _. clash stop earlier.0 none earlier.1))
+      subst (λ (old : StoreView D). Clauses clock left_since image faults old pass at request Stopped old) view_is (nothing_changed clock left_since image faults before pass at request Stopped keeping.store (stopped earlier.0 earlier.1) (λ none _. clash stop earlier.0 none earlier.1))
     where
       clash : (o : Option ℕ) (p : ℕ) → o ≡ None → o ≡ Some p → ⊥
       clash o p none some = cc
@@ -103,6 +101,10 @@ module _ {D : Type 0} (clock : D → ℕ) (left_since : D → ℕ → List ℕ �
           let here : KeepsPending clock left_since image faults area after event result area_after gate_after = subst P decided.2 keeps in
           subst (λ (g : GateView). KeepsPending clock left_since image faults area g event result area_after gate_after) after_is here
 
+      with_fault : (found fault : AreaFault) → found ≡ fault → IfSome after.pending (λ e. KeepsPending clock left_since image faults area after e (Err found) area_after gate_after) →
+          IfSome after.pending (λ e. KeepsPending clock left_since image faults area after e (Err fault) area_after gate_after)
+      with_fault found fault is keeps = subst (λ (f : AreaFault). IfSome after.pending (λ e. KeepsPending clock left_since image faults area after e (Err f) area_after gate_after)) is keeps
+
       -- it was kept
       kept_is : HasWritten clock left_since image faults area area_after event → gate_after ≡ with_kept (record gate { pending = after.pending }) event →
           store_of area_after other second generation gate_after stop ≡ with_event before event area_after.disk
@@ -134,17 +136,17 @@ module _ {D : Type 0} (clock : D → ℕ) (left_since : D → ℕ → List ℕ �
       dropped_end result goes steps same is =
           subst (Ends result) (sym (dropped_is same is)) (ends result before (nothing_changed clock left_since image faults before pass at request result keeping.store steps (λ _ at_end. goes at_end)))
 
-      pub full_end : IfSome after.pending (λ e. KeepsPending clock left_since image faults area after e (Err faults_of_area.AreaFull) area_after gate_after) → Ends Full (store_of area_after other second generation gate_after stop)
-      full_end keeps =
-          let k = became (Err faults_of_area.AreaFull) keeps in
+      pub full_end : (fault : AreaFault) → fault ≡ faults_of_area.AreaFull → IfSome after.pending (λ e. KeepsPending clock left_since image faults area after e (Err fault) area_after gate_after) → Ends Full (store_of area_after other second generation gate_after stop)
+      full_end fault fault_is keeps =
+          let k = became (Err faults_of_area.AreaFull) (with_fault fault faults_of_area.AreaFull fault_is keeps) in
           dropped_end Full (λ is. unlike is) (full reply event running answers k.0) k.1 k.2
         where
           unlike : Full ≡ Stopped → ⊥
           unlike is = cc
 
-      pub unrecorded_end : IfSome after.pending (λ e. KeepsPending clock left_since image faults area after e (Err faults_of_area.NoMemory) area_after gate_after) → Ends NoMemory (store_of area_after other second generation gate_after stop)
-      unrecorded_end keeps =
-          let k = became (Err faults_of_area.NoMemory) keeps in
+      pub unrecorded_end : (fault : AreaFault) → fault ≡ faults_of_area.NoMemory → IfSome after.pending (λ e. KeepsPending clock left_since image faults area after e (Err fault) area_after gate_after) → Ends NoMemory (store_of area_after other second generation gate_after stop)
+      unrecorded_end fault fault_is keeps =
+          let k = became (Err faults_of_area.NoMemory) (with_fault fault faults_of_area.NoMemory fault_is keeps) in
           dropped_end NoMemory (λ is. unlike is) (without_memory running) k.0 k.1
         where
           unlike : NoMemory ≡ Stopped → ⊥
@@ -158,17 +160,9 @@ module _ {D : Type 0} (clock : D → ℕ) (left_since : D → ℕ → List ℕ �
           ∙ ap (λ (n : ℕ). record before { active = area_after.disk; used = n; stop = Some pass }) fault.end
 
       pub failed_end : ((disk : D) (t u : ℕ) (bytes : List ℕ) → t ≤ u → left_since disk u bytes → left_since disk t bytes) →
-          IfSome after.pending (λ e. KeepsPending clock left_since image faults area after e (Err faults_of_area.Disk) area_after gate_after) → Ends Stopped (store_of area_after other second generation gate_after (Some pass))
-      failed_end earlier keeps =
-          let k = became (Err faults_of_area.Disk) keeps in
+          (fault : AreaFault) → fault ≡ faults_of_area.Disk → IfSome after.pending (λ e. KeepsPending clock left_since image faults area after e (Err fault) area_after gate_after) → Ends Stopped (store_of area_after other second generation gate_after (Some pass))
+      failed_end earlier fault fault_is keeps =
+          let k = became (Err faults_of_area.Disk) (with_fault fault faults_of_area.Disk fault_is keeps) in
           subst (Ends Stopped) (sym (failed_is k.0 k.2))
           (ends Stopped (record before { active = area_after.disk; stop = Some pass })
           (has_failed clock left_since image faults before event area_after keeping.store k.0.writes earlier k.0.risen pass at request reply running answers k.1))
-
-      pub failed_keeps : IfSome after.pending (λ e. KeepsPending clock left_since image faults area after e (Err faults_of_area.Disk) area_after gate_after) → IsKeeping area_after other second generation gate_after (Some pass)
-      failed_keeps keeps =
-          let k = became (Err faults_of_area.Disk) keeps in
-          record {
-            store = subst IsStore (sym (failed_is k.0 k.2)) (record { generated = keeping.store.generated; is_image = keeping.store.is_image; spelled = keeping.store.spelled; used_is = keeping.store.used_is; fits = keeping.store.fits });
-            idle = ap (λ (g : GateView). g.pending) k.2;
-          }

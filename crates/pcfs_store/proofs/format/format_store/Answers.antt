@@ -1,4 +1,4 @@
-use Rattle.std.proofs.Common.{◌≡◌, true, false, sym, ◌∙◌}
+use Rattle.std.proofs.Common.{◌∙◌}
 use Rattle.pcfs_store.proofs.FormatLemmas.{both_shut, one_open, format_ready, format_shut, format_any_moment, idle_pairs}
 use Rattle.pcfs_store.proofs.format.format_store.Goals as goal
 
@@ -10,7 +10,7 @@ returns-in-Ok-true-clause-already g c = λ _ first second told_a told_b.
 
 pub returns-in-Ok-clause-ready : goal.returns-in-Ok-clause-ready
 returns-in-Ok-clause-ready g c =
-    format_ready g.D.Disk.clock g.D.Disk.left_since g.D.Disk.image c.args.a c.args.b c.is_either_open.new.a c.is_either_open.new.b c.args.key.now c.args.ring c.format_first.result
+    format_ready g.D.Disk.clock g.D.Disk.left_since g.D.Disk.image c.args.a c.args.b c.is_either_open.new.a c.is_either_open.new.b c.in-Ok.gate.key c.in-Ok.gate.ring c.format_first.result
     c.in-Ok-false.ensures.a_same c.in-Ok-false.ensures.b_same c.in-Ok-false.ensures.b_pinned
     (λ first second told_a told_b. let t = c.in-Ok-false.field-0-test in let found = c.in-Ok-false.ensures.ok first second told_a told_b in both_shut first second cc)
     c.format_first.ensures.new c.format_first.ensures.rests c.format_first.ensures.b_is
