@@ -29,6 +29,14 @@ returns-in-Ok-clause-why g c = λ number.
     let told = g.D.Disk.image c.args.disk.now in
     let authority = authority_with c.args.key.now c.args.ring in
     let scan = c.in-Ok.scan in
-    if_told told (λ bytes. IsBroken number bytes → IsWhy authority bytes c.in-Err.fault) (λ bytes is broken.
-    why_front authority bytes scan.generation scan.image scan.payloads c.in-Err.fault
-    (at_told told (λ bytes. IsFront bytes scan.generation scan.image scan.payloads) bytes is c.in-Ok.ensures.ok) c.in-Err.ensures.err)
+    if_told told (λ bytes. IsBroken number bytes → IsWhy authority bytes c.in-Err-read_history.fault) (λ bytes is broken.
+    why_front authority bytes scan.generation scan.image scan.payloads c.in-Err-read_history.fault
+    (at_told told (λ bytes. IsFront bytes scan.generation scan.image scan.payloads) bytes is c.in-Ok.ensures.ok) c.in-Err-read_history.ensures.err)
+
+pub returns-clause-why : goal.returns-clause-why
+returns-clause-why g c = λ number.
+    let told = g.D.Disk.image c.args.disk.now in
+    let authority = authority_with c.args.key.now c.args.ring in
+    if_told told (λ bytes. IsBroken number bytes → IsWhy authority bytes c.front_fault.result) (λ bytes is broken.
+    subst (λ (f : OpenFault). IsWhy authority bytes f) (sym c.front_fault.ensures)
+    (at_told told (λ bytes. IsWhy authority bytes (front_fault c.in-Err.fault)) bytes is (why_no_front authority c.in-Err.fault told c.in-Err.ensures.reported)))
