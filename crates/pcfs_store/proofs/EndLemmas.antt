@@ -1,5 +1,5 @@
 -- The ends of a step, over what its parts say.
-use Rattle.std.proofs.Common.{◌≡◌, ◌≢◌, ◌⊎◌, ℕ, ◌+◌, ◌<◌, ◌≤◌, List, [], ◌∷◌, ◌++◌, length, Some, None, IfSome, Bool, true, false, refl, sym, ◌∙◌, ap, subst, inl, inr, ⊎_elim, arith}
+use Rattle.std.proofs.Common.{◌≡◌, ℕ, ◌+◌, ◌≤◌, List, [], ◌∷◌, ◌++◌, length, Some, None, IfSome, Bool, true, false, refl, sym, ◌∙◌, ap, subst, arith}
 use Rattle.std.specs.Prelude.{Option, is_some, ℤ, Result, Ok, Err}
 use Rattle.journal_core.specs.declared.area.AreaFault.{AreaFault}
 use Rattle.journal_core.specs.declared.area.AreaFault.TheVariants as faults_of_area
@@ -8,7 +8,6 @@ use Rattle.access_history.specs.declared.event.Event.{Event}
 use Rattle.access_history.specs.declared.request.StepRequest.{StepRequest}
 use Rattle.access_history.specs.declared.reply.StepReply.{StepReply}
 use Rattle.access_history.specs.Answer.{Answers}
-use Rattle.access_history.specs.Authority.{Authority}
 use Rattle.access_history.specs.History.{authority_with}
 use Rattle.access_history.specs.Replay.{replay}
 use Rattle.journal_records.specs.EventSpelling.{event_spelling}
@@ -17,8 +16,7 @@ use Rattle.pcfs_store.specs.declared.reply.StoreReply.{StoreReply}
 use Rattle.pcfs_store.specs.declared.reply.StoreReply.TheVariants.{Step, Full, Stopped, NoMemory}
 use Rattle.pcfs_store.specs.StoreView.{StoreView, IsStore}
 use Rattle.pcfs_store.specs.Inside.{store_of, IsKeeping}
-use Rattle.pcfs_store.specs.StoredHistory.{IsFull}
-use Rattle.pcfs_store.specs.Steps.{IsFullFor, with_event, Steps, answered, kept, full, failed, stopped, without_memory}
+use Rattle.pcfs_store.specs.Steps.{with_event, Steps, answered, full, stopped, without_memory}
 use Rattle.pcfs_store.specs.Keeping.{HasWritten, HasFailed, KeepsPending, with_kept, without_pending}
 use Rattle.pcfs_store.proofs.StepLemmas.{Clauses, nothing_changed, push_store, was_kept, has_failed}
 

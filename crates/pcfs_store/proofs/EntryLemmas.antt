@@ -11,7 +11,7 @@ use Rattle.access_history.specs.Lawful.{IsLawful}
 use Rattle.access_history.proofs.AnswerLemmas.{one_answer}
 use Rattle.journal_records.specs.EventSpelling.{event_spelling}
 use Rattle.pcfs_store.specs.declared.reply.StoreReply.{StoreReply}
-use Rattle.pcfs_store.specs.declared.reply.StoreReply.TheVariants.{Full, Stopped, NoMemory}
+use Rattle.pcfs_store.specs.declared.reply.StoreReply.TheVariants.{Full, NoMemory}
 use Rattle.pcfs_store.specs.Image.{fresh_image}
 use Rattle.pcfs_store.specs.StoredHistory.{payloads_of}
 use Rattle.pcfs_store.specs.StoreView.{StoreView, AnswersIn, authority_of_store, IsStore}

@@ -1,12 +1,12 @@
 -- What the making of a store leaves.
-use Rattle.std.proofs.Common.{◌≡◌, ◌≢◌, ◌⊎◌, ℕ, ◌≤◌, List, [], ◌∷◌, ◌++◌, length, get_or, Some, None, Bool, true, false, refl, sym, ◌∙◌, ap, subst, inl, inr, ⊎_elim, arith}
-use Rattle.std.specs.Prelude.{Option, is_some, ltb, nat_lt, ◌==◌, ◌||◌, if◌then◌else◌}
+use Rattle.std.proofs.Common.{◌≡◌, ℕ, List, [], ◌∷◌, ◌++◌, length, get_or, Some, None, Bool, true, false, refl, sym, ◌∙◌, ap, subst, inl, inr, ⊎_elim, arith}
+use Rattle.std.specs.Prelude.{Option, is_some, nat_lt, ◌==◌, ◌||◌, if◌then◌else◌}
 use Rattle.std.specs.Option.{option_map}
 use Rattle.std.specs.Int.{w64, from_be_bytes}
 use Rattle.std.specs.Prelude.{take, drop, Result, Ok, Err, IfOk, MatchResult}
 use Rattle.std.proofs.lemmas.Bool.{ne_eqb}
 use Rattle.pcfs_ports.specs.Disk.{written, IsPinned, Idles, LeavesOnly}
-use Rattle.journal_core.specs.Area.{area_limit, area_bytes, IsShut, IsGeneration, generation_of}
+use Rattle.journal_core.specs.Area.{area_bytes, IsShut, generation_of}
 use Rattle.journal_core.specs.AreaView.{AreaView}
 use Rattle.journal_core.specs.Rest.{Rests, IsOldOrShutOrNew}
 use Rattle.journal_core.proofs.AreaLemmas.{closed_written}
@@ -16,7 +16,7 @@ use Rattle.op_gate.specs.Decision.{GateView}
 use Rattle.access_history.specs.declared.event.Event.{Event}
 use Rattle.access_history.specs.Replay.{fresh}
 use Rattle.pcfs_store.specs.Image.{fresh_image}
-use Rattle.pcfs_store.specs.Newest.{newest, one_of, newer, SurvivesWhole}
+use Rattle.pcfs_store.specs.Newest.{newest, one_of, newer}
 use Rattle.pcfs_store.specs.StoredHistory.{payloads_of}
 use Rattle.pcfs_store.specs.StoreView.{StoreView, body_of}
 use Rattle.pcfs_store.specs.Inside.{store_of}

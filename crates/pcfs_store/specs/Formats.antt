@@ -1,10 +1,9 @@
 -- What the making of a store reports, and what a crash within it may leave. This project's own.
-use Rattle.std.specs.Prelude.{◌≡◌, ◌⊎◌, ℕ, List, [], length, Option, None, Bool, false}
+use Rattle.std.specs.Prelude.{◌≡◌, ◌⊎◌, ℕ, List, [], None, false}
 use Rattle.policy_statement.specs.Ring.{KeyView}
 use Rattle.access_history.specs.Replay.{fresh}
-use Rattle.pcfs_store.specs.Image.{fresh_image}
 use Rattle.pcfs_store.specs.Newest.{newest, SurvivesWhole}
-use Rattle.pcfs_store.specs.StoreView.{StoreView, body_of}
+use Rattle.pcfs_store.specs.StoreView.{StoreView}
 
 -- a store under this key and this ring before its first event, whose area is on the first disk and has the generation 1
 pub record IsNewStore {D : Type 0} (key : List ℕ) (ring : List KeyView) (s : StoreView D) : Type 0 where

@@ -1,19 +1,14 @@
 -- Laws of the definitions: entries say what a store shows, and a step is full exactly if its event does not fit.
-use Rattle.std.specs.Prelude.{◌≡◌, ◌⊎◌, ℕ, ℤ, List, [], ◌∷◌, ◌++◌, length, map, Option, Some, None}
-use Rattle.journal_core.specs.Area.{area_bytes}
-use Rattle.policy_statement.specs.Ring.{KeyView}
+use Rattle.std.specs.Prelude.{◌≡◌, ◌⊎◌, ℕ, ℤ, List, Option, Some, None}
 use Rattle.access_history.specs.declared.event.Event.{Event}
 use Rattle.access_history.specs.declared.request.StepRequest.{StepRequest}
 use Rattle.access_history.specs.declared.reply.StepReply.{StepReply}
-use Rattle.access_history.specs.Base.{BaseView}
 use Rattle.access_history.specs.Lawful.{IsLawful}
 use Rattle.pcfs_store.specs.declared.reply.StoreReply.{StoreReply}
-use Rattle.pcfs_store.specs.declared.reply.StoreReply.TheVariants.{Full, Stopped, NoMemory}
-use Rattle.pcfs_store.specs.Image.{fresh_image}
-use Rattle.pcfs_store.specs.StoredHistory.{payloads_of}
+use Rattle.pcfs_store.specs.declared.reply.StoreReply.TheVariants.{Full, NoMemory}
 use Rattle.pcfs_store.specs.Newest.{SurvivesWhole}
 use Rattle.pcfs_store.specs.StoreView.{StoreView, AnswersIn, authority_of_store, IsStore, first_disk, second_disk}
-use Rattle.pcfs_store.specs.Entries.{StoreEntry, happened, Root, stop_entries, root_of, entries_of, events_among, used_by}
+use Rattle.pcfs_store.specs.Entries.{root_of, entries_of, events_among, used_by}
 use Rattle.pcfs_store.specs.Ready.{IsReady, IsCurrent, StopsNow}
 use Rattle.pcfs_store.specs.Steps.{IsFullFor, Steps}
 

@@ -1,4 +1,4 @@
-use Rattle.std.proofs.Common.{◌≡◌, true, false, sym, ◌∙◌}
+use Rattle.std.proofs.Common.{◌∙◌}
 use Rattle.pcfs_store.proofs.FormatLemmas.{both_shut, one_open, format_ready, format_shut, format_any_moment, idle_pairs}
 use Rattle.pcfs_store.proofs.format.format_store.Goals as goal
 
