@@ -1,7 +1,8 @@
 -- The first damage of an event, over plain values.
-use Rattle.std.proofs.Common.{◌≡◌, ◌<◌, ◌≤◌, ◌-◌, ◌^◌, ℕ, List, [], ◌∷◌, ◌++◌, length, refl, sym, ap, subst, ◌∙◌, arith, Some, None}
-use Rattle.std.specs.Prelude.{ℤ, ◌≤ℤ◌, Contains, Result, Ok, Err, IsTrue, Option}
+use Rattle.std.proofs.Common.{◌≡◌, ◌<◌, ◌≤◌, ◌-◌, ◌^◌, ℕ, List, [], ◌∷◌, ◌++◌, length, refl, sym, ap, subst, ◌∙◌, arith, ⊎_elim, Some, None}
+use Rattle.std.specs.Prelude.{ℤ, ◌≤ℤ◌, Contains, Result, Ok, Err, IfOk, IfErr, IsTrue, Option, ◌⊎◌}
 use Rattle.std.specs.List.{AllByRecursion}
+use Rattle.std.specs.Option.{option_map}
 use Rattle.std.proofs.lemmas.Bool.{false≢true}
 use Rattle.std.proofs.lemmas.Int.{ints, clamps}
 use Rattle.std.proofs.lemmas.List.{length-map}
@@ -9,6 +10,9 @@ use Rattle.bl_syntax.specs.Names.{is_principal_name}
 use Rattle.bl_syntax.specs.Statement.{StatementView, IsStatement}
 use Rattle.bl_syntax.specs.TimeOrder.{IsMoment}
 use Rattle.bl_syntax.specs.Grant.{GrantView}
+use Rattle.bl_syntax.specs.declared.grant.Goal.{Goal}
+use Rattle.bl_syntax.specs.declared.terms.Constraint.{Constraint}
+use Rattle.bl_syntax.specs.declared.terms.StatePred.{StatePred}
 use Rattle.policy_statement.specs.Messages.{statement_message}
 use Rattle.policy_statement.specs.Registered.{RegisteredView}
 use Rattle.policy_statement.specs.Registry.{MayRegister}
@@ -19,7 +23,11 @@ use Rattle.procap.specs.declared.procap.Procap.{Procap}
 use Rattle.proof_term.specs.Proof.{ProofView}
 use Rattle.proof_verifier.specs.declared.cites.Cite.{Cite}
 use Rattle.proof_verifier.specs.Cited.{AreCited, DoCitesRise, statements_of}
-use Rattle.proof_verifier.specs.CheckedView.{IsGranted}
+use Rattle.proof_verifier.specs.CheckedView.{CheckedView, IsChecked, IsGranted}
+use Rattle.proof_verifier.specs.Run.{IsFault}
+use Rattle.proof_verifier.specs.Verdict.{verdict}
+use Rattle.proof_verifier.specs.declared.fault.CheckFault.{CheckFault}
+use Rattle.proof_verifier.specs.declared.fault.CheckFault.TheVariants as checks
 use Rattle.file_world.specs.declared.operation.Op.{Op}
 use Rattle.file_world.specs.Effect.{IsOperation, refusal}
 use Rattle.file_world.specs.Needs.{needs}
@@ -45,8 +53,8 @@ use Rattle.op_gate.specs.declared.damage.AdmitFault.{AdmitFault}
 use Rattle.op_gate.specs.declared.damage.AdmitFault.TheVariants.{Damaged, NoMemory}
 use Rattle.op_gate.specs.declared.planned.Pending.{Pending}
 use Rattle.op_gate.specs.declared.planned.Planned.TheVariants.{Answer, Keep}
-use Rattle.op_gate.specs.Admits.{IsPendingAs, GivesPending, IsTimely, GivesIssue, pending_issue, register_damage}
-use Rattle.op_gate.specs.Damage.{HasShape, TakesEffect, IsNewAmong, IsFreeOf, IsDamagedBy, MayComeNext, event_damages}
+use Rattle.op_gate.specs.Admits.{FindsCited, IsPendingAs, GivesPending, IsTimely, GivesIssue, LacksNext, pending_issue, pending_statement, proof_damage, register_damage}
+use Rattle.op_gate.specs.Damage.{HasShape, TakesEffect, IsNewAmong, IsFreeOf, IsDamagedBy, MayComeNext, TellsDamage, event_damages}
 use Rattle.op_gate.specs.DamageLaws.{IsTypedEvent}
 use Rattle.op_gate.specs.Decision.{IsPlanned}
 use Rattle.op_gate.proofs.RegistryLemmas.{new_to_registry, said_from_registry, may_register}
@@ -88,13 +96,20 @@ module _ (authority : Authority) (state : BaseView) (counted : state.count < 2 ^
 -- a statement that the registry takes
 pub registered_pending : (h : HistoryView) (pass : ℕ) (statement : StatementView) (signature : List ℕ) (told : Unit {0}) (pending : Pending) → IsStatement statement →
     MayRegister (is_accepted h.ring statement.who (statement_message statement) signature) (state_of h).statements statement (Ok told) →
-    pending ≡ record { event = Registered pass statement signature; entry = entries.Statement statement signature } → IsPendingAs h h (Registered pass statement signature) pending
+    pending ≡ pending_statement pass statement signature → IsPendingAs h h (Registered pass statement signature) pending
 registered_pending h pass statement signature told pending is may pending_is = record {
   follows = may_register h.key h.ring (state_of h).statements statement signature told is may;
   event_is = ap (λ (p : Pending). p.event) pending_is;
   entry_is = ap (λ (p : Pending). p.entry) pending_is;
   ready = tt;
 }
+
+-- what is told of a statement that the registry takes
+pub registered_told : (h : HistoryView) (pass : ℕ) (statement : StatementView) (signature : List ℕ) (told : Unit {0}) (result : Result Pending AdmitFault) → IsStatement statement →
+    MayRegister (is_accepted h.ring statement.who (statement_message statement) signature) (state_of h).statements statement (Ok told) →
+    IfOk result (λ pending. pending ≡ pending_statement pass statement signature) → IfErr result (λ fault. fault ≡ NoMemory) → GivesPending h h (Registered pass statement signature) result
+registered_told h pass statement signature told (Ok pending) is may ok err = registered_pending h pass statement signature told pending is may ok
+registered_told h pass statement signature told (Err fault) is may ok err = subst (λ (f : AdmitFault). GivesPending h h (Registered pass statement signature) (Err f)) (sym err) tt
 
 -- a statement that it does not take
 pub registered_damaged : (h : HistoryView) (pass : ℕ) (statement : StatementView) (signature : List ℕ) (fault : RegisterFault) → (state_of h).count < 2 ^ 48 - 1 →
@@ -109,6 +124,28 @@ registered_damaged h pass statement signature (registry.Duplicate number) counte
 registered_damaged h pass statement signature registry.NoMemory counted may = tt
 
 -- ---- issues
+
+abbrev graded : GrantView → Result GrantView CheckFault
+graded g = Ok g
+
+abbrev refusal_of : CheckFault → Result GrantView CheckFault
+refusal_of fault = Err fault
+
+abbrev grant_with : Goal → List Constraint → List StatePred → GrantView
+grant_with goal times states = record { goal = goal; times = times; states = states }
+
+ok_grant : (first second : GrantView) → graded first ≡ graded second → first ≡ second
+ok_grant first second same = cc
+
+-- the same grant, by its parts
+pub same_grant : (first second : GrantView) → first.goal ≡ second.goal → first.times ≡ second.times → first.states ≡ second.states → first ≡ second
+same_grant first second goal times states =
+    ap (λ (w : Goal). grant_with w first.times first.states) goal ∙ ap (λ (ts : List Constraint). grant_with second.goal ts first.states) times ∙ ap (λ (ss : List StatePred). grant_with second.goal second.times ss) states
+
+-- a proof that is refused grants nothing
+refused_proof : (cites : List Cite) (proof : ProofView) (g : GrantView) (fault : CheckFault) → (fault ≡ checks.NoMemory → ⊥) → IsFault fault (verdict (statements_of cites) g.goal proof) → IsGranted (statements_of cites) g.goal proof g → ⊥
+refused_proof cites proof g fault not_memory fails granted =
+    ⊎_elim (λ memory. not_memory memory) (λ is. let both : graded g ≡ refusal_of fault = sym granted.verdict_is ∙ is in absurd cc) fails
 
 numbers_rise : (cites : List Cite) → DoCitesRise cites → DoNumbersRise (numbers_of cites)
 numbers_rise [] rises = tt
@@ -131,6 +168,9 @@ AreCited-numbers cites are =
     let count : length (numbers_of cites) ≡ length cites = length-map cites (λ (c : Cite). c.number) in
     record { some = omega (arith, count, are.some); few = omega (arith, count, are.few); rising = cites_rise cites are.rising }
 
+abbrev cite_of : ℕ → StatementView → Cite
+cite_of number statement = record { number = number; statement = statement }
+
 -- numbers have one list of statements that stand under them
 cites_determined : (statements : List StatementView) (first second : List Cite) → numbers_of first ≡ numbers_of second → AllByRecursion (StandsUnderNumber statements) first → AllByRecursion (StandsUnderNumber statements) second → first ≡ second
 cites_determined statements [] [] same stand stand' = refl
@@ -140,8 +180,7 @@ cites_determined statements (c ∷ first) (d ∷ second) same stand stand' =
     let number : c.number ≡ d.number = cc in
     let others : numbers_of first ≡ numbers_of second = cc in
     let statement : c.statement ≡ d.statement = numbered_item statements d.number c.statement d.statement (subst (λ (n : ℕ). IsNumbered statements n c.statement) number stand.0) stand'.0 in
-    let rest : first ≡ second = cites_determined statements first second others stand.1 stand'.1 in
-    cc
+    ap (λ (n : ℕ). cite_of n c.statement ∷ first) number ∙ ap (λ (s : StatementView). cite_of d.number s ∷ first) statement ∙ ap (λ (cs : List Cite). d ∷ cs) (cites_determined statements first second others stand.1 stand'.1)
 
 -- the numbers of a good issue can be cited
 pub good_citable : (statements : List StatementView) (cited : List ℕ) (proof : ProofView) (g : GrantView) → IsGoodIssue statements (record { cited = cited; proof = proof; grant = g }) → AreCitable cited
@@ -155,6 +194,35 @@ have_numbers statements (cite ∷ cites) stand = (HasNumber-item statements cite
 pub good_found : (statements : List StatementView) (cited : List ℕ) (proof : ProofView) (g : GrantView) (number : ℕ) → IsGoodIssue statements (record { cited = cited; proof = proof; grant = g }) → IsAbsent statements cited number → ⊥
 good_found statements cited proof g number good absent =
     none_fails (HasNumber statements) cited absent.place number (subst (AllByRecursion (HasNumber statements)) (sym good.cited) (have_numbers statements good.cites good.stand)) absent.first
+
+-- what is told of an issue with this grant, which its proof gives
+pub issued_told : (pass : ℕ) (checked : CheckedView) (g : GrantView) (result : Result Pending AdmitFault) → IsChecked checked → checked.goal ≡ g.goal → checked.grant ≡ g →
+    IfOk result (λ pending. pending ≡ pending_issue pass (numbers_of checked.cited) checked.proof checked.grant) → IfErr result (λ fault. fault ≡ NoMemory) → GivesIssue pass checked.cited checked.proof g result
+issued_told pass checked g (Ok pending) is goal same ok err = (
+  subst (λ (h : GrantView). IsGranted (statements_of checked.cited) g.goal checked.proof h) same (subst (λ (w : Goal). IsGranted (statements_of checked.cited) w checked.proof checked.grant) goal is),
+  ok ∙ ap (λ (h : GrantView). pending_issue pass (numbers_of checked.cited) checked.proof h) same,
+)
+issued_told pass checked g (Err fault) is goal same ok err = subst (λ (f : AdmitFault). GivesIssue pass checked.cited checked.proof g (Err f)) (sym err) tt
+
+-- a grant that the proof does not give
+pub other_grant : (pass : ℕ) (checked : CheckedView) (g : GrantView) → IsChecked checked → checked.goal ≡ g.goal → (checked.grant ≡ g → ⊥) → GivesIssue pass checked.cited checked.proof g (Err (Damaged Unproved))
+other_grant pass checked g is goal differs = (
+  refl,
+  λ granted.
+      let both : graded checked.grant ≡ graded g = sym is.verdict_is ∙ ap (λ (w : Goal). verdict (statements_of checked.cited) w checked.proof) goal ∙ granted.verdict_is in
+      differs (ok_grant checked.grant g both),
+)
+
+-- a proof that is refused
+pub not_granted : (pass : ℕ) (cites : List Cite) (proof : ProofView) (g : GrantView) (fault : CheckFault) → IsFault fault (verdict (statements_of cites) g.goal proof) → GivesIssue pass cites proof g (Err (proof_damage fault))
+not_granted pass cites proof g (checks.NoHypothesis node) fails = (refl, λ granted. refused_proof cites proof g (checks.NoHypothesis node) (λ e. cc) fails granted)
+not_granted pass cites proof g (checks.WrongShape node) fails = (refl, λ granted. refused_proof cites proof g (checks.WrongShape node) (λ e. cc) fails granted)
+not_granted pass cites proof g (checks.NotEntailed node) fails = (refl, λ granted. refused_proof cites proof g (checks.NotEntailed node) (λ e. cc) fails granted)
+not_granted pass cites proof g (checks.NotInState node) fails = (refl, λ granted. refused_proof cites proof g (checks.NotInState node) (λ e. cc) fails granted)
+not_granted pass cites proof g (checks.ViewTooWeak node) fails = (refl, λ granted. refused_proof cites proof g (checks.ViewTooWeak node) (λ e. cc) fails granted)
+not_granted pass cites proof g (checks.BadTerm node) fails = (refl, λ granted. refused_proof cites proof g (checks.BadTerm node) (λ e. cc) fails granted)
+not_granted pass cites proof g (checks.TooManyConditions node) fails = (refl, λ granted. refused_proof cites proof g (checks.TooManyConditions node) (λ e. cc) fails granted)
+not_granted pass cites proof g checks.NoMemory fails = tt
 
 -- what is found of an issue whose statements were looked up
 pub issued_found : (h : HistoryView) (pass : ℕ) (cited : List ℕ) (proof : ProofView) (g : GrantView) (cites : List Cite) (told : Result Pending AdmitFault) → (state_of h).count < 2 ^ 48 - 1 → AreCitable cited →
@@ -173,6 +241,45 @@ issued_found h pass cited proof g cites (Err (Damaged damage)) counted citable f
     (λ good. gives.1 (subst (λ (cs : List Cite). IsGranted (statements_of cs) g.goal proof g)
     (cites_determined (sayings (state_of h).statements) good.cites cites (sym good.cited ∙ sym found.numbers_are) good.stand found.stand) good.granted)))
 issued_found h pass cited proof g cites (Err NoMemory) counted citable found gives = tt
+
+-- what is found of an issue whose statements were looked up, or not found
+pub issued_cited : (h : HistoryView) (pass : ℕ) (cited : List ℕ) (proof : ProofView) (g : GrantView) (cites : List Cite) (told : Result Pending AdmitFault) (shown : List RegisteredView) (numbers : List ℕ) → (state_of h).count < 2 ^ 48 - 1 → shown ≡ (state_of h).statements → numbers ≡ cited →
+    FindsCited (sayings shown) numbers (Ok cites) → GivesIssue pass cites proof g told → GivesPending h h (Issued pass cited proof g) told
+issued_cited h pass cited proof g cites told shown numbers counted shown_is numbers_are finds gives =
+    let all : AreCitable cited × AreFound (sayings (state_of h).statements) cited cites =
+    subst (λ (ns : List ℕ). AreCitable ns × AreFound (sayings (state_of h).statements) ns cites) numbers_are (subst (λ (es : List RegisteredView). AreCitable numbers × AreFound (sayings es) numbers cites) shown_is finds) in
+    issued_found h pass cited proof g cites told counted all.0 all.1 gives
+
+pub issued_uncited : (h : HistoryView) (pass : ℕ) (cited : List ℕ) (proof : ProofView) (g : GrantView) (fault : AdmitFault) (shown : List RegisteredView) (numbers : List ℕ) → (state_of h).count < 2 ^ 48 - 1 → shown ≡ (state_of h).statements → numbers ≡ cited →
+    FindsCited (sayings shown) numbers (Err fault) → GivesPending h h (Issued pass cited proof g) (Err fault)
+issued_uncited h pass cited proof g (Damaged damage) shown numbers counted shown_is numbers_are finds =
+    subst (λ (d : Damage). IsDamagedBy (authority_of h) (state_of h) (Issued pass cited proof g) d) (sym finds.0)
+    (damaged_unproved (authority_of h) (state_of h) counted pass cited proof g
+    (λ good. finds.1 proof g (subst (λ (ns : List ℕ). IsGoodIssue (sayings shown) (record { cited = ns; proof = proof; grant = g })) (sym numbers_are)
+    (subst (λ (es : List RegisteredView). IsGoodIssue (sayings es) (record { cited = cited; proof = proof; grant = g })) (sym shown_is) good))))
+issued_uncited h pass cited proof g NoMemory shown numbers counted shown_is numbers_are finds = tt
+
+-- ---- the gate
+
+-- nothing is pending
+pub none_pending : (pending : Option Pending) → option_map (λ (p : Pending). p.event) pending ≡ None → pending ≡ None
+none_pending None is = refl
+none_pending (Some p) is = absurd cc
+
+-- there is no number for the event
+pub lacks_next : (authority : Authority) (state shown : BaseView) (event : Event) (fault : AdmitFault) → shown ≡ state → LacksNext shown fault → TellsDamage authority state event (Err fault)
+lacks_next authority state shown event (Damaged damage) same lacks =
+    subst (λ (d : Damage). IsDamagedBy authority state event d) (sym lacks.0)
+    (damaged_shape authority state event (λ has. omega (arith, has.0, lacks.1, ap (λ (s : BaseView). s.count) same)))
+lacks_next authority state shown event NoMemory same lacks = tt
+
+-- what is told of the event that is kept, and of one that is not
+pub told_kept : (before after : HistoryView) (event : Event) (pending : Pending) → (state_of before).count < 2 ^ 48 - 1 → IsPendingAs before after event pending → MayComeNext (authority_of before) (state_of before) event
+told_kept before after event pending counted is = record { counted = counted; follows = is.follows }
+
+pub told_damaged : (before after : HistoryView) (event : Event) (fault : AdmitFault) → GivesPending before after event (Err fault) → TellsDamage (authority_of before) (state_of before) event (Err fault)
+told_damaged before after event (Damaged damage) gives = gives
+told_damaged before after event NoMemory gives = tt
 
 -- ---- operations
 

@@ -1,5 +1,5 @@
 -- What the gate finds of an event that was read, kind by kind (this project's own).
-use Rattle.std.specs.Prelude.{◌≡◌, ◌≤◌, ◌≤ℤ◌, ℕ, ℤ, List, length, Result, Ok, Err}
+use Rattle.std.specs.Prelude.{◌≡◌, ◌≤◌, ◌-◌, ◌^◌, ◌≤ℤ◌, ℕ, ℤ, List, length, Result, Ok, Err}
 use Rattle.bl_syntax.specs.TimeOrder.{IsMoment}
 use Rattle.procap.specs.declared.procap.Procap.{Procap}
 use Rattle.file_world.specs.declared.operation.Op.{Op}
@@ -12,15 +12,16 @@ use Rattle.proof_verifier.specs.CheckedView.{IsGranted}
 use Rattle.proof_verifier.specs.declared.fault.CheckFault.{CheckFault}
 use Rattle.proof_verifier.specs.declared.fault.CheckFault.TheVariants as checks
 use Rattle.bl_syntax.specs.Grant.{GrantView}
+use Rattle.bl_syntax.specs.Statement.{StatementView}
 use Rattle.policy_statement.specs.declared.registry.RegisterFault.{RegisterFault}
 use Rattle.policy_statement.specs.declared.registry.RegisterFault.TheVariants as registry
 use Rattle.access_history.specs.declared.event.Entry.TheVariants as entries
 use Rattle.access_history.specs.declared.event.Event.{Event}
-use Rattle.access_history.specs.declared.event.Event.TheVariants.{Issued}
-use Rattle.access_history.specs.Citing.{numbers_of}
+use Rattle.access_history.specs.declared.event.Event.TheVariants.{Registered, Issued}
+use Rattle.access_history.specs.Citing.{AreCitable, AreFound, IsGoodIssue, numbers_of}
 use Rattle.access_history.specs.History.{HistoryView, authority_of, state_of, entry_of, IsReadyFor}
 use Rattle.access_history.specs.Lawful.{MayFollow}
-use Rattle.op_gate.specs.declared.damage.Damage.TheVariants.{Unsigned, Unproved, Duplicate}
+use Rattle.op_gate.specs.declared.damage.Damage.TheVariants.{Shape, Unsigned, Unproved, Duplicate}
 use Rattle.op_gate.specs.declared.damage.AdmitFault.{AdmitFault}
 use Rattle.op_gate.specs.declared.damage.AdmitFault.TheVariants.{Damaged, NoMemory}
 use Rattle.op_gate.specs.declared.planned.Pending.{Pending}
@@ -46,6 +47,10 @@ pub record IsTimely (state : BaseView) (op : Op) (procaps : List Procap) (moment
   pub slots : length procaps ≡ slots op
   pub few_bytes : bytes_to_write op ≤ 65536
 
+-- what the state keeps of a statement, pending with its event
+abbrev pub pending_statement : ℕ → StatementView → List ℕ → Pending
+pending_statement pass statement signature = record { event = Registered pass statement signature; entry = entries.Statement statement signature }
+
 -- what the state keeps of an issue, pending with its event
 abbrev pub pending_issue : ℕ → List ℕ → ProofView → GrantView → Pending
 pending_issue pass cited proof g = record { event = Issued pass cited proof g; entry = entries.Issue (record { cited = cited; proof = proof; grant = g }) }
@@ -55,6 +60,17 @@ abbrev pub GivesIssue : ℕ → List Cite → ProofView → GrantView → Result
 GivesIssue pass cites proof g (Ok pending) = IsGranted (statements_of cites) g.goal proof g × (pending ≡ pending_issue pass (numbers_of cites) proof g)
 GivesIssue pass cites proof g (Err (Damaged damage)) = (damage ≡ Unproved) × (IsGranted (statements_of cites) g.goal proof g → ⊥)
 GivesIssue pass cites proof g (Err NoMemory) = Unit {0}
+
+-- the statements of these numbers, which can be cited; or there is no good issue that cites them; or there was no memory
+abbrev pub FindsCited : List StatementView → List ℕ → Result (List Cite) AdmitFault → Type 0
+FindsCited statements numbers (Ok cites) = AreCitable numbers × AreFound statements numbers cites
+FindsCited statements numbers (Err (Damaged damage)) = (damage ≡ Unproved) × ((proof : ProofView) (g : GrantView) → IsGoodIssue statements (record { cited = numbers; proof = proof; grant = g }) → ⊥)
+FindsCited statements numbers (Err NoMemory) = Unit {0}
+
+-- there is no number for one more event, or there was no memory
+abbrev pub LacksNext : BaseView → AdmitFault → Type 0
+LacksNext state (Damaged damage) = (damage ≡ Shape) × (2 ^ 48 - 1 ≤ state.count)
+LacksNext state NoMemory = Unit {0}
 
 -- the damage of a statement that the registry does not take
 abbrev pub register_damage : RegisterFault → AdmitFault

@@ -98,8 +98,8 @@ fn refused(fault: OpFault, count: u64) -> Planned
     }
 }
 
-// What the caller's admitted operation does, with all memory taken for it.
-fn act(
+/// What the caller's admitted operation does, with all memory taken for it.
+pub fn act(
     alloc: Global,
     history: &mut History,
     pass: u64,

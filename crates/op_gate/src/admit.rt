@@ -1,10 +1,11 @@
 //! Events that were read from an area: each is tested as if it came now, at its own moment.
 
-ghost use Rattle.std.specs.Prelude.{◌≡◌, ◌↔◌, ◌<◌, ◌-◌, ◌^◌, ℕ, List, IfErr, IfOk, IsTrue, MatchOption};
+ghost use Rattle.std.specs.Prelude.{◌≡◌, ◌↔◌, ◌<◌, ◌-◌, ◌^◌, ◌≤◌, ℕ, List, IfErr, IfOk, IsTrue, MatchOption, OnOk};
 ghost use Rattle.access_history.specs.declared.event.Event.TheVariants as events;
 ghost use Rattle.access_history.specs.Citing.{AreCitable, DoNumbersRise, numbers_of};
+ghost use Rattle.access_history.specs.Authority.{sayings};
 ghost use Rattle.access_history.specs.History.{authority_of, state_of};
-ghost use Rattle.op_gate.specs.Admits.{GivesPending, GivesIssue, IsTimely, pending_issue, proof_damage, register_damage};
+ghost use Rattle.op_gate.specs.Admits.{FindsCited, GivesPending, GivesIssue, IsTimely, LacksNext, pending_issue, pending_statement, proof_damage, register_damage};
 ghost use Rattle.op_gate.specs.Damage.{IsDamagedBy};
 
 use crate::act::decide_act;
@@ -14,13 +15,16 @@ use crate::damage::{AdmitFault, Damage};
 use crate::decide::{issue_parts, issued, registered};
 use crate::planned::{Pending, Planned};
 use access_history::{Event, History, Procaps};
-use bl_syntax::{Bytes, Grant, Numbers, Principal, Statement, is_moment};
+use bl_syntax::{Bytes, Constraint, Grant, Numbers, Principal, StatePred, Statement, is_moment};
 use file_world::Op;
-use policy_statement::RegisterFault as RegistryFault;
+use policy_statement::{RegisterFault as RegistryFault, Registered};
 use procap::Procap;
 use proof_term::ProofTree;
 use proof_verifier::{CheckFault, Checked, Cites, verify};
 use std::alloc::Global;
+
+/// The greatest number of an event.
+const LAST_NUMBER: u64 = 0xffff_ffff_ffff;
 
 /// The most statements that an issue cites.
 const MOST_CITED: usize = 64;
@@ -40,6 +44,22 @@ fn register_damage(fault: RegistryFault) -> AdmitFault
     }
 }
 
+// The statement, pending under its signature.
+fn register_again(
+    alloc: Global,
+    pass: u64,
+    statement: Statement,
+    signature: Bytes,
+) -> Result<Pending, AdmitFault>
+    ensures ok { IfOk result (λ pending. pending ≡ pending_statement pass statement signature) }
+    ensures err { IfErr result (λ fault. fault ≡ AdmitFault.NoMemory) }
+{
+    match registered(alloc, pass, statement, signature) {
+        Ok(pending) => Ok(pending),
+        Err(_) => Err(AdmitFault::NoMemory),
+    }
+}
+
 // A statement that was registered: its signature, whether it is new, and the room for it are tested again.
 fn admit_registered(
     alloc: Global,
@@ -54,10 +74,7 @@ fn admit_registered(
     let _from = statement.from();
     let registry = history.registry();
     match registry.test(alloc, history.ring(), &statement, signature.as_slice()) {
-        Ok(()) => match registered(alloc, pass, statement, signature) {
-            Ok(pending) => Ok(pending),
-            Err(_) => Err(AdmitFault::NoMemory),
-        },
+        Ok(()) => register_again(alloc, pass, statement, signature),
         Err(fault) => Err(register_damage(fault)),
     }
 }
@@ -79,13 +96,31 @@ fn are_citable(numbers: &[u32]) -> bool
     !numbers.is_empty() && numbers.len() <= MOST_CITED && do_rise(numbers)
 }
 
+// Whether they are the same conditions on time in the same order.
+fn are_same_times(times: &[Constraint], others: &[Constraint]) -> bool
+    ensures { IsTrue result ↔ (times.now ≡ others.now) }
+{
+    times == others
+}
+
+// Whether they are the same conditions on the state in the same order.
+fn are_same_states(states: &[StatePred], others: &[StatePred]) -> bool
+    ensures { IsTrue result ↔ (states.now ≡ others.now) }
+{
+    states == others
+}
+
 // Whether they grant the same under the same conditions.
 fn is_same_grant(first: &Grant, second: &Grant) -> bool
     ensures { IsTrue result ↔ (first.now ≡ second.now) }
 {
-    first.goal().is_same(&second.goal())
-        && first.times() == second.times()
-        && first.states() == second.states()
+    if !first.goal().is_same(&second.goal()) {
+        return false;
+    }
+    if !are_same_times(first.times(), second.times()) {
+        return false;
+    }
+    are_same_states(first.states(), second.states())
 }
 
 // Why a proof is refused, as damage.
@@ -142,6 +177,24 @@ fn verify_again(
     }
 }
 
+// The statements of these numbers, as an issue cites them.
+fn find_cited(
+    alloc: Global,
+    statements: &[Registered],
+    numbers: &[u32],
+) -> Result<Cites, AdmitFault>
+    ensures { FindsCited (sayings statements.now) numbers.now result }
+{
+    if !are_citable(numbers) {
+        return Err(AdmitFault::Damaged(Damage::Unproved));
+    }
+    match cite(alloc, statements, numbers) {
+        Ok(Citation::Cited(cites)) => Ok(cites),
+        Ok(Citation::Absent(_)) => Err(AdmitFault::Damaged(Damage::Unproved)),
+        Err(_) => Err(AdmitFault::NoMemory),
+    }
+}
+
 // A grant that was issued: the statements that it cites are looked up, and its proof is checked again.
 fn admit_issued(
     alloc: Global,
@@ -154,14 +207,9 @@ fn admit_issued(
     requires { (state_of history.now).count < 2 ^ 48 - 1 }
     ensures { GivesPending history.now history.now (events.Issued pass cited.now proof grant.now) result }
 {
-    let numbers = cited.as_slice();
-    if !are_citable(numbers) {
-        return Err(AdmitFault::Damaged(Damage::Unproved));
-    }
-    match cite(alloc, history.statements(), numbers) {
-        Ok(Citation::Cited(cites)) => verify_again(alloc, pass, cites, proof, grant),
-        Ok(Citation::Absent(_)) => Err(AdmitFault::Damaged(Damage::Unproved)),
-        Err(_) => Err(AdmitFault::NoMemory),
+    match find_cited(alloc, history.statements(), cited.as_slice()) {
+        Ok(cites) => verify_again(alloc, pass, cites, proof, grant),
+        Err(fault) => Err(fault),
     }
 }
 
@@ -225,6 +273,25 @@ fn admit_acted(
         Some(damage) => Err(AdmitFault::Damaged(damage)),
         None => admit_timely(alloc, history, pass, caller, op, procaps, moment),
     }
+}
+
+/// Makes room for one more event, if there is a number for it.
+pub fn reserve_next(history: &mut History) -> Result<(), AdmitFault>
+    ensures key { history.new.key ≡ history.old.key }
+    ensures ring { history.new.ring ≡ history.old.ring }
+    ensures base { history.new.base ≡ history.old.base }
+    ensures events { history.new.events ≡ history.old.events }
+    ensures room { OnOk result (1 ≤ history.new.room) }
+    ensures counted { OnOk result ((state_of history.old).count < 2 ^ 48 - 1) }
+    ensures err { IfErr result (LacksNext (state_of history.old)) }
+{
+    if LAST_NUMBER <= history.count() {
+        return Err(AdmitFault::Damaged(Damage::Shape));
+    }
+    if history.reserve().is_err() {
+        return Err(AdmitFault::NoMemory);
+    }
+    Ok(())
 }
 
 /// Tests an event as if it came now, an operation at its own moment, and takes all memory for it: the event with what the

@@ -6,9 +6,9 @@ ghost use Rattle.op_gate.specs.Decision.{IsPlanned};
 ghost use Rattle.access_history.specs.WellFormed.{IsWellFormed};
 
 use crate::act::{decide_act, deny};
-use crate::admit::admit;
+use crate::admit::{admit, reserve_next};
 use crate::cite::{Citation, cite};
-use crate::damage::{AdmitFault, Damage};
+use crate::damage::AdmitFault;
 use crate::decide::{decide_issue, decide_register, decide_show, issued_procap};
 use crate::planned::{Pending, Planned};
 use access_history::{Denial, Event, History, Procaps, StepReply, StepRequest};
@@ -18,9 +18,6 @@ use policy_statement::Keyring;
 use procap::{Procap, SealKey};
 use std::alloc::Global;
 use std::marker::Model;
-
-/// The greatest number of an event.
-const LAST_NUMBER: u64 = 0xffff_ffff_ffff;
 
 /// What the gate decided.
 #[derive(Debug, Drop)]
@@ -205,18 +202,15 @@ impl Gate {
         ensures left_out { OnErr result (self.new.events ≡ self.old.events) }
     {
         self.forget();
-        if LAST_NUMBER <= self.history.count() {
-            return Err(AdmitFault::Damaged(Damage::Shape));
-        }
-        if self.history.reserve().is_err() {
-            return Err(AdmitFault::NoMemory);
-        }
-        match admit(alloc, &mut self.history, event) {
-            Ok(pending) => {
-                let Pending { event, entry } = pending;
-                self.history.keep(event, entry);
-                Ok(())
-            }
+        match reserve_next(&mut self.history) {
+            Ok(()) => match admit(alloc, &mut self.history, event) {
+                Ok(pending) => {
+                    let Pending { event, entry } = pending;
+                    self.history.keep(event, entry);
+                    Ok(())
+                }
+                Err(fault) => Err(fault),
+            },
             Err(fault) => Err(fault),
         }
     }

@@ -1,6 +1,8 @@
 -- What may come next in a history fits the fields of its record.
-use Rattle.std.proofs.Common.{◌≡◌, ◌×◌, ℕ, ◌+◌, ◌-◌, ◌^◌, ◌<◌, ◌≤◌, List, [], ◌∷◌, ◌++◌, length, Option, Some, None, Bool, true, false, ◌&&◌, IsTrue, refl, sym, ◌∙◌, ap, subst, arith}
+use Rattle.std.proofs.Common.{◌≡◌, ℕ, ◌≤◌, List, [], ◌∷◌, length, Option, Some, None, true, false, ◌&&◌, refl, sym, ◌∙◌, ap, arith}
 use Rattle.std.specs.Option.{option_map, option_map_or}
+use Rattle.std.specs.Prelude.{nat_le}
+use Rattle.std.specs.List.{list_all}
 use Rattle.std.specs.Str.{bytes_eq}
 use Rattle.std.proofs.lemmas.Bool.{and_parts, leb-true, not-false}
 use Rattle.std.proofs.lemmas.Slice.Eq.{bytes_eq-Decides}
@@ -10,7 +12,8 @@ use Rattle.policy_statement.specs.Ring.{KeyView, key_of}
 use Rattle.policy_statement.specs.Messages.{statement_message}
 use Rattle.file_world.specs.declared.operation.Op.{Op}
 use Rattle.file_world.specs.declared.operation.Op.TheVariants.{Read, Write, Truncate, List as ListOf, Lookup, Create, Mkdir, Unlink, Rename, Getattr, Setattr, Delattr, Chown}
-use Rattle.file_world.specs.FileNames.{is_node_name, is_attribute_name}
+use Rattle.bl_syntax.specs.Names.{is_lower_case}
+use Rattle.file_world.specs.FileNames.{is_node_name, is_attribute_name, is_attribute_name_byte}
 use Rattle.file_world.specs.World.{World}
 use Rattle.file_world.specs.Effect.{refusal, part_of, tests_in}
 use Rattle.file_world.specs.Needs.{slots, bytes_to_write}
@@ -18,12 +21,11 @@ use Rattle.file_world.proofs.EffectLemmas.{none_hold}
 use Rattle.access_history.specs.declared.event.Event.{Event}
 use Rattle.access_history.specs.declared.event.Event.TheVariants.{Registered, Issued, Acted}
 use Rattle.access_history.specs.Base.{BaseView}
-use Rattle.access_history.specs.Authority.{Authority}
 use Rattle.access_history.specs.History.{authority_with}
 use Rattle.access_history.specs.Citing.{numbers_of}
 use Rattle.access_history.specs.Lawful.{MayFollow}
 use Rattle.proof_verifier.specs.declared.cites.Cite.{Cite}
-use Rattle.record_parts.specs.Fields.{FitsOneByte, FitsFourBytes}
+use Rattle.record_parts.specs.Fields.{FitsOneByte}
 use Rattle.record_parts.specs.OperationSpelling.{HasFittingWords}
 use Rattle.journal_records.specs.EventSpelling.{HasFittingFields}
 
@@ -39,16 +41,18 @@ accepted_length (Some key) message signature e = sym (ap length ((bytes_eq-Decid
 
 -- ---- names
 
+short_by : (n most : ℕ) → nat_le n most ≡ true → most ≤ 255 → n ≤ 255
+short_by n most e few = let short : n ≤ most = leb-true n most e in omega (arith, short, few)
+
+-- of a name and an attribute's name
 name_fits : (name : List ℕ) → is_node_name name ≡ true → FitsOneByte name
 unfolding is_node_name
-name_fits name e =
-    let short = leb-true (length name) 64 (and_parts _ _ (and_parts _ _ (and_parts _ _ (and_parts _ _ e).0).0).0).1 in
-    omega (arith, short)
+name_fits name e = short_by (length name) 64 (and_parts _ _ (and_parts _ _ (and_parts _ _ (and_parts _ _ e).0).0).0).1 (omega arith)
 
 attribute_fits : (name : List ℕ) → is_attribute_name name ≡ true → FitsOneByte name
 unfolding is_attribute_name
 attribute_fits [] e = absurd cc
-attribute_fits (first ∷ others) e = let short = leb-true (length others) 63 (and_parts _ _ e).1 in omega (arith, short)
+attribute_fits (first ∷ others) e = let short : length others ≤ 63 = leb-true (length others) 63 (and_parts (is_lower_case first && list_all is_attribute_name_byte others) (nat_le (length others) 63) e).1 in omega (arith, short)
 
 -- ---- operations that are not refused
 

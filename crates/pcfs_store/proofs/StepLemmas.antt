@@ -1,9 +1,9 @@
 -- What a step of a store says, at each of its ends.
-use Rattle.std.proofs.Common.{◌≡◌, ◌≢◌, ◌⊎◌, ℕ, ◌+◌, ◌<◌, ◌≤◌, List, [], ◌∷◌, ◌++◌, length, Some, None, IfSome, Bool, true, false, refl, sym, ◌∙◌, ap, subst, inl, inr, ⊎_elim, arith, length-append}
+use Rattle.std.proofs.Common.{◌≡◌, ◌≢◌, ℕ, ◌+◌, ◌<◌, ◌≤◌, List, [], ◌∷◌, ◌++◌, length, Some, None, IfSome, Bool, true, false, refl, sym, ◌∙◌, ap, subst, inl, inr, ⊎_elim, arith, length-append}
 use Rattle.std.specs.Prelude.{Option, is_some, ℤ}
 use Rattle.pcfs_ports.specs.Faults.{HasRisen}
-use Rattle.pcfs_ports.specs.Disk.{IsPinned, LeavesOnly}
-use Rattle.journal_core.specs.Area.{area_limit, area_bytes, record_bytes, StandsForBody, Closed, generation_of}
+use Rattle.pcfs_ports.specs.Disk.{LeavesOnly}
+use Rattle.journal_core.specs.Area.{area_limit, area_bytes, record_bytes, StandsForBody, generation_of}
 use Rattle.journal_core.specs.AreaView.{AreaView}
 use Rattle.journal_core.specs.Rest.{Rests, IsWithOrWithout}
 use Rattle.journal_core.proofs.RecordLemmas.{record_length}
@@ -14,14 +14,14 @@ use Rattle.access_history.specs.declared.reply.StepReply.{StepReply}
 use Rattle.access_history.proofs.ListLemmas.{AllByRecursion-push}
 use Rattle.journal_records.specs.EventSpelling.{event_spelling, IsSpellableEvent}
 use Rattle.pcfs_store.specs.declared.reply.StoreReply.{StoreReply}
-use Rattle.pcfs_store.specs.declared.reply.StoreReply.TheVariants.{Step, Full, Stopped, NoMemory}
+use Rattle.pcfs_store.specs.declared.reply.StoreReply.TheVariants.{Step, Stopped}
 use Rattle.pcfs_store.specs.Image.{fresh_image}
-use Rattle.pcfs_store.specs.StoredHistory.{payloads_of, AreSpellable}
-use Rattle.pcfs_store.specs.Newest.{one_of, SurvivesWhole}
+use Rattle.pcfs_store.specs.StoredHistory.{payloads_of}
+use Rattle.pcfs_store.specs.Newest.{one_of}
 use Rattle.pcfs_store.specs.StoreView.{StoreView, first_disk, second_disk, body_of, AnswersIn, IsStore}
 use Rattle.pcfs_store.specs.Ready.{IsBehind, IsReady, IsCurrent, StopsLeave, StopsNow, SurvivesWithOrWithout, Keeps, ready, halted}
-use Rattle.pcfs_store.specs.Steps.{IsFullFor, with_event, Steps, answered, kept, full, failed, stopped, without_memory, LeavesStep}
-use Rattle.pcfs_store.specs.Keeping.{Writes, HasWritten, HasFailed}
+use Rattle.pcfs_store.specs.Steps.{IsFullFor, with_event, Steps, kept, failed, LeavesStep}
+use Rattle.pcfs_store.specs.Keeping.{Writes, HasWritten}
 use Rattle.pcfs_store.proofs.SurvivalLemmas.{IsTellable, tellable_store, tellable_push, survives_beside, area_push, left_pairs, ready_survives_now, if_some}
 
 none_some : (o : Option ℕ) (pass : ℕ) → o ≡ None → o ≡ Some pass → ⊥

@@ -1,27 +1,23 @@
 -- Bytes that stand for a history, and what survives of a store.
-use Rattle.std.proofs.Common.{◌≡◌, ◌⊎◌, ℕ, ◌+◌, ◌^◌, ◌<◌, ◌≤◌, List, [], ◌∷◌, ◌++◌, length, take, drop, get_or, map, Some, None, IfSome, Bool, true, false, refl, sym, ◌∙◌, ap, subst, inl, inr, ⊎_elim, arith, append_assoc}
-use Rattle.std.specs.Prelude.{Option, is_some, ltb, nat_lt, ◌==◌, if◌then◌else◌}
+use Rattle.std.proofs.Common.{◌≡◌, ℕ, ◌+◌, ◌<◌, ◌≤◌, List, [], ◌∷◌, ◌++◌, length, take, drop, get_or, map, Some, None, IfSome, Bool, true, false, refl, sym, ◌∙◌, ap, subst, arith, append_assoc}
+use Rattle.std.specs.Prelude.{Option, nat_lt, ◌==◌, if◌then◌else◌}
 use Rattle.std.specs.Option.{option_map}
-use Rattle.std.specs.List.{AllByRecursion}
 use Rattle.std.specs.Int.{w64, from_be_bytes}
 use Rattle.std.proofs.lemmas.Bool.{le-ltb, lt-ltb}
 use Rattle.std.proofs.lemmas.List.{take_all}
-use Rattle.pcfs_ports.specs.Disk.{IsPinned}
 use Rattle.journal_core.specs.Area.{area_limit, area_bytes, base_bytes, record_bytes, records, Begins, StandsForBody, IsGeneration, IsArea, generation_of}
-use Rattle.journal_core.specs.Rest.{Rests}
-use Rattle.journal_core.proofs.RecordLemmas.{begins_split, base_generation, base_within, records_push}
+use Rattle.journal_core.proofs.RecordLemmas.{base_generation, base_within, records_push}
 use Rattle.journal_core.proofs.ReadingLemmas.{base_begins, opens}
 use Rattle.journal_core.proofs.RestsLemmas.{some_same}
 use Rattle.access_history.specs.declared.event.Event.{Event}
 use Rattle.access_history.specs.declared.event.Event.TheVariants.{Registered, Issued, Acted}
 use Rattle.access_history.specs.Base.{BaseView}
-use Rattle.access_history.specs.Replay.{fresh, replay}
 use Rattle.access_history.proofs.ListLemmas.{AllByRecursion-push}
 use Rattle.journal_records.specs.EventSpelling.{erase, event_spelling, IsSpellableEvent}
 use Rattle.journal_records.proofs.EventLemmas.{same_spelling}
 use Rattle.pcfs_store.specs.Image.{fresh_image, IsImageOf}
 use Rattle.pcfs_store.specs.StoredHistory.{payloads_of, AreSpellable, StandsFor, Resumes}
-use Rattle.pcfs_store.specs.Newest.{newer, one_of, newest, Survives, SurvivesWhole}
+use Rattle.pcfs_store.specs.Newest.{newer, one_of, newest, SurvivesWhole}
 use Rattle.pcfs_store.specs.StoreView.{StoreView, first_disk, second_disk, body_of, IsStore}
 use Rattle.pcfs_store.specs.Ready.{IsBehind, IsReady, IsCurrent, StopsNow}
 

@@ -1,5 +1,5 @@
 -- The entries of a store: what it was opened with, and in order what happened since. This project's own.
-use Rattle.std.specs.Prelude.{◌≡◌, ℕ, ◌+◌, List, [], ◌∷◌, ◌++◌, length, map, Option, Some, None}
+use Rattle.std.specs.Prelude.{ℕ, ◌+◌, List, [], ◌∷◌, ◌++◌, length, map, Option, Some, None}
 use Rattle.policy_statement.specs.Ring.{KeyView}
 use Rattle.access_history.specs.declared.event.Event.{Event}
 use Rattle.access_history.specs.Base.{BaseView}

@@ -1,5 +1,5 @@
 -- Which of two areas counts, and what its bytes have to say. This project's own.
-use Rattle.std.specs.Prelude.{◌≡◌, ℕ, List, Option, Some, None, Bool, true, false, nat_lt, if◌then◌else◌, length}
+use Rattle.std.specs.Prelude.{◌≡◌, ℕ, List, Option, Some, None, Bool, true, false, nat_lt, length}
 use Rattle.std.specs.Option.{option_map}
 use Rattle.journal_core.specs.Area.{generation_of}
 use Rattle.access_history.specs.declared.event.Event.{Event}

@@ -1,5 +1,5 @@
 -- A store, as callers see it. This project's own.
-use Rattle.std.specs.Prelude.{◌≡◌, ℕ, ℤ, ◌<◌, List, Option, Bool, true, false, length}
+use Rattle.std.specs.Prelude.{◌≡◌, ℕ, ℤ, ◌<◌, List, Option, Bool, length}
 use Rattle.journal_core.specs.Area.{area_limit, area_bytes, IsGeneration}
 use Rattle.policy_statement.specs.Ring.{KeyView}
 use Rattle.access_history.specs.declared.event.Event.{Event}

@@ -1,7 +1,7 @@
 -- Histories in the bytes of an area, and what an opening finds of a history that was kept. This project's own.
-use Rattle.std.specs.Prelude.{◌≡◌, ◌⊎◌, ℕ, ◌+◌, ◌-◌, ◌^◌, ◌<◌, ◌≤◌, List, [], ◌∷◌, ◌++◌, length, take, drop, map}
+use Rattle.std.specs.Prelude.{◌≡◌, ◌⊎◌, ℕ, ◌+◌, ◌-◌, ◌^◌, ◌<◌, ◌≤◌, List, length, take, drop, map}
 use Rattle.std.specs.List.{AllByRecursion}
-use Rattle.journal_core.specs.Area.{area_limit, area_bytes, IsArea}
+use Rattle.journal_core.specs.Area.{area_limit, IsArea}
 use Rattle.access_history.specs.declared.event.Event.{Event}
 use Rattle.access_history.specs.Base.{BaseView}
 use Rattle.access_history.specs.Replay.{replay}

@@ -6,8 +6,8 @@ ghost use Rattle.journal_records.specs.EventSpelling.{event_spelling, IsSpellabl
 ghost use Rattle.pcfs_store.specs.Keeping.{AppendsEvent, KeepsPending};
 
 use access_history::Event;
-use bl_syntax::{Bytes, NoMemory};
-use journal_core::{AREA_LIMIT, Area, AreaFault, Framed, frame};
+use bl_syntax::Bytes;
+use journal_core::{AREA_LIMIT, Area, AreaFault, Framed, frame_after_four};
 use journal_records::write_event;
 use op_gate::Gate;
 use pcfs_ports::Disk;
@@ -16,7 +16,20 @@ use std::alloc::Global;
 /// The number of the last event that a store may keep.
 const LAST_EVENT: u64 = 0xffff_ffff_ffff;
 
-// The record of an event. `AreaFull` is returned only if no area has room for it.
+/// How many bytes are taken at once for a record; a longer one grows from there.
+const COMMON_SIZE: usize = 256;
+
+// Four bytes for the length of a record, with room for one of common size.
+fn room_of(alloc: Global) -> Result<Bytes, AreaFault>
+    ensures ok { IfOk result (λ bytes. length bytes ≡ 4) }
+    ensures err { IfErr result (λ fault. fault ≡ AreaFault.NoMemory) }
+{
+    let mut bytes = Vec::with_capacity(alloc, COMMON_SIZE)?;
+    bytes.extend_from_slice(&[0; 4])?;
+    Ok(Bytes::from_vec(bytes))
+}
+
+// The record of an event, with its length and the next closed gate, in one piece of memory. `AreaFull` is returned only if no area has room for it.
 fn record_of(alloc: Global, event: &Event) -> Result<Framed, AreaFault>
     requires { HasFittingFields event.now }
     ensures ok { IfOk result (λ framed. framed ≡ event_spelling event.now) }
@@ -24,14 +37,14 @@ fn record_of(alloc: Global, event: &Event) -> Result<Framed, AreaFault>
     ensures not_disk { result ≢ Err AreaFault.Disk }
     ensures full { result ≡ Err AreaFault.AreaFull → area_limit ≤ length (event_spelling event.now) }
 {
-    let mut payload = Bytes::new(alloc);
-    if write_event(alloc, event, &mut payload).is_err() {
+    let mut bytes = room_of(alloc)?;
+    if write_event(alloc, event, &mut bytes).is_err() {
         return Err(AreaFault::NoMemory);
     }
-    if AREA_LIMIT <= payload.len() as u64 {
+    if AREA_LIMIT + 4 <= bytes.len() as u64 {
         return Err(AreaFault::AreaFull);
     }
-    match frame(alloc, payload.as_slice()) {
+    match frame_after_four(bytes) {
         Ok(framed) => Ok(framed),
         Err(_) => Err(AreaFault::NoMemory),
     }

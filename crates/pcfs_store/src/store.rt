@@ -29,9 +29,13 @@ pub struct Store<D: Disk> {
 
 impl<D: Disk> Model for Store<D> {
     ghost use Rattle.pcfs_store.specs.StoreView.{StoreView};
-    ghost use Rattle.pcfs_store.specs.Inside.{store_of, IsKeeping};
+    ghost use Rattle.pcfs_store.specs.StoreCode.{store_code};
 
     ghost Value = { StoreView D };
+
+    ghost coded = { store_code D.code };
+
+    ghost use Rattle.pcfs_store.specs.Inside.{store_of, IsKeeping};
 
     ghost view = { λ s. store_of s.active s.other s.second_active s.generation s.gate s.stop };
 

@@ -54,6 +54,11 @@ pub record HoldsHistory (key : List ℕ) (ring : List KeyView) (image : List ℕ
   pub read : AreRead payloads gate.events
   pub lawful : IsLawful (authority_with key ring) fresh gate.events
 
+-- a fault of the record of that number
+abbrev pub fault_at : ℕ → AdmitFault → OpenFault
+fault_at number (admits.Damaged damage) = opens.Damaged number damage
+fault_at number admits.NoMemory = opens.NoMemory
+
 -- the image is another than that of a store before its first event, or this payload is damaged first, or there was no memory
 abbrev pub HasDamage : Authority → List ℕ → List (List ℕ) → OpenFault → Type 0
 HasDamage authority image payloads opens.NoStore = ⊥

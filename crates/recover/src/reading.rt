@@ -3,7 +3,7 @@
 ghost use Rattle.std.specs.Prelude.{◌≡◌, ◌<◌, [], IfErr, IfOk, length};
 ghost use Rattle.access_history.specs.History.{authority_with};
 ghost use Rattle.access_history.specs.Replay.{fresh};
-ghost use Rattle.recover.specs.Reading.{AdmitsPayload, AdmitsPayloads, HasDamage, HoldsHistory, IsSameGate};
+ghost use Rattle.recover.specs.Reading.{AdmitsPayload, AdmitsPayloads, HasDamage, HoldsHistory, IsSameGate, fault_at};
 
 use crate::fault::OpenFault;
 use bl_syntax::CodecFault;
