@@ -3,7 +3,7 @@ use Rattle.std.proofs.Common.{◌≡◌, ◌≢◌, ◌⊎◌, ℕ, zero, suc, �
 use Rattle.std.specs.Int.{w32, w64, to_be_bytes, from_be_bytes}
 use Rattle.std.proofs.lemmas.Bool.{cases_lt, cases_eq}
 use Rattle.std.proofs.lemmas.List.{append-nil, take_at, drop_at, drop-drop}
-use Rattle.journal_core.specs.Area.{area_limit, magic, area_bytes, record_bytes, records, IsShut, Begins, StandsForBody, IsGeneration, IsArea, HasNoBase, BreaksAfter, IsBroken}
+use Rattle.journal_core.specs.Area.{area_limit, magic, area_bytes, record_bytes, records, IsShut, Begins, StandsForBody, IsGeneration, IsArea, IsFront, HasNoBase, BreaksAfter, IsBroken}
 use Rattle.journal_core.proofs.AreaLemmas.{begins_within}
 use Rattle.journal_core.proofs.RecordLemmas.{begins_split, begins_by, begins_append, begins_rest, record_number, record_length, base_generation, base_length, area_split}
 
@@ -134,24 +134,43 @@ no_more : (bytes body x : List ℕ) → get_or bytes (length body) 0 ≢ 1 → B
 no_more bytes body x shut begins =
     shut (ap (λ (n : ℕ). get_or bytes n 0) (let same : length body ≡ length body + 0 = omega arith in same) ∙ sym (get_or-drop (length body) bytes 0 0) ∙ record_opens (drop (length body) bytes) x begins)
 
--- bytes are at most one area
-pub one_area : (bytes : List ℕ) (g h : ℕ) (i j : List ℕ) (ps qs : List (List ℕ)) → IsArea bytes g i ps → IsArea bytes h j qs → (g ≡ h) × (i ≡ j) × (ps ≡ qs)
-one_area bytes g h i j ps qs first second =
-    let base_g = base_begins bytes g i ps first.fits first.stands.front in
-    let base_h = base_begins bytes h j qs second.fits second.stands.front in
-    let fits_g = base_fits bytes g i ps first.fits first.stands.front in
-    let fits_h = base_fits bytes h j qs second.fits second.stands.front in (
+-- after a front no whole record begins
+front_there : (bytes : List ℕ) (g : ℕ) (i : List ℕ) (ps : List (List ℕ)) (x : List ℕ) → IsFront bytes g i ps → Begins (record_bytes x) (drop (length (area_bytes g i ps)) bytes) → length (area_bytes g i ps) + 5 + length x < area_limit → ⊥
+front_there bytes g i ps x is begins fits =
+    no_more bytes (area_bytes g i ps) x
+    (λ is_open. is.last is_open x (omega (arith, fits, record_length x, length-append (area_bytes g i ps) (record_bytes x))) (begins_append (area_bytes g i ps) (record_bytes x) bytes is.front begins))
+    begins
+
+-- bytes have at most one front
+pub one_front : (bytes : List ℕ) (g h : ℕ) (i j : List ℕ) (ps qs : List (List ℕ)) → IsFront bytes g i ps → IsFront bytes h j qs → (g ≡ h) × (i ≡ j) × (ps ≡ qs)
+one_front bytes g h i j ps qs first second =
+    let base_g = base_begins bytes g i ps first.fits first.front in
+    let base_h = base_begins bytes h j qs second.fits second.front in
+    let fits_g = base_fits bytes g i ps first.fits first.front in
+    let fits_h = base_fits bytes h j qs second.fits second.front in (
       generation_same bytes g h i j first.generated second.generated fits_g fits_h base_g base_h,
       image_same bytes g h i j first.generated second.generated fits_g fits_h base_g base_h,
       ⊎_elim (λ all. all) (λ differ. ⊎_elim
-          (λ more. let after = more_after bytes g h i j ps qs first.generated second.generated first.fits second.fits first.stands.front second.stands.front more in
-          absurd (no_more bytes (area_bytes g i ps) after.0 first.stands.shut after.1))
-          (λ more. let after = more_after bytes h g j i qs ps second.generated first.generated second.fits first.fits second.stands.front first.stands.front
-          (subst (λ (n : ℕ). GoesOn qs ps (drop n bytes)) (from_same bytes g h i j ps qs first.generated second.generated first.fits second.fits first.stands.front second.stands.front) more) in
-          absurd (no_more bytes (area_bytes h j qs) after.0 second.stands.shut after.1))
+          (λ more. let after = more_after bytes g h i j ps qs first.generated second.generated first.fits second.fits first.front second.front more in
+          absurd (front_there bytes g i ps after.0 first after.1 after.2))
+          (λ more. let after = more_after bytes h g j i qs ps second.generated first.generated second.fits first.fits second.front first.front
+          (subst (λ (n : ℕ). GoesOn qs ps (drop n bytes)) (from_same bytes g h i j ps qs first.generated second.generated first.fits second.fits first.front second.front) more) in
+          absurd (front_there bytes h j qs after.0 second after.1 after.2))
           differ)
-          (fronts bytes g h i j ps qs first.generated second.generated first.fits second.fits first.stands.front second.stands.front),
+          (fronts bytes g h i j ps qs first.generated second.generated first.fits second.fits first.front second.front),
     )
+
+-- an area is a front
+pub area_front : (bytes : List ℕ) (g : ℕ) (i : List ℕ) (ps : List (List ℕ)) → IsArea bytes g i ps → IsFront bytes g i ps
+area_front bytes g i ps is = record { generated = is.generated; fits = is.fits; front = is.stands.front; last = λ is_open. absurd (is.stands.shut is_open) }
+
+-- a front after which no open gate stands is an area
+pub front_area : (bytes : List ℕ) (g : ℕ) (i : List ℕ) (ps : List (List ℕ)) → IsFront bytes g i ps → get_or bytes (length (area_bytes g i ps)) 0 ≢ 1 → IsArea bytes g i ps
+front_area bytes g i ps is shut = record { generated = is.generated; fits = is.fits; stands = record { front = is.front; shut = shut } }
+
+-- bytes are at most one area
+pub one_area : (bytes : List ℕ) (g h : ℕ) (i j : List ℕ) (ps qs : List (List ℕ)) → IsArea bytes g i ps → IsArea bytes h j qs → (g ≡ h) × (i ≡ j) × (ps ≡ qs)
+one_area bytes g h i j ps qs first second = one_front bytes g h i j ps qs (area_front bytes g i ps first) (area_front bytes h j qs second)
 
 -- an area is open
 pub area_opens : (bytes : List ℕ) (g : ℕ) (i : List ℕ) (ps : List (List ℕ)) → IsArea bytes g i ps → IsShut bytes → ⊥
@@ -214,6 +233,10 @@ breaks_same bytes m n a b =
     absurd (breaks_there n bytes b after.0 after.1 after.2))
     differ)
     (fronts bytes a.generation b.generation a.image b.image a.payloads b.payloads a.generated b.generated a.fits b.fits a.front b.front)
+
+-- a front has header and image
+pub front_has_base : (bytes : List ℕ) (g : ℕ) (i : List ℕ) (ps : List (List ℕ)) → IsFront bytes g i ps → HasNoBase bytes → ⊥
+front_has_base bytes g i ps is base = base.none g i is.generated (base_fits bytes g i ps is.fits is.front) (base_begins bytes g i ps is.fits is.front)
 
 no_base_breaks : (bytes : List ℕ) (n : ℕ) → HasNoBase bytes → BreaksAfter n bytes → ⊥
 no_base_breaks bytes n base b =

@@ -4,9 +4,9 @@ use Rattle.std.specs.Int.{w32, w64, to_be_bytes, from_be_bytes}
 use Rattle.std.proofs.lemmas.Nat.{be_bytes_4, be_bytes_8, from_be_bytes-to_be_bytes_4, from_be_bytes-to_be_bytes_8}
 use Rattle.std.proofs.lemmas.List.{append-nil, take_at, drop_at, take-take, drop-drop, drop_more, get_or_past}
 use Rattle.std.proofs.lemmas.Bool.{cases_lt}
-use Rattle.journal_core.specs.Area.{area_limit, magic, area_bytes, record_bytes, records, IsShut, Begins, StandsForBody, IsGeneration, IsArea, HasNoBase, BreaksAfter, IsBroken}
+use Rattle.journal_core.specs.Area.{area_limit, magic, area_bytes, record_bytes, records, IsShut, Begins, StandsForBody, IsGeneration, IsArea, IsFront, HasNoBase, BreaksAfter, IsBroken}
 use Rattle.journal_core.specs.Reports.{BaseEndsAt, RecordEndsAt, NoRecordAt, RecordsEndAt, BreaksAt}
-use Rattle.journal_core.specs.Faults.{BrokeAt, IsReported}
+use Rattle.journal_core.specs.Faults.{BrokeAt, IsReported, IsFrontReported}
 use Rattle.journal_core.specs.declared.scan.ScanFault.{ScanFault}
 use Rattle.journal_core.specs.declared.scan.ScanFault.TheVariants.{Closed, Broken, Disk, NoMemory}
 use Rattle.journal_core.proofs.AreaLemmas.{begins_within}
@@ -192,6 +192,13 @@ module _ (bytes : List ℕ) (generation from end : ℕ) (base : BaseEndsAt bytes
     stands = record { front = area_begins; shut = λ is_open. shut (ap (λ (n : ℕ). get_or bytes n 0) (sym area_long) ∙ is_open) };
   }
 
+  none_further : NoRecordAt bytes end → (payload : List ℕ) → length (area_bytes generation image_there payloads ++ record_bytes payload) < area_limit →
+      Begins (area_bytes generation image_there payloads ++ record_bytes payload) bytes → ⊥
+  none_further none payload fits begins =
+      none payload
+      (omega (arith, fits, area_long, record_length payload, length-append (area_bytes generation image_there payloads) (record_bytes payload)))
+      (subst (λ (n : ℕ). Begins (record_bytes payload) (drop n bytes)) area_long (begins_rest (area_bytes generation image_there payloads) (record_bytes payload) bytes begins))
+
   pub area_broken : get_or bytes end 0 ≡ 1 → NoRecordAt bytes end → BreaksAfter (length payloads) bytes
   area_broken is_open none = record {
     generation = generation;
@@ -202,9 +209,15 @@ module _ (bytes : List ℕ) (generation from end : ℕ) (base : BaseEndsAt bytes
     fits = omega (arith, area_long, ends.high);
     front = area_begins;
     is_open = ap (λ (n : ℕ). get_or bytes n 0) area_long ∙ is_open;
-    none = λ payload fits begins. none payload
-        (omega (arith, fits, area_long, record_length payload, length-append (area_bytes generation image_there payloads) (record_bytes payload)))
-        (subst (λ (n : ℕ). Begins (record_bytes payload) (drop n bytes)) area_long (begins_rest (area_bytes generation image_there payloads) (record_bytes payload) bytes begins));
+    none = none_further none;
+  }
+
+  pub front_found : (get_or bytes end 0 ≡ 1 → NoRecordAt bytes end) → IsFront bytes generation image_there payloads
+  front_found none = record {
+    generated = base.generated;
+    fits = omega (arith, area_long, ends.high);
+    front = area_begins;
+    last = λ is_open. none_further (none (ap (λ (n : ℕ). get_or bytes n 0) (sym area_long) ∙ is_open));
   }
 
 -- ---- bytes past the limit
@@ -232,10 +245,18 @@ module _ (bytes : List ℕ) where
     };
   }
 
+  pub front_past : (generation : ℕ) (image : List ℕ) (payloads : List (List ℕ)) → IsFront cut generation image payloads → IsFront bytes generation image payloads
+  front_past generation image payloads is = record {
+    generated = is.generated;
+    fits = is.fits;
+    front = longer (area_bytes generation image payloads) is.fits is.front;
+    last = λ is_open payload fits begins. is.last (byte (length (area_bytes generation image payloads)) is.fits ∙ is_open) payload fits (shorter (area_bytes generation image payloads ++ record_bytes payload) fits begins);
+  }
+
   pub shut_past : IsShut cut → IsShut bytes
   shut_past shut is_open = shut (byte 0 (omega arith) ∙ is_open)
 
-  base_past : HasNoBase cut → HasNoBase bytes
+  pub base_past : HasNoBase cut → HasNoBase bytes
   base_past is = record {
     is_open = sym (byte 0 (omega arith)) ∙ is.is_open;
     none = λ generation image generated fits begins. is.none generation image generated fits (shorter (area_bytes generation image []) fits begins);
@@ -278,6 +299,12 @@ reported_past bytes Closed report = shut_past bytes report
 reported_past bytes (Broken number) report = broken_past bytes number report
 reported_past bytes Disk report = absurd report
 reported_past bytes NoMemory report = tt
+
+pub front_reported_past : (bytes : List ℕ) (fault : ScanFault) → IsFrontReported fault (take area_limit bytes) → IsFrontReported fault bytes
+front_reported_past bytes Closed report = shut_past bytes report
+front_reported_past bytes (Broken number) report = (report.0, base_past bytes report.1)
+front_reported_past bytes Disk report = absurd report
+front_reported_past bytes NoMemory report = tt
 
 -- a test for a difference that failed
 pub named_by : (same differs : Bool) → differs ≡ not same → differs ≡ false → same ≡ true

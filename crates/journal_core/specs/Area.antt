@@ -85,6 +85,16 @@ pub record BreaksAfter (count : ℕ) (bytes : List ℕ) : Type 0 where
   pub none : (payload : List ℕ) → length (area_bytes generation image payloads ++ record_bytes payload) < area_limit →
       Begins (area_bytes generation image payloads ++ record_bytes payload) bytes → ⊥
 
+-- Bytes begin with an area of these records, and no record follows: it ends there, or an open gate stands before none that
+-- is whole and leaves room for a closed gate.
+pub record IsFront (bytes : List ℕ) (generation : ℕ) (image : List ℕ) (payloads : List (List ℕ)) : Type 0 where
+  pub generated : IsGeneration generation
+  pub fits : length (area_bytes generation image payloads) < area_limit
+  pub front : Begins (area_bytes generation image payloads) bytes
+  pub last : get_or bytes (length (area_bytes generation image payloads)) 0 ≡ 1 → (payload : List ℕ) →
+      length (area_bytes generation image payloads ++ record_bytes payload) < area_limit →
+      Begins (area_bytes generation image payloads ++ record_bytes payload) bytes → ⊥
+
 -- Bytes are open and no area: this is the number of the first record that is cut or past the limit, 0 for header and
 -- image.
 abbrev pub IsBroken : ℕ → List ℕ → Type 0

@@ -1,6 +1,7 @@
 //! Frames: what is written of a record after its gate.
 
-ghost use Rattle.std.specs.Prelude.{◌≡◌, ◌+◌, ◌<◌, ◌^◌, IfOk, length};
+ghost use Rattle.std.specs.Prelude.{◌≡◌, ◌+◌, ◌<◌, ◌≤◌, ◌^◌, ◌++◌, IfOk, length, drop};
+ghost use Rattle.std.specs.Int.{w32, to_be_bytes};
 ghost use Rattle.journal_core.specs.Frame.{frame_bytes};
 
 use bl_syntax::fields::u32_bytes;
@@ -53,5 +54,32 @@ pub fn frame(alloc: Global, payload: &[u8]) -> Result<Framed, NoMemory>
     ensures { IfOk result (λ framed. framed ≡ payload.now) }
 {
     let bytes = framed_bytes(alloc, payload)?;
+    Ok(Framed { bytes })
+}
+
+// Writes the length of what stands after four bytes into these.
+fn put_length(bytes: &mut Vec<u8>)
+    requires room { 4 ≤ length bytes.old.items }
+    requires short { length bytes.old.items < 2 ^ 32 }
+    ensures { bytes.new.items ≡ to_be_bytes w32 (length (drop 4 bytes.old.items)) ++ drop 4 bytes.old.items }
+{
+    let len = u32_bytes((bytes.len() - 4) as u32);
+    bytes[0] = len[0];
+    bytes[1] = len[1];
+    bytes[2] = len[2];
+    bytes[3] = len[3];
+}
+
+/// Frames the payload that stands in `bytes` after four bytes, whatever these are. The payload is not copied, unless the
+/// vector has no room for one byte more.
+pub fn frame_after_four(bytes: Bytes) -> Result<Framed, NoMemory>
+    requires room { 4 ≤ length bytes }
+    requires short { length bytes < 2 ^ 32 }
+    ensures { IfOk result (λ framed. framed ≡ drop 4 bytes) }
+{
+    let mut held = bytes.into_vec();
+    put_length(&mut held);
+    held.push(0)?;
+    let bytes = Bytes::from_vec(held);
     Ok(Framed { bytes })
 }

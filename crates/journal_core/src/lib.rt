@@ -15,6 +15,6 @@ mod scan;
 
 pub use area::{AREA_LIMIT, Area, AreaFault};
 pub use contents::Scan;
-pub use frames::{Framed, frame};
+pub use frames::{Framed, frame, frame_after_four};
 pub use generation::peek;
-pub use scan::ScanFault;
+pub use scan::{ScanFault, scan_front};

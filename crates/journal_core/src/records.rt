@@ -2,16 +2,16 @@
 
 ghost use Rattle.std.specs.Prelude.{◌≡◌, ◌≢◌, ◌+◌, ◌-◌, ◌<◌, ◌≤◌, ℕ, List, [], IfOk, IfErr, MatchOption, length, take, drop, get_or};
 ghost use Rattle.std.specs.Int.{w32, from_be_bytes};
-ghost use Rattle.journal_core.specs.Area.{area_limit, area_bytes, IsShut, IsArea, HasNoBase, IsBroken};
+ghost use Rattle.journal_core.specs.Area.{area_limit, area_bytes, IsShut, IsArea, IsFront, HasNoBase, IsBroken};
 ghost use Rattle.journal_core.specs.ScanView.{all_bytes_at};
 ghost use Rattle.journal_core.specs.Reports.{BaseEndsAt, RecordEndsAt, NoRecordAt, RecordsEndAt, BreaksAt};
-ghost use Rattle.journal_core.specs.Faults.{BrokeAt, IsReported};
+ghost use Rattle.journal_core.specs.Faults.{BrokeAt, IsReported, IsFrontReported};
 
 use crate::area::{AREA_LIMIT, MAGIC};
 use crate::contents::{Scan, Span};
 use crate::generation::{is_open, number_at};
 use crate::scan::ScanFault;
-use bl_syntax::{Bytes, Sequence};
+use bl_syntax::{Bytes, NoMemory, Sequence};
 use std::alloc::Global;
 
 // The greatest generation.
@@ -64,17 +64,16 @@ fn find_record(bytes: &[u8], gate: usize) -> Option<usize>
     Some(end)
 }
 
-// The records from `from` on, and where they end.
-fn find_records(
+// The whole records from `from` on, and where the last of them ends.
+fn whole_records(
     alloc: Global,
     bytes: &[u8],
     from: usize,
-) -> Result<(Sequence<Span>, usize), ScanFault>
+) -> Result<(Sequence<Span>, usize), NoMemory>
     requires high { from < area_limit }
     requires within { from ≤ length bytes.now }
     ensures ok { IfOk result (λ found. RecordsEndAt bytes.now from (all_bytes_at bytes.now found.0) found.1) }
-    ensures shut { IfOk result (λ found. get_or bytes.now found.1 0 ≢ 1) }
-    ensures broken { IfErr result (λ fault. BrokeAt fault bytes.now from) }
+    ensures last { IfOk result (λ found. get_or bytes.now found.1 0 ≡ 1 → NoRecordAt bytes.now found.1) }
 {
     let mut places = Sequence::new(alloc);
     let mut end = from;
@@ -88,10 +87,34 @@ fn find_records(
                 places.push(place)?;
                 end = to;
             }
-            None => return Err(ScanFault::Broken(places.len() as u64 + 1)),
+            None => return Ok((places, end)),
         }
     }
     Ok((places, end))
+}
+
+// The records from `from` on, and where they end.
+fn find_records(
+    alloc: Global,
+    bytes: &[u8],
+    from: usize,
+) -> Result<(Sequence<Span>, usize), ScanFault>
+    requires high { from < area_limit }
+    requires within { from ≤ length bytes.now }
+    ensures ok { IfOk result (λ found. RecordsEndAt bytes.now from (all_bytes_at bytes.now found.0) found.1) }
+    ensures shut { IfOk result (λ found. get_or bytes.now found.1 0 ≢ 1) }
+    ensures broken { IfErr result (λ fault. BrokeAt fault bytes.now from) }
+{
+    match whole_records(alloc, bytes, from) {
+        Ok((places, end)) => {
+            if is_open(bytes, end) {
+                Err(ScanFault::Broken(places.len() as u64 + 1))
+            } else {
+                Ok((places, end))
+            }
+        }
+        Err(_) => Err(ScanFault::NoMemory),
+    }
 }
 
 /// What the bytes of an area hold, and where they end.
@@ -122,5 +145,34 @@ pub fn find_contents(alloc: Global, bytes: Bytes) -> Result<(Scan, usize), ScanF
             Ok((scan, end))
         }
         Err(fault) => Err(fault),
+    }
+}
+
+/// The image and the whole records at the front of the bytes of an area, which may break after them.
+pub fn find_front(alloc: Global, bytes: Bytes) -> Result<Scan, ScanFault>
+    ensures ok { IfOk result (λ found. IsFront bytes found.generation found.image found.payloads) }
+    ensures err { IfErr result (λ fault. IsFrontReported fault bytes) }
+{
+    let area = bytes.as_slice();
+    if !is_open(area, 0) {
+        return Err(ScanFault::Closed);
+    }
+    let Some((generation, from)) = find_base(area) else {
+        return Err(ScanFault::Broken(0));
+    };
+    match whole_records(alloc, area, from) {
+        Ok((payloads, _)) => {
+            let image = Span {
+                from: 24,
+                to: from as u32,
+            };
+            Ok(Scan {
+                bytes,
+                generation,
+                image,
+                payloads,
+            })
+        }
+        Err(_) => Err(ScanFault::NoMemory),
     }
 }

@@ -3,13 +3,13 @@
 ghost use Rattle.std.specs.Prelude.{◌≡◌, ◌≢◌, ◌↔◌, ◌+◌, ◌-◌, ◌<◌, ◌≤◌, ℕ, List, Some, IfOk, IfErr, IfSome, OnOk, OnErr, IsErrOf, IsTrue, MatchResult, length, min, take, drop, is_some};
 ghost use Rattle.pcfs_ports.specs.Faults.{HasRisen};
 ghost use Rattle.pcfs_ports.specs.Disk.{IsPinned, Idles};
-ghost use Rattle.journal_core.specs.Area.{area_limit, area_bytes, IsArea, IsShut, IsBroken, IsGeneration};
-ghost use Rattle.journal_core.specs.Faults.{IsReported};
+ghost use Rattle.journal_core.specs.Area.{area_limit, area_bytes, IsArea, IsFront, IsShut, IsBroken, IsGeneration};
+ghost use Rattle.journal_core.specs.Faults.{IsReported, IsFrontReported};
 ghost use Rattle.journal_core.specs.declared.scan.ScanFault.TheVariants.{Disk as DiskFailed, NoMemory as OutOfMemory};
 
 use crate::area::{AREA_LIMIT, Area};
 use crate::contents::Scan;
-use crate::records::find_contents;
+use crate::records::{find_contents, find_front};
 use bl_syntax::{Bytes, NoMemory};
 use pcfs_ports::{Disk, Failed};
 use std::alloc::{AllocError, Global};
@@ -125,6 +125,29 @@ fn scan_disk<D: Disk>(alloc: Global, disk: &mut D) -> Result<(Scan, usize), Scan
     disk.sync()?;
     match read_area(alloc, disk) {
         Ok(bytes) => find_contents(alloc, bytes),
+        Err(fault) => Err(fault),
+    }
+}
+
+/// The image and the whole records at the front of a disk's area, which may break after them. It begins with a sync, and
+/// then only reads.
+///
+/// `Closed` and `Broken(0)` are returned as by `Area::scan`, and `Disk` only if the disk's count of faults rose. After any
+/// other answer nothing is pending, and the bytes are as they were.
+pub fn scan_front<D: Disk>(alloc: Global, disk: &mut D) -> Result<Scan, ScanFault>
+    ensures ok { IfOk result (λ found. IfSome (D.image disk.old) (λ bytes.
+        IsFront bytes found.generation found.image found.payloads)) }
+    ensures reported { IfErr result (λ fault. fault ≢ ScanFault.Disk → IfSome (D.image disk.old) (IsFrontReported fault)) }
+    ensures same { result ≢ Err ScanFault.Disk → D.image disk.new ≡ D.image disk.old }
+    ensures pinned { result ≢ Err ScanFault.Disk → IsPinned D.clock D.left_since D.image disk.new }
+    ensures told { is_some (D.image disk.new) ≡ is_some (D.image disk.old) }
+    ensures time { Idles D.clock D.left_since disk.old disk.new }
+    ensures risen { IsErrOf result ScanFault.Disk → HasRisen (D.faults disk.old) (D.faults disk.new) }
+    ensures never_falls { D.faults disk.old ≤ D.faults disk.new }
+{
+    disk.sync()?;
+    match read_area(alloc, disk) {
+        Ok(bytes) => find_front(alloc, bytes),
         Err(fault) => Err(fault),
     }
 }

@@ -1,4 +1,5 @@
 pub mod ActLemmas
+pub mod AdmitLemmas
 pub mod CheckLemmas
 pub mod CitingLemmas
 pub mod DecisionLemmas

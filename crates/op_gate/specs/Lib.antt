@@ -1,5 +1,8 @@
+pub mod Admits
 pub mod Checks
 pub mod Citations
+pub mod Damage
+pub mod DamageLaws
 pub mod Decides
 pub mod Decision
 pub mod DecisionCode

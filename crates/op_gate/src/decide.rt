@@ -12,7 +12,7 @@ ghost use Rattle.op_gate.specs.Rejection.{rejection_of};
 
 use crate::cite::{cited_numbers, first_moved};
 use crate::planned::{Pending, Planned};
-use access_history::{Entry, Event, History, Issue, Rejection, StepReply};
+use access_history::{Addition, Event, History, Issue, Rejection, StepReply};
 use bl_syntax::{Bytes, Grant, NoMemory, Numbers, Principal, Statement};
 use policy_statement::RegisterFault as RegistryFault;
 use procap::Procap;
@@ -20,7 +20,7 @@ use proof_verifier::Checked;
 use std::alloc::Global;
 
 // The answer to a statement that may not be registered, or out of memory.
-fn rejected(fault: RegistryFault) -> Planned
+fn rejection(fault: RegistryFault) -> Planned
     ensures { MatchOption (rejection_of fault) (result ≡ Planned.NoMemory) (λ rejection. result ≡ Planned.Answer (StepReply.Rejected rejection)) }
 {
     match fault {
@@ -38,16 +38,38 @@ fn rejected(fault: RegistryFault) -> Planned
 }
 
 // What the registry keeps of a statement, in memory of its own.
-fn statement_entry(
+fn statement_addition(
     alloc: Global,
     statement: &Statement,
     signature: &Bytes,
-) -> Result<Entry, NoMemory>
-    ensures { IfOk result (λ entry. entry ≡ Entry.Statement statement.now signature.now) }
+) -> Result<Addition, NoMemory>
+    ensures { IfOk result (λ addition. addition ≡ Addition.Statement statement.now signature.now) }
 {
     let statement = statement.copy(alloc)?;
     let signature = signature.copy(alloc)?;
-    Ok(Entry::Statement(statement, signature))
+    Ok(Addition::Statement(statement, signature))
+}
+
+/// The event that registers the statement, and what the registry keeps of it.
+pub fn registered(
+    alloc: Global,
+    pass: u64,
+    statement: Statement,
+    signature: Bytes,
+) -> Result<Pending, NoMemory>
+    ensures { IfOk result (λ pending. pending ≡ record { event = Event.Registered pass statement signature; addition = Addition.Statement statement signature }) }
+{
+    match statement_addition(alloc, &statement, &signature) {
+        Ok(addition) => {
+            let event = Event::Registered {
+                pass,
+                statement,
+                signature,
+            };
+            Ok(Pending { event, addition })
+        }
+        Err(refused) => Err(refused),
+    }
 }
 
 // Has the statement to be kept under that number.
@@ -60,15 +82,8 @@ fn keep_statement(
 ) -> Planned
     ensures { Keeps (StepReply.Statement number) (Event.Registered pass statement signature) result }
 {
-    match statement_entry(alloc, &statement, &signature) {
-        Ok(entry) => {
-            let event = Event::Registered {
-                pass,
-                statement,
-                signature,
-            };
-            Planned::Keep(StepReply::Statement(number), Pending { event, entry })
-        }
+    match registered(alloc, pass, statement, signature) {
+        Ok(pending) => Planned::Keep(StepReply::Statement(number), pending),
         Err(_) => Planned::NoMemory,
     }
 }
@@ -90,7 +105,7 @@ pub fn decide_register(
             let number = history.statements().len() as u32 + 1;
             keep_statement(alloc, pass, number, statement, signature)
         }
-        Err(fault) => rejected(fault),
+        Err(fault) => rejection(fault),
     }
 }
 
@@ -164,14 +179,15 @@ fn issue_of(alloc: Global, checked: &Checked) -> Result<Issue, NoMemory>
     })
 }
 
-// What is made of a checked proof beside it: the numbers that it cites, and what the state keeps of its issue.
+/// What is made of a checked proof beside it: the numbers that it cites, and what the state keeps of its issue.
 #[derive(Debug, Drop)]
-struct IssueParts {
+pub struct IssueParts {
     cited: Numbers,
     issue: Issue,
 }
 
-fn issue_parts(alloc: Global, checked: &Checked) -> Result<IssueParts, NoMemory>
+/// What is made of the checked proof beside it.
+pub fn issue_parts(alloc: Global, checked: &Checked) -> Result<IssueParts, NoMemory>
     ensures cited { IfOk result (λ parts. parts.cited ≡ numbers_of checked.now.cited) }
     ensures issue { IfOk result (λ parts. parts.issue ≡ record { cited = numbers_of checked.now.cited; proof = checked.now.proof; grant = checked.now.grant }) }
 {
@@ -180,9 +196,9 @@ fn issue_parts(alloc: Global, checked: &Checked) -> Result<IssueParts, NoMemory>
     Ok(IssueParts { cited, issue })
 }
 
-// The event that issues the grant of the checked proof, and what the state keeps of it.
-fn issued(pass: u64, checked: Checked, parts: IssueParts) -> Pending
-    ensures { result ≡ record { event = Event.Issued pass parts.cited checked.proof checked.grant; entry = Entry.Issue parts.issue } }
+/// The event that issues the grant of the checked proof, and what the state keeps of it.
+pub fn pend_issue(pass: u64, checked: Checked, parts: IssueParts) -> Pending
+    ensures { result ≡ record { event = Event.Issued pass parts.cited checked.proof checked.grant; addition = Addition.Issue parts.issue } }
 {
     let IssueParts { cited, issue } = parts;
     let (_cites, proof, grant) = checked.into_parts();
@@ -193,7 +209,7 @@ fn issued(pass: u64, checked: Checked, parts: IssueParts) -> Pending
             proof,
             grant,
         },
-        entry: Entry::Issue(issue),
+        addition: Addition::Issue(issue),
     }
 }
 
@@ -206,7 +222,7 @@ fn keep_issue(alloc: Global, pass: u64, number: u64, checked: Checked) -> Planne
     match issue_parts(alloc, &checked) {
         Ok(parts) => Planned::Keep(
             StepReply::Issue(number, times, states),
-            issued(pass, checked, parts),
+            pend_issue(pass, checked, parts),
         ),
         Err(_) => Planned::NoMemory,
     }

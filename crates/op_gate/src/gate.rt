@@ -6,10 +6,12 @@ ghost use Rattle.op_gate.specs.Decision.{IsPlanned};
 ghost use Rattle.access_history.specs.WellFormed.{IsWellFormed};
 
 use crate::act::{decide_act, deny};
+use crate::admit::{admit, reserve_next};
 use crate::cite::{Citation, cite};
+use crate::damage::AdmitFault;
 use crate::decide::{decide_issue, decide_register, decide_show, issued_procap};
 use crate::planned::{Pending, Planned};
-use access_history::{Denial, History, Procaps, StepReply, StepRequest};
+use access_history::{Denial, Event, History, Procaps, StepReply, StepRequest};
 use bl_syntax::{NoMemory, Principal};
 use file_world::Op;
 use policy_statement::Keyring;
@@ -58,7 +60,7 @@ fn put(place: &mut Option<Pending>, pending: Pending)
 }
 
 // The answer, or out of memory.
-fn answered(reply: Result<StepReply, NoMemory>) -> Planned
+fn plan_of_answer(reply: Result<StepReply, NoMemory>) -> Planned
     ensures { MatchResult reply (λ told. result ≡ Planned.Answer told) (λ _. result ≡ Planned.NoMemory) }
 {
     match reply {
@@ -88,7 +90,7 @@ fn decide_request(
             decide_act(alloc, history, pass, caller, op, procaps, clock)
         }
         StepRequest::ShowProcap(number, who) => {
-            answered(decide_show(alloc, history, number, &who))
+            plan_of_answer(decide_show(alloc, history, number, &who))
         }
     }
 }
@@ -100,12 +102,14 @@ impl Gate {
     ghost use Rattle.access_history.specs.Answer.{moment_of};
     ghost use Rattle.access_history.specs.Replay.{replay, fresh};
     ghost use Rattle.op_gate.specs.Decides.{Decides};
+    ghost use Rattle.op_gate.specs.Damage.{TellsDamage};
     ghost use Rattle.op_gate.specs.Decision.{IsDenial};
     ghost use Rattle.access_history.specs.Authority.{sayings};
-    ghost use Rattle.access_history.specs.Citing.{AreCitable};
+    ghost use Rattle.bl_syntax.specs.Citable.{AreCitable};
     ghost use Rattle.access_history.specs.History.{authority_with};
     ghost use Rattle.op_gate.specs.Issued.{HasNone, IsProcapOf};
     ghost use Rattle.op_gate.specs.Citations.{GivesCitation as AreStatements};
+    ghost use Rattle.access_history.specs.Lawful.{MayFollow};
 
     /// A gate over a store before its first event, which seals procaps under this key and accepts the signatures that
     /// this ring accepts.
@@ -185,6 +189,43 @@ impl Gate {
         }
     }
 
+    /// Keeps an event that was read from an area, exactly if it may come next; otherwise it reports the event's first damage.
+    /// Its signature, its proof, its procaps with their seals and conditions, and its effect are tested again. What was
+    /// pending is dropped.
+    pub fn admit_event(&mut self, alloc: Global, event: Event) -> Result<(), AdmitFault>
+        ensures key { self.new.key ≡ self.old.key }
+        ensures ring { self.new.ring ≡ self.old.ring }
+        ensures base { self.new.base ≡ self.old.base }
+        ensures pending { self.new.pending ≡ None }
+        ensures answer { TellsDamage (authority_with self.old.key self.old.ring) (replay self.old.base self.old.events) event result }
+        ensures kept { OnOk result (self.new.events ≡ self.old.events ++ event ∷ []) }
+        ensures left_out { OnErr result (self.new.events ≡ self.old.events) }
+    {
+        self.forget();
+        match reserve_next(&mut self.history) {
+            Ok(()) => match admit(alloc, &mut self.history, event) {
+                Ok(pending) => {
+                    let Pending { event, addition } = pending;
+                    self.history.keep(event, addition);
+                    Ok(())
+                }
+                Err(fault) => Err(fault),
+            },
+            Err(fault) => Err(fault),
+        }
+    }
+
+    /// The event that was decided and is not kept yet; none exactly if nothing is pending. It may come next.
+    pub fn pending(&self) -> Option<&Event>
+        ensures event { MatchOption result (self.now.pending ≡ None) (λ event. self.now.pending ≡ Some event.now) }
+        ensures may_follow { IfSome result (λ event. MayFollow (authority_with self.now.key self.now.ring) (replay self.now.base self.now.events) event.now) }
+    {
+        match &self.pending {
+            Some(pending) => Some(&pending.event),
+            None => None,
+        }
+    }
+
     /// Keeps the pending event. It takes no memory.
     pub fn commit(&mut self)
         requires pending { IsSome self.old.pending }
@@ -192,8 +233,8 @@ impl Gate {
         ensures kept { IfSome self.old.pending (λ event. self.new ≡ record self.old { events = self.old.events ++ event ∷ []; pending = None }) }
     {
         if let Some(pending) = self.pending.take() {
-            let Pending { event, entry } = pending;
-            self.history.keep(event, entry);
+            let Pending { event, addition } = pending;
+            self.history.keep(event, addition);
         }
     }
 

@@ -1,0 +1,375 @@
+-- The first damage of an event, over plain values.
+use Rattle.std.proofs.Common.{◌≡◌, ◌<◌, ◌≤◌, ◌-◌, ◌^◌, ℕ, List, [], ◌∷◌, ◌++◌, length, refl, sym, ap, subst, ◌∙◌, arith, ⊎_elim, Some, None}
+use Rattle.std.specs.Prelude.{ℤ, ◌≤ℤ◌, Contains, Result, Ok, Err, IfOk, IfErr, IsTrue, Option, ◌⊎◌}
+use Rattle.std.specs.List.{AllByRecursion}
+use Rattle.std.specs.Option.{option_map}
+use Rattle.std.proofs.lemmas.Bool.{false≢true}
+use Rattle.std.proofs.lemmas.Int.{ints, clamps}
+use Rattle.std.proofs.lemmas.List.{length-map}
+use Rattle.bl_syntax.specs.Names.{is_principal_name}
+use Rattle.bl_syntax.specs.Statement.{StatementView, IsStatement}
+use Rattle.bl_syntax.specs.TimeOrder.{IsMoment}
+use Rattle.bl_syntax.specs.Grant.{GrantView}
+use Rattle.bl_syntax.specs.declared.grant.Goal.{Goal}
+use Rattle.bl_syntax.specs.declared.terms.Constraint.{Constraint}
+use Rattle.bl_syntax.specs.declared.terms.StatePred.{StatePred}
+use Rattle.policy_statement.specs.Messages.{statement_message}
+use Rattle.policy_statement.specs.Registered.{RegisteredView}
+use Rattle.policy_statement.specs.Registry.{MayRegister}
+use Rattle.policy_statement.specs.Ring.{is_accepted}
+use Rattle.policy_statement.specs.declared.registry.RegisterFault.{RegisterFault}
+use Rattle.policy_statement.specs.declared.registry.RegisterFault.TheVariants as registry
+use Rattle.procap.specs.declared.procap.Procap.{Procap}
+use Rattle.proof_term.specs.Proof.{ProofView}
+use Rattle.proof_verifier.specs.declared.cites.Cite.{Cite}
+use Rattle.proof_verifier.specs.Cited.{AreCited, DoCitesRise, statements_of}
+use Rattle.proof_verifier.specs.CheckedView.{CheckedView, IsChecked, IsGranted}
+use Rattle.proof_verifier.specs.Run.{IsFault}
+use Rattle.proof_verifier.specs.Verdict.{verdict}
+use Rattle.proof_verifier.specs.declared.fault.CheckFault.{CheckFault}
+use Rattle.proof_verifier.specs.declared.fault.CheckFault.TheVariants as checks
+use Rattle.file_world.specs.declared.operation.Op.{Op}
+use Rattle.file_world.specs.Effect.{IsOperation, refusal}
+use Rattle.file_world.specs.Needs.{needs}
+use Rattle.access_history.specs.declared.event.Event.{Event}
+use Rattle.access_history.specs.declared.event.Event.TheVariants.{Registered, Issued, Acted}
+use Rattle.access_history.specs.declared.event.Addition.TheVariants as additions
+use Rattle.access_history.specs.declared.reply.StepReply.{StepReply}
+use Rattle.access_history.specs.declared.request.StepRequest.TheVariants.{Act}
+use Rattle.access_history.specs.Admission.{IsAdmitted, IsNeedMet}
+use Rattle.access_history.specs.Answer.{Answers, moment_of, denied, refused, acted}
+use Rattle.access_history.specs.Authority.{Authority, IsSignedStatement, MayBeRegistered, sayings}
+use Rattle.access_history.specs.Base.{BaseView}
+use Rattle.bl_syntax.specs.Citable.{AreCitable, DoRise}
+use Rattle.access_history.specs.Citing.{AreFound, IsAbsent, IsGoodIssue, StandsUnderNumber, numbers_of}
+use Rattle.access_history.specs.History.{HistoryView, authority_of, state_of, addition_of, IsReadyFor}
+use Rattle.access_history.specs.Keeping.{HasMomentInRange}
+use Rattle.access_history.specs.Lawful.{IsLawfulBase, MayAct}
+use Rattle.access_history.specs.Numbered.{IsNumbered, HasNumber}
+use Rattle.access_history.proofs.AdmissionLemmas.{AreDerived-admitted}
+use Rattle.access_history.proofs.NumberedLemmas.{Contains-numbered, HasNumber-item, numbered_item, none_fails, first_failing}
+use Rattle.op_gate.specs.declared.damage.Damage.{Damage}
+use Rattle.op_gate.specs.declared.damage.Damage.TheVariants.{Shape, Unsigned, Unproved, NotAdmitted, MomentFalls, Duplicate}
+use Rattle.op_gate.specs.declared.damage.AdmitFault.{AdmitFault}
+use Rattle.op_gate.specs.declared.damage.AdmitFault.TheVariants.{Damaged, NoMemory}
+use Rattle.op_gate.specs.declared.planned.Pending.{Pending}
+use Rattle.op_gate.specs.declared.planned.Planned.TheVariants.{Answer, Keep}
+use Rattle.op_gate.specs.Admits.{FindsCited, IsPendingAs, GivesPending, IsTimely, GivesIssue, LacksNext, pending_issue, pending_statement, proof_damage, register_damage}
+use Rattle.op_gate.specs.Damage.{HasShape, TakesEffect, IsNewAmong, IsFreeOf, IsDamagedBy, MayComeNext, TellsDamage, event_damages}
+use Rattle.op_gate.specs.DamageLaws.{IsTypedEvent}
+use Rattle.op_gate.specs.Decision.{IsPlanned}
+use Rattle.op_gate.proofs.RegistryLemmas.{new_to_registry, said_from_registry, may_register}
+
+-- ---- the first damage, kind by kind
+
+first_after : (authority : Authority) (state : BaseView) (event : Event) (before : List Damage) (damage : Damage) (behind : List Damage) → event_damages ≡ before ++ damage ∷ behind → AllByRecursion (IsFreeOf authority state event) before →
+    (IsFreeOf authority state event damage → ⊥) → IsDamagedBy authority state event damage
+first_after authority state event before damage behind parts free fails =
+    record { place = length before; first = record { before = before; behind = behind; parts = parts; place_is = refl; holds_before = free; fails = fails } }
+
+pub damaged_shape : (authority : Authority) (state : BaseView) (event : Event) → (HasShape state event → ⊥) → IsDamagedBy authority state event Shape
+damaged_shape authority state event fails = first_after authority state event [] Shape (Unsigned ∷ Unproved ∷ MomentFalls ∷ NotAdmitted ∷ Duplicate ∷ []) refl tt fails
+
+module _ (authority : Authority) (state : BaseView) (counted : state.count < 2 ^ 48 - 1) where
+  damaged_unsigned : (pass : ℕ) (statement : StatementView) (signature : List ℕ) → (IsSignedStatement authority statement signature → ⊥) → IsDamagedBy authority state (Registered pass statement signature) Unsigned
+  damaged_unsigned pass statement signature fails =
+      first_after authority state (Registered pass statement signature) (Shape ∷ []) Unsigned (Unproved ∷ MomentFalls ∷ NotAdmitted ∷ Duplicate ∷ []) refl ((counted, tt), tt) fails
+
+  damaged_duplicate : (pass : ℕ) (statement : StatementView) (signature : List ℕ) → IsSignedStatement authority statement signature → (IsNewAmong state.statements statement → ⊥) → IsDamagedBy authority state (Registered pass statement signature) Duplicate
+  damaged_duplicate pass statement signature signed fails =
+      first_after authority state (Registered pass statement signature) (Shape ∷ Unsigned ∷ Unproved ∷ MomentFalls ∷ NotAdmitted ∷ []) Duplicate [] refl ((counted, tt), (signed, (tt, (tt, (tt, tt))))) fails
+
+  pub damaged_unproved : (pass : ℕ) (cited : List ℕ) (proof : ProofView) (g : GrantView) → (IsGoodIssue (sayings state.statements) (record { cited = cited; proof = proof; grant = g }) → ⊥) → IsDamagedBy authority state (Issued pass cited proof g) Unproved
+  damaged_unproved pass cited proof g fails =
+      first_after authority state (Issued pass cited proof g) (Shape ∷ Unsigned ∷ []) Unproved (MomentFalls ∷ NotAdmitted ∷ Duplicate ∷ []) refl ((counted, tt), (tt, tt)) fails
+
+  pub damaged_falls : (pass : ℕ) (caller : List ℕ) (op : Op) (procaps : List Procap) (moment : ℤ) → IsMoment moment → (state.moment ≤ℤ moment → ⊥) → IsDamagedBy authority state (Acted pass caller op procaps moment) MomentFalls
+  damaged_falls pass caller op procaps moment in_range fails =
+      first_after authority state (Acted pass caller op procaps moment) (Shape ∷ Unsigned ∷ Unproved ∷ []) MomentFalls (NotAdmitted ∷ Duplicate ∷ []) refl ((counted, in_range), (tt, (tt, tt))) fails
+
+  pub damaged_not_admitted : (pass : ℕ) (caller : List ℕ) (op : Op) (procaps : List Procap) (moment : ℤ) → IsMoment moment → state.moment ≤ℤ moment → (TakesEffect authority.key state caller op procaps moment → ⊥) →
+      IsDamagedBy authority state (Acted pass caller op procaps moment) NotAdmitted
+  damaged_not_admitted pass caller op procaps moment in_range not_before fails =
+      first_after authority state (Acted pass caller op procaps moment) (Shape ∷ Unsigned ∷ Unproved ∷ MomentFalls ∷ []) NotAdmitted (Duplicate ∷ []) refl ((counted, in_range), (tt, (tt, (not_before, tt)))) fails
+
+-- ---- statements
+
+-- a statement that the registry takes
+pub registered_pending : (h : HistoryView) (pass : ℕ) (statement : StatementView) (signature : List ℕ) (told : Unit {0}) (pending : Pending) → IsStatement statement →
+    MayRegister (is_accepted h.ring statement.who (statement_message statement) signature) (state_of h).statements statement (Ok told) →
+    pending ≡ pending_statement pass statement signature → IsPendingAs h h (Registered pass statement signature) pending
+registered_pending h pass statement signature told pending is may pending_is = record {
+  follows = may_register h.key h.ring (state_of h).statements statement signature told is may;
+  event_is = ap (λ (p : Pending). p.event) pending_is;
+  addition_is = ap (λ (p : Pending). p.addition) pending_is;
+  ready = tt;
+}
+
+-- what is told of a statement that the registry takes
+pub registered_told : (h : HistoryView) (pass : ℕ) (statement : StatementView) (signature : List ℕ) (told : Unit {0}) (result : Result Pending AdmitFault) → IsStatement statement →
+    MayRegister (is_accepted h.ring statement.who (statement_message statement) signature) (state_of h).statements statement (Ok told) →
+    IfOk result (λ pending. pending ≡ pending_statement pass statement signature) → IfErr result (λ fault. fault ≡ NoMemory) → GivesPending h h (Registered pass statement signature) result
+registered_told h pass statement signature told (Ok pending) is may ok err = registered_pending h pass statement signature told pending is may ok
+registered_told h pass statement signature told (Err fault) is may ok err = subst (λ (f : AdmitFault). GivesPending h h (Registered pass statement signature) (Err f)) (sym err) tt
+
+-- a statement that it does not take
+pub registered_damaged : (h : HistoryView) (pass : ℕ) (statement : StatementView) (signature : List ℕ) (fault : RegisterFault) → (state_of h).count < 2 ^ 48 - 1 →
+    MayRegister (is_accepted h.ring statement.who (statement_message statement) signature) (state_of h).statements statement (Err fault) → GivesPending h h (Registered pass statement signature) (Err (register_damage fault))
+registered_damaged h pass statement signature registry.BadSignature counted may =
+    damaged_unsigned (authority_of h) (state_of h) counted pass statement signature (λ signed. false≢true (sym may ∙ signed))
+registered_damaged h pass statement signature registry.RegistryFull counted may =
+    damaged_duplicate (authority_of h) (state_of h) counted pass statement signature may.0 (λ new. omega (arith, new.room, may.1.1))
+registered_damaged h pass statement signature (registry.Duplicate number) counted may =
+    damaged_duplicate (authority_of h) (state_of h) counted pass statement signature may.0
+    (λ new. new.new (Contains-numbered (sayings (state_of h).statements) number statement (said_from_registry (state_of h).statements number statement may.1)))
+registered_damaged h pass statement signature registry.NoMemory counted may = tt
+
+-- ---- issues
+
+abbrev graded : GrantView → Result GrantView CheckFault
+graded g = Ok g
+
+abbrev refusal_of : CheckFault → Result GrantView CheckFault
+refusal_of fault = Err fault
+
+abbrev grant_with : Goal → List Constraint → List StatePred → GrantView
+grant_with goal times states = record { goal = goal; times = times; states = states }
+
+ok_grant : (first second : GrantView) → graded first ≡ graded second → first ≡ second
+ok_grant first second same = cc
+
+-- the same grant, by its parts
+pub same_grant : (first second : GrantView) → first.goal ≡ second.goal → first.times ≡ second.times → first.states ≡ second.states → first ≡ second
+same_grant first second goal times states =
+    ap (λ (w : Goal). grant_with w first.times first.states) goal ∙ ap (λ (ts : List Constraint). grant_with second.goal ts first.states) times ∙ ap (λ (ss : List StatePred). grant_with second.goal second.times ss) states
+
+-- a proof that is refused grants nothing
+refused_proof : (cites : List Cite) (proof : ProofView) (g : GrantView) (fault : CheckFault) → (fault ≡ checks.NoMemory → ⊥) → IsFault fault (verdict (statements_of cites) g.goal proof) → IsGranted (statements_of cites) g.goal proof g → ⊥
+refused_proof cites proof g fault not_memory fails granted =
+    ⊎_elim (λ memory. not_memory memory) (λ is. let both : graded g ≡ refusal_of fault = sym granted.verdict_is ∙ is in absurd cc) fails
+
+numbers_rise : (cites : List Cite) → DoCitesRise cites → DoRise (numbers_of cites)
+numbers_rise [] rises = tt
+numbers_rise (first ∷ []) rises = tt
+numbers_rise (first ∷ second ∷ others) rises = (rises.0, numbers_rise (second ∷ others) rises.1)
+
+cites_rise : (cites : List Cite) → DoRise (numbers_of cites) → DoCitesRise cites
+cites_rise [] rises = tt
+cites_rise (first ∷ []) rises = tt
+cites_rise (first ∷ second ∷ others) rises = (rises.0, cites_rise (second ∷ others) rises.1)
+
+-- what can be cited has numbers that can be cited, and the other way round
+AreCitable-numbers : (cites : List Cite) → AreCited cites → AreCitable (numbers_of cites)
+AreCitable-numbers cites are =
+    let count : length (numbers_of cites) ≡ length cites = length-map cites (λ (c : Cite). c.number) in
+    record { some = omega (arith, count, are.some); few = omega (arith, count, are.few); rising = numbers_rise cites are.rising }
+
+AreCited-numbers : (cites : List Cite) → AreCitable (numbers_of cites) → AreCited cites
+AreCited-numbers cites are =
+    let count : length (numbers_of cites) ≡ length cites = length-map cites (λ (c : Cite). c.number) in
+    record { some = omega (arith, count, are.some); few = omega (arith, count, are.few); rising = cites_rise cites are.rising }
+
+abbrev cite_of : ℕ → StatementView → Cite
+cite_of number statement = record { number = number; statement = statement }
+
+-- numbers have one list of statements that stand under them
+cites_determined : (statements : List StatementView) (first second : List Cite) → numbers_of first ≡ numbers_of second → AllByRecursion (StandsUnderNumber statements) first → AllByRecursion (StandsUnderNumber statements) second → first ≡ second
+cites_determined statements [] [] same stand stand' = refl
+cites_determined statements [] (d ∷ second) same stand stand' = absurd cc
+cites_determined statements (c ∷ first) [] same stand stand' = absurd cc
+cites_determined statements (c ∷ first) (d ∷ second) same stand stand' =
+    let number : c.number ≡ d.number = cc in
+    let others : numbers_of first ≡ numbers_of second = cc in
+    let statement : c.statement ≡ d.statement = numbered_item statements d.number c.statement d.statement (subst (λ (n : ℕ). IsNumbered statements n c.statement) number stand.0) stand'.0 in
+    ap (λ (n : ℕ). cite_of n c.statement ∷ first) number ∙ ap (λ (s : StatementView). cite_of d.number s ∷ first) statement ∙ ap (λ (cs : List Cite). d ∷ cs) (cites_determined statements first second others stand.1 stand'.1)
+
+-- the numbers of a good issue can be cited
+pub good_citable : (statements : List StatementView) (cited : List ℕ) (proof : ProofView) (g : GrantView) → IsGoodIssue statements (record { cited = cited; proof = proof; grant = g }) → AreCitable cited
+good_citable statements cited proof g good = subst AreCitable (sym good.cited) (AreCitable-numbers good.cites good.rising)
+
+have_numbers : (statements : List StatementView) (cites : List Cite) → AllByRecursion (StandsUnderNumber statements) cites → AllByRecursion (HasNumber statements) (numbers_of cites)
+have_numbers statements [] stand = tt
+have_numbers statements (cite ∷ cites) stand = (HasNumber-item statements cite.number cite.statement stand.0, have_numbers statements cites stand.1)
+
+-- and none of them is absent
+pub good_found : (statements : List StatementView) (cited : List ℕ) (proof : ProofView) (g : GrantView) (number : ℕ) → IsGoodIssue statements (record { cited = cited; proof = proof; grant = g }) → IsAbsent statements cited number → ⊥
+good_found statements cited proof g number good absent =
+    none_fails (HasNumber statements) cited absent.place number (subst (AllByRecursion (HasNumber statements)) (sym good.cited) (have_numbers statements good.cites good.stand)) absent.first
+
+-- what is told of an issue with this grant, which its proof gives
+pub issued_told : (pass : ℕ) (checked : CheckedView) (g : GrantView) (result : Result Pending AdmitFault) → IsChecked checked → checked.goal ≡ g.goal → checked.grant ≡ g →
+    IfOk result (λ pending. pending ≡ pending_issue pass (numbers_of checked.cited) checked.proof checked.grant) → IfErr result (λ fault. fault ≡ NoMemory) → GivesIssue pass checked.cited checked.proof g result
+issued_told pass checked g (Ok pending) is goal same ok err = (
+  subst (λ (h : GrantView). IsGranted (statements_of checked.cited) g.goal checked.proof h) same (subst (λ (w : Goal). IsGranted (statements_of checked.cited) w checked.proof checked.grant) goal is),
+  ok ∙ ap (λ (h : GrantView). pending_issue pass (numbers_of checked.cited) checked.proof h) same,
+)
+issued_told pass checked g (Err fault) is goal same ok err = subst (λ (f : AdmitFault). GivesIssue pass checked.cited checked.proof g (Err f)) (sym err) tt
+
+-- a grant that the proof does not give
+pub other_grant : (pass : ℕ) (checked : CheckedView) (g : GrantView) → IsChecked checked → checked.goal ≡ g.goal → (checked.grant ≡ g → ⊥) → GivesIssue pass checked.cited checked.proof g (Err (Damaged Unproved))
+other_grant pass checked g is goal differs = (
+  refl,
+  λ granted.
+      let both : graded checked.grant ≡ graded g = sym is.verdict_is ∙ ap (λ (w : Goal). verdict (statements_of checked.cited) w checked.proof) goal ∙ granted.verdict_is in
+      differs (ok_grant checked.grant g both),
+)
+
+-- a proof that is refused
+pub not_granted : (pass : ℕ) (cites : List Cite) (proof : ProofView) (g : GrantView) (fault : CheckFault) → IsFault fault (verdict (statements_of cites) g.goal proof) → GivesIssue pass cites proof g (Err (proof_damage fault))
+not_granted pass cites proof g (checks.NoHypothesis node) fails = (refl, λ granted. refused_proof cites proof g (checks.NoHypothesis node) (λ e. cc) fails granted)
+not_granted pass cites proof g (checks.WrongShape node) fails = (refl, λ granted. refused_proof cites proof g (checks.WrongShape node) (λ e. cc) fails granted)
+not_granted pass cites proof g (checks.NotEntailed node) fails = (refl, λ granted. refused_proof cites proof g (checks.NotEntailed node) (λ e. cc) fails granted)
+not_granted pass cites proof g (checks.NotInState node) fails = (refl, λ granted. refused_proof cites proof g (checks.NotInState node) (λ e. cc) fails granted)
+not_granted pass cites proof g (checks.ViewTooWeak node) fails = (refl, λ granted. refused_proof cites proof g (checks.ViewTooWeak node) (λ e. cc) fails granted)
+not_granted pass cites proof g (checks.BadTerm node) fails = (refl, λ granted. refused_proof cites proof g (checks.BadTerm node) (λ e. cc) fails granted)
+not_granted pass cites proof g (checks.TooManyConditions node) fails = (refl, λ granted. refused_proof cites proof g (checks.TooManyConditions node) (λ e. cc) fails granted)
+not_granted pass cites proof g checks.NoMemory fails = tt
+
+-- what is found of an issue whose statements were looked up
+pub issued_found : (h : HistoryView) (pass : ℕ) (cited : List ℕ) (proof : ProofView) (g : GrantView) (cites : List Cite) (told : Result Pending AdmitFault) → (state_of h).count < 2 ^ 48 - 1 → AreCitable cited →
+    AreFound (sayings (state_of h).statements) cited cites → GivesIssue pass cites proof g told → GivesPending h h (Issued pass cited proof g) told
+issued_found h pass cited proof g cites (Ok pending) counted citable found gives =
+    let is : pending ≡ pending_issue pass cited proof g = gives.1 ∙ ap (λ (ns : List ℕ). pending_issue pass ns proof g) found.numbers_are in
+    record {
+      follows = record { cites = cites; cited = sym found.numbers_are; rising = AreCited-numbers cites (subst AreCitable (sym found.numbers_are) citable); stand = found.stand; granted = gives.0 };
+      event_is = ap (λ (p : Pending). p.event) is;
+      addition_is = ap (λ (p : Pending). p.addition) is;
+      ready = tt;
+    }
+issued_found h pass cited proof g cites (Err (Damaged damage)) counted citable found gives =
+    subst (λ (d : Damage). IsDamagedBy (authority_of h) (state_of h) (Issued pass cited proof g) d) (sym gives.0)
+    (damaged_unproved (authority_of h) (state_of h) counted pass cited proof g
+    (λ good. gives.1 (subst (λ (cs : List Cite). IsGranted (statements_of cs) g.goal proof g)
+    (cites_determined (sayings (state_of h).statements) good.cites cites (sym good.cited ∙ sym found.numbers_are) good.stand found.stand) good.granted)))
+issued_found h pass cited proof g cites (Err NoMemory) counted citable found gives = tt
+
+-- what is found of an issue whose statements were looked up, or not found
+pub issued_cited : (h : HistoryView) (pass : ℕ) (cited : List ℕ) (proof : ProofView) (g : GrantView) (cites : List Cite) (told : Result Pending AdmitFault) (shown : List RegisteredView) (numbers : List ℕ) → (state_of h).count < 2 ^ 48 - 1 → shown ≡ (state_of h).statements → numbers ≡ cited →
+    FindsCited (sayings shown) numbers (Ok cites) → GivesIssue pass cites proof g told → GivesPending h h (Issued pass cited proof g) told
+issued_cited h pass cited proof g cites told shown numbers counted shown_is numbers_are finds gives =
+    let all : AreCitable cited × AreFound (sayings (state_of h).statements) cited cites =
+    subst (λ (ns : List ℕ). AreCitable ns × AreFound (sayings (state_of h).statements) ns cites) numbers_are (subst (λ (es : List RegisteredView). AreCitable numbers × AreFound (sayings es) numbers cites) shown_is finds) in
+    issued_found h pass cited proof g cites told counted all.0 all.1 gives
+
+pub issued_uncited : (h : HistoryView) (pass : ℕ) (cited : List ℕ) (proof : ProofView) (g : GrantView) (fault : AdmitFault) (shown : List RegisteredView) (numbers : List ℕ) → (state_of h).count < 2 ^ 48 - 1 → shown ≡ (state_of h).statements → numbers ≡ cited →
+    FindsCited (sayings shown) numbers (Err fault) → GivesPending h h (Issued pass cited proof g) (Err fault)
+issued_uncited h pass cited proof g (Damaged damage) shown numbers counted shown_is numbers_are finds =
+    subst (λ (d : Damage). IsDamagedBy (authority_of h) (state_of h) (Issued pass cited proof g) d) (sym finds.0)
+    (damaged_unproved (authority_of h) (state_of h) counted pass cited proof g
+    (λ good. finds.1 proof g (subst (λ (ns : List ℕ). IsGoodIssue (sayings shown) (record { cited = ns; proof = proof; grant = g })) (sym numbers_are)
+    (subst (λ (es : List RegisteredView). IsGoodIssue (sayings es) (record { cited = cited; proof = proof; grant = g })) (sym shown_is) good))))
+issued_uncited h pass cited proof g NoMemory shown numbers counted shown_is numbers_are finds = tt
+
+-- ---- the gate
+
+-- nothing is pending
+pub none_pending : (pending : Option Pending) → option_map (λ (p : Pending). p.event) pending ≡ None → pending ≡ None
+none_pending None is = refl
+none_pending (Some p) is = absurd cc
+
+-- there is no number for the event
+pub lacks_next : (authority : Authority) (state shown : BaseView) (event : Event) (fault : AdmitFault) → shown ≡ state → LacksNext shown fault → TellsDamage authority state event (Err fault)
+lacks_next authority state shown event (Damaged damage) same lacks =
+    subst (λ (d : Damage). IsDamagedBy authority state event d) (sym lacks.0)
+    (damaged_shape authority state event (λ has. omega (arith, has.0, lacks.1, ap (λ (s : BaseView). s.count) same)))
+lacks_next authority state shown event NoMemory same lacks = tt
+
+-- what is told of the event that is kept, and of one that is not
+pub told_kept : (before after : HistoryView) (event : Event) (pending : Pending) → (state_of before).count < 2 ^ 48 - 1 → IsPendingAs before after event pending → MayComeNext (authority_of before) (state_of before) event
+told_kept before after event pending counted is = record { counted = counted; follows = is.follows }
+
+pub told_damaged : (before after : HistoryView) (event : Event) (fault : AdmitFault) → GivesPending before after event (Err fault) → TellsDamage (authority_of before) (state_of before) event (Err fault)
+told_damaged before after event (Damaged damage) gives = gives
+told_damaged before after event NoMemory gives = tt
+
+-- ---- operations
+
+-- the moment of a step whose clock is not before the last moment
+pub moment_is : (state : BaseView) (clock : ℤ) → state.moment ≤ℤ clock → moment_of state clock ≡ clock
+moment_is state clock not_before = omega (arith, ints, clamps, not_before)
+
+-- what an operation that was done says of it
+record IsDone (authority : Authority) (state : BaseView) (pass : ℕ) (clock : ℤ) (caller : List ℕ) (op : Op) (procaps : List Procap) (event : Event) : Type 0 where
+  admitted : IsAdmitted authority.key state caller op procaps (moment_of state clock)
+  not_refused : refusal state.world op ≡ None
+  event_is : event ≡ Acted pass caller op procaps (moment_of state clock)
+
+done : (authority : Authority) (state : BaseView) (pass : ℕ) (clock : ℤ) (caller : List ℕ) (op : Op) (procaps : List Procap) (reply : StepReply) (event : Event) → Answers authority state pass clock (Act caller op procaps) reply (Some event) →
+    IsDone authority state pass clock caller op procaps event
+done authority state pass clock _ _ _ _ _ (acted caller op procaps admitted free) = record { admitted = admitted; not_refused = free; event_is = refl }
+
+-- an operation of which nothing is kept has no effect
+not_done : (authority : Authority) (state : BaseView) (pass : ℕ) (clock : ℤ) (caller : List ℕ) (op : Op) (procaps : List Procap) (reply : StepReply) → Answers authority state pass clock (Act caller op procaps) reply None →
+    TakesEffect authority.key state caller op procaps (moment_of state clock) → ⊥
+not_done authority state pass clock _ _ _ _ (denied caller op procaps place cause is) takes =
+    none_fails (IsNeedMet authority.key state caller procaps (moment_of state clock)) (needs state.world op) is.index is.need takes.admitted is.first
+not_done authority state pass clock _ _ _ _ (refused caller op procaps why admitted refuses) takes = let other : None ≡ Some why = sym takes.not_refused ∙ refuses in absurd cc
+
+-- a timely operation that is done
+pub acted_pending : (before after : HistoryView) (pass : ℕ) (caller : List ℕ) (op : Op) (procaps : List Procap) (moment : ℤ) (reply : StepReply) (pending : Pending) → IsLawfulBase (authority_of before) (state_of before) → IsTimely (state_of before) op procaps moment →
+    IsTrue (is_principal_name caller) → IsOperation op → IsPlanned before pass moment (Act caller op procaps) (Keep reply pending) after → IsPendingAs before after (Acted pass caller op procaps moment) pending
+acted_pending before after pass caller op procaps moment reply pending base timely named operation planned =
+    let state = state_of before in
+    let at : moment_of state moment ≡ moment = moment_is state moment timely.not_before in
+    let is = done (authority_of before) state pass moment caller op procaps reply pending.event planned.0 in
+    let admitted : IsAdmitted before.key state caller op procaps moment = subst (IsAdmitted before.key state caller op procaps) at is.admitted in
+    let event : pending.event ≡ Acted pass caller op procaps moment = is.event_is ∙ ap (λ (m : ℤ). Acted pass caller op procaps m) at in
+    record {
+      follows = record {
+        not_before = timely.not_before;
+        in_range = timely.in_range;
+        formed = record { named = named; operation = operation; slots = timely.slots; few_bytes = timely.few_bytes };
+        admitted = admitted;
+        not_refused = is.not_refused;
+        derived = AreDerived-admitted before.key state caller op procaps moment base.good_issues admitted;
+      };
+      event_is = event;
+      addition_is = planned.1 ∙ ap addition_of event;
+      ready = subst (λ (e : Event). IsReadyFor after e) event planned.2;
+    }
+
+-- a timely operation that is not done
+pub acted_damaged : (before after : HistoryView) (pass : ℕ) (caller : List ℕ) (op : Op) (procaps : List Procap) (moment : ℤ) (reply : StepReply) → (state_of before).count < 2 ^ 48 - 1 → IsTimely (state_of before) op procaps moment →
+    IsPlanned before pass moment (Act caller op procaps) (Answer reply) after → IsDamagedBy (authority_of before) (state_of before) (Acted pass caller op procaps moment) NotAdmitted
+acted_damaged before after pass caller op procaps moment reply counted timely planned =
+    let state = state_of before in
+    damaged_not_admitted (authority_of before) state counted pass caller op procaps moment timely.in_range timely.not_before
+    (λ takes. not_done (authority_of before) state pass moment caller op procaps reply planned (subst (TakesEffect before.key state caller op procaps) (sym (moment_is state moment timely.not_before)) takes))
+
+-- ---- laws
+
+all_free : (authority : Authority) (state : BaseView) (event : Event) → MayComeNext authority state event → AllByRecursion (IsFreeOf authority state event) event_damages
+all_free authority state (Registered pass statement signature) may =
+    let follows : MayBeRegistered authority state.statements statement signature = may.follows in
+    ((may.counted, tt), (follows.signed, (tt, (tt, (tt, (record { new = follows.new; room = follows.room }, tt))))))
+all_free authority state (Issued pass cited proof g) may = ((may.counted, tt), (tt, (may.follows, (tt, (tt, (tt, tt))))))
+all_free authority state (Acted pass caller op procaps moment) may =
+    let follows : MayAct authority state caller op procaps moment = may.follows in (
+      (may.counted, follows.in_range),
+      (tt, (tt, (follows.not_before, (record { slots = follows.formed.slots; few_bytes = follows.formed.few_bytes; admitted = follows.admitted; not_refused = follows.not_refused }, (tt, tt))))),
+    )
+
+pub first_damages : (authority : Authority) (state : BaseView) (event : Event) (first second : Damage) → IsDamagedBy authority state event first → IsDamagedBy authority state event second → first ≡ second
+first_damages authority state event first second one other = (first_failing (IsFreeOf authority state event) event_damages one.place other.place first second one.first other.first).1
+
+pub damaged_not_next : (authority : Authority) (state : BaseView) (event : Event) (damage : Damage) → IsDamagedBy authority state event damage → MayComeNext authority state event → ⊥
+damaged_not_next authority state event damage damaged may = none_fails (IsFreeOf authority state event) event_damages damaged.place damage (all_free authority state event may) damaged.first
+
+pub free_next : (authority : Authority) (state : BaseView) (event : Event) → IsLawfulBase authority state → IsTypedEvent event → AllByRecursion (IsFreeOf authority state event) event_damages → MayComeNext authority state event
+free_next authority state (Registered pass statement signature) base typed free =
+    let new : IsNewAmong state.statements statement = free.1.1.1.1.1.0 in
+    record { counted = free.0.0; follows = record { statement = typed; signed = free.1.0; new = new.new; room = new.room } }
+free_next authority state (Issued pass cited proof g) base typed free = record { counted = free.0.0; follows = free.1.1.0 }
+free_next authority state (Acted pass caller op procaps moment) base typed free =
+    let takes : TakesEffect authority.key state caller op procaps moment = free.1.1.1.1.0 in
+    record {
+      counted = free.0.0;
+      follows = record {
+        not_before = free.1.1.1.0;
+        in_range = free.0.1;
+        formed = record { named = typed.0; operation = typed.1; slots = takes.slots; few_bytes = takes.few_bytes };
+        admitted = takes.admitted;
+        not_refused = takes.not_refused;
+        derived = AreDerived-admitted authority.key state caller op procaps moment base.good_issues takes.admitted;
+      };
+    }

@@ -1,0 +1,33 @@
+-- The first thing that is wrong before the operation is decided.
+use Rattle.std.proofs.Common.{◌≡◌, subst, sym, arith, ap}
+use Rattle.std.specs.Prelude.{ℤ, ◌≤ℤ◌}
+use Rattle.std.specs.Int.{w64}
+use Rattle.std.proofs.lemmas.Int.{ints, to_z-of_z}
+use Rattle.bl_syntax.specs.TimeOrder.{IsMoment}
+use Rattle.access_history.specs.declared.event.Event.TheVariants.{Acted}
+use Rattle.access_history.specs.History.{authority_of, state_of}
+use Rattle.op_gate.proofs.AdmitLemmas.{damaged_shape, damaged_falls, damaged_not_admitted}
+use Rattle.op_gate.proofs.CheckLemmas.{is_so, is_not_so}
+use Rattle.op_gate.proofs.admit.early_damage.Goals as goal
+use Rattle.op_gate.proofs.admit.early_damage.Goals.{then-procaps-slots-via-then-procaps-slots, then-procaps-slots-via-else-procaps-slots+then-bytes_to_write-gt-MOST_BYTES}
+
+pub returns-then-not-is_moment : goal.returns-then-not-is_moment
+returns-then-not-is_moment c = λ pass caller.
+    damaged_shape (authority_of c.args.history.now) (state_of c.args.history.now) (Acted pass caller c.args.op.now c.args.procaps.now c.args.moment)
+    (λ has. is_not_so _ _ c.is_moment.ensures c.if-not-is_moment.true (subst IsMoment (sym (to_z-of_z w64 c.args.moment c.ranges.moment)) has.1))
+
+pub returns-then-moment : goal.returns-then-moment
+returns-then-moment c = λ pass caller.
+    damaged_falls (authority_of c.args.history.now) (state_of c.args.history.now) c.requires pass caller c.args.op.now c.args.procaps.now c.args.moment
+    (subst IsMoment (to_z-of_z w64 c.args.moment c.ranges.moment) (is_so _ _ c.is_moment.ensures c.if-not-is_moment.false))
+    (λ not_before. omega (arith, ints, not_before, c.if-moment.true, c.moment.ensures))
+
+pub returns-then-procaps-slots : goal.returns-then-procaps-slots
+returns-then-procaps-slots c = λ pass caller.
+    damaged_not_admitted (authority_of c.args.history.now) (state_of c.args.history.now) c.requires pass caller c.args.op.now c.args.procaps.now c.args.moment
+    (subst IsMoment (to_z-of_z w64 c.args.moment c.ranges.moment) (is_so _ _ c.is_moment.ensures c.if-not-is_moment.false))
+    (omega (arith, ints, c.if-moment.false, c.moment.ensures))
+    (elim c.then-procaps-slots.branch [
+      | then-procaps-slots-via-then-procaps-slots w ↦ λ takes. omega (arith, takes.slots, c.slots.ensures, w.if-procaps-slots.true)
+      | then-procaps-slots-via-else-procaps-slots+then-bytes_to_write-gt-MOST_BYTES w ↦ λ takes. omega (arith, takes.few_bytes, w.bytes_to_write.ensures, w.if-bytes_to_write-gt-MOST_BYTES.true)
+    ])

@@ -1,0 +1,14 @@
+-- The grant is the one that the proof gives, or another.
+use Rattle.std.proofs.Common.{◌≡◌, sym, subst, ◌∙◌}
+use Rattle.bl_syntax.specs.Grant.{GrantView}
+use Rattle.op_gate.proofs.AdmitLemmas.{issued_told, other_grant}
+use Rattle.op_gate.proofs.CheckLemmas.{is_so, is_not_so}
+use Rattle.op_gate.proofs.admit.issue_again.Goals as goal
+
+pub returns-then-is_same_grant : goal.returns-then-is_same_grant
+returns-then-is_same_grant c =
+    issued_told c.args.pass c.args.checked c.args.grant.now c.issue.result c.grant.ensures.kept c.requires (sym c.grant.ensures.same ∙ is_so _ _ c.is_same_grant.ensures c.if-is_same_grant.true) c.issue.ensures.ok c.issue.ensures.err
+
+pub returns-else-is_same_grant : goal.returns-else-is_same_grant
+returns-else-is_same_grant c =
+    other_grant c.args.pass c.args.checked c.args.grant.now c.grant.ensures.kept c.requires (λ same. is_not_so _ _ c.is_same_grant.ensures c.if-is_same_grant.false (c.grant.ensures.same ∙ same))

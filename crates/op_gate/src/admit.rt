@@ -1,0 +1,325 @@
+//! Events that were read from an area: each is tested as if it came now, at its own moment.
+
+ghost use Rattle.std.specs.Prelude.{◌≡◌, ◌↔◌, ◌<◌, ◌-◌, ◌^◌, ◌≤◌, ℕ, List, IfErr, IfOk, IsTrue, MatchOption, OnOk};
+ghost use Rattle.access_history.specs.declared.event.Event.TheVariants as events;
+ghost use Rattle.bl_syntax.specs.Citable.{AreCitable, DoRise};
+ghost use Rattle.access_history.specs.Citing.{numbers_of};
+ghost use Rattle.access_history.specs.Authority.{sayings};
+ghost use Rattle.access_history.specs.History.{authority_of, state_of};
+ghost use Rattle.op_gate.specs.Admits.{FindsCited, GivesPending, GivesIssue, IsTimely, LacksNext, pending_issue, pending_statement, proof_damage, register_damage};
+ghost use Rattle.op_gate.specs.Damage.{IsDamagedBy};
+
+use crate::act::decide_act;
+use crate::brings::{bytes_to_write, is_formed, slots};
+use crate::cite::{Citation, cite};
+use crate::damage::{AdmitFault, Damage};
+use crate::decide::{issue_parts, issued, registered};
+use crate::planned::{Pending, Planned};
+use access_history::{Event, History, Procaps};
+use bl_syntax::{Bytes, Constraint, Grant, Numbers, Principal, StatePred, Statement, is_moment};
+use file_world::Op;
+use policy_statement::{RegisterFault as RegistryFault, Registered};
+use procap::Procap;
+use proof_term::ProofTree;
+use proof_verifier::{CheckFault, Checked, Cites, verify};
+use std::alloc::Global;
+
+/// The greatest number of an event.
+const LAST_NUMBER: u64 = 0xffff_ffff_ffff;
+
+/// The most statements that an issue cites.
+const MOST_CITED: usize = 64;
+
+/// The most bytes that an operation brings to be written.
+const MOST_BYTES: usize = 65536;
+
+// Why a statement may not be registered, as damage.
+fn register_damage(fault: RegistryFault) -> AdmitFault
+    ensures { result ≡ register_damage fault }
+{
+    match fault {
+        RegistryFault::BadSignature => AdmitFault::Damaged(Damage::Unsigned),
+        RegistryFault::RegistryFull => AdmitFault::Damaged(Damage::Duplicate),
+        RegistryFault::Duplicate(_) => AdmitFault::Damaged(Damage::Duplicate),
+        RegistryFault::NoMemory => AdmitFault::NoMemory,
+    }
+}
+
+// The statement, pending under its signature.
+fn register_again(
+    alloc: Global,
+    pass: u64,
+    statement: Statement,
+    signature: Bytes,
+) -> Result<Pending, AdmitFault>
+    ensures ok { IfOk result (λ pending. pending ≡ pending_statement pass statement signature) }
+    ensures err { IfErr result (λ fault. fault ≡ AdmitFault.NoMemory) }
+{
+    match registered(alloc, pass, statement, signature) {
+        Ok(pending) => Ok(pending),
+        Err(_) => Err(AdmitFault::NoMemory),
+    }
+}
+
+// A statement that was registered: its signature, whether it is new, and the room for it are tested again.
+fn admit_registered(
+    alloc: Global,
+    history: &History,
+    pass: u64,
+    statement: Statement,
+    signature: Bytes,
+) -> Result<Pending, AdmitFault>
+    requires { (state_of history.now).count < 2 ^ 48 - 1 }
+    ensures { GivesPending history.now history.now (events.Registered pass statement signature) result }
+{
+    let _from = statement.from();
+    let registry = history.registry();
+    match registry.test(alloc, history.ring(), &statement, signature.as_slice()) {
+        Ok(()) => register_again(alloc, pass, statement, signature),
+        Err(fault) => Err(register_damage(fault)),
+    }
+}
+
+// Whether each number is below the next.
+fn do_rise(numbers: &[u32]) -> bool
+    ensures { IsTrue result ↔ DoRise numbers.now }
+{
+    match numbers {
+        [first, second, ..] => *first < *second && do_rise(&numbers[1..]),
+        _ => true,
+    }
+}
+
+// Whether they are 1 to 64 numbers, strictly rising.
+fn are_citable(numbers: &[u32]) -> bool
+    ensures { IsTrue result ↔ AreCitable numbers.now }
+{
+    !numbers.is_empty() && numbers.len() <= MOST_CITED && do_rise(numbers)
+}
+
+// Whether they are the same conditions on time in the same order.
+fn are_same_times(times: &[Constraint], others: &[Constraint]) -> bool
+    ensures { IsTrue result ↔ (times.now ≡ others.now) }
+{
+    times == others
+}
+
+// Whether they are the same conditions on the state in the same order.
+fn are_same_states(states: &[StatePred], others: &[StatePred]) -> bool
+    ensures { IsTrue result ↔ (states.now ≡ others.now) }
+{
+    states == others
+}
+
+// Whether they grant the same under the same conditions.
+fn is_same_grant(first: &Grant, second: &Grant) -> bool
+    ensures { IsTrue result ↔ (first.now ≡ second.now) }
+{
+    if !first.goal().is_same(&second.goal()) {
+        return false;
+    }
+    if !are_same_times(first.times(), second.times()) {
+        return false;
+    }
+    are_same_states(first.states(), second.states())
+}
+
+// Why a proof is refused, as damage.
+fn proof_damage(fault: CheckFault) -> AdmitFault
+    ensures { result ≡ proof_damage fault }
+{
+    match fault {
+        CheckFault::NoMemory => AdmitFault::NoMemory,
+        _ => AdmitFault::Damaged(Damage::Unproved),
+    }
+}
+
+// The issue of a checked proof, in memory of its own.
+fn issue(alloc: Global, pass: u64, checked: Checked) -> Result<Pending, AdmitFault>
+    ensures ok { IfOk result (λ pending. pending ≡ pending_issue pass (numbers_of checked.cited) checked.proof checked.grant) }
+    ensures err { IfErr result (λ fault. fault ≡ AdmitFault.NoMemory) }
+{
+    match issue_parts(alloc, &checked) {
+        Ok(parts) => Ok(pend_issue(pass, checked, parts)),
+        Err(_) => Err(AdmitFault::NoMemory),
+    }
+}
+
+// The issue of a checked proof, if this is its grant.
+fn issue_again(
+    alloc: Global,
+    pass: u64,
+    checked: Checked,
+    grant: &Grant,
+) -> Result<Pending, AdmitFault>
+    requires { checked.goal ≡ grant.now.goal }
+    ensures { GivesIssue pass checked.cited checked.proof grant.now result }
+{
+    if is_same_grant(checked.grant(), grant) {
+        issue(alloc, pass, checked)
+    } else {
+        Err(AdmitFault::Damaged(Damage::Unproved))
+    }
+}
+
+// The issue of a grant, if it is the verdict on this proof from what is cited.
+fn verify_again(
+    alloc: Global,
+    pass: u64,
+    cites: Cites,
+    proof: ProofTree,
+    grant: &Grant,
+) -> Result<Pending, AdmitFault>
+    ensures { GivesIssue pass cites proof grant.now result }
+{
+    match verify(alloc, cites, grant.goal(), proof) {
+        Ok(checked) => issue_again(alloc, pass, checked, grant),
+        Err(fault) => Err(proof_damage(fault)),
+    }
+}
+
+// The statements of these numbers, as an issue cites them.
+fn find_cited(
+    alloc: Global,
+    statements: &[Registered],
+    numbers: &[u32],
+) -> Result<Cites, AdmitFault>
+    ensures { FindsCited (sayings statements.now) numbers.now result }
+{
+    if !are_citable(numbers) {
+        return Err(AdmitFault::Damaged(Damage::Unproved));
+    }
+    match cite(alloc, statements, numbers) {
+        Ok(Citation::Cited(cites)) => Ok(cites),
+        Ok(Citation::Absent(_)) => Err(AdmitFault::Damaged(Damage::Unproved)),
+        Err(_) => Err(AdmitFault::NoMemory),
+    }
+}
+
+// A grant that was issued: the statements that it cites are looked up, and its proof is checked again.
+fn admit_issued(
+    alloc: Global,
+    history: &History,
+    pass: u64,
+    cited: &Numbers,
+    proof: ProofTree,
+    grant: &Grant,
+) -> Result<Pending, AdmitFault>
+    requires { (state_of history.now).count < 2 ^ 48 - 1 }
+    ensures { GivesPending history.now history.now (events.Issued pass cited.now proof grant.now) result }
+{
+    match find_cited(alloc, history.statements(), cited.as_slice()) {
+        Ok(cites) => verify_again(alloc, pass, cites, proof, grant),
+        Err(fault) => Err(fault),
+    }
+}
+
+// The damage of an operation before it is decided: its moment is outside the range or before the last one, or it does not
+// bring what it has to.
+fn early_damage(history: &History, op: &Op, procaps: &[Procap], moment: i64) -> Option<Damage>
+    requires { (state_of history.now).count < 2 ^ 48 - 1 }
+    ensures { (pass : ℕ) (caller : List ℕ) → MatchOption result (IsTimely (state_of history.now) op.now procaps.now moment) (IsDamagedBy (authority_of history.now) (state_of history.now) (events.Acted pass caller op.now procaps.now moment)) }
+{
+    if !is_moment(moment) {
+        return Some(Damage::Shape);
+    }
+    if moment < history.moment() {
+        return Some(Damage::MomentFalls);
+    }
+    if procaps.len() != slots(op) || MOST_BYTES < bytes_to_write(op) {
+        return Some(Damage::NotAdmitted);
+    }
+    None
+}
+
+// A timely operation: it is decided again at its moment.
+fn admit_timely(
+    alloc: Global,
+    history: &mut History,
+    pass: u64,
+    caller: Principal,
+    op: Op,
+    procaps: Procaps,
+    moment: i64,
+) -> Result<Pending, AdmitFault>
+    requires counted { (state_of history.old).count < 2 ^ 48 - 1 }
+    requires timely { IsTimely (state_of history.old) op procaps moment }
+    ensures same { history.new ≡ record history.old { ready = history.new.ready } }
+    ensures pending { GivesPending history.old history.new (events.Acted pass caller op procaps moment) result }
+{
+    history.lawful();
+    is_formed(&caller, &op);
+    match decide_act(alloc, history, pass, caller, op, procaps, moment) {
+        Planned::Keep(_, pending) => Ok(pending),
+        Planned::Answer(_) => Err(AdmitFault::Damaged(Damage::NotAdmitted)),
+        Planned::NoMemory => Err(AdmitFault::NoMemory),
+    }
+}
+
+// An operation: its moment, what it brings, its procaps with their seals and conditions, and its effect are tested again.
+fn admit_acted(
+    alloc: Global,
+    history: &mut History,
+    pass: u64,
+    caller: Principal,
+    op: Op,
+    procaps: Procaps,
+    moment: i64,
+) -> Result<Pending, AdmitFault>
+    requires { (state_of history.old).count < 2 ^ 48 - 1 }
+    ensures same { history.new ≡ record history.old { ready = history.new.ready } }
+    ensures pending { GivesPending history.old history.new (events.Acted pass caller op procaps moment) result }
+{
+    match early_damage(history, &op, procaps.as_slice(), moment) {
+        Some(damage) => Err(AdmitFault::Damaged(damage)),
+        None => admit_timely(alloc, history, pass, caller, op, procaps, moment),
+    }
+}
+
+/// Makes room for one more event, if there is a number for it.
+pub fn reserve_next(history: &mut History) -> Result<(), AdmitFault>
+    ensures key { history.new.key ≡ history.old.key }
+    ensures ring { history.new.ring ≡ history.old.ring }
+    ensures base { history.new.base ≡ history.old.base }
+    ensures events { history.new.events ≡ history.old.events }
+    ensures room { OnOk result (1 ≤ history.new.room) }
+    ensures counted { OnOk result ((state_of history.old).count < 2 ^ 48 - 1) }
+    ensures err { IfErr result (LacksNext (state_of history.old)) }
+{
+    if LAST_NUMBER <= history.count() {
+        return Err(AdmitFault::Damaged(Damage::Shape));
+    }
+    if history.reserve().is_err() {
+        return Err(AdmitFault::NoMemory);
+    }
+    Ok(())
+}
+
+/// Tests an event as if it came now, an operation at its own moment, and takes all memory for it: the event with what the
+/// state keeps of it, or its first damage. Nothing is kept.
+pub fn admit(alloc: Global, history: &mut History, event: Event) -> Result<Pending, AdmitFault>
+    requires { (state_of history.old).count < 2 ^ 48 - 1 }
+    ensures same { history.new ≡ record history.old { ready = history.new.ready } }
+    ensures pending { GivesPending history.old history.new event result }
+{
+    match event {
+        Event::Registered {
+            pass,
+            statement,
+            signature,
+        } => admit_registered(alloc, history, pass, statement, signature),
+        Event::Issued {
+            pass,
+            cited,
+            proof,
+            grant,
+        } => admit_issued(alloc, history, pass, &cited, proof, &grant),
+        Event::Acted {
+            pass,
+            caller,
+            op,
+            procaps,
+            moment,
+        } => admit_acted(alloc, history, pass, caller, op, procaps, moment),
+    }
+}

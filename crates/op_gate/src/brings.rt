@@ -1,0 +1,47 @@
+//! What an operation brings.
+
+ghost use Rattle.std.specs.Prelude.{◌≡◌, ◌↔◌, ◌≤◌, IsTrue, length};
+ghost use Rattle.bl_syntax.specs.Names.{is_principal_name};
+ghost use Rattle.file_world.specs.Effect.{IsOperation};
+ghost use Rattle.file_world.specs.Needs.{slots, bytes_to_write};
+
+use bl_syntax::Principal;
+use file_world::Op;
+
+/// How many procaps the operation brings.
+pub fn slots(op: &Op) -> usize
+    ensures { result ≡ slots op.now }
+{
+    match op {
+        Op::Unlink(_, _) => 2,
+        Op::Rename(_, _, _, _) => 3,
+        _ => 1,
+    }
+}
+
+/// How many bytes it brings to be written.
+pub fn bytes_to_write(op: &Op) -> usize
+    ensures { result ≡ bytes_to_write op.now }
+{
+    match op {
+        Op::Write(_, _, bytes) => bytes.len(),
+        _ => 0,
+    }
+}
+
+/// The caller is a principal, the owner that an operation brings is one, and its value a text, since their types say so.
+pub fn is_formed(caller: &Principal, op: &Op)
+    ensures named { IsTrue (is_principal_name caller.now) }
+    ensures operation { IsOperation op.now }
+{
+    let _ = caller.bytes();
+    match op {
+        Op::Setattr(_, _, value) => {
+            let _ = value.bytes();
+        }
+        Op::Chown(_, owner) => {
+            let _ = owner.bytes();
+        }
+        _ => {}
+    }
+}

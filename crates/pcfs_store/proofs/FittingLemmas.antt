@@ -1,0 +1,105 @@
+-- What may come next in a history fits the fields of its record.
+use Rattle.std.proofs.Common.{◌≡◌, ℕ, ◌≤◌, List, [], ◌∷◌, length, Option, Some, None, true, false, ◌&&◌, refl, sym, ◌∙◌, ap, arith}
+use Rattle.std.specs.Option.{option_map, option_map_or}
+use Rattle.std.specs.Prelude.{nat_le}
+use Rattle.std.specs.List.{list_all}
+use Rattle.std.specs.Str.{bytes_eq}
+use Rattle.std.proofs.lemmas.Bool.{and_parts, leb-true, not-false}
+use Rattle.std.proofs.lemmas.Slice.Eq.{bytes_eq-Decides}
+use Rattle.sha2.proofs.Facts256.{length-sha256}
+use Rattle.pcfs_hmac.specs.Hmac.{hmac}
+use Rattle.policy_statement.specs.Ring.{KeyView, key_of}
+use Rattle.policy_statement.specs.Messages.{statement_message}
+use Rattle.file_world.specs.declared.operation.Op.{Op}
+use Rattle.file_world.specs.declared.operation.Op.TheVariants.{Read, Write, Truncate, List as ListOf, Lookup, Create, Mkdir, Unlink, Rename, Getattr, Setattr, Delattr, Chown}
+use Rattle.bl_syntax.specs.Names.{is_lower_case}
+use Rattle.file_world.specs.FileNames.{is_node_name, is_attribute_name, is_attribute_name_byte}
+use Rattle.file_world.specs.World.{World}
+use Rattle.file_world.specs.Effect.{refusal, part_of, tests_in}
+use Rattle.file_world.specs.Needs.{slots, bytes_to_write}
+use Rattle.file_world.proofs.EffectLemmas.{none_hold}
+use Rattle.access_history.specs.declared.event.Event.{Event}
+use Rattle.access_history.specs.declared.event.Event.TheVariants.{Registered, Issued, Acted}
+use Rattle.access_history.specs.Base.{BaseView}
+use Rattle.access_history.specs.History.{authority_with}
+use Rattle.access_history.specs.Citing.{numbers_of}
+use Rattle.access_history.specs.Lawful.{MayFollow}
+use Rattle.proof_verifier.specs.declared.cites.Cite.{Cite}
+use Rattle.record_parts.specs.Fields.{FitsOneByte}
+use Rattle.record_parts.specs.OperationSpelling.{HasFittingWords}
+use Rattle.journal_records.specs.EventSpelling.{HasFittingFields}
+
+-- ---- signatures
+
+length-hmac : (key text : List ℕ) → length (hmac key text) ≡ 32
+unfolding hmac
+length-hmac key text = length-sha256 _
+
+accepted_length : (found : Option (List ℕ)) (message signature : List ℕ) → option_map_or (λ (tag : List ℕ). bytes_eq tag signature) (option_map (λ (key : List ℕ). hmac key message) found) false ≡ true → length signature ≡ 32
+accepted_length None message signature e = absurd cc
+accepted_length (Some key) message signature e = sym (ap length ((bytes_eq-Decides (hmac key message) signature).0 e)) ∙ length-hmac key message
+
+-- ---- names
+
+short_by : (n most : ℕ) → nat_le n most ≡ true → most ≤ 255 → n ≤ 255
+short_by n most e few = let short : n ≤ most = leb-true n most e in omega (arith, short, few)
+
+-- of a name and an attribute's name
+name_fits : (name : List ℕ) → is_node_name name ≡ true → FitsOneByte name
+unfolding is_node_name
+name_fits name e = short_by (length name) 64 (and_parts _ _ (and_parts _ _ (and_parts _ _ (and_parts _ _ e).0).0).0).1 (omega arith)
+
+attribute_fits : (name : List ℕ) → is_attribute_name name ≡ true → FitsOneByte name
+unfolding is_attribute_name
+attribute_fits [] e = absurd cc
+attribute_fits (first ∷ others) e = let short : length others ≤ 63 = leb-true (length others) 63 (and_parts (is_lower_case first && list_all is_attribute_name_byte others) (nat_le (length others) 63) e).1 in omega (arith, short)
+
+-- ---- operations that are not refused
+
+words_fit : (world : World) (op : Op) → bytes_to_write op ≤ 65536 → refusal world op ≡ None → HasFittingWords op
+words_fit world (Read file offset len) few free = tt
+words_fit world (Write file offset bytes) few free = omega (arith, few)
+words_fit world (Truncate file len) few free = tt
+words_fit world (ListOf directory) few free = tt
+words_fit world (Lookup directory name) few free = name_fits name (not-false _ (none_hold (tests_in world (part_of (Lookup directory name))) free).1.1.0)
+words_fit world (Create directory name) few free = name_fits name (not-false _ (none_hold (tests_in world (part_of (Create directory name))) free).1.1.0)
+words_fit world (Mkdir directory name) few free = name_fits name (not-false _ (none_hold (tests_in world (part_of (Mkdir directory name))) free).1.1.0)
+words_fit world (Unlink directory name) few free = name_fits name (not-false _ (none_hold (tests_in world (part_of (Unlink directory name))) free).1.1.0)
+words_fit world (Rename directory name target renamed) few free =
+    let none = none_hold (tests_in world (part_of (Rename directory name target renamed))) free in
+    (name_fits name (not-false _ none.1.1.0), name_fits renamed (not-false _ none.1.1.1.1.1.0))
+words_fit world (Getattr node name) few free = attribute_fits name (not-false _ (none_hold (tests_in world (part_of (Getattr node name))) free).1.0)
+words_fit world (Setattr node name value) few free = attribute_fits name (not-false _ (none_hold (tests_in world (part_of (Setattr node name value))) free).1.0)
+words_fit world (Delattr node name) few free = attribute_fits name (not-false _ (none_hold (tests_in world (part_of (Delattr node name))) free).1.0)
+words_fit world (Chown node owner) few free = tt
+
+few_slots : (op : Op) → slots op ≤ 3
+few_slots (Read file offset len) = omega arith
+few_slots (Write file offset bytes) = omega arith
+few_slots (Truncate file len) = omega arith
+few_slots (ListOf directory) = omega arith
+few_slots (Lookup directory name) = omega arith
+few_slots (Create directory name) = omega arith
+few_slots (Mkdir directory name) = omega arith
+few_slots (Unlink directory name) = omega arith
+few_slots (Rename directory name target renamed) = omega arith
+few_slots (Getattr node name) = omega arith
+few_slots (Setattr node name value) = omega arith
+few_slots (Delattr node name) = omega arith
+few_slots (Chown node owner) = omega arith
+
+-- ---- events
+
+numbers-length : (cites : List Cite) → length (numbers_of cites) ≡ length cites
+numbers-length [] = refl
+numbers-length (cite ∷ cites) = let rest = numbers-length cites in omega (arith, rest)
+
+-- what may come next fits its fields
+pub fits_fields : (key : List ℕ) (ring : List KeyView) (state : BaseView) (event : Event) → MayFollow (authority_with key ring) state event → HasFittingFields event
+fits_fields key ring state (Registered pass statement signature) may =
+    let short = accepted_length (key_of ring statement.who) (statement_message statement) signature may.signed in
+    omega (arith, short)
+fits_fields key ring state (Issued pass cited proof grant) may =
+    omega (arith, ap length may.cited, numbers-length may.cites, may.rising.few)
+fits_fields key ring state (Acted pass caller op procaps moment) may =
+    (words_fit state.world op may.formed.few_bytes may.not_refused, (omega (arith, may.formed.slots, few_slots op), may.in_range))

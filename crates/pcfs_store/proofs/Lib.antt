@@ -1,0 +1,6 @@
+pub mod SurvivalLemmas
+pub mod FittingLemmas
+pub mod StepLemmas
+pub mod FormatLemmas
+pub mod EntryLemmas
+pub mod EndLemmas

@@ -1,0 +1,228 @@
+-- What a step of a store says, at each of its ends.
+use Rattle.std.proofs.Common.{◌≡◌, ◌≢◌, ℕ, ◌+◌, ◌<◌, ◌≤◌, List, [], ◌∷◌, ◌++◌, length, Some, None, IfSome, Bool, true, false, refl, sym, ◌∙◌, ap, subst, inl, inr, ⊎_elim, arith, length-append}
+use Rattle.std.specs.Prelude.{Option, is_some, ℤ}
+use Rattle.pcfs_ports.specs.Faults.{HasRisen}
+use Rattle.pcfs_ports.specs.Disk.{LeavesOnly}
+use Rattle.journal_core.specs.Area.{area_limit, area_bytes, record_bytes, StandsForBody, generation_of}
+use Rattle.journal_core.specs.AreaView.{AreaView}
+use Rattle.journal_core.specs.Rest.{Rests, IsWithOrWithout}
+use Rattle.journal_core.proofs.RecordLemmas.{record_length}
+use Rattle.journal_core.proofs.RestsLemmas.{some_same}
+use Rattle.access_history.specs.declared.event.Event.{Event}
+use Rattle.access_history.specs.declared.request.StepRequest.{StepRequest}
+use Rattle.access_history.specs.declared.reply.StepReply.{StepReply}
+use Rattle.bl_syntax.proofs.GrantLemmas.{AllByRecursion-push}
+use Rattle.journal_records.specs.EventSpelling.{event_spelling, IsSpellableEvent}
+use Rattle.pcfs_store.specs.declared.reply.StoreReply.{StoreReply}
+use Rattle.pcfs_store.specs.declared.reply.StoreReply.TheVariants.{Step, Stopped}
+use Rattle.pcfs_store.specs.Image.{fresh_image}
+use Rattle.pcfs_store.specs.StoredHistory.{payloads_of}
+use Rattle.pcfs_store.specs.Newest.{one_of}
+use Rattle.pcfs_store.specs.StoreView.{StoreView, first_disk, second_disk, body_of, AnswersIn, IsStore}
+use Rattle.pcfs_store.specs.Ready.{IsBehind, IsReady, IsCurrent, StopsLeave, StopsNow, SurvivesWithOrWithout, Keeps, ready, halted}
+use Rattle.pcfs_store.specs.Steps.{IsFullFor, with_event, Steps, kept, failed, LeavesStep}
+use Rattle.pcfs_store.specs.Keeping.{Writes, HasWritten}
+use Rattle.pcfs_store.proofs.SurvivalLemmas.{IsTellable, tellable_store, tellable_push, survives_beside, area_push, left_pairs, ready_survives_now, if_some}
+
+none_some : (o : Option ℕ) (pass : ℕ) → o ≡ None → o ≡ Some pass → ⊥
+none_some o pass none some = cc
+
+module _ {D : Type 0} (clock : D → ℕ) (left_since : D → ℕ → List ℕ → Type 0) (image : D → Option (List ℕ)) (faults : D → ℕ) where
+  -- all clauses of a step
+  pub record Clauses (old : StoreView D) (pass : ℕ) (at : ℤ) (request : StepRequest) (result : StoreReply) (new : StoreView D) : Type 0 where
+    pub answer : Steps faults old pass at request result new
+    pub stays_ready : IsReady clock left_since image old → result ≢ Stopped → IsReady clock left_since image new
+    pub stays_kept : Keeps clock left_since image old → Keeps clock left_since image new
+    pub stays_current : IsCurrent clock left_since image old → result ≢ Stopped → IsCurrent clock left_since image new
+    pub any_moment : IsReady clock left_since image old → StopsLeave clock left_since image old new (LeavesStep old pass at request)
+    pub met : IsReady clock left_since image old → result ≡ Stopped →
+        (reply : StepReply) × (event : Event) × AnswersIn old pass at request reply (Some event) × StopsNow clock left_since image new (SurvivesWithOrWithout old.base old.events event)
+    pub first_told : is_some (image (first_disk new)) ≡ is_some (image (first_disk old))
+    pub second_told : is_some (image (second_disk new)) ≡ is_some (image (second_disk old))
+    pub first_never_falls : faults (first_disk old) ≤ faults (first_disk new)
+    pub second_never_falls : faults (second_disk old) ≤ faults (second_disk new)
+
+  -- ---- nothing changed
+
+  pub nothing_changed : (old : StoreView D) (pass : ℕ) (at : ℤ) (request : StepRequest) (result : StoreReply) → IsStore old → Steps faults old pass at request result old →
+      (old.stop ≡ None → result ≡ Stopped → ⊥) → Clauses old pass at request result old
+  nothing_changed old pass at request result store steps runs = record {
+    answer = steps;
+    stays_ready = λ is_ready _. is_ready;
+    stays_kept = λ keeps. keeps;
+    stays_current = λ current _. current;
+    any_moment = λ is_ready x y left_x left_y. inl (ready_survives_now clock left_since image old store is_ready x y left_x left_y);
+    met = λ is_ready is_stopped. absurd (runs is_ready.running is_stopped);
+    first_told = refl;
+    second_told = refl;
+    first_never_falls = omega arith;
+    second_never_falls = omega arith;
+  }
+
+  -- ---- one of two disks
+
+  told_first : (second : Bool) (active old other : D) → is_some (image active) ≡ is_some (image old) → is_some (image (one_of active other second)) ≡ is_some (image (one_of old other second))
+  told_first false active old other told = told
+  told_first true active old other told = refl
+
+  told_second : (second : Bool) (active old other : D) → is_some (image active) ≡ is_some (image old) → is_some (image (one_of other active second)) ≡ is_some (image (one_of other old second))
+  told_second false active old other told = refl
+  told_second true active old other told = told
+
+  falls_first : (second : Bool) (active old other : D) → faults old ≤ faults active → faults (one_of old other second) ≤ faults (one_of active other second)
+  falls_first false active old other never = never
+  falls_first true active old other never = omega arith
+
+  falls_second : (second : Bool) (active old other : D) → faults old ≤ faults active → faults (one_of other old second) ≤ faults (one_of other active second)
+  falls_second false active old other never = omega arith
+  falls_second true active old other never = never
+
+  later_first : (second : Bool) (active old other : D) → clock old ≤ clock active → clock (one_of old other second) ≤ clock (one_of active other second)
+  later_first false active old other later = later
+  later_first true active old other later = omega arith
+
+  later_second : (second : Bool) (active old other : D) → clock old ≤ clock active → clock (one_of other old second) ≤ clock (one_of other active second)
+  later_second false active old other later = omega arith
+  later_second true active old other later = later
+
+  -- ---- a record was being written
+
+  module _ (old : StoreView D) (event : Event) (after : AreaView D) (store : IsStore old)
+      (writes : Writes clock left_since image faults (record { disk = old.active; end = old.used }) after event) where
+    abbrev payload : List ℕ
+    payload = event_spelling event
+
+    push_is : area_bytes old.generation fresh_image (payloads_of (old.events ++ event ∷ [])) ≡ body_of old ++ record_bytes payload
+    push_is = area_push old.generation fresh_image old.events event
+
+    push_long : length (area_bytes old.generation fresh_image (payloads_of (old.events ++ event ∷ []))) ≡ old.used + (5 + length payload)
+    push_long = omega (arith, ap length push_is, length-append (body_of old) (record_bytes payload), record_length payload, store.used_is)
+
+    push_fits : length (area_bytes old.generation fresh_image (payloads_of (old.events ++ event ∷ []))) < area_limit
+    push_fits = omega (arith, push_long, writes.room)
+
+    pub push_tellable : IsTellable old.generation old.base (old.events ++ event ∷ [])
+    push_tellable = tellable_push old.generation old.base old.events event (tellable_store old store) writes.spelled push_fits
+
+    -- a store keeps what a store keeps
+    pub push_store : IsStore (with_event old event after.disk)
+    push_store = record {
+      generated = store.generated;
+      is_image = store.is_image;
+      spelled = AllByRecursion-push IsSpellableEvent old.events event store.spelled writes.spelled;
+      used_is = sym push_long;
+      fits = subst (λ (n : ℕ). n < area_limit) push_long push_fits;
+    }
+
+    goes_on : (is_ready : IsReady clock left_since image old) → LeavesOnly clock left_since old.active after.disk (IsWithOrWithout (body_of old) payload)
+    goes_on is_ready = writes.any_moment (body_of old) (sym store.used_is) is_ready.rests
+
+    -- a crash since then leaves the history, or with it the event
+    leaves : IsReady clock left_since image old → (x y : List ℕ) → left_since (one_of after.disk old.other old.second_active) (clock (one_of old.active old.other old.second_active)) x →
+        left_since (one_of old.other after.disk old.second_active) (clock (one_of old.other old.active old.second_active)) y → SurvivesWithOrWithout old.base old.events event x y
+    leaves is_ready x y left_x left_y =
+        left_pairs clock left_since old.second_active old.active after.disk old.other (SurvivesWithOrWithout old.base old.events event)
+        (λ a o left_a left_o.
+        let behind : IsBehind old.second_active old.generation (generation_of o) =
+        subst (λ (bytes : List ℕ). IsBehind old.second_active old.generation (generation_of bytes)) (some_same is_ready.other_bytes o (sym is_ready.other_told ∙ is_ready.other_pinned o left_o)) is_ready.behind in
+        ⊎_elim
+        (λ without. inl (survives_beside old.second_active a o old.generation old.base old.events (tellable_store old store) without.stands behind))
+        (λ with_it. inr (survives_beside old.second_active a o old.generation old.base (old.events ++ event ∷ []) push_tellable
+        (subst (λ (body : List ℕ). StandsForBody body a) (sym push_is) with_it.stands) behind))
+        ((goes_on is_ready).each a left_a))
+        x y left_x left_y
+
+    leaves_step : (pass : ℕ) (at : ℤ) (request : StepRequest) (reply : StepReply) → AnswersIn old pass at request reply (Some event) → IsReady clock left_since image old →
+        (x y : List ℕ) → left_since (one_of after.disk old.other old.second_active) (clock (one_of old.active old.other old.second_active)) x →
+        left_since (one_of old.other after.disk old.second_active) (clock (one_of old.other old.active old.second_active)) y → LeavesStep old pass at request x y
+    leaves_step pass at request reply answers is_ready x y left_x left_y =
+        ⊎_elim (λ without. inl without) (λ with_it. inr (reply, event, answers, with_it)) (leaves is_ready x y left_x left_y)
+
+    -- ---- it was written
+
+    module _ (written : HasWritten clock left_since image faults (record { disk = old.active; end = old.used }) after event) where
+      rests_after : (bytes : List ℕ) → image old.active ≡ Some bytes → StandsForBody (body_of old) bytes →
+          Rests clock left_since image after.disk (area_bytes old.generation fresh_image (payloads_of (old.events ++ event ∷ [])))
+      rests_after bytes told stands = subst (Rests clock left_since image after.disk) (sym push_is) (written.rests (body_of old) bytes (sym store.used_is) told stands)
+
+      ready_after : IsReady clock left_since image old → IsReady clock left_since image (with_event old event after.disk)
+      ready_after is_ready = record {
+        running = is_ready.running;
+        rests = rests_after is_ready.rests.bytes is_ready.rests.told is_ready.rests.closed.stands;
+        other_bytes = is_ready.other_bytes;
+        other_told = is_ready.other_told;
+        other_pinned = is_ready.other_pinned;
+        behind = is_ready.behind;
+      }
+
+      active_after : (told : Option (List ℕ)) → image old.active ≡ told → IfSome told (StandsForBody (body_of old)) → (told_now : Option (List ℕ)) → image after.disk ≡ told_now →
+          IfSome told_now (StandsForBody (area_bytes old.generation fresh_image (payloads_of (old.events ++ event ∷ []))))
+      active_after (Some bytes) told stands told_now now =
+          let rests = rests_after bytes told stands in
+          if_some told_now (StandsForBody (area_bytes old.generation fresh_image (payloads_of (old.events ++ event ∷ [])))) rests.bytes (sym now ∙ rests.told) rests.closed.stands
+      active_after None told stands None now = tt
+      active_after None told stands (Some bytes) now = absurd (untold (image old.active) (image after.disk) bytes told now writes.told)
+        where
+          untold : (o n : Option (List ℕ)) (b : List ℕ) → o ≡ None → n ≡ Some b → is_some n ≡ is_some o → ⊥
+          untold o n b is_none is_told same = clash (sym (ap is_some is_told) ∙ same ∙ ap is_some is_none)
+            where
+              clash : true ≡ false → ⊥
+              clash e = cc
+
+      current_after : IsCurrent clock left_since image old → IsCurrent clock left_since image (with_event old event after.disk)
+      current_after current = record {
+        running = current.running;
+        active = active_after (image old.active) refl current.active (image after.disk) refl;
+        other = current.other;
+      }
+
+      pub was_kept : (pass : ℕ) (at : ℤ) (request : StepRequest) (reply : StepReply) → old.stop ≡ None → AnswersIn old pass at request reply (Some event) → (IsFullFor old event → ⊥) →
+          Clauses old pass at request (Step reply) (with_event old event after.disk)
+      was_kept pass at request reply running answers fits = record {
+        answer = kept reply event after.disk running answers fits;
+        stays_ready = λ is_ready _. ready_after is_ready;
+        stays_kept = λ keeps. stays keeps;
+        stays_current = λ current _. current_after current;
+        any_moment = λ is_ready. leaves_step pass at request reply answers is_ready;
+        met = λ is_ready is_stopped. absurd (unlike is_stopped);
+        first_told = told_first old.second_active after.disk old.active old.other writes.told;
+        second_told = told_second old.second_active after.disk old.active old.other writes.told;
+        first_never_falls = falls_first old.second_active after.disk old.active old.other writes.never_falls;
+        second_never_falls = falls_second old.second_active after.disk old.active old.other writes.never_falls;
+      }
+        where
+          stays : Keeps clock left_since image old → Keeps clock left_since image (with_event old event after.disk)
+          stays (ready is_ready) = ready (ready_after is_ready)
+          stays (halted earlier met stop leaves) = absurd (none_some old.stop earlier running stop)
+
+          unlike : Step reply ≡ Stopped → ⊥
+          unlike e = cc
+
+    -- ---- the disk failed
+
+    pub has_failed : ((disk : D) (t u : ℕ) (bytes : List ℕ) → t ≤ u → left_since disk u bytes → left_since disk t bytes) → HasRisen (faults old.active) (faults after.disk) →
+        (pass : ℕ) (at : ℤ) (request : StepRequest) (reply : StepReply) → old.stop ≡ None → AnswersIn old pass at request reply (Some event) → (IsFullFor old event → ⊥) →
+        Clauses old pass at request Stopped (record old { active = after.disk; stop = Some pass })
+    has_failed earlier risen pass at request reply running answers fits = record {
+      answer = failed reply event after.disk running answers fits risen;
+      stays_ready = λ is_ready goes. absurd (goes refl);
+      stays_kept = λ keeps. stays keeps;
+      stays_current = λ current goes. absurd (goes refl);
+      any_moment = λ is_ready. leaves_step pass at request reply answers is_ready;
+      met = λ is_ready _. (reply, event, answers, leaves_now is_ready);
+      first_told = told_first old.second_active after.disk old.active old.other writes.told;
+      second_told = told_second old.second_active after.disk old.active old.other writes.told;
+      first_never_falls = falls_first old.second_active after.disk old.active old.other writes.never_falls;
+      second_never_falls = falls_second old.second_active after.disk old.active old.other writes.never_falls;
+    }
+      where
+        leaves_now : IsReady clock left_since image old → StopsNow clock left_since image (record old { active = after.disk; stop = Some pass }) (SurvivesWithOrWithout old.base old.events event)
+        leaves_now is_ready x y left_x left_y =
+            let later : clock old.active ≤ clock after.disk = (goes_on is_ready).later in
+            leaves is_ready x y
+            (earlier (one_of after.disk old.other old.second_active) (clock (one_of old.active old.other old.second_active)) (clock (one_of after.disk old.other old.second_active)) x (later_first old.second_active after.disk old.active old.other later) left_x)
+            (earlier (one_of old.other after.disk old.second_active) (clock (one_of old.other old.active old.second_active)) (clock (one_of old.other after.disk old.second_active)) y (later_second old.second_active after.disk old.active old.other later) left_y)
+
+        stays : Keeps clock left_since image old → Keeps clock left_since image (record old { active = after.disk; stop = Some pass })
+        stays (ready is_ready) = halted pass event refl (leaves_now is_ready)
+        stays (halted first met stop leaves) = absurd (none_some old.stop first running stop)

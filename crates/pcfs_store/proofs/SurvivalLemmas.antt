@@ -1,0 +1,191 @@
+-- Bytes that stand for a history, and what survives of a store.
+use Rattle.std.proofs.Common.{◌≡◌, ℕ, ◌+◌, ◌<◌, ◌≤◌, List, [], ◌∷◌, ◌++◌, length, take, drop, get_or, map, Some, None, IfSome, Bool, true, false, refl, sym, ◌∙◌, ap, subst, arith, append_assoc}
+use Rattle.std.specs.Prelude.{Option, nat_lt, ◌==◌, if◌then◌else◌}
+use Rattle.std.specs.Option.{option_map}
+use Rattle.std.specs.Int.{w64, from_be_bytes}
+use Rattle.std.proofs.lemmas.Bool.{le-ltb, lt-ltb}
+use Rattle.std.proofs.lemmas.List.{take_all}
+use Rattle.journal_core.specs.Area.{area_limit, area_bytes, base_bytes, record_bytes, records, Begins, StandsForBody, IsGeneration, IsArea, generation_of}
+use Rattle.journal_core.proofs.RecordLemmas.{base_generation, base_within, records_push}
+use Rattle.journal_core.proofs.ReadingLemmas.{base_begins, opens}
+use Rattle.journal_core.proofs.RestsLemmas.{some_same}
+use Rattle.access_history.specs.declared.event.Event.{Event}
+use Rattle.access_history.specs.declared.event.Event.TheVariants.{Registered, Issued, Acted}
+use Rattle.access_history.specs.Base.{BaseView}
+use Rattle.bl_syntax.proofs.GrantLemmas.{AllByRecursion-push}
+use Rattle.journal_records.specs.EventSpelling.{erase, event_spelling, IsSpellableEvent}
+use Rattle.journal_records.proofs.EventLemmas.{same_spelling}
+use Rattle.pcfs_store.specs.Image.{fresh_image, IsImageOf}
+use Rattle.pcfs_store.specs.StoredHistory.{payloads_of, AreSpellable, StandsFor, Resumes}
+use Rattle.pcfs_store.specs.Newest.{newer, one_of, newest, SurvivesWhole}
+use Rattle.pcfs_store.specs.StoreView.{StoreView, first_disk, second_disk, body_of, IsStore}
+use Rattle.pcfs_store.specs.Ready.{IsBehind, IsReady, IsCurrent, StopsNow}
+
+-- ---- generations
+
+-- the generation of bytes that begin with an area
+pub generation_begins : (bytes : List ℕ) (generation : ℕ) (image : List ℕ) (payloads : List (List ℕ)) → IsGeneration generation → length (area_bytes generation image payloads) < area_limit →
+    Begins (area_bytes generation image payloads) bytes → generation_of bytes ≡ Some generation
+generation_begins bytes generation image payloads generated fits begins =
+    let based : Begins (area_bytes generation image []) bytes = base_begins bytes generation image payloads fits begins in
+    let open_gate : get_or bytes 0 0 ≡ 1 = opens bytes generation image payloads fits begins in
+    let long : 24 + length image ≤ length bytes = base_within bytes generation image based in
+    let number : from_be_bytes w64 (take 8 (drop 8 bytes)) ≡ generation = base_generation bytes generation image based (omega (arith, generated.high)) in
+    ap (λ (n : ℕ). if n == 1 then (if nat_lt (length bytes) 16 then Some 0 else Some (from_be_bytes w64 (take 8 (drop 8 bytes)))) else None) open_gate
+    ∙ ap (λ (b : Bool). if b then Some 0 else Some (from_be_bytes w64 (take 8 (drop 8 bytes)))) (le-ltb (length bytes) 16 (omega (arith, long)))
+    ∙ ap Some number
+
+pub generation_stands : (bytes : List ℕ) (generation : ℕ) (base : BaseView) (events : List Event) → StandsFor bytes generation base events → generation_of bytes ≡ Some generation
+generation_stands bytes generation base events stands =
+    generation_begins bytes generation stands.image (payloads_of events) stands.is_area.generated stands.is_area.fits stands.is_area.stands.front
+
+-- ---- which area counts
+
+newer_first : (generation : ℕ) (other : Option ℕ) → IsBehind false generation other → newer (Some generation) other ≡ Some false
+newer_first generation None behind = refl
+newer_first generation (Some found) behind = ap Some (le-ltb generation found (omega (arith, behind)))
+
+newer_second : (generation : ℕ) (other : Option ℕ) → IsBehind true generation other → newer other (Some generation) ≡ Some true
+newer_second generation None behind = refl
+newer_second generation (Some found) behind = ap Some (lt-ltb found generation (omega (arith, behind)))
+
+-- the area that is not behind counts
+pub newest_active : (second : Bool) (active other : List ℕ) (generation : ℕ) → generation_of active ≡ Some generation → IsBehind second generation (generation_of other) →
+    newest (one_of active other second) (one_of other active second) ≡ Some active
+newest_active false active other generation is behind =
+    ap (option_map (one_of active other)) (ap (λ (o : Option ℕ). newer o (generation_of other)) is ∙ newer_first generation (generation_of other) behind)
+newest_active true active other generation is behind =
+    ap (option_map (one_of other active)) (ap (λ (o : Option ℕ). newer (generation_of other) o) is ∙ newer_second generation (generation_of other) behind)
+
+-- ---- histories in bytes
+
+payloads_push : (events : List Event) (event : Event) → payloads_of (events ++ event ∷ []) ≡ payloads_of events ++ event_spelling event ∷ []
+payloads_push [] event = refl
+payloads_push (first ∷ events) event = ap (λ (l : List (List ℕ)). event_spelling first ∷ l) (payloads_push events event)
+
+-- the area of one event more
+pub area_push : (generation : ℕ) (image : List ℕ) (events : List Event) (event : Event) →
+    area_bytes generation image (payloads_of (events ++ event ∷ [])) ≡ area_bytes generation image (payloads_of events) ++ record_bytes (event_spelling event)
+area_push generation image events event =
+    ap (area_bytes generation image) (payloads_push events event)
+    ∙ ap (λ (b : List ℕ). 1 ∷ base_bytes generation image ++ b) (records_push (payloads_of events) (event_spelling event))
+    ∙ sym (append_assoc (1 ∷ base_bytes generation image) (records (payloads_of events)) (record_bytes (event_spelling event)))
+
+payloads_erased : (events : List Event) → payloads_of (map erase events) ≡ payloads_of events
+payloads_erased [] = refl
+payloads_erased (event ∷ events) =
+    ap (λ (p : List ℕ). p ∷ payloads_of (map erase events)) (same_spelling event) ∙ ap (λ (l : List (List ℕ)). event_spelling event ∷ l) (payloads_erased events)
+
+spellable_erased : (event : Event) → IsSpellableEvent event → IsSpellableEvent (erase event)
+spellable_erased (Registered pass statement signature) spelled = spelled
+spellable_erased (Issued pass cited proof grant) spelled = spelled
+spellable_erased (Acted pass caller op procaps moment) spelled = spelled
+
+all_erased : (events : List Event) → AreSpellable events → AreSpellable (map erase events)
+all_erased [] spelled = tt
+all_erased (event ∷ events) spelled = (spellable_erased event spelled.0, all_erased events spelled.1)
+
+-- what stands for a history stands for it without its passes
+pub stands_erased : (bytes : List ℕ) (generation : ℕ) (base : BaseView) (events : List Event) → StandsFor bytes generation base events → StandsFor bytes generation base (map erase events)
+stands_erased bytes generation base events stands = record {
+  image = stands.image;
+  is_image = stands.is_image;
+  spelled = all_erased events stands.spelled;
+  is_area = subst (λ (l : List (List ℕ)). IsArea bytes generation stands.image l) (sym (payloads_erased events)) stands.is_area;
+}
+
+-- a whole history is resumed by its events without their passes
+resumes_whole : (base : BaseView) (events : List Event) → Resumes base (map erase events) base events (length events)
+resumes_whole base events = record {
+  skipped = 0;
+  skipped_few = omega arith;
+  kept_few = omega arith;
+  base_is = refl;
+  events_are = ap (map erase) (sym (take_all (length events) events (omega arith)));
+}
+
+-- bytes that stand for a history and count: it survives
+pub survives_stands : (base : BaseView) (events : List Event) (first second bytes : List ℕ) (generation : ℕ) → newest first second ≡ Some bytes → StandsFor bytes generation base events →
+    SurvivesWhole base events first second
+survives_stands base events first second bytes generation counts stands = record {
+  bytes = bytes;
+  counts = counts;
+  generation = generation;
+  found_base = base;
+  found = map erase events;
+  stands = stands_erased bytes generation base events stands;
+  resumes = resumes_whole base events;
+}
+
+-- what a history has to keep to be told in an area
+pub record IsTellable (generation : ℕ) (base : BaseView) (events : List Event) : Type 0 where
+  pub generated : IsGeneration generation
+  pub is_image : IsImageOf base fresh_image
+  pub spelled : AreSpellable events
+  pub fits : length (area_bytes generation fresh_image (payloads_of events)) < area_limit
+
+pub tellable_store : {D : Type 0} (s : StoreView D) → IsStore s → IsTellable s.generation s.base s.events
+tellable_store s store = record { generated = store.generated; is_image = store.is_image; spelled = store.spelled; fits = subst (λ (n : ℕ). n < area_limit) store.used_is store.fits }
+
+pub tellable_push : (generation : ℕ) (base : BaseView) (events : List Event) (event : Event) → IsTellable generation base events → IsSpellableEvent event →
+    length (area_bytes generation fresh_image (payloads_of (events ++ event ∷ []))) < area_limit → IsTellable generation base (events ++ event ∷ [])
+tellable_push generation base events event told spelled fits = record { generated = told.generated; is_image = told.is_image; spelled = AllByRecursion-push IsSpellableEvent events event told.spelled spelled; fits = fits }
+
+-- bytes of the area that counts, beside others that are behind
+pub survives_beside : (second : Bool) (active other : List ℕ) (generation : ℕ) (base : BaseView) (events : List Event) → IsTellable generation base events →
+    StandsForBody (area_bytes generation fresh_image (payloads_of events)) active → IsBehind second generation (generation_of other) →
+    SurvivesWhole base events (one_of active other second) (one_of other active second)
+survives_beside second active other generation base events told stands behind =
+    survives_stands base events (one_of active other second) (one_of other active second) active generation
+    (newest_active second active other generation (generation_begins active generation fresh_image (payloads_of events) told.generated told.fits stands.front) behind)
+    (record { image = fresh_image; is_image = told.is_image; spelled = told.spelled; is_area = record { generated = told.generated; fits = told.fits; stands = stands } })
+
+-- ---- stores
+
+pub at_some : (told : Option (List ℕ)) (P : List ℕ → Type 0) (bytes : List ℕ) → told ≡ Some bytes → IfSome told P → P bytes
+at_some told P bytes is holds = let Q : Option (List ℕ) → Type 0 = λ o. IfSome o P in subst Q is holds
+
+pub if_some : (told : Option (List ℕ)) (P : List ℕ → Type 0) (bytes : List ℕ) → told ≡ Some bytes → P bytes → IfSome told P
+if_some told P bytes is holds = let Q : Option (List ℕ) → Type 0 = λ o. IfSome o P in subst Q (sym is) holds
+
+module _ {D : Type 0} where
+  -- what the two disks tell, in the order in which they were given
+  pub told_pairs : (image : D → Option (List ℕ)) (second : Bool) (active other : D) (P : List ℕ → List ℕ → Type 0) →
+      ((a o : List ℕ) → image active ≡ Some a → image other ≡ Some o → P (one_of a o second) (one_of o a second)) →
+      (x y : List ℕ) → image (one_of active other second) ≡ Some x → image (one_of other active second) ≡ Some y → P x y
+  told_pairs image false active other P each x y is_x is_y = each x y is_x is_y
+  told_pairs image true active other P each x y is_x is_y = each y x is_y is_x
+
+  -- what a crash leaves of the two disks, in the order in which they were given
+  pub left_pairs : (clock : D → ℕ) (left_since : D → ℕ → List ℕ → Type 0) (second : Bool) (old active other : D) (P : List ℕ → List ℕ → Type 0) →
+      ((a o : List ℕ) → left_since active (clock old) a → left_since other (clock other) o → P (one_of a o second) (one_of o a second)) →
+      (x y : List ℕ) → left_since (one_of active other second) (clock (one_of old other second)) x → left_since (one_of other active second) (clock (one_of other old second)) y → P x y
+  left_pairs clock left_since false old active other P each x y left_x left_y = each x y left_x left_y
+  left_pairs clock left_since true old active other P each x y left_x left_y = each y x left_y left_x
+
+  module _ (clock : D → ℕ) (left_since : D → ℕ → List ℕ → Type 0) (image : D → Option (List ℕ)) (s : StoreView D) where
+    -- a store that is ready is current
+    pub ready_current : IsReady clock left_since image s → IsCurrent clock left_since image s
+    ready_current ready = record {
+      running = ready.running;
+      active = if_some (image s.active) (StandsForBody (body_of s)) ready.rests.bytes ready.rests.told ready.rests.closed.stands;
+      other = if_some (image s.other) (λ bytes. IsBehind s.second_active s.generation (generation_of bytes)) ready.other_bytes ready.other_told ready.behind;
+    }
+
+    -- what the disks of a current store tell has its history
+    pub current_survives : IsStore s → IsCurrent clock left_since image s → (x y : List ℕ) → image (first_disk s) ≡ Some x → image (second_disk s) ≡ Some y → SurvivesWhole s.base s.events x y
+    current_survives store current x y is_x is_y =
+        told_pairs image s.second_active s.active s.other (SurvivesWhole s.base s.events)
+        (λ a o is_a is_o. survives_beside s.second_active a o s.generation s.base s.events (tellable_store s store)
+        (at_some (image s.active) (StandsForBody (body_of s)) a is_a current.active)
+        (at_some (image s.other) (λ bytes. IsBehind s.second_active s.generation (generation_of bytes)) o is_o current.other))
+        x y is_x is_y
+
+    -- a crash now leaves the history of a ready store
+    pub ready_survives_now : IsStore s → IsReady clock left_since image s → StopsNow clock left_since image s (SurvivesWhole s.base s.events)
+    ready_survives_now store ready x y left_x left_y =
+        left_pairs clock left_since s.second_active s.active s.active s.other (SurvivesWhole s.base s.events)
+        (λ a o left_a left_o. survives_beside s.second_active a o s.generation s.base s.events (tellable_store s store)
+        (subst (StandsForBody (body_of s)) (some_same ready.rests.bytes a (sym ready.rests.told ∙ ready.rests.pinned a left_a)) ready.rests.closed.stands)
+        (subst (λ (bytes : List ℕ). IsBehind s.second_active s.generation (generation_of bytes)) (some_same ready.other_bytes o (sym ready.other_told ∙ ready.other_pinned o left_o)) ready.behind))
+        x y left_x left_y

@@ -1,0 +1,6 @@
+use Rattle.pcfs_store.proofs.FormatLemmas.{new_rests}
+use Rattle.pcfs_store.proofs.format.format_first.Goals as goal
+
+pub returns-in-Ok-clause-rests : goal.returns-in-Ok-clause-rests
+returns-in-Ok-clause-rests g c = λ first told.
+    new_rests g.D.Disk.clock g.D.Disk.left_since g.D.Disk.image c.args.a c.in-Ok.active c.args.b c.args.gate c.from_scan.result first c.from_scan.ensures c.requires.no_events c.in-Ok.ensures.image c.in-Ok.ensures.pinned told

@@ -1,0 +1,29 @@
+-- The image of the state with which an area begins. The format is this project's own. Its numbers are big-endian.
+use Rattle.std.specs.Prelude.{◌≡◌, ℕ, List, [], ◌∷◌, ◌++◌, codes}
+use Rattle.access_history.specs.Base.{BaseView}
+use Rattle.access_history.specs.Replay.{fresh}
+
+-- the number 0 in four bytes, and in eight
+abbrev pub zero_in_four : List ℕ
+zero_in_four = 0 ∷ 0 ∷ 0 ∷ 0 ∷ []
+
+abbrev pub zero_in_eight : List ℕ
+zero_in_eight = 0 ∷ 0 ∷ 0 ∷ 0 ∷ 0 ∷ 0 ∷ 0 ∷ 0 ∷ []
+
+-- the first moment of the range, -62135596800, in two's complement
+abbrev pub first_moment_bytes : List ℕ
+first_moment_bytes = 255 ∷ 255 ∷ 255 ∷ 241 ∷ 136 ∷ 110 ∷ 9 ∷ 0 ∷ []
+
+-- the root: its number 1, its kind, a directory's, its owner `admin`, no directory above it, no name, no attributes, and no contents
+abbrev pub root_bytes : List ℕ
+root_bytes = 0 ∷ 0 ∷ 0 ∷ 0 ∷ 0 ∷ 0 ∷ 0 ∷ 1 ∷ [] ++ 2 ∷ [] ++ 5 ∷ codes "admin" ++ zero_in_eight ++ 0 ∷ [] ++ 0 ∷ [] ++ zero_in_four
+
+-- the image of a store before its first event: the moment, the number of the last event, the next node's number, how many statements there are, how many issues, and how many nodes; and the one node
+abbrev pub fresh_image : List ℕ
+fresh_image =
+    first_moment_bytes ++ zero_in_eight ++ 0 ∷ 0 ∷ 0 ∷ 0 ∷ 0 ∷ 0 ∷ 0 ∷ 2 ∷ [] ++ zero_in_four ++ zero_in_four ++ 0 ∷ 0 ∷ 0 ∷ 1 ∷ [] ++ root_bytes
+
+-- The bytes are the image of a state. So far a store begins before its first event alone: images of other states come with checkpoints.
+pub record IsImageOf (base : BaseView) (image : List ℕ) : Type 0 where
+  pub is_fresh : base ≡ fresh
+  pub image_is : image ≡ fresh_image

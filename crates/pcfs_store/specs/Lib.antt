@@ -1,0 +1,12 @@
+pub mod Image
+pub mod StoredHistory
+pub mod Newest
+pub mod StoreView
+pub mod StoreCode
+pub mod Inside
+pub mod Keeping
+pub mod Entries
+pub mod Ready
+pub mod Steps
+pub mod Formats
+pub mod Laws

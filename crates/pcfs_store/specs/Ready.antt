@@ -1,0 +1,54 @@
+-- Stores that are ready, and what a crash may leave of one. This project's own.
+use Rattle.std.specs.Prelude.{◌≡◌, ◌⊎◌, ℕ, ◌+◌, ◌≤◌, List, [], ◌∷◌, ◌++◌, Option, Some, None, IfSome, Bool, true, false}
+use Rattle.pcfs_ports.specs.Disk.{IsPinned}
+use Rattle.journal_core.specs.Area.{StandsForBody, generation_of}
+use Rattle.journal_core.specs.Rest.{Rests}
+use Rattle.access_history.specs.declared.event.Event.{Event}
+use Rattle.access_history.specs.Base.{BaseView}
+use Rattle.pcfs_store.specs.Newest.{SurvivesWhole}
+use Rattle.pcfs_store.specs.StoreView.{StoreView, first_disk, second_disk, body_of}
+
+-- what a generation that is equal lacks to count: the first area counts then
+abbrev pub tie : Bool → ℕ
+tie false = 0
+tie true = 1
+
+-- another area, of that generation if it is open, does not count beside this one
+abbrev pub IsBehind : Bool → ℕ → Option ℕ → Type 0
+IsBehind second_active generation None = Unit {0}
+IsBehind second_active generation (Some found) = found + tie second_active ≤ generation
+
+-- the history survives, or with it one event that met a fault
+abbrev pub SurvivesWithOrWithout : BaseView → List Event → Event → List ℕ → List ℕ → Type 0
+SurvivesWithOrWithout base events met first second = SurvivesWhole base events first second ⊎ SurvivesWhole base (events ++ met ∷ []) first second
+
+-- Below, `clock d` is the present moment of a disk d, `left_since d t bytes` says that a crash at some moment since t may have left these bytes, and `image d` is what a read gives, if d tells it.
+module _ {D : Type 0} (clock : D → ℕ) (left_since : D → ℕ → List ℕ → Type 0) (image : D → Option (List ℕ)) where
+  -- The store is ready: no disk failed; nothing is pending; the area that counts is closed, and stands for its history.
+  pub record IsReady (s : StoreView D) : Type 0 where
+    pub running : s.stop ≡ None
+    pub rests : Rests clock left_since image s.active (body_of s)
+    pub other_bytes : List ℕ
+    pub other_told : image s.other ≡ Some other_bytes
+    pub other_pinned : IsPinned clock left_since image s.other
+    pub behind : IsBehind s.second_active s.generation (generation_of other_bytes)
+
+  -- What a read gives of the area that counts stands for the history, if it is told, whatever is pending.
+  pub record IsCurrent (s : StoreView D) : Type 0 where
+    pub running : s.stop ≡ None
+    pub active : IfSome (image s.active) (StandsForBody (body_of s))
+    pub other : IfSome (image s.other) (λ bytes. IsBehind s.second_active s.generation (generation_of bytes))
+
+  -- A crash at any moment of the first disk and at any of the second, from the old store to the new one, leaves only pairs with P.
+  abbrev pub StopsLeave : StoreView D → StoreView D → (List ℕ → List ℕ → Type 0) → Type 0
+  StopsLeave old new P =
+      (first second : List ℕ) → left_since (first_disk new) (clock (first_disk old)) first → left_since (second_disk new) (clock (second_disk old)) second → P first second
+
+  -- a crash now leaves only pairs with P
+  abbrev pub StopsNow : StoreView D → (List ℕ → List ℕ → Type 0) → Type 0
+  StopsNow s P = StopsLeave s s P
+
+  -- What a store keeps through all its steps: it is ready; or a disk failed, and a crash now leaves its history, or with it the event that met the fault.
+  pub data Keeps (s : StoreView D) : Type 0 where
+    ready : IsReady s → Keeps s
+    halted : (pass : ℕ) (met : Event) → s.stop ≡ Some pass → StopsNow s (SurvivesWithOrWithout s.base s.events met) → Keeps s

@@ -1,0 +1,59 @@
+-- A store, as callers see it. This project's own.
+use Rattle.std.specs.Prelude.{◌≡◌, ℕ, ℤ, ◌<◌, List, Option, Bool, length}
+use Rattle.journal_core.specs.Area.{area_limit, area_bytes, IsGeneration}
+use Rattle.policy_statement.specs.Ring.{KeyView}
+use Rattle.access_history.specs.declared.event.Event.{Event}
+use Rattle.access_history.specs.declared.request.StepRequest.{StepRequest}
+use Rattle.access_history.specs.declared.reply.StepReply.{StepReply}
+use Rattle.access_history.specs.Base.{BaseView}
+use Rattle.access_history.specs.Authority.{Authority}
+use Rattle.access_history.specs.History.{authority_with}
+use Rattle.access_history.specs.Replay.{replay}
+use Rattle.access_history.specs.Answer.{Answers}
+use Rattle.pcfs_store.specs.Image.{fresh_image, IsImageOf}
+use Rattle.pcfs_store.specs.StoredHistory.{payloads_of, AreSpellable}
+use Rattle.pcfs_store.specs.Newest.{one_of}
+
+-- the disk with the area that counts, and the other one; whether it is the second; the area's generation, and how many bytes stand in it before its closed gate; the key of the seal and the ring of those
+-- whose signatures are accepted; the base and the events since, each with its pass, which is 0 if it was read from an area; and, if a disk failed, the pass of the step in which it did
+pub record StoreView (D : Type 0) : Type 0 where
+  pub active : D
+  pub other : D
+  pub second_active : Bool
+  pub generation : ℕ
+  pub used : ℕ
+  pub key : List ℕ
+  pub ring : List KeyView
+  pub base : BaseView
+  pub events : List Event
+  pub stop : Option ℕ
+
+-- the disks in the order in which they were given
+abbrev pub first_disk : {D : Type 0} → StoreView D → D
+first_disk s = one_of s.active s.other s.second_active
+
+abbrev pub second_disk : {D : Type 0} → StoreView D → D
+second_disk s = one_of s.other s.active s.second_active
+
+abbrev pub authority_of_store : {D : Type 0} → StoreView D → Authority
+authority_of_store s = authority_with s.key s.ring
+
+-- the state to which the events lead
+abbrev pub state_of_store : {D : Type 0} → StoreView D → BaseView
+state_of_store s = replay s.base s.events
+
+-- the answer to a request over that state, and the event to keep
+abbrev pub AnswersIn : {D : Type 0} → StoreView D → ℕ → ℤ → StepRequest → StepReply → Option Event → Type 0
+AnswersIn s pass clock request reply event = Answers (authority_of_store s) (state_of_store s) pass clock request reply event
+
+-- the area of the history, without its closed gate
+abbrev pub body_of : {D : Type 0} → StoreView D → List ℕ
+body_of s = area_bytes s.generation fresh_image (payloads_of s.events)
+
+-- what a store keeps at every moment: its area has the bytes of its history before the closed gate, for which there is room
+pub record IsStore {D : Type 0} (s : StoreView D) : Type 0 where
+  pub generated : IsGeneration s.generation
+  pub is_image : IsImageOf s.base fresh_image
+  pub spelled : AreSpellable s.events
+  pub used_is : s.used ≡ length (body_of s)
+  pub fits : s.used < area_limit

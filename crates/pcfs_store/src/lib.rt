@@ -1,0 +1,20 @@
+//! The store: a history that survives the loss of power, on two disks.
+//!
+//! A step answers by the definition of answers, and what it keeps is on the disk before it is told. Whenever a crash
+//! comes, the newest of the two areas stands for the history as it was, or for that and the one event that was being
+//! kept. After a fault of a disk a store is stopped, and touches no disk any more.
+#![tactic(auto)]
+
+mod areas;
+mod format;
+mod image;
+mod keeping;
+pub mod laws;
+mod reply;
+mod store;
+
+pub use areas::newer;
+pub use format::{FormatFault, format_store};
+pub use image::FRESH_IMAGE;
+pub use reply::StoreReply;
+pub use store::Store;

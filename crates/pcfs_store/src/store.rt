@@ -1,0 +1,174 @@
+//! The store.
+
+ghost use Rattle.std.specs.Prelude.{◌≡◌, ◌≢◌, ◌↔◌, ◌≤◌, ◌+◌, ◌-◌, ◌^◌, ◌++◌, ◌∷◌, [], Some, None, ℕ, List, IsSome, IsTrue, length, is_some};
+ghost use Rattle.journal_core.specs.Area.{area_bytes, IsGeneration};
+ghost use Rattle.access_history.specs.Replay.{fresh};
+ghost use Rattle.pcfs_store.specs.Image.{fresh_image};
+ghost use Rattle.pcfs_store.specs.StoredHistory.{payloads_of, AreSpellable};
+
+use crate::keeping::keep_pending;
+use crate::reply::StoreReply;
+use access_history::StepRequest;
+use journal_core::{Area, AreaFault};
+use op_gate::{Decision, Gate};
+use pcfs_ports::Disk;
+use std::alloc::Global;
+use std::marker::Model;
+
+/// A history on two disks: its area is on the one of them that counts, which is closed at every moment, and the history is
+/// in memory too. A step of it costs, beside its decision, two syncs if it keeps an event.
+#[derive(Drop)]
+pub struct Store<D: Disk> {
+    active: Area<D>,
+    other: D,
+    second_active: bool,
+    generation: u64,
+    gate: Gate,
+    stop: Option<u64>,
+}
+
+impl<D: Disk> Model for Store<D> {
+    ghost use Rattle.pcfs_store.specs.StoreView.{StoreView};
+    ghost use Rattle.pcfs_store.specs.StoreCode.{store_code};
+
+    ghost Value = { StoreView D };
+
+    ghost coded = { store_code D.code };
+
+    ghost use Rattle.pcfs_store.specs.Inside.{store_of, IsKeeping};
+
+    ghost view = { λ s. store_of s.active s.other s.second_active s.generation s.gate s.stop };
+
+    ghost invariant = { λ s. IsKeeping s.active s.other s.second_active s.generation s.gate s.stop };
+}
+
+impl<D: Disk> Store<D> {
+    ghost use Rattle.std.specs.Prelude.{Option};
+    ghost use Rattle.bl_syntax.specs.TimeOrder.{IsMoment};
+    ghost use Rattle.access_history.specs.declared.event.Event.{Event};
+    ghost use Rattle.access_history.specs.declared.reply.StepReply.{StepReply};
+    ghost use Rattle.access_history.specs.WellFormed.{IsWellFormed};
+    ghost use Rattle.pcfs_store.specs.StoreView.{IsStore, AnswersIn, first_disk, second_disk};
+    ghost use Rattle.pcfs_store.specs.Ready.{IsReady, IsCurrent, Keeps, StopsLeave, StopsNow, SurvivesWithOrWithout};
+    ghost use Rattle.pcfs_store.specs.Steps.{Steps, LeavesStep};
+
+    /// A store over what was read of two disks. The area is the one that counts, the second exactly if `second_active`; it
+    /// has that generation, the image of a store before its first event, and the records of the gate's history.
+    pub fn from_scan(
+        active: Area<D>,
+        other: D,
+        second_active: bool,
+        generation: u64,
+        gate: Gate,
+    ) -> Store<D>
+        requires generated { IsGeneration generation }
+        requires is_fresh { gate.base ≡ fresh }
+        requires spelled { AreSpellable gate.events }
+        requires used { active.end ≡ length (area_bytes generation fresh_image (payloads_of gate.events)) }
+        requires nothing_pending { gate.pending ≡ None }
+        ensures { result ≡ record {
+          active = active.disk;
+          other = other;
+          second_active = second_active;
+          generation = generation;
+          used = active.end;
+          key = gate.key;
+          ring = gate.ring;
+          base = gate.base;
+          events = gate.events;
+          stop = None;
+        } }
+    {
+        Store {
+            active,
+            other,
+            second_active,
+            generation,
+            gate,
+            stop: None,
+        }
+    }
+
+    /// What a store keeps at every moment.
+    pub fn keeps(&self)
+        ensures { IsStore self.now }
+    {
+        let _ = &self.gate;
+    }
+
+    /// Whether a disk failed. Then every step answers `Stopped`.
+    pub fn is_stopped(&self) -> bool
+        ensures { IsTrue result ↔ IsSome self.now.stop }
+    {
+        self.stop.is_some()
+    }
+
+    /// The gate, with the history. Nothing is pending.
+    pub fn gate(&self) -> &Gate
+        ensures { result.now ≡ record { key = self.now.key; ring = self.now.ring; base = self.now.base; events = self.now.events; pending = None } }
+    {
+        &self.gate
+    }
+
+    /// The disks, in the order in which they were given.
+    pub fn into_disks(self) -> (D, D)
+        ensures first { result.0 ≡ first_disk self }
+        ensures second { result.1 ≡ second_disk self }
+    {
+        let disk = self.active.into_disk();
+        if self.second_active {
+            (self.other, disk)
+        } else {
+            (disk, self.other)
+        }
+    }
+
+    /// Answers the request at the moment that the clock shows, in whole seconds from 1970-01-01T00:00:00Z. What the answer
+    /// keeps carries the number `pass`; it is on the disk before this returns.
+    ///
+    /// `Full` comes exactly if the answer's event does not fit, `Stopped` if a disk failed in this step or an earlier one.
+    /// After these and `NoMemory` the history is as it was, and all memory is taken before the first write. A store that is
+    /// stopped touches no disk.
+    pub fn step(&mut self, alloc: Global, pass: u64, request: StepRequest, clock: i64) -> StoreReply
+        requires in_range { IsMoment clock }
+        requires well_formed { IsWellFormed request }
+        ensures answer { Steps D.faults self.old pass clock request result self.new }
+
+        // The store stays ready unless a disk fails in this step, and keeps its history even then.
+        ensures ready { IsReady D.clock D.left_since D.image self.old → result ≢ StoreReply.Stopped → IsReady D.clock D.left_since D.image self.new }
+        ensures keeps { Keeps D.clock D.left_since D.image self.old → Keeps D.clock D.left_since D.image self.new }
+        ensures current { IsCurrent D.clock D.left_since D.image self.old → result ≢ StoreReply.Stopped → IsCurrent D.clock D.left_since D.image self.new }
+
+        // A crash at any moment leaves the history as it was, or with the one event that the answer keeps.
+        ensures any_moment { IsReady D.clock D.left_since D.image self.old → StopsLeave D.clock D.left_since D.image self.old self.new (LeavesStep self.old pass clock request) }
+
+        // After a fault of a disk both remain possible.
+        ensures met { IsReady D.clock D.left_since D.image self.old → result ≡ StoreReply.Stopped →
+            (reply : StepReply) × (event : Event) × AnswersIn self.old pass clock request reply (Some event)
+            × StopsNow D.clock D.left_since D.image self.new (SurvivesWithOrWithout self.old.base self.old.events event) }
+
+        ensures first_told { is_some (D.image (first_disk self.new)) ≡ is_some (D.image (first_disk self.old)) }
+        ensures second_told { is_some (D.image (second_disk self.new)) ≡ is_some (D.image (second_disk self.old)) }
+        ensures first_never_falls { D.faults (first_disk self.old) ≤ D.faults (first_disk self.new) }
+        ensures second_never_falls { D.faults (second_disk self.old) ≤ D.faults (second_disk self.new) }
+    {
+        if self.stop.is_some() {
+            return StoreReply::Stopped;
+        }
+        match self.gate.decide(alloc, pass, request, clock) {
+            Decision::Answer(reply) => StoreReply::Step(reply),
+            Decision::Keep(reply) => {
+                match keep_pending(alloc, &mut self.active, &mut self.gate) {
+                    Ok(()) => StoreReply::Step(reply),
+                    Err(AreaFault::AreaFull) => StoreReply::Full,
+                    Err(AreaFault::NoMemory) => StoreReply::NoMemory,
+                    Err(AreaFault::Disk) => {
+                        self.stop = Some(pass);
+                        StoreReply::Stopped
+                    }
+                }
+            }
+            Decision::NoMemory => StoreReply::NoMemory,
+        }
+    }
+}

@@ -1,0 +1,23 @@
+-- Laws of damage: an area has at most one first damage, and none if it stands for a lawful history.
+use Rattle.std.specs.Prelude.{◌≡◌, ℕ, List}
+use Rattle.std.specs.List.{AllByRecursion}
+use Rattle.access_history.specs.declared.event.Event.{Event}
+use Rattle.access_history.specs.Authority.{Authority}
+use Rattle.access_history.specs.Lawful.{IsLawful}
+use Rattle.access_history.specs.Replay.{fresh}
+use Rattle.journal_core.specs.Area.{IsShut}
+use Rattle.op_gate.specs.declared.damage.Damage.{Damage}
+use Rattle.pcfs_store.specs.StoredHistory.{StandsFor}
+use Rattle.recover.specs.AreaDamage.{IsDamagedArea}
+
+-- an area has at most one first damage
+abbrev pub DamagesAreDetermined : Type 0
+DamagesAreDetermined = (authority : Authority) (bytes : List ℕ) (m n : ℕ) (c d : Damage) → IsDamagedArea authority bytes m c → IsDamagedArea authority bytes n d → (m ≡ n) × (c ≡ d)
+
+-- an area that stands for a lawful history is not damaged
+abbrev pub LawfulAreNotDamaged : Type 0
+LawfulAreNotDamaged = (authority : Authority) (bytes : List ℕ) (generation : ℕ) (events : List Event) (number : ℕ) (damage : Damage) → StandsFor bytes generation fresh events → IsLawful authority fresh events → IsDamagedArea authority bytes number damage → ⊥
+
+-- a damaged area is open
+abbrev pub DamagedAreOpen : Type 0
+DamagedAreOpen = (authority : Authority) (bytes : List ℕ) (number : ℕ) (damage : Damage) → IsDamagedArea authority bytes number damage → IsShut bytes → ⊥

@@ -1,0 +1,4 @@
+pub mod AreaDamage
+pub mod Laws
+pub mod Opening
+pub mod Reading
