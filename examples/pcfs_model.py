@@ -1028,15 +1028,30 @@ class Drawn:
             procaps[draw.randrange(len(procaps))] = draw.randint(0, len(self.issues) + 1)
         return " ".join(["do", operation, *words, *(f"@{one}" for one in procaps)])
 
+    def broken(self, line):
+        """The line with one byte taken out, put in or exchanged, or with one word more or less; mostly it asks for nothing then."""
+        at, byte = self.draw.randrange(len(line)), self.draw.choice(' #@"-,0123456789abz')
+        words = line.split(" ")
+        word = self.draw.randrange(len(words))
+        return self.draw.choice([
+            line[:at] + line[at + 1 :],
+            line[:at] + byte + line[at:],
+            line[:at] + byte + line[at + 1 :],
+            " ".join(words[:word] + words[word + 1 :]),
+            " ".join(words[:word] + words[word:][:1] + words[word:]),
+        ])
+
     def lines(self, count):
         yield self.tell("at 100")
         for line in self.policies():
             yield self.tell(line)
         yield self.tell("as alice")
         for _ in range(count):
-            kind = self.draw.choice(["operation"] * 12 + ["as", "at"])
+            kind = self.draw.choice(["operation"] * 12 + ["as", "at", "broken"])
             if kind == "as":
                 yield self.tell(f"as {self.draw.choice(['alice', 'bob'])}")
+            elif kind == "broken":
+                yield self.tell(self.broken(self.draw.choice([self.operation(), "as alice", "at 150"])))
             elif kind == "at":
                 yield self.tell(f"at {self.draw.choice([0, 100, 100, 150, 200, 290, 301] if self.draw.random() < 0.2 else [100, 150, 200])}")
             else:
