@@ -114,12 +114,7 @@ fn damaged_line(alloc: Global, record_number: u64, damage: Damage) -> Result<Byt
 }
 
 // Writes the line that reports the damage of a record, and returns the status to end with.
-fn tell_damage<O: Sink>(
-    alloc: Global,
-    output: &mut O,
-    record_number: u64,
-    damage: Damage,
-) -> u8
+fn tell_damage<O: Sink>(alloc: Global, output: &mut O, record_number: u64, damage: Damage) -> u8
     ensures { TellsUnopened (OpenFault.Damaged record_number damage) (O.held output.old) (O.faults output.old) result (O.held output.new) (O.faults output.new) }
 {
     match damaged_line(alloc, record_number, damage) {
