@@ -5,7 +5,7 @@ ghost use Rattle.line_words.specs.Kinds.{blank, Sets, IsOutside};
 
 use crate::cited::cited_numbers;
 use crate::kinds::WordKind;
-use crate::named::{data, name, permission, principal, quoted, signature_hex, signed};
+use crate::named::{data, name, permission, principal, quoted_text, signature, signature_hex};
 use crate::numerals::{count, file, issue, long_number, second};
 use crate::procap_word::{ProcapWord, ProcapWords, procap_of_hex, procap_word};
 use bl_syntax::{Bytes, NoMemory, NodeId, Numbers, Perm, Principal, Text};
