@@ -29,8 +29,8 @@ use Rattle.line_words.specs.Cited.{AreJoined, one_number, more_numbers, IsCited}
 use Rattle.line_words.specs.Grammar.{IsName, is_name_word, IsPrincipal, IsData, IsQuoted, IsPermission, IsSignature, IsSigned, by_ring, by_bytes}
 use Rattle.line_words.specs.Numbers.{IsDigits, IsInteger, plain, negated, IsSecond, IsNumberBelow, IsNumber, IsFile, IsIssue}
 use Rattle.line_words.specs.Numerals.{IsPlain}
-use Rattle.line_words.specs.Procaps.{IsHeld, IsProcapWord, by_number, held}
-use Rattle.line_words.specs.declared.procap_word.ProcapWord.TheVariants.{Held, Issue}
+use Rattle.line_words.specs.Procaps.{IsProcapHex, IsProcapWord, by_number, by_spelling}
+use Rattle.line_words.specs.declared.procap_word.ProcapWord.TheVariants.{Procap as BySpelling, Issue}
 use Rattle.line_words.proofs.CitedLemmas.{rising-short, rising-more, rising-fewer, IsFirst, alone, followed, first_of, no_first, AreJoined-same}
 use Rattle.line_words.proofs.NumeralLemmas.{number_of, IsWritten-below, IsInteger-from_minus, IsInteger-unique, IsNumber-unique}
 use Rattle.line_words.proofs.ProcapLemmas.{number_of_word, not_given}
@@ -391,30 +391,30 @@ rest_of (Ok x) = x.1
 rest_of (Err e) = []
 
 -- what is read of the bytes of a procap
-read_again : (word bytes : List ℕ) (p : Procap) → IsHex word bytes → IsHeld word p → procap_at (length bytes) bytes ≡ Ok (p, [])
+read_again : (word bytes : List ℕ) (p : Procap) → IsHex word bytes → IsProcapHex word p → procap_at (length bytes) bytes ≡ Ok (p, [])
 read_again word bytes p is h =
     let bytes_are : bytes ≡ procap_spelling p ++ [] = IsHex-same word bytes (procap_spelling p) is h.hex ∙ sym (append-nil (procap_spelling p)) in
     subst (λ b. procap_at (length bytes) b ≡ Ok (p, [])) (sym bytes_are) (procap_codec.again (length bytes) p [] h.spelled)
 
-by_rest : (word bytes : List ℕ) (p : Procap) (rest : List ℕ) → IsHex word bytes → procap_at (length bytes) bytes ≡ Ok (p, rest) → IsDecided (IsHeld word)
+by_rest : (word bytes : List ℕ) (p : Procap) (rest : List ℕ) → IsHex word bytes → procap_at (length bytes) bytes ≡ Ok (p, rest) → IsDecided (IsProcapHex word)
 by_rest word bytes p [] hex is =
     let found = procap_codec.found (length bytes) bytes [] p hex.in_range is in
     inl (p, record { spelled = found.0; hex = subst (IsHex word) (found.1 ∙ append-nil (procap_spelling p)) hex })
 by_rest word bytes p (byte ∷ rest) hex is = inr (λ q h. let never : [] ≡ byte ∷ rest = ap rest_of (sym (read_again word bytes q hex h) ∙ is) in absurd (cc))
 
-by_reading : (word bytes : List ℕ) → IsHex word bytes → (r : Result (Procap × List ℕ) CodecFault) → procap_at (length bytes) bytes ≡ r → IsDecided (IsHeld word)
+by_reading : (word bytes : List ℕ) → IsHex word bytes → (r : Result (Procap × List ℕ) CodecFault) → procap_at (length bytes) bytes ≡ r → IsDecided (IsProcapHex word)
 by_reading word bytes hex (Ok pair) is = by_rest word bytes pair.0 pair.1 hex is
 by_reading word bytes hex (Err e) is = inr (λ q h. let both : ◌≡◌ {A = Result (Procap × List ℕ) CodecFault} (Ok (q, [])) (Err e) = sym (read_again word bytes q hex h) ∙ is in absurd (cc))
 
-held_decided : (word : List ℕ) → IsDecided (IsHeld word)
-held_decided word = elim (hex_decided word) [
+procap_hex_decided : (word : List ℕ) → IsDecided (IsProcapHex word)
+procap_hex_decided word = elim (hex_decided word) [
   | inl one ↦ by_reading word one.0 one.1 (procap_at (length one.0) one.0) refl
   | inr none ↦ inr (λ p h. none (procap_spelling p) h.hex)
 ]
 
 without_sign : (word : List ℕ) → ((rest : List ℕ) → word ≢ codes "@" ++ rest) → IsDecided (IsProcapWord word)
-without_sign word no_sign = elim (held_decided word) [
-  | inl one ↦ inl (Held one.0, held word one.0 one.1)
+without_sign word no_sign = elim (procap_hex_decided word) [
+  | inl one ↦ inl (BySpelling one.0, by_spelling word one.0 one.1)
   | inr none ↦ inr (λ given h. not_given h no_sign none)
 ]
 

@@ -5,7 +5,7 @@ ghost use Rattle.line_words.specs.Kinds.{blank, Sets, IsOutside};
 
 use crate::cited::cited_numbers;
 use crate::kinds::WordKind;
-use crate::named::{data, name, permission, principal, quoted, signed};
+use crate::named::{data, name, permission, principal, quoted_text, signature};
 use crate::numerals::{count, file, issue, long_number, second};
 use crate::procap_word::{ProcapWords, procap_word};
 use bl_syntax::{Bytes, NoMemory, NodeId, Numbers, Perm, Principal, Text};
@@ -103,13 +103,13 @@ impl Arguments {
             WordKind::Len => Ok(put(&mut self.len, long_number(word))),
             WordKind::Most => Ok(put(&mut self.len, count(word))),
             WordKind::Data => Ok(put(&mut self.bytes, data(alloc, word)?)),
-            WordKind::Value => Ok(put(&mut self.value, quoted(word))),
+            WordKind::Value => Ok(put(&mut self.value, quoted_text(word))),
             WordKind::Who => Ok(put(&mut self.who, principal(word))),
             WordKind::Permission => Ok(put(&mut self.perm, permission(word))),
             WordKind::Second => Ok(put(&mut self.second, second(word))),
             WordKind::Issue => Ok(put(&mut self.issue, issue(word))),
             WordKind::Cited => Ok(put(&mut self.cited, cited_numbers(alloc, word)?)),
-            WordKind::Signature => Ok(put(&mut self.signature, signed(alloc, word)?)),
+            WordKind::Signature => Ok(put(&mut self.signature, signature(alloc, word)?)),
             WordKind::Procap => self.add_procap(alloc, word),
         }
     }

@@ -78,7 +78,7 @@ fn is_quote(bytes: &[u8]) -> bool
 }
 
 /// The text constant that the word has between quotes.
-pub fn quoted(word: &[u8]) -> Option<Text>
+pub fn quoted_text(word: &[u8]) -> Option<Text>
     ensures { MatchOption result ((text : List ℕ) → IsQuoted word.now text → ⊥) (IsQuoted word.now) }
 {
     match rest_after(word, b"\"") {
@@ -130,7 +130,7 @@ fn is_dash(word: &[u8]) -> bool
 }
 
 /// What the word gives for a signature: none for the ring's key if it is a `-`, or the signature.
-pub fn signed(alloc: Global, word: &[u8]) -> Result<Option<Option<Bytes>>, NoMemory>
+pub fn signature(alloc: Global, word: &[u8]) -> Result<Option<Option<Bytes>>, NoMemory>
     ensures { IfOk result (λ r. MatchOption r ((given : Option (List ℕ)) → IsSigned word.now given → ⊥) (IsSigned word.now)) }
 {
     if is_dash(word) {

@@ -4,7 +4,7 @@ ghost use Rattle.std.specs.Prelude.{◌≡◌, IfOk, MatchOption};
 ghost use Rattle.procap.specs.declared.procap.Procap.{Procap};
 ghost use Rattle.procap.specs.Procap.{procap_spelling, IsSpellableProcap};
 ghost use Rattle.line_words.specs.declared.procap_word.ProcapWord.{ProcapWord};
-ghost use Rattle.line_words.specs.Procaps.{IsHeld, IsProcapWord};
+ghost use Rattle.line_words.specs.Procaps.{IsProcapHex, IsProcapWord};
 
 use crate::numerals::number;
 use bl_syntax::{CodecFault, NoMemory, Sequence};
@@ -16,7 +16,7 @@ use std::alloc::Global;
 #[derive(Debug, Drop)]
 pub enum ProcapWord {
     /// The procap itself, by its bytes.
-    Held(Procap),
+    Procap(Procap),
     /// The number of its issue.
     Issue(u64),
 }
@@ -38,8 +38,8 @@ fn procap_of(alloc: Global, bytes: &[u8]) -> Result<Option<Procap>, NoMemory>
 }
 
 // The procap whose bytes the word writes.
-fn held(alloc: Global, word: &[u8]) -> Result<Option<Procap>, NoMemory>
-    ensures { IfOk result (λ r. MatchOption r ((p : Procap) → IsHeld word.now p → ⊥) (IsHeld word.now)) }
+fn procap_of_hex(alloc: Global, word: &[u8]) -> Result<Option<Procap>, NoMemory>
+    ensures { IfOk result (λ r. MatchOption r ((p : Procap) → IsProcapHex word.now p → ⊥) (IsProcapHex word.now)) }
 {
     match read_hex(alloc, word)? {
         Some(bytes) => procap_of(alloc, bytes.as_slice()),
@@ -58,8 +58,8 @@ pub fn procap_word(alloc: Global, word: &[u8]) -> Result<Option<ProcapWord>, NoM
             None => Ok(None),
         };
     }
-    match held(alloc, word)? {
-        Some(p) => Ok(Some(ProcapWord::Held(p))),
+    match procap_of_hex(alloc, word)? {
+        Some(p) => Ok(Some(ProcapWord::Procap(p))),
         None => Ok(None),
     }
 }

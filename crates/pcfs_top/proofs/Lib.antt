@@ -1,6 +1,6 @@
 pub mod AllowedLemmas
+pub mod AnsweredLemmas
 pub mod BroughtLemmas
-pub mod EndsWithLemmas
 pub mod ExactLemmas
 pub mod FormedLemmas
 pub mod InterpreterLemmas
@@ -9,5 +9,7 @@ pub mod NoMemoryLemmas
 pub mod OneAnswerLemmas
 pub mod OneOutcomeLemmas
 pub mod OutboxLemmas
+pub mod ScriptEndsLemmas
 pub mod ScriptLemmas
+pub mod StoredLemmas
 pub mod TotalLemmas

@@ -1,6 +1,6 @@
 -- Disks that are read and synced, over plain values.
 use Rattle.std.proofs.Common.{◌≡◌, ◌≤◌, ◌<◌, ◌+◌, ◌-◌, ◌^◌, ◌⊎◌, ℕ, List, refl, sym, ap, ◌∙◌, subst, arith, inl, inr, ⊎_elim, Some, None}
-use Rattle.std.specs.Prelude.{Option, is_some, true, false, Bool}
+use Rattle.std.specs.Prelude.{Option, is_some, true, false, Bool, Result, Ok, Err, OnOk}
 use Rattle.pcfs_ports.specs.Disk.{IsPinned, Idles}
 use Rattle.pcfs_ports.specs.Faults.{HasRisen}
 use Rattle.journal_core.proofs.RestsLemmas.{idle_then_idle, idle_pinned}
@@ -9,6 +9,10 @@ use Rattle.recover.specs.Opening.{IsHandled, IsRead}
 none_told : (told : Option (List ℕ)) → is_some told ≡ false → told ≡ None
 none_told None e = refl
 none_told (Some bytes) e = absurd cc
+
+pub on_ok_weaker : {A E : Type 0} (P Q : Type 0) (r : Result A E) → (P → Q) → OnOk r P → OnOk r Q
+on_ok_weaker P Q (Ok x) weaker holds = weaker holds
+on_ok_weaker P Q (Err x) weaker holds = tt
 
 -- a count that rose and then did not fall has risen, and so has one that did not fall before it rose
 pub risen_then : (a b c : ℕ) → HasRisen a b → b ≤ c → HasRisen a c

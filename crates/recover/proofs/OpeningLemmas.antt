@@ -1,6 +1,6 @@
 -- What an opening finds and reports, over plain values.
-use Rattle.std.proofs.Common.{◌≡◌, ◌≢◌, ◌≤◌, ◌<◌, ◌+◌, ◌⊎◌, ℕ, List, length, refl, sym, ap, subst, ◌∙◌, arith, inl, inr, ⊎_elim, Some, None, IfSome}
-use Rattle.std.specs.Prelude.{Option, Bool, true, false, nat_lt, if◌then◌else◌, is_some}
+use Rattle.std.proofs.Common.{◌≡◌, ◌≢◌, ◌≤◌, ◌<◌, ◌+◌, ◌⊎◌, ℕ, List, [], ◌∷◌, length, get_or, refl, sym, ap, subst, ◌∙◌, arith, tests, inl, inr, ⊎_elim, cond, Some, None, IfSome}
+use Rattle.std.specs.Prelude.{Option, Bool, true, false, nat_eq, nat_lt, is_some}
 use Rattle.std.specs.Option.{option_map}
 use Rattle.std.specs.List.{AllByRecursion}
 use Rattle.std.proofs.lemmas.Bool.{cases_lt}
@@ -87,8 +87,12 @@ newest_second : (x y : List ℕ) → Some true ≡ newer (generation_of x) (gene
 newest_second x y is = sym (ap (option_map (one_of x y)) is)
 
 -- an area that is not open has no generation
+none_if : (b : Bool) (x : Option ℕ) → b ≡ false → cond b x None ≡ None
+none_if true x is = absurd cc
+none_if false x is = refl
+
 shut_none : (bytes : List ℕ) → IsShut bytes → generation_of bytes ≡ None
-shut_none bytes shut = ?
+shut_none bytes shut = let other : nat_eq (get_or bytes 0 0) 1 ≡ false = search (tests, shut) in none_if (nat_eq (get_or bytes 0 0) 1) _ other
 
 first_open : (first second : Option ℕ) → newer first second ≡ Some false → first ≡ None → ⊥
 first_open None None newer_is none = absurd cc

@@ -10,17 +10,22 @@ use Rattle.access_history.specs.Base.{BaseView}
 use Rattle.access_history.specs.History.{HistoryView, authority_of, authority_with}
 use Rattle.access_history.specs.Lawful.{IsLawful}
 use Rattle.access_history.specs.Replay.{fresh, replay}
-use Rattle.access_history.proofs.ListLemmas.{AllByRecursion-push}
+use Rattle.bl_syntax.proofs.GrantLemmas.{AllByRecursion-push}
+use Rattle.bl_syntax.specs.declared.codec_fault.CodecFault.{CodecFault}
+use Rattle.bl_syntax.specs.declared.codec_fault.CodecFault.TheVariants as codec
+use Rattle.journal_records.specs.EventReading.{ReadsWholeEvent}
 use Rattle.journal_records.specs.EventSpelling.{event_spelling, IsReadEvent}
 use Rattle.op_gate.specs.declared.damage.Damage.{Damage}
 use Rattle.op_gate.specs.declared.damage.AdmitFault.{AdmitFault}
 use Rattle.op_gate.specs.declared.damage.AdmitFault.TheVariants.{Damaged, NoMemory}
 use Rattle.op_gate.specs.Damage.{TellsDamage}
 use Rattle.op_gate.specs.Decision.{GateView}
+use Rattle.pcfs_store.specs.Image.{fresh_image}
 use Rattle.pcfs_store.specs.StoredHistory.{payloads_of}
 use Rattle.recover.specs.declared.fault.OpenFault.{OpenFault}
-use Rattle.recover.specs.AreaDamage.{AreRead, IsDamagedPayload, of_event, IsDamagedAt}
-use Rattle.recover.specs.Reading.{IsSameGate, KeepsPayload, AdmitsPayload, AdmitsPayloads, fault_at}
+use Rattle.recover.specs.declared.fault.OpenFault.TheVariants as opens
+use Rattle.recover.specs.AreaDamage.{AreRead, IsDamagedPayload, no_event, of_event, IsDamagedAt}
+use Rattle.recover.specs.Reading.{IsSameGate, KeepsPayload, AdmitsPayload, AdmitsPayloads, HasDamage, fault_at, unread}
 
 -- what became of a payload that is the spelling of an event
 pub admitted : (old new : GateView) (payload : List ℕ) (event : Event) (told : Result (Unit {0}) AdmitFault) → IsReadEvent event → payload ≡ event_spelling event →
@@ -28,6 +33,14 @@ pub admitted : (old new : GateView) (payload : List ℕ) (event : Event) (told :
 admitted old new payload event (Ok done) read spelled tells kept left = record { event = event; read = read; spelled = spelled; kept = kept }
 admitted old new payload event (Err (Damaged damage)) read spelled tells kept left = (of_event event damage read spelled tells, left)
 admitted old new payload event (Err NoMemory) read spelled tells kept left = tt
+
+-- what became of a payload that is the spelling of no event
+pub not_read : (old new : GateView) (payload : List ℕ) (fault : CodecFault) → ReadsWholeEvent payload (Err fault) → new.events ≡ old.events → AdmitsPayload old payload (Err (unread fault)) new
+not_read old new payload codec.Short reads left = (no_event (reads.refused (λ e. cc)), left)
+not_read old new payload (codec.BadTag at) reads left = (no_event (reads.refused (λ e. cc)), left)
+not_read old new payload (codec.NotCanonical at) reads left = (no_event (reads.refused (λ e. cc)), left)
+not_read old new payload (codec.TooLarge at) reads left = (no_event (reads.refused (λ e. cc)), left)
+not_read old new payload codec.NoMemory reads left = tt
 
 -- gates that are the same are the same as a third
 pub same_gate : (first second third : GateView) → IsSameGate first second → IsSameGate second third → IsSameGate first third
@@ -48,7 +61,7 @@ read_more payloads place old new payload within is read keeps = record {
 
 -- all payloads
 pub read_all : (payloads : List (List ℕ)) (place : ℕ) (events : List Event) → length payloads ≤ place → AreRead (take place payloads) events → AreRead payloads events
-read_all payloads place events all read = subst (λ (ps : List (List ℕ)). AreRead ps events) (take_all payloads place all) read
+read_all payloads place events all read = subst (λ (ps : List (List ℕ)). AreRead ps events) (take_all place payloads all) read
 
 -- the history of a gate is lawful
 pub lawful_gate : (history : HistoryView) (gate : GateView) (key : List ℕ) (ring : List KeyView) → history.key ≡ gate.key → history.ring ≡ gate.ring → history.base ≡ gate.base → history.events ≡ gate.events →
@@ -84,3 +97,10 @@ fault_there payloads place old new payload key ring (Damaged damage) events with
     (subst (λ (r : List KeyView). IsDamagedPayload (authority_with key r) (replay old.base old.events) payload damage) ring_is
     (subst (λ (k : List ℕ). IsDamagedPayload (authority_with k old.ring) (replay old.base old.events) payload damage) key_is admits.0)))
 fault_there payloads place old new payload key ring NoMemory events within is read key_is ring_is base_is lawful admits = tt
+
+-- what is wrong with the payloads after a right image
+pub payloads_damaged : (authority : Authority) (image : List ℕ) (payloads : List (List ℕ)) (fault : OpenFault) (events : List Event) → image ≡ fresh_image → AdmitsPayloads authority payloads (Err fault) events → HasDamage authority image payloads fault
+payloads_damaged authority image payloads opens.NoStore events is admits = absurd admits
+payloads_damaged authority image payloads (opens.Damaged number damage) events is admits = inr (is, admits)
+payloads_damaged authority image payloads opens.Disk events is admits = absurd admits
+payloads_damaged authority image payloads opens.NoMemory events is admits = tt

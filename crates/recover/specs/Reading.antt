@@ -1,5 +1,7 @@
 -- What is found of the image and the payloads of an area (this project's own).
 use Rattle.std.specs.Prelude.{◌≡◌, ◌⊎◌, ℕ, List, [], ◌∷◌, ◌++◌, None, Result, Ok, Err}
+use Rattle.bl_syntax.specs.declared.codec_fault.CodecFault.{CodecFault}
+use Rattle.bl_syntax.specs.declared.codec_fault.CodecFault.TheVariants as codec
 use Rattle.policy_statement.specs.Ring.{KeyView}
 use Rattle.access_history.specs.declared.event.Event.{Event}
 use Rattle.access_history.specs.Authority.{Authority}
@@ -53,6 +55,14 @@ pub record HoldsHistory (key : List ℕ) (ring : List KeyView) (image : List ℕ
   pub image_is : image ≡ fresh_image
   pub read : AreRead payloads gate.events
   pub lawful : IsLawful (authority_with key ring) fresh gate.events
+
+-- a fault of reading the event of a payload
+abbrev pub unread : CodecFault → AdmitFault
+unread codec.Short = admits.Damaged Shape
+unread (codec.BadTag at) = admits.Damaged Shape
+unread (codec.NotCanonical at) = admits.Damaged Shape
+unread (codec.TooLarge at) = admits.Damaged Shape
+unread codec.NoMemory = admits.NoMemory
 
 -- a fault of the record of that number
 abbrev pub fault_at : ℕ → AdmitFault → OpenFault

@@ -3,7 +3,7 @@
 ghost use Rattle.std.specs.Prelude.{◌≡◌, ◌<◌, [], IfErr, IfOk, length};
 ghost use Rattle.access_history.specs.History.{authority_with};
 ghost use Rattle.access_history.specs.Replay.{fresh};
-ghost use Rattle.recover.specs.Reading.{AdmitsPayload, AdmitsPayloads, HasDamage, HoldsHistory, IsSameGate, fault_at};
+ghost use Rattle.recover.specs.Reading.{AdmitsPayload, AdmitsPayloads, HasDamage, HoldsHistory, IsSameGate, fault_at, unread};
 
 use crate::fault::OpenFault;
 use bl_syntax::CodecFault;
@@ -14,6 +14,16 @@ use pcfs_store::FRESH_IMAGE;
 use policy_statement::Keyring;
 use std::alloc::Global;
 
+// A fault of reading the event of a payload.
+fn unread(fault: CodecFault) -> AdmitFault
+    ensures { result ≡ unread fault }
+{
+    match fault {
+        CodecFault::NoMemory => AdmitFault::NoMemory,
+        _ => AdmitFault::Damaged(Damage::Shape),
+    }
+}
+
 // Keeps the event of a payload, exactly if it may come next.
 fn admit_payload(alloc: Global, gate: &mut Gate, payload: &[u8]) -> Result<(), AdmitFault>
     ensures same { IsSameGate gate.old gate.new }
@@ -21,13 +31,9 @@ fn admit_payload(alloc: Global, gate: &mut Gate, payload: &[u8]) -> Result<(), A
 {
     match read_event(alloc, payload) {
         Ok(event) => gate.admit_event(alloc, event),
-        Err(CodecFault::NoMemory) => {
+        Err(fault) => {
             gate.forget();
-            Err(AdmitFault::NoMemory)
-        }
-        Err(_) => {
-            gate.forget();
-            Err(AdmitFault::Damaged(Damage::Shape))
+            Err(unread(fault))
         }
     }
 }
