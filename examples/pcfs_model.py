@@ -515,7 +515,7 @@ def second(word):
 
 def issue(word):
     need(word != "0")
-    return number(word, 2**32)
+    return number(word, 2**64)
 
 
 def cited(word):
@@ -529,7 +529,7 @@ def signature(word):
 
 
 def procap(word):
-    return number(word[1:], 2**32) if word[:1] == "@" else read_procap(hexadecimal(word, 32768))
+    return number(word[1:], 2**64) if word[:1] == "@" else read_procap(hexadecimal(word, 32768))
 
 
 # for each operation the kinds of its words and the number of its procaps

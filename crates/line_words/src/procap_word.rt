@@ -6,7 +6,7 @@ ghost use Rattle.procap.specs.Procap.{procap_spelling, IsSpellableProcap};
 ghost use Rattle.line_words.specs.declared.procap_word.ProcapWord.{ProcapWord};
 ghost use Rattle.line_words.specs.Procaps.{IsProcapHex, IsProcapWord};
 
-use crate::numerals::number;
+use crate::numerals::long_number;
 use bl_syntax::{CodecFault, NoMemory, Sequence};
 use line_text::{read_hex, rest_after};
 use procap::{Procap, read_procap};
@@ -37,8 +37,8 @@ fn procap_of(alloc: Global, bytes: &[u8]) -> Result<Option<Procap>, NoMemory>
     }
 }
 
-// The procap whose bytes the word writes.
-fn procap_of_hex(alloc: Global, word: &[u8]) -> Result<Option<Procap>, NoMemory>
+/// The procap whose bytes the word writes in hexadecimal.
+pub fn procap_of_hex(alloc: Global, word: &[u8]) -> Result<Option<Procap>, NoMemory>
     ensures { IfOk result (λ r. MatchOption r ((p : Procap) → IsProcapHex word.now p → ⊥) (IsProcapHex word.now)) }
 {
     match read_hex(alloc, word)? {
@@ -53,8 +53,8 @@ pub fn procap_word(alloc: Global, word: &[u8]) -> Result<Option<ProcapWord>, NoM
     ensures { IfOk result (λ r. MatchOption r ((given : ProcapWord) → IsProcapWord word.now given → ⊥) (IsProcapWord word.now)) }
 {
     if let Some(digits) = rest_after(word, b"@") {
-        return match number(digits) {
-            Some(number) => Ok(Some(ProcapWord::Issue(u64::from(number)))),
+        return match long_number(digits) {
+            Some(number) => Ok(Some(ProcapWord::Issue(number))),
             None => Ok(None),
         };
     }

@@ -58,17 +58,17 @@ fresh_over secrets s new =
 -- ---- a last line
 
 told_as : (words : List (String Global)) (secrets : Secrets) (at_rest : Type 0) (before after : Ports) (status : ℕ) (line : List ℕ) (result : ℕ) → HasCause secrets words at_rest before.disks after.disks status line → after.streams.left ≡ before.streams.left →
-    IsTold status line before.streams result after.streams → EndsWith secrets words at_rest before after result
+    IsTold status line before.streams.held before.streams.write_faults result after.streams.held after.streams.write_faults → EndsWith secrets words at_rest before after result
 told_as words secrets at_rest before after status line result cause left (inl told) = subst (EndsWith secrets words at_rest before after) (sym told.0) (run.told status line cause left told.1)
 told_as words secrets at_rest before after status line result cause left (inr failed) = subst (EndsWith secrets words at_rest before after) (sym failed.0) (run.cut_short status line cause left failed.1 failed.2)
 
 untold_as : (words : List (String Global)) (secrets : Secrets) (at_rest : Type 0) (before after : Ports) (result : ℕ) → (IsScript words → ⊥) → AreKnown words → AreBytesKept before.disks after.disks → after.streams.left ≡ before.streams.left →
-    IsUntold before.streams result after.streams → EndsWith secrets words at_rest before after result
-untold_as words secrets at_rest before after result no known kept left untold = subst (EndsWith secrets words at_rest before after) (sym untold.0) (run.out_of_memory no known kept left untold.1)
+    IsUntold before.streams.held result after.streams.held → EndsWith secrets words at_rest before after result
+untold_as words secrets at_rest before after result other known kept left untold = subst (EndsWith secrets words at_rest before after) (sym untold.0) (run.out_of_memory other known kept left untold.1)
 
 -- the words are no command
 pub EndsWith-usage : (words : List (String Global)) (secrets : Secrets) (at_rest : Type 0) (before after : Ports) (result : ℕ) → (AreKnown words → ⊥) → after.disks ≡ before.disks → after.streams.left ≡ before.streams.left →
-    IsTold 1 (codes "usage") before.streams result after.streams → EndsWith secrets words at_rest before after result
+    IsTold 1 (codes "usage") before.streams.held before.streams.write_faults result after.streams.held after.streams.write_faults → EndsWith secrets words at_rest before after result
 EndsWith-usage words secrets at_rest before after result unknown same left told = told_as words secrets at_rest before after 1 (codes "usage") result (run.usage unknown same) left told
 
 -- ---- words
@@ -132,7 +132,7 @@ module _ {D : Type 0} (clock : D → ℕ) (left_since : D → ℕ → List ℕ �
 
     pub EndsWith-made : (before after : Streams) (result : ℕ) (s : StoreView D) (a' b' : D) → IsNewStore secrets.seal_key secrets.ring s →
         ((first second : List ℕ) → image a ≡ Some first → image b ≡ Some second → IsReady clock left_since image s) → ((first second : List ℕ) → image a ≡ Some first → image b ≡ Some second → IsShut first × IsShut second) → image s.other ≡ image b →
-        a' ≡ first_disk s → b' ≡ second_disk s → after.left ≡ before.left → IsTold 0 (codes "ok") before result after →
+        a' ≡ first_disk s → b' ≡ second_disk s → after.left ≡ before.left → IsTold 0 (codes "ok") before.held before.write_faults result after.held after.write_faults →
         EndsWith secrets words (AtRest a b) (record { streams = before; disks = disks_of a b }) (record { streams = after; disks = disks_of a' b' }) result
     EndsWith-made before after result s a' b' new ready shut b_same a_is b_is left tells =
         told_as words secrets (AtRest a b) (record { streams = before; disks = disks_of a b }) (record { streams = after; disks = disks_of a' b' }) 0 (codes "ok") result
@@ -143,7 +143,7 @@ module _ {D : Type 0} (clock : D → ℕ) (left_since : D → ℕ → List ℕ �
 
     pub EndsWith-unmade : (before after : Streams) (result : ℕ) (fault : FormatFault) (a' b' : D) →
         (fault ≡ formats.AlreadyStore → (first second : List ℕ) → image a ≡ Some first → image b ≡ Some second → IsShut first × IsShut second → ⊥) → ((fault ≡ formats.Disk → ⊥) → (image a' ≡ image a) × (image b' ≡ image b)) →
-        (fault ≡ formats.Disk → HasRisen (faults a) (faults a') ⊎ HasRisen (faults b) (faults b')) → after.left ≡ before.left → TellsUnmade fault before result after →
+        (fault ≡ formats.Disk → HasRisen (faults a) (faults a') ⊎ HasRisen (faults b) (faults b')) → after.left ≡ before.left → TellsUnmade fault before.held before.write_faults result after.held after.write_faults →
         EndsWith secrets words (AtRest a b) (record { streams = before; disks = disks_of a b }) (record { streams = after; disks = disks_of a' b' }) result
     EndsWith-unmade before after result formats.AlreadyStore a' b' already same risen left tells =
         told_as words secrets (AtRest a b) (record { streams = before; disks = disks_of a b }) (record { streams = after; disks = disks_of a' b' }) 10 (codes "exists") result
@@ -160,11 +160,17 @@ module _ {D : Type 0} (clock : D → ℕ) (left_since : D → ℕ → List ℕ �
 
   -- ---- a store that is opened
 
+  -- where the script begins
+  pub opened_start : (secrets : Secrets) (a b : D) (s : StoreView D) → opening.IsOpened clock left_since image faults a b secrets.seal_key secrets.ring s → IsLawfulStanding (standing_over s None (first_asker script_pass))
+  opened_start secrets a b s opened =
+      lawful_start s (subst (λ (k : List ℕ). IsLawful (authority_with k s.ring) s.base s.events) (sym opened.key_is)
+      (subst (λ (r : List KeyView). IsLawful (authority_with secrets.seal_key r) s.base s.events) (sym opened.ring_is) opened.lawful))
+
   module _ (words : List (String Global)) (secrets : Secrets) (a b : D) (is : IsStored words) where
     same_bytes : (fault : OpenFault) (a' b' : D) → (fault ≡ opens.Disk → ⊥) → IsNotOpened clock left_since image faults a b (authority_with secrets.seal_key secrets.ring) fault a' b' → AreBytesKept (disks_of a b) (disks_of a' b')
     same_bytes fault a' b' not_disk n = record { a_stays = n.first_same not_disk; b_stays = n.second_same not_disk }
 
-    pub EndsWith-unopened : (before after : Streams) (result : ℕ) (fault : OpenFault) (a' b' : D) → IsNotOpened clock left_since image faults a b (authority_with secrets.seal_key secrets.ring) fault a' b' → after.left ≡ before.left → TellsUnopened fault before result after →
+    pub EndsWith-unopened : (before after : Streams) (result : ℕ) (fault : OpenFault) (a' b' : D) → IsNotOpened clock left_since image faults a b (authority_with secrets.seal_key secrets.ring) fault a' b' → after.left ≡ before.left → TellsUnopened fault before.held before.write_faults result after.held after.write_faults →
         EndsWith secrets words (AtRest a b) (record { streams = before; disks = disks_of a b }) (record { streams = after; disks = disks_of a' b' }) result
     EndsWith-unopened before after result opens.NoStore a' b' n left tells =
         told_as words secrets (AtRest a b) (record { streams = before; disks = disks_of a b }) (record { streams = after; disks = disks_of a' b' }) 4 (codes "nostore") result
@@ -184,18 +190,12 @@ module _ {D : Type 0} (clock : D → ℕ) (left_since : D → ℕ → List ℕ �
     EndsWith-unread before after left held =
         untold_as words secrets (AtRest a b) (record { streams = before; disks = disks_of a b }) (record { streams = after; disks = disks_of a b }) 9 (not_script words is) (run.is_stored is) (record { a_stays = refl; b_stays = refl }) left (refl, held)
 
-    -- where the script begins
-    pub opened_start : (s : StoreView D) → opening.IsOpened clock left_since image faults a b secrets.seal_key secrets.ring s → IsLawfulStanding (standing_over s None (first_asker script_pass))
-    opened_start s opened =
-        lawful_start s (subst (λ (k : List ℕ). IsLawful (authority_with k s.ring) s.base s.events) (sym opened.key_is)
-        (subst (λ (r : List KeyView). IsLawful (authority_with secrets.seal_key r) s.base s.events) (sym opened.ring_is) opened.lawful))
-
     is_opened : (s : StoreView D) → IsStore s → opening.IsOpened clock left_since image faults a b secrets.seal_key secrets.ring s → IsOpened secrets s.generation (disks_of a b) (standing_over s None (first_asker script_pass))
     is_opened s store opened = record {
       secrets_are = ap (λ (k : List ℕ). secrets_of k s.ring) opened.key_is ∙ ap (λ (r : List KeyView). secrets_of secrets.seal_key r) opened.ring_is;
       asker_is = refl;
       running = refl;
-      lawful = opened_start s opened;
+      lawful = opened_start secrets a b s opened;
       base_is = opened.base_is;
       used_is = store.used_is;
       found = opened.newest_history;

@@ -1,6 +1,7 @@
 pub mod AllowedLemmas
 pub mod AnsweredLemmas
 pub mod BroughtLemmas
+pub mod EndsWithLemmas
 pub mod ExactLemmas
 pub mod FormedLemmas
 pub mod InterpreterLemmas
@@ -13,3 +14,4 @@ pub mod ScriptEndsLemmas
 pub mod ScriptLemmas
 pub mod StoredLemmas
 pub mod TotalLemmas
+pub mod WordsLemmas

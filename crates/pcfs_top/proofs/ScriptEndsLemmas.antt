@@ -10,7 +10,9 @@ use Rattle.pcfs_top.specs.InterpreterView.{InterpreterView, standing_of}
 use Rattle.pcfs_top.specs.Ports.{Streams}
 use Rattle.pcfs_top.specs.ScriptEnds.{RunsOver, RunsPart, AreTaken, HasAnswered, ScriptWrites, ScriptEnds, with_line_end}
 use Rattle.pcfs_top.specs.ScriptEnds as ends
-use Rattle.pcfs_top.specs.ScriptRun.{Standing, IsLawfulStanding}
+use Rattle.pcfs_secrets.specs.declared.secrets.Secrets.{Secrets}
+use Rattle.pcfs_top.specs.ScriptRun.{Standing, IsLawfulStanding, fresh_start}
+use Rattle.pcfs_top.proofs.LawfulRunLemmas.{IsLawfulStanding-fresh}
 use Rattle.pcfs_top.specs.Stored.{StoreGoesOn, AnswersAll, AnswersInput}
 use Rattle.pcfs_top.specs.declared.script.ScriptFault.{ScriptFault}
 use Rattle.pcfs_top.specs.declared.script.ScriptFault.TheVariants.{Write, NoMemory, Stopped}
@@ -29,6 +31,10 @@ some_taken : (old new : Option (List ℕ)) → TakesSome old new → AreSome old
 some_taken None new some = record { bytes = []; taken = ap (with_front []) (sym some.taken.rest) }
 some_taken (Some left) new some =
     record { bytes = take some.count left; taken = ap Some (sym (take-append-drop some.count left)) ∙ ap (with_front (take some.count left)) (sym some.taken.rest) }
+
+none_taken : (left : Option (List ℕ)) → left ≡ with_front [] left
+none_taken None = refl
+none_taken (Some left) = refl
 
 -- no line of what was taken was answered
 AreTaken-none : (before after : Streams) → TakesSome before.left after.left → AreTaken before after []
@@ -60,6 +66,12 @@ module _ (start : Standing) (stands : IsLawfulStanding start) (before after : St
   pub ScriptEnds-unread : TakesSome before.left after.left → after.held ≡ before.held → ScriptEnds start start before after 9
   ScriptEnds-unread some same =
       ends.out_of_memory [] (ends.while_reading [] (AreTaken-none before after some) (RunsOver-none start stands)) (record { count = 0; within = omega arith; held = same ∙ with_back-nil before.held })
+
+-- memory ran out before anything was taken
+pub ScriptEnds-unbegun : (secrets : Secrets) (before after : Streams) → after.left ≡ before.left → after.held ≡ before.held → ScriptEnds (fresh_start secrets) (fresh_start secrets) before after 9
+ScriptEnds-unbegun secrets before after left held =
+    ends.out_of_memory [] (ends.while_reading [] (record { rest = []; are_lines = refl; taken = none_taken before.left ∙ ap (with_front []) (sym left) }) (RunsOver-none (fresh_start secrets) (IsLawfulStanding-fresh secrets)))
+    (record { count = 0; within = omega arith; held = held ∙ with_back-nil before.held })
 
 -- ---- over a store
 

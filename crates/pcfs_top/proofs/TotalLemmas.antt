@@ -1,5 +1,5 @@
 -- Each line has an answer, and the lines of a script have an outcome.
-use Rattle.std.proofs.Common.{◌≡◌, ◌⊎◌, inl, inr, ◌+◌, ◌-◌, ◌^◌, ◌≤◌, ◌<◌, ℕ, List, [], ◌∷◌, ◌++◌, Option, Some, None, Result, Ok, Err, refl, ap, arith}
+use Rattle.std.proofs.Common.{◌≡◌, ◌⊎◌, inl, inr, ◌+◌, ◌-◌, ◌^◌, ◌≤◌, ◌<◌, ℕ, List, [], ◌∷◌, ◌++◌, Option, Some, None, length, Result, Ok, Err, refl, ap, arith}
 use Rattle.std.specs.Prelude.{◌≢◌}
 use Rattle.std.proofs.lemmas.Bool.{cases_lt}
 use Rattle.journal_core.specs.Area.{area_limit}
@@ -44,7 +44,7 @@ use Rattle.pcfs_top.specs.Proved.{IsUnproved, cites_none, proves_none, IsProved}
 use Rattle.pcfs_top.specs.LineAnswer.{authority_under, signature_under, Look, replied, requested, ComesTo, AnswersCommand, at_once, decided, AnswersLine, faulty, asks}
 use Rattle.pcfs_top.specs.LineAnswer as line_answer
 use Rattle.pcfs_store.specs.StoredHistory.{IsFull}
-use Rattle.pcfs_top.specs.Room.{used_with}
+use Rattle.journal_records.specs.EventSpelling.{event_spelling}
 use Rattle.pcfs_top.specs.ScriptRun.{Standing, state_of_standing, standing_after, IsLawfulStanding, HasRoom, Becomes, kept, full, IsReplied, answered, ScriptRun, ended, one_more, IsUndisturbed, AreUndisturbed}
 use Rattle.pcfs_top.proofs.FormedLemmas.{IsWellFormed-line}
 use Rattle.pcfs_top.proofs.LawfulRunLemmas.{IsLawfulStanding-replied}
@@ -221,11 +221,11 @@ record GoesWell (s : Standing) (told : LineReply) (asker : Asker) (event : Optio
   calm : IsUndisturbed reply
   going : after.met ≡ None
 
-within : (s : Standing) (event : Event) → (area_limit < used_with s.used event + 1 → ⊥) → (2 ^ 48 - 1 ≤ (state_of_standing s).count → ⊥) → IsFull s.used (state_of_standing s).count event → ⊥
+within : (s : Standing) (event : Event) → (area_limit < s.used + length (event_spelling event) + 6 → ⊥) → (2 ^ 48 - 1 ≤ (state_of_standing s).count → ⊥) → IsFull s.used (state_of_standing s).count event → ⊥
 within s event fits numbered (inl long) = fits long
 within s event fits numbered (inr many) = numbered many
 
-full_or_not : (s : Standing) (event : Event) → (area_limit < used_with s.used event + 1) ⊎ (used_with s.used event + 1 ≤ area_limit) → ((state_of_standing s).count < 2 ^ 48 - 1) ⊎ (2 ^ 48 - 1 ≤ (state_of_standing s).count) →
+full_or_not : (s : Standing) (event : Event) → (area_limit < s.used + length (event_spelling event) + 6) ⊎ (s.used + length (event_spelling event) + 6 ≤ area_limit) → ((state_of_standing s).count < 2 ^ 48 - 1) ⊎ (2 ^ 48 - 1 ≤ (state_of_standing s).count) →
     IsFull s.used (state_of_standing s).count event ⊎ HasRoom s (Some event)
 full_or_not s event (inl long) numbers = inl (inl long)
 full_or_not s event (inr short) (inr many) = inl (inr many)
@@ -240,7 +240,7 @@ event_goes s told asker event going calm (inr room) = record { reply = told; aft
 
 goes_well : (s : Standing) (told : LineReply) (asker : Asker) (event : Option Event) → s.met ≡ None → IsUndisturbed told → GoesWell s told asker event
 goes_well s told asker None going calm = record { reply = told; after = standing_after s None asker; becomes = kept None tt; calm = calm; going = going }
-goes_well s told asker (Some event) going calm = event_goes s told asker event going calm (full_or_not s event (cases_lt area_limit (used_with s.used event + 1)) (cases_lt (state_of_standing s).count (2 ^ 48 - 1)))
+goes_well s told asker (Some event) going calm = event_goes s told asker event going calm (full_or_not s event (cases_lt area_limit (s.used + length (event_spelling event) + 6)) (cases_lt (state_of_standing s).count (2 ^ 48 - 1)))
 
 -- a run that does not run out of memory, and meets no fault of a disk
 pub has_outcome : (start : Standing) (lines : List (List ℕ)) → IsLawfulStanding start → start.met ≡ None → (told : List LineReply) × (end : Standing) × ScriptRun start lines told end × AreUndisturbed told

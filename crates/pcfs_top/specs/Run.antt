@@ -1,5 +1,5 @@
 -- How a run of the program ends: its status, what it took, what it wrote, and what it leaves on its disks. If a port does not tell its bytes, nothing is said of them (this project's own).
-use Rattle.std.specs.Prelude.{◌≡◌, ◌⊎◌, ℕ, List, [], ◌∷◌, ◌++◌, String, map, codes, length, Some, None, IfSome}
+use Rattle.std.specs.Prelude.{◌≡◌, ◌⊎◌, ℕ, List, [], ◌∷◌, ◌++◌, String, map, codes, length, Option, Some, None, IfSome}
 use Rattle.std.specs.Fmt.{decimal}
 use Rattle.std.specs.String.{string_bytes}
 use Rattle.std.specs.declared.alloc.Global.{Global}
@@ -94,28 +94,27 @@ pub data HasCause (secrets : Secrets) (words : List (String Global)) (at_rest : 
   damaged : (number : ℕ) (damage : Damage) → IsStored words → IfTold before (IsNewestDamaged (authority_under secrets) number damage) → AreBytesKept before after → HasCause secrets words at_rest before after 3 (damaged_text number damage)
   not_opened : IsStored words → HasDiskFailed before after → (at_rest → AreBytesKept before after) → HasCause secrets words at_rest before after 5 (codes "stopped")
 
--- a last line was written, and the run ends with this status; or the output failed, and holds some first part of it
-abbrev pub IsTold : ℕ → List ℕ → Streams → ℕ → Streams → Type 0
-IsTold status line before result after =
-    ((result ≡ status) × (after.held ≡ with_back before.held (with_line_end line)))
-    ⊎ ((result ≡ 7) × HasRisen before.write_faults after.write_faults × HoldsSome before.held after.held (with_line_end line))
+-- a last line was written, and the run ends with this status; or the output failed, and holds some first part of it. `held` and `faults` are what the output held and the count of its faults
+abbrev pub IsTold : ℕ → List ℕ → Option (List ℕ) → ℕ → ℕ → Option (List ℕ) → ℕ → Type 0
+IsTold status line held faults result held_after faults_after =
+    ((result ≡ status) × (held_after ≡ with_back held (with_line_end line))) ⊎ ((result ≡ 7) × HasRisen faults faults_after × HoldsSome held held_after (with_line_end line))
 
 -- memory ran out, and nothing was written
-abbrev pub IsUntold : Streams → ℕ → Streams → Type 0
-IsUntold before result after = (result ≡ 9) × (after.held ≡ before.held)
+abbrev pub IsUntold : Option (List ℕ) → ℕ → Option (List ℕ) → Type 0
+IsUntold held result held_after = (result ≡ 9) × (held_after ≡ held)
 
 -- what is told of why no store was opened
-abbrev pub TellsUnopened : OpenFault → Streams → ℕ → Streams → Type 0
-TellsUnopened opens.NoStore before result after = IsTold 4 (codes "nostore") before result after
-TellsUnopened (opens.Damaged number damage) before result after = IsTold 3 (damaged_text number damage) before result after ⊎ IsUntold before result after
-TellsUnopened opens.Disk before result after = IsTold 5 (codes "stopped") before result after
-TellsUnopened opens.NoMemory before result after = IsUntold before result after
+abbrev pub TellsUnopened : OpenFault → Option (List ℕ) → ℕ → ℕ → Option (List ℕ) → ℕ → Type 0
+TellsUnopened opens.NoStore held faults result held_after faults_after = IsTold 4 (codes "nostore") held faults result held_after faults_after
+TellsUnopened (opens.Damaged number damage) held faults result held_after faults_after = IsTold 3 (damaged_text number damage) held faults result held_after faults_after ⊎ IsUntold held result held_after
+TellsUnopened opens.Disk held faults result held_after faults_after = IsTold 5 (codes "stopped") held faults result held_after faults_after
+TellsUnopened opens.NoMemory held faults result held_after faults_after = IsUntold held result held_after
 
 -- what is told of why no store was made
-abbrev pub TellsUnmade : FormatFault → Streams → ℕ → Streams → Type 0
-TellsUnmade formats.AlreadyStore before result after = IsTold 10 (codes "exists") before result after
-TellsUnmade formats.Disk before result after = IsTold 5 (codes "stopped") before result after
-TellsUnmade formats.NoMemory before result after = IsUntold before result after
+abbrev pub TellsUnmade : FormatFault → Option (List ℕ) → ℕ → ℕ → Option (List ℕ) → ℕ → Type 0
+TellsUnmade formats.AlreadyStore held faults result held_after faults_after = IsTold 10 (codes "exists") held faults result held_after faults_after
+TellsUnmade formats.Disk held faults result held_after faults_after = IsTold 5 (codes "stopped") held faults result held_after faults_after
+TellsUnmade formats.NoMemory held faults result held_after faults_after = IsUntold held result held_after
 
 -- The status that a run ends with, and its cause. A script in memory ends as its lines say, and leaves the disks alone; its own disks are in memory, and fail only if memory runs out. A script over the areas
 -- begins where they stand. Any other run writes its line, or the output failed and holds some first part of it. Memory may run out before a store is made or opened, and then nothing changes.

@@ -1,6 +1,6 @@
 //! A run of the program: its words, its input and its output and its disks, and the status that it ends with.
 
-ghost use Rattle.std.specs.Prelude.{◌≡◌, ◌⊎◌, ℕ, List, Option, String, None, IfOk};
+ghost use Rattle.std.specs.Prelude.{◌≡◌, ◌⊎◌, ℕ, List, Option, String, IfOk};
 ghost use Rattle.std.specs.declared.alloc.Global.{Global};
 ghost use Rattle.pcfs_ports.specs.Disk.{IsPinned};
 ghost use Rattle.pcfs_store.specs.Formats.{IsNewStore};
@@ -115,9 +115,7 @@ fn damaged_line(alloc: Global, record_number: u64, damage: Damage) -> Result<Byt
 
 // Writes the line that reports the damage of a record, and returns the status to end with.
 fn tell_damage<O: Sink>(alloc: Global, output: &mut O, record_number: u64, damage: Damage) -> u8
-    ensures { TellsUnopened (OpenFault.Damaged record_number damage)
-        (record { left = None; read_faults = 0; held = O.held output.old; write_faults = O.faults output.old }) result
-        (record { left = None; read_faults = 0; held = O.held output.new; write_faults = O.faults output.new }) }
+    ensures { TellsUnopened (OpenFault.Damaged record_number damage) (O.held output.old) (O.faults output.old) result (O.held output.new) (O.faults output.new) }
 {
     match damaged_line(alloc, record_number, damage) {
         Ok(line) => tell(output, line.as_slice(), DAMAGED),
@@ -127,9 +125,7 @@ fn tell_damage<O: Sink>(alloc: Global, output: &mut O, record_number: u64, damag
 
 // Writes why no store was opened, and returns the status to end with.
 fn tell_unopened<O: Sink>(alloc: Global, output: &mut O, fault: OpenFault) -> u8
-    ensures { TellsUnopened fault
-        (record { left = None; read_faults = 0; held = O.held output.old; write_faults = O.faults output.old }) result
-        (record { left = None; read_faults = 0; held = O.held output.new; write_faults = O.faults output.new }) }
+    ensures { TellsUnopened fault (O.held output.old) (O.faults output.old) result (O.held output.new) (O.faults output.new) }
 {
     match fault {
         OpenFault::NoStore => tell(output, b"nostore\n", NO_STORE),
@@ -178,9 +174,7 @@ fn run_stored<I: Source, O: Sink, D: Disk>(
 
 // Writes why no store was made, and returns the status to end with.
 fn tell_unmade<O: Sink>(output: &mut O, fault: FormatFault) -> u8
-    ensures { TellsUnmade fault
-        (record { left = None; read_faults = 0; held = O.held output.old; write_faults = O.faults output.old }) result
-        (record { left = None; read_faults = 0; held = O.held output.new; write_faults = O.faults output.new }) }
+    ensures { TellsUnmade fault (O.held output.old) (O.faults output.old) result (O.held output.new) (O.faults output.new) }
 {
     match fault {
         FormatFault::AlreadyStore => tell(output, b"exists\n", ALREADY_STORE),

@@ -16,12 +16,19 @@ pub enum Task {
     Init,
 }
 
+// Whether the word is this name.
+fn is_word(word: &String, name: &str) -> bool
+    ensures { IsTrue result ↔ (string_bytes word.now ≡ name.now) }
+{
+    word.as_str() == name
+}
+
 // Whether there is just this word.
 fn is_one(words: &Vec<String>, name: &str) -> bool
     ensures { IsTrue result ↔ (map string_bytes words.now.items ≡ name.now ∷ []) }
 {
     match words.as_slice() {
-        [word] => word.as_str() == name,
+        [word] => is_word(word, name),
         _ => false,
     }
 }
@@ -32,9 +39,10 @@ fn are_two(words: &Vec<String>, name: &str, option: &str) -> bool
 {
     match words.as_slice() {
         [first, second] => {
-            let is_named = first.as_str() == name;
-            let has_option = second.as_str() == option;
-            is_named & has_option
+            if is_word(first, name) {
+                return is_word(second, option);
+            }
+            false
         }
         _ => false,
     }

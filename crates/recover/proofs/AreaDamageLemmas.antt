@@ -1,7 +1,12 @@
 -- What is wrong first with the bytes of an area, over plain values.
-use Rattle.std.proofs.Common.{◌≡◌, ◌≢◌, ◌≤◌, ◌<◌, ◌+◌, ◌*◌, ◌-◌, ◌^◌, ℕ, List, [], ◌∷◌, ◌++◌, length, get_or, refl, sym, ap, subst, ◌∙◌, arith, inl, inr, ⊎_elim, length-append, min}
+use Rattle.std.proofs.Common.{◌≡◌, ◌≢◌, ◌≤◌, ◌<◌, ◌+◌, ◌*◌, ◌-◌, ◌^◌, ℕ, List, [], ◌∷◌, ◌++◌, length, get_or, refl, sym, ap, subst, ◌∙◌, arith, inl, inr, ⊎_elim, length-append, IfSome}
+use Rattle.std.specs.Prelude.{Option}
 use Rattle.std.proofs.lemmas.Bool.{cases_eq}
 use Rattle.journal_core.specs.Area.{area_limit, area_bytes, record_bytes, records, IsFront, IsArea, IsBroken, IsShut, HasNoBase}
+use Rattle.journal_core.specs.Faults.{IsFrontReported}
+use Rattle.journal_core.specs.declared.scan.ScanFault.{ScanFault}
+use Rattle.journal_core.specs.declared.scan.ScanFault.TheVariants as scans
+use Rattle.journal_core.proofs.RestsLemmas.{if_told, at_told}
 use Rattle.journal_core.proofs.ReadingLemmas.{front_area, area_front, area_not_broken}
 use Rattle.journal_core.proofs.RecordLemmas.{area_split, record_length}
 use Rattle.access_history.specs.Authority.{Authority}
@@ -11,7 +16,7 @@ use Rattle.pcfs_store.specs.Image.{fresh_image}
 use Rattle.recover.specs.declared.fault.OpenFault.{OpenFault}
 use Rattle.recover.specs.declared.fault.OpenFault.TheVariants.{NoStore, Damaged, Disk, NoMemory}
 use Rattle.recover.specs.AreaDamage.{IsDamagedArea, no_base, no_image, no_payload, no_record, AreLawfulPayloads}
-use Rattle.recover.specs.Opening.{IsWhy}
+use Rattle.recover.specs.Opening.{IsWhy, front_fault}
 use Rattle.recover.specs.Reading.{HasDamage}
 
 -- each record has five bytes at least
@@ -48,6 +53,17 @@ why_broken authority bytes number generation image payloads told front broken im
     subst (λ (n : ℕ). IsDamagedArea authority bytes n Shape) (sym (told_is (few_payloads bytes generation image payloads front)))
     (no_record generation payloads here lawful (opens_there bytes number generation fresh_image payloads here broken))
 
--- no header and image begin the bytes
-pub why_no_base : (authority : Authority) (bytes : List ℕ) (number : ℕ) → (number ≡ 0) × HasNoBase bytes → IsWhy authority bytes (Damaged number Header)
-why_no_base authority bytes number base = subst (λ (n : ℕ). IsDamagedArea authority bytes n Header) (sym base.0) (no_base base.1)
+-- a scan of a front found none
+pub why_no_front : (authority : Authority) (fault : ScanFault) (told : Option (List ℕ)) → (fault ≢ scans.Disk → IfSome told (IsFrontReported fault)) → IfSome told (λ bytes. IsWhy authority bytes (front_fault fault))
+why_no_front authority scans.Closed told reported = reported (λ e. cc)
+why_no_front authority (scans.Broken number) told reported = if_told told (λ bytes. IsWhy authority bytes (Damaged number Header))
+    (λ bytes is. let base = at_told told (IsFrontReported (scans.Broken number)) bytes is (reported (λ e. cc)) in subst (λ (n : ℕ). IsDamagedArea authority bytes n Header) (sym base.0) (no_base base.1))
+why_no_front authority scans.Disk told reported = if_told told (λ bytes. Unit {0}) (λ bytes is. tt)
+why_no_front authority scans.NoMemory told reported = if_told told (λ bytes. Unit {0}) (λ bytes is. tt)
+
+-- the disk failed where that is reported
+pub front_failed : (fault : ScanFault) → front_fault fault ≡ Disk → fault ≡ scans.Disk
+front_failed scans.Closed e = absurd cc
+front_failed (scans.Broken number) e = absurd cc
+front_failed scans.Disk e = refl
+front_failed scans.NoMemory e = absurd cc

@@ -1,5 +1,5 @@
 -- What an opening finds and reports, over plain values.
-use Rattle.std.proofs.Common.{◌≡◌, ◌≢◌, ◌≤◌, ◌<◌, ◌+◌, ◌⊎◌, ℕ, List, [], ◌∷◌, length, get_or, refl, sym, ap, subst, ◌∙◌, arith, tests, inl, inr, ⊎_elim, cond, Some, None, IfSome}
+use Rattle.std.proofs.Common.{◌≡◌, ◌≢◌, ◌≤◌, ◌<◌, ◌+◌, ◌⊎◌, ℕ, List, [], ◌∷◌, length, get_or, refl, sym, ap, subst, ◌∙◌, arith, lt-ltb, le-ltb, ne_eqb, inl, inr, ⊎_elim, cond, Some, None, IfSome}
 use Rattle.std.specs.Prelude.{Option, Bool, true, false, nat_eq, nat_lt, is_some}
 use Rattle.std.specs.Option.{option_map}
 use Rattle.std.specs.List.{AllByRecursion}
@@ -65,19 +65,30 @@ scanned (scans.Broken number) told closed broken = broken number refl
 scanned scans.Disk told closed broken = if_told told (λ b. Unit {0}) (λ b is. tt)
 scanned scans.NoMemory told closed broken = if_told told (λ b. Unit {0}) (λ b is. tt)
 
+-- why no history is found where a scan found no area
+pub area_why : (authority : Authority) (fault : ScanFault) (result : OpenFault) (told left : Option (List ℕ)) → (fault ≢ scans.Disk → left ≡ told) → (fault ≡ scans.Disk → result ≡ Disk) → IfSome told (IsScanned fault) →
+    IfSome left (λ bytes. IsScanned fault bytes → IsWhy authority bytes result) → IfSome told (λ bytes. IsWhy authority bytes result)
+area_why authority scans.Closed result told left same disk said why = if_told told (λ bytes. IsWhy authority bytes result)
+    (λ bytes is. at_told left (λ bytes. IsScanned scans.Closed bytes → IsWhy authority bytes result) bytes (same (λ e. cc) ∙ is) why (at_told told (IsScanned scans.Closed) bytes is said))
+area_why authority (scans.Broken number) result told left same disk said why = if_told told (λ bytes. IsWhy authority bytes result)
+    (λ bytes is. at_told left (λ bytes. IsScanned (scans.Broken number) bytes → IsWhy authority bytes result) bytes (same (λ e. cc) ∙ is) why (at_told told (IsScanned (scans.Broken number)) bytes is said))
+area_why authority scans.Disk result told left same disk said why = if_told told (λ bytes. IsWhy authority bytes result) (λ bytes is. subst (λ (f : OpenFault). IsWhy authority bytes f) (sym (disk refl)) tt)
+area_why authority scans.NoMemory result told left same disk said why = if_told told (λ bytes. IsWhy authority bytes result)
+    (λ bytes is. at_told left (λ bytes. IsScanned scans.NoMemory bytes → IsWhy authority bytes result) bytes (same (λ e. cc) ∙ is) why tt)
+
 -- ---- the newest of two
 
 behind_second : (first second : Option ℕ) (generation : ℕ) → newer first second ≡ Some false → first ≡ Some generation → IsBehind false generation second
 behind_second first None generation newer_is is = tt
 behind_second None (Some found) generation newer_is is = absurd cc
 behind_second (Some shown) (Some found) generation newer_is is =
-    ⊎_elim (λ less. let other : nat_lt shown found ≡ true = search (tests, less) in absurd cc) (λ more. let same : shown ≡ generation = cc in omega (arith, more, same)) (cases_lt shown found)
+    ⊎_elim (λ less. let other : nat_lt shown found ≡ true = lt-ltb shown found less in absurd cc) (λ more. let same : shown ≡ generation = cc in omega (arith, more, same)) (cases_lt shown found)
 
 behind_first : (first second : Option ℕ) (generation : ℕ) → newer first second ≡ Some true → second ≡ Some generation → IsBehind true generation first
 behind_first None second generation newer_is is = tt
 behind_first (Some found) None generation newer_is is = absurd cc
 behind_first (Some found) (Some shown) generation newer_is is =
-    ⊎_elim (λ less. let same : shown ≡ generation = cc in omega (arith, less, same)) (λ more. let other : nat_lt found shown ≡ false = search (tests, more) in absurd cc) (cases_lt found shown)
+    ⊎_elim (λ less. let same : shown ≡ generation = cc in omega (arith, less, same)) (λ more. let other : nat_lt found shown ≡ false = le-ltb found shown more in absurd cc) (cases_lt found shown)
 
 -- the first or the second area counts
 newest_first : (x y : List ℕ) → Some false ≡ newer (generation_of x) (generation_of y) → newest x y ≡ Some x
@@ -92,7 +103,7 @@ none_if true x is = absurd cc
 none_if false x is = refl
 
 shut_none : (bytes : List ℕ) → IsShut bytes → generation_of bytes ≡ None
-shut_none bytes shut = let other : nat_eq (get_or bytes 0 0) 1 ≡ false = search (tests, shut) in none_if (nat_eq (get_or bytes 0 0) 1) _ other
+shut_none bytes shut = none_if (nat_eq (get_or bytes 0 0) 1) _ (ne_eqb (get_or bytes 0 0) 1 shut)
 
 first_open : (first second : Option ℕ) → newer first second ≡ Some false → first ≡ None → ⊥
 first_open None None newer_is none = absurd cc
@@ -277,3 +288,14 @@ module _ {D : Type 0} (clock : D → ℕ) (left_since : D → ℕ → List ℕ �
     first_same = λ not_disk. read_a.same;
     second_same = λ not_disk. read_b.same;
   }
+
+-- a disk failed before
+pub not_opened_failed : {D : Type 0} (clock : D → ℕ) (left_since : D → ℕ → List ℕ → Type 0) (image : D → Option (List ℕ)) (faults : D → ℕ) (a b a1 b1 : D) (key : List ℕ) (ring : List KeyView) →
+    HasRisen (faults a) (faults a1) ⊎ HasRisen (faults b) (faults b1) → IsHandled clock left_since image faults a a1 → IsHandled clock left_since image faults b b1 → IsNotOpened clock left_since image faults a b (authority_with key ring) Disk a1 b1
+not_opened_failed clock left_since image faults a b a1 b1 key ring risen handled_a handled_b = record {
+  cause = risen;
+  first_handled = handled_a;
+  second_handled = handled_b;
+  first_same = λ not_disk. absurd (not_disk refl);
+  second_same = λ not_disk. absurd (not_disk refl);
+}

@@ -14,6 +14,7 @@ use Rattle.access_history.specs.Lawful.{IsLawful}
 use Rattle.access_history.specs.Replay.{fresh}
 use Rattle.journal_records.specs.EventSpelling.{IsReadEvent}
 use Rattle.op_gate.specs.declared.damage.Damage.{Damage}
+use Rattle.op_gate.specs.declared.damage.Damage.TheVariants.{Header}
 use Rattle.op_gate.specs.Decision.{GateView}
 use Rattle.pcfs_store.specs.Image.{fresh_image}
 use Rattle.pcfs_store.specs.Newest.{newest}
@@ -65,6 +66,13 @@ IsScanned scans.Closed bytes = IsShut bytes
 IsScanned (scans.Broken number) bytes = IsBroken number bytes
 IsScanned scans.Disk bytes = Unit {0}
 IsScanned scans.NoMemory bytes = Unit {0}
+
+-- the fault of a scan of the front of an area, as the opening reports it
+abbrev pub front_fault : ScanFault → OpenFault
+front_fault scans.Closed = NoStore
+front_fault (scans.Broken number) = Damaged number Header
+front_fault scans.Disk = Disk
+front_fault scans.NoMemory = NoMemory
 
 -- why no history was found in the bytes of an area, as far as they say it
 abbrev pub IsWhy : Authority → List ℕ → OpenFault → Type 0

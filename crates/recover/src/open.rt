@@ -7,7 +7,7 @@ ghost use Rattle.journal_core.specs.Area.{area_bytes, IsArea, IsBroken, IsGenera
 ghost use Rattle.access_history.specs.History.{authority_with};
 ghost use Rattle.pcfs_store.specs.Image.{fresh_image};
 ghost use Rattle.pcfs_store.specs.StoredHistory.{payloads_of};
-ghost use Rattle.recover.specs.Opening.{HoldsArea, IsNotOpened, IsOpened, IsScanned, IsWhy};
+ghost use Rattle.recover.specs.Opening.{HoldsArea, IsNotOpened, IsOpened, IsScanned, IsWhy, front_fault};
 
 use crate::fault::OpenFault;
 use crate::newest::find_newest;
@@ -18,6 +18,18 @@ use pcfs_ports::Disk;
 use pcfs_store::Store;
 use policy_statement::Keyring;
 use std::alloc::Global;
+
+// The fault of a scan of the front of an area, as it is reported.
+fn front_fault(fault: ScanFault) -> OpenFault
+    ensures { result ≡ front_fault fault }
+{
+    match fault {
+        ScanFault::Closed => OpenFault::NoStore,
+        ScanFault::Broken(number) => OpenFault::Damaged(number, Damage::Header),
+        ScanFault::Disk => OpenFault::Disk,
+        ScanFault::NoMemory => OpenFault::NoMemory,
+    }
+}
 
 // What is wrong first with the area of a disk that breaks: a record before the break may be damaged too.
 fn damage_before_break<D: Disk>(alloc: Global, disk: &mut D, key: &[u8], ring: Keyring) -> OpenFault
@@ -33,10 +45,7 @@ fn damage_before_break<D: Disk>(alloc: Global, disk: &mut D, key: &[u8], ring: K
             Ok(_) => OpenFault::Damaged((scan.count() as u64).saturating_add(1), Damage::Shape),
             Err(fault) => fault,
         },
-        Err(ScanFault::Closed) => OpenFault::NoStore,
-        Err(ScanFault::Broken(number)) => OpenFault::Damaged(number, Damage::Header),
-        Err(ScanFault::Disk) => OpenFault::Disk,
-        Err(ScanFault::NoMemory) => OpenFault::NoMemory,
+        Err(fault) => front_fault(fault),
     }
 }
 
@@ -49,6 +58,7 @@ fn why<D: Disk>(
     ring: Keyring,
 ) -> OpenFault
     ensures why { IfSome (D.image disk.old) (λ bytes. IsScanned fault bytes → IsWhy (authority_with key.now ring) bytes result) }
+    ensures disk { fault ≡ ScanFault.Disk → result ≡ OpenFault.Disk }
     ensures risen { result ≡ OpenFault.Disk → (fault ≡ ScanFault.Disk) ⊎ HasRisen (D.faults disk.old) (D.faults disk.new) }
     ensures same { result ≢ OpenFault.Disk → D.image disk.new ≡ D.image disk.old }
     ensures told { is_some (D.image disk.new) ≡ is_some (D.image disk.old) }

@@ -14,6 +14,10 @@ use std::test::Fail;
 const FRONT: &str =
     "015043465300000100000000000000010000000000000041fffffff1886e0900000000000000000000000000000000020000000000000000000000010000000000000001020561646d696e0000000000000000000000000000";
 
+/// The same of generation 2.
+const NEWER_FRONT: &str =
+    "015043465300000100000000000000020000000000000041fffffff1886e0900000000000000000000000000000000020000000000000000000000010000000000000001020561646d696e0000000000000000000000000000";
+
 /// Payloads by letters. The tags are those under the keys below, made by another program.
 const PAYLOADS: &str =
     "a 010561646d696e10036d6179030105616c69636502000000000000000103020100000000000000000100000000000000c8000000209efa4c8dc2816d5e04d51d2d69107b0e33f880f6ea5a6c0df5a7440014841a99
@@ -107,8 +111,10 @@ fn hex(alloc: Global, word: &str) -> Result<Bytes, Fail> {
     }
 }
 
-fn disk_of(alloc: Global, bytes: Bytes) -> Result<MemoryDisk, Fail> {
-    Ok(MemoryDisk::new(alloc, bytes, Numbers::new(alloc))?)
+// A disk in memory with these bytes, whose calls with these numbers fail.
+fn disk_of(alloc: Global, bytes: Bytes, failing: &[u32]) -> Result<MemoryDisk, Fail> {
+    let failing = Numbers::from_vec(failing.to_vec(alloc)?);
+    Ok(MemoryDisk::new(alloc, bytes, failing)?)
 }
 
 // The ring with the key of `admin`.
@@ -143,9 +149,9 @@ fn add_record(alloc: Global, letter: &str, out: &mut Bytes) -> Result<(), Fail> 
     Ok(())
 }
 
-// The bytes of an area with the records of these letters.
-fn area(alloc: Global, letters: &str, rest: &str) -> Result<Bytes, Fail> {
-    let mut out = hex(alloc, FRONT)?;
+// The bytes of an area with the front and the records of these letters.
+fn area(alloc: Global, front: &str, letters: &str, rest: &str) -> Result<Bytes, Fail> {
+    let mut out = hex(alloc, front)?;
     for place in 0..letters.len() {
         let letter = letters.get(place..place + 1).ok_or("no letter")?;
         if letter != "-" {
@@ -192,20 +198,30 @@ fn is_fault(words: &str, fault: OpenFault) -> bool {
             Some(told) => is_damage(told, record, damage),
             None => false,
         },
-        OpenFault::Disk => false,
+        OpenFault::Disk => words == "disk",
         OpenFault::NoMemory => false,
     }
 }
 
-// Whether opening disks of these bytes comes to what the words tell.
-fn comes_to(alloc: Global, words: &str, first: Bytes, second: Bytes) -> Result<bool, Fail> {
-    let a = disk_of(alloc, first)?;
-    let b = disk_of(alloc, second)?;
+// Whether opening disks of these bytes, the first of which fails at these calls, comes to what the words tell.
+fn ends_so(
+    alloc: Global,
+    words: &str,
+    first: Bytes,
+    failing: &[u32],
+    second: Bytes,
+) -> Result<bool, Fail> {
+    let a = disk_of(alloc, first, failing)?;
+    let b = disk_of(alloc, second, &[])?;
     let ring = ring(alloc)?;
     match open_store(alloc, a, b, SEAL, ring) {
         Ok(store) => Ok(is_opened(words, &store)),
         Err((fault, _a, _b)) => Ok(is_fault(words, fault)),
     }
+}
+
+fn comes_to(alloc: Global, words: &str, first: Bytes, second: Bytes) -> Result<bool, Fail> {
+    ends_so(alloc, words, first, &[], second)
 }
 
 #[test]
@@ -214,12 +230,12 @@ fn areas_are_opened_or_have_their_first_damage(rt: HostRuntime) -> Result<(), Fa
     for row in ROWS.lines() {
         let (letters, others) = row.split_once(' ').ok_or("no word")?;
         let (rest, words) = others.split_once(' ').ok_or("no word")?;
-        let bytes = area(alloc, letters, rest)?;
+        let bytes = area(alloc, FRONT, letters, rest)?;
         if !comes_to(alloc, words, bytes, Bytes::new(alloc))? {
             println!(rt; "row {row}")?;
             return Err(Fail::from("another answer"));
         }
-        let bytes = area(alloc, letters, rest)?;
+        let bytes = area(alloc, FRONT, letters, rest)?;
         assert!(rt; comes_to(alloc, words, Bytes::new(alloc), bytes)?);
     }
     Ok(())
@@ -235,6 +251,38 @@ fn other_bytes_are_reported(rt: HostRuntime) -> Result<(), Fail> {
             println!(rt; "row {row}")?;
             return Err(Fail::from("another answer"));
         }
+    }
+    Ok(())
+}
+
+// Whether opening areas of these generations with these records comes to what the words tell.
+fn is_pair(
+    alloc: Global,
+    words: &str,
+    first: (&str, &str),
+    second: (&str, &str),
+) -> Result<bool, Fail> {
+    let a = area(alloc, first.0, first.1, "00")?;
+    let b = area(alloc, second.0, second.1, "00")?;
+    comes_to(alloc, words, a, b)
+}
+
+#[test]
+fn the_newer_area_is_opened(rt: HostRuntime) -> Result<(), Fail> {
+    let alloc = rt.alloc();
+    assert!(rt; is_pair(alloc, "events 2", (FRONT, "a"), (NEWER_FRONT, "ab"))?);
+    assert!(rt; is_pair(alloc, "events 1", (NEWER_FRONT, "a"), (FRONT, "ab"))?);
+    assert!(rt; is_pair(alloc, "events 1", (FRONT, "a"), (FRONT, "ab"))?);
+    assert!(rt; is_pair(alloc, "damaged 2 7", (FRONT, "a"), (NEWER_FRONT, "aa"))?);
+    Ok(())
+}
+
+#[test]
+fn each_call_of_a_disk_fails_in_turn(rt: HostRuntime) -> Result<(), Fail> {
+    let alloc = rt.alloc();
+    for call in 0..30u32 {
+        let first = area(alloc, FRONT, "a", "00")?;
+        assert!(rt; ends_so(alloc, "disk", first, &[call], Bytes::new(alloc))?);
     }
     Ok(())
 }

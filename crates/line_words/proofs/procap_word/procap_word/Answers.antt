@@ -5,8 +5,8 @@ use Rattle.line_words.specs.Procaps.{IsProcapHex, by_spelling}
 use Rattle.line_words.proofs.ProcapLemmas.{number_of_word, not_given, IsProcapWord-number}
 use Rattle.line_words.proofs.procap_word.procap_word.Goals as goal
 
-pub returns-in-Some-number : goal.returns-in-Some-number
-returns-in-Some-number c = IsProcapWord-number c.args.word.now c.in-Some.digits.now c.in-Some-number.number c.from.result c.in-Some.ensures c.in-Some-number.ensures.found c.from.ensures
+pub returns-in-Some-long_number : goal.returns-in-Some-long_number
+returns-in-Some-long_number c = IsProcapWord-number c.args.word.now c.in-Some.digits.now c.in-Some-long_number.number c.in-Some.ensures c.in-Some-long_number.ensures.found
 
 pub returns-in-None : goal.returns-in-None
 returns-in-None c given h =

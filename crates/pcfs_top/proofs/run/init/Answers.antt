@@ -10,7 +10,7 @@ returns-in-Err g c words left read_faults is = EndsWith-unbegun g.D.Disk.clock g
 pub returns-in-Ok-format_store : goal.returns-in-Ok-format_store
 returns-in-Ok-format_store g c words left read_faults is =
     let new = subst (λ k. IsNewStore k c.args.secrets.now.ring c.in-Ok-format_store.store) c.as_slice.ensures (subst (λ r. IsNewStore c.as_slice.result.now r c.in-Ok-format_store.store) c.in-Ok.ensures c.in-Ok-format_store.ensures.new) in
-    EndsWith-made g.D.Disk.clock g.D.Disk.left_since g.D.Disk.image g.D.Disk.faults words c.args.secrets.now c.args.a c.args.b is _ _ _ c.in-Ok-format_store.store _ _ new c.in-Ok-format_store.ensures.ready c.in-Ok-format_store.ensures.shut c.in-Ok-format_store.ensures.b_same c.into_disks.ensures.first c.into_disks.ensures.second refl c.tell.ensures
+    EndsWith-made g.D.Disk.clock g.D.Disk.left_since g.D.Disk.image g.D.Disk.faults words c.args.secrets.now c.args.a c.args.b is _ _ _ c.in-Ok-format_store.store _ _ new c.in-Ok-format_store.ensures.ready c.in-Ok-format_store.ensures.shut c.in-Ok-format_store.ensures.b_same c.into_disks-a.ensures.first c.into_disks-a.ensures.second refl c.tell.ensures
 
 pub returns-in-Err-format_store : goal.returns-in-Err-format_store
 returns-in-Err-format_store g c words left read_faults is =

@@ -1,16 +1,108 @@
+-- One of the areas counts, and holds a history or is damaged; or none does; or a disk failed.
+use Rattle.std.proofs.Common.{◌≡◌, ℕ, List, sym, ap, subst, ◌∙◌, Some, None, IfSome}
+use Rattle.std.specs.Prelude.{Option, Bool, true, false}
+use Rattle.journal_core.specs.Area.{generation_of}
+use Rattle.access_history.specs.History.{authority_with}
+use Rattle.pcfs_store.specs.Newest.{newer}
+use Rattle.pcfs_store.specs.StoreView.{StoreView}
+use Rattle.recover.specs.Opening.{IsOpened}
+use Rattle.recover.proofs.DiskLemmas.{was_read, handled}
+use Rattle.recover.proofs.OpeningLemmas.{opened_first, opened_second, not_opened_first, not_opened_second, not_opened_none, not_opened_failed}
 use Rattle.recover.proofs.open.open_store.Goals as goal
 
-pub returns-in-Ok-clause-ok : goal.returns-in-Ok-clause-ok
-returns-in-Ok-clause-ok g c = ?
+-- whether the second of two disks with these bytes counts
+Counts : Option (List ℕ) → Option (List ℕ) → Option Bool → Type 0
+Counts first second which = IfSome first (λ x. IfSome second (λ y. which ≡ newer (generation_of x) (generation_of y)))
 
-pub returns-in-Err-open_area-clause-err : goal.returns-in-Err-open_area-clause-err
-returns-in-Err-open_area-clause-err g c = ?
+pub returns-in-Ok-clause-ok : goal.returns-in-Ok-clause-ok
+unfolding Counts
+returns-in-Ok-clause-ok g c =
+    let clock = g.D.Disk.clock in
+    let left = g.D.Disk.left_since in
+    let image = g.D.Disk.image in
+    let faults = g.D.Disk.faults in
+    let a1 = c.find_newest.new.a in
+    let b1 = c.find_newest.new.b in
+    let found = c.in-Ok-Some-true.ensures in
+    let opened = c.in-Ok.ensures in
+    let is : c.in-Ok-Some-true.field-0 ≡ Some true = cc in
+    subst (λ (s : StoreView g.row.D.Denot). IsOpened clock left image faults c.args.a c.args.b c.args.key.now c.args.ring s) (sym c.from_scan.ensures)
+    (opened_second clock left image faults (λ disk t u b le before. g.met.D.Disk.since_earlier disk t u b le before) (λ disk b told. g.met.D.Disk.image_may_stay disk b told)
+    c.args.a c.args.b a1 b1 c.args.key.now c.args.ring
+    (was_read clock left image faults (λ disk t u b le before. g.met.D.Disk.since_earlier disk t u b le before) (λ disk b told. g.met.D.Disk.image_may_stay disk b told) c.args.a a1 found.a_told found.a_time found.a_never_falls found.a_same found.a_pinned)
+    (was_read clock left image faults (λ disk t u b le before. g.met.D.Disk.since_earlier disk t u b le before) (λ disk b told. g.met.D.Disk.image_may_stay disk b told) c.args.b b1 found.b_told found.b_time found.b_never_falls found.b_same found.b_pinned)
+    c.in-Ok.area.disk
+    (was_read clock left image faults (λ disk t u b le before. g.met.D.Disk.since_earlier disk t u b le before) (λ disk b told. g.met.D.Disk.image_may_stay disk b told) b1 c.in-Ok.area.disk opened.told opened.time opened.never_falls opened.same opened.pinned)
+    c.in-Ok.area.end c.in-Ok.generation c.in-Ok.gate opened.holds (subst (Counts (image c.args.a) (image c.args.b)) is found.ok) opened.area)
 
 pub returns-in-Ok-open_area-clause-ok : goal.returns-in-Ok-open_area-clause-ok
-returns-in-Ok-open_area-clause-ok g c = ?
+unfolding Counts
+returns-in-Ok-open_area-clause-ok g c =
+    let clock = g.D.Disk.clock in
+    let left = g.D.Disk.left_since in
+    let image = g.D.Disk.image in
+    let faults = g.D.Disk.faults in
+    let a1 = c.find_newest.new.a in
+    let b1 = c.find_newest.new.b in
+    let found = c.in-Ok-Some-false.ensures in
+    let opened = c.in-Ok-open_area.ensures in
+    let is : c.in-Ok-Some-false.field-0 ≡ Some false = cc in
+    subst (λ (s : StoreView g.row.D.Denot). IsOpened clock left image faults c.args.a c.args.b c.args.key.now c.args.ring s) (sym c.from_scan-in-Ok-open_area.ensures)
+    (opened_first clock left image faults (λ disk t u b le before. g.met.D.Disk.since_earlier disk t u b le before) (λ disk b told. g.met.D.Disk.image_may_stay disk b told)
+    c.args.a c.args.b a1 b1 c.args.key.now c.args.ring
+    (was_read clock left image faults (λ disk t u b le before. g.met.D.Disk.since_earlier disk t u b le before) (λ disk b told. g.met.D.Disk.image_may_stay disk b told) c.args.a a1 found.a_told found.a_time found.a_never_falls found.a_same found.a_pinned)
+    (was_read clock left image faults (λ disk t u b le before. g.met.D.Disk.since_earlier disk t u b le before) (λ disk b told. g.met.D.Disk.image_may_stay disk b told) c.args.b b1 found.b_told found.b_time found.b_never_falls found.b_same found.b_pinned)
+    c.in-Ok-open_area.area.disk
+    (was_read clock left image faults (λ disk t u b le before. g.met.D.Disk.since_earlier disk t u b le before) (λ disk b told. g.met.D.Disk.image_may_stay disk b told) a1 c.in-Ok-open_area.area.disk opened.told opened.time opened.never_falls opened.same opened.pinned)
+    c.in-Ok-open_area.area.end c.in-Ok-open_area.generation c.in-Ok-open_area.gate opened.holds (subst (Counts (image c.args.a) (image c.args.b)) is found.ok) opened.area)
+
+pub returns-in-Err-open_area-clause-err : goal.returns-in-Err-open_area-clause-err
+unfolding Counts
+returns-in-Err-open_area-clause-err g c =
+    let clock = g.D.Disk.clock in
+    let left = g.D.Disk.left_since in
+    let image = g.D.Disk.image in
+    let faults = g.D.Disk.faults in
+    let a1 = c.find_newest.new.a in
+    let b1 = c.find_newest.new.b in
+    let found = c.in-Ok-Some-true.ensures in
+    let failed = c.in-Err-open_area.ensures in
+    let is : c.in-Ok-Some-true.field-0 ≡ Some true = cc in
+    not_opened_second clock left image faults (λ disk t u b le before. g.met.D.Disk.since_earlier disk t u b le before) (λ disk b told. g.met.D.Disk.image_may_stay disk b told)
+    c.args.a c.args.b a1 b1 c.args.key.now c.args.ring
+    (was_read clock left image faults (λ disk t u b le before. g.met.D.Disk.since_earlier disk t u b le before) (λ disk b told. g.met.D.Disk.image_may_stay disk b told) c.args.a a1 found.a_told found.a_time found.a_never_falls found.a_same found.a_pinned)
+    (was_read clock left image faults (λ disk t u b le before. g.met.D.Disk.since_earlier disk t u b le before) (λ disk b told. g.met.D.Disk.image_may_stay disk b told) c.args.b b1 found.b_told found.b_time found.b_never_falls found.b_same found.b_pinned)
+    c.in-Err-open_area.b c.in-Err-open_area.fault (subst (Counts (image c.args.a) (image c.args.b)) is found.ok) failed.why failed.risen
+    (handled clock left image faults (λ disk t u b le before. g.met.D.Disk.since_earlier disk t u b le before) (λ disk b told. g.met.D.Disk.image_may_stay disk b told) b1 c.in-Err-open_area.b failed.told failed.time failed.never_falls) failed.same
 
 pub returns-in-Err-open_area-2-clause-err : goal.returns-in-Err-open_area-2-clause-err
-returns-in-Err-open_area-2-clause-err g c = ?
+unfolding Counts
+returns-in-Err-open_area-2-clause-err g c =
+    let clock = g.D.Disk.clock in
+    let left = g.D.Disk.left_since in
+    let image = g.D.Disk.image in
+    let faults = g.D.Disk.faults in
+    let a1 = c.find_newest.new.a in
+    let b1 = c.find_newest.new.b in
+    let found = c.in-Ok-Some-false.ensures in
+    let failed = c.in-Err-open_area-2.ensures in
+    let is : c.in-Ok-Some-false.field-0 ≡ Some false = cc in
+    not_opened_first clock left image faults (λ disk t u b le before. g.met.D.Disk.since_earlier disk t u b le before) (λ disk b told. g.met.D.Disk.image_may_stay disk b told)
+    c.args.a c.args.b a1 b1 c.args.key.now c.args.ring
+    (was_read clock left image faults (λ disk t u b le before. g.met.D.Disk.since_earlier disk t u b le before) (λ disk b told. g.met.D.Disk.image_may_stay disk b told) c.args.a a1 found.a_told found.a_time found.a_never_falls found.a_same found.a_pinned)
+    (was_read clock left image faults (λ disk t u b le before. g.met.D.Disk.since_earlier disk t u b le before) (λ disk b told. g.met.D.Disk.image_may_stay disk b told) c.args.b b1 found.b_told found.b_time found.b_never_falls found.b_same found.b_pinned)
+    c.in-Err-open_area-2.a c.in-Err-open_area-2.fault (subst (Counts (image c.args.a) (image c.args.b)) is found.ok) failed.why failed.risen
+    (handled clock left image faults (λ disk t u b le before. g.met.D.Disk.since_earlier disk t u b le before) (λ disk b told. g.met.D.Disk.image_may_stay disk b told) a1 c.in-Err-open_area-2.a failed.told failed.time failed.never_falls) failed.same
 
 pub returns-in-Err-clause-err : goal.returns-in-Err-clause-err
-returns-in-Err-clause-err g c = ?
+returns-in-Err-clause-err g c =
+    let clock = g.D.Disk.clock in
+    let left = g.D.Disk.left_since in
+    let image = g.D.Disk.image in
+    let faults = g.D.Disk.faults in
+    let a1 = c.find_newest.new.a in
+    let b1 = c.find_newest.new.b in
+    let failed = c.in-Err.ensures in
+    not_opened_failed clock left image faults c.args.a c.args.b a1 b1 c.args.key.now c.args.ring failed.risen
+    (handled clock left image faults (λ disk t u b le before. g.met.D.Disk.since_earlier disk t u b le before) (λ disk b told. g.met.D.Disk.image_may_stay disk b told) c.args.a a1 failed.a_told failed.a_time failed.a_never_falls)
+    (handled clock left image faults (λ disk t u b le before. g.met.D.Disk.since_earlier disk t u b le before) (λ disk b told. g.met.D.Disk.image_may_stay disk b told) c.args.b b1 failed.b_told failed.b_time failed.b_never_falls)
