@@ -136,7 +136,7 @@ impl Kind for Events {
             if out.extend(bytes).is_ok() {
                 out.clear();
                 let start = Instant::now(rt)?;
-                let written = write_event(alloc, event, &mut out);
+                let written = write_event(event, &mut out);
                 let writing = start.elapsed(rt)?.as_nanos();
                 if written.is_ok() && out.as_slice() == bytes {
                     times = (reading, writing);

@@ -1,9 +1,11 @@
 #!/usr/bin/env bash
 # Times entailment at its limit of 512 constraints, in the orders that take longest: a chain that is given from its end,
 # asked for its end and for a term that it does not reach; a chain from a constant to a lesser one, which its last
-# constraint makes contradict; and 512 constants that each lead elsewhere, of which the last contradicts. Beside it the
-# same search in C over pairs of numbers in place of terms, one after another in one run. It makes its own input, works in
-# a folder of its own, prints microseconds and ratios, and decides nothing. C is timed where a compiler is there.
+# constraint makes contradict; and 512 constants that each lead elsewhere, of which the last contradicts. Then what it
+# takes to push the 512 constraints of each, and an empty stack's answer. Beside the questions a search in C that keeps
+# nothing, over pairs of numbers instead of terms. It makes its own input, works in a folder of its own, prints
+# microseconds, ratios and the largest resident memory, and decides nothing. C is timed if a compiler is there.
+# Aims: an empty stack's answer under 20 ns, any other under 20 us.
 set -euo pipefail
 here=$(cd "$(dirname "$0")" && pwd)
 work=$(mktemp -d)
@@ -18,9 +20,9 @@ cat > "$work/crates/bench_entailment/src/main.rt" << 'END'
 //! Times `entails` of 512 constraints.
 #![tactic(auto)]
 
-use bl_constraints::entails;
-use bl_syntax::{Constraint, Term, TimePoint};
-use std::alloc::{AllocError, Global};
+use bl_constraints::ConstraintStack;
+use bl_syntax::{Constraint, NoMemory, Term, TimePoint};
+use std::alloc::Global;
 use std::io;
 use std::rt::Clock;
 use std::time::{Duration, Instant};
@@ -48,36 +50,49 @@ fn at_step(step: u32, from: &Term, to: &Term) -> Term {
 }
 
 // `from` up to the first parameter, each parameter up to the next, and the last up to `to`, from the end.
-fn chain(alloc: Global, from: &Term, to: &Term) -> Result<Vec<Constraint>, AllocError> {
-    let mut constraints = Vec::new(alloc);
+fn chain(alloc: Global, from: &Term, to: &Term) -> Result<ConstraintStack, NoMemory> {
+    let mut constraints = ConstraintStack::new(alloc);
     for step in (0..512u32).rev() {
-        constraints.push(Constraint {
-            low: at_step(step, from, to),
-            high: at_step(step + 1, from, to),
-        })?;
+        add(
+            &mut constraints,
+            &Constraint {
+                low: at_step(step, from, to),
+                high: at_step(step + 1, from, to),
+            },
+        )?;
     }
     Ok(constraints)
 }
 
+fn add(constraints: &mut ConstraintStack, c: &Constraint) -> Result<(), NoMemory> {
+    if constraints.len() < 512 {
+        constraints.push(c)?;
+    }
+    Ok(())
+}
+
 // Constants, each up to a parameter of its own, but the least, which is before itself.
-fn fan(alloc: Global) -> Result<Vec<Constraint>, AllocError> {
-    let mut constraints = Vec::new(alloc);
+fn fan(alloc: Global) -> Result<ConstraintStack, NoMemory> {
+    let mut constraints = ConstraintStack::new(alloc);
     for step in 0..512u32 {
-        constraints.push(Constraint {
-            low: time_at(step),
-            high: at_step(step, &Term::Time(TimePoint::NegInf), &Term::Ctime),
-        })?;
+        add(
+            &mut constraints,
+            &Constraint {
+                low: time_at(step),
+                high: at_step(step, &Term::Time(TimePoint::NegInf), &Term::Ctime),
+            },
+        )?;
     }
     Ok(constraints)
 }
 
 #[inline(never)]
-fn ask(psi: &[Constraint], u: &Term, v: &Term) -> bool {
-    psi.len() <= 512 && entails(psi, u, v)
+fn ask(psi: &ConstraintStack, u: &Term, v: &Term) -> bool {
+    psi.entails(u, v)
 }
 
 // The time of one question, or the longest where an answer was not the expected one.
-fn time(rt: &impl Clock, psi: &[Constraint], u: &Term, v: &Term, expected: bool) -> io::Result<u128> {
+fn time(rt: &impl Clock, psi: &ConstraintStack, u: &Term, v: &Term, expected: bool) -> io::Result<u128> {
     let mut right = true;
     let start = Instant::now(rt)?;
     for _ in 0..COUNT {
@@ -87,20 +102,36 @@ fn time(rt: &impl Clock, psi: &[Constraint], u: &Term, v: &Term, expected: bool)
     Ok(if right { time } else { u128::MAX })
 }
 
+// The time to push them all: the whole chain, and then the fan.
+fn push_time(rt: &impl Clock, alloc: Global, fanned: bool) -> io::Result<u128> {
+    let start = Instant::now(rt)?;
+    let built = if fanned {
+        fan(alloc)
+    } else {
+        chain(alloc, &time_at(1), &time_at(0))
+    };
+    let time = start.elapsed(rt)?.as_nanos();
+    Ok(if built.is_ok() { time } else { u128::MAX })
+}
+
 fn main(rt: HostRuntime) -> io::Result<()> {
     let (first, other) = (Term::Param(0), Term::Param(9999));
-    let entailed = chain(rt.alloc(), &first, &Term::Ctime)?;
-    let contradicted = chain(rt.alloc(), &time_at(1), &time_at(0))?;
-    let fanned = fan(rt.alloc())?;
-    let mut least = [u128::MAX; 4];
+    let Ok(entailed) = chain(rt.alloc(), &first, &Term::Ctime) else { return Ok(()) };
+    let Ok(contradicted) = chain(rt.alloc(), &time_at(1), &time_at(0)) else { return Ok(()) };
+    let Ok(fanned) = fan(rt.alloc()) else { return Ok(()) };
+    let none = ConstraintStack::new(rt.alloc());
+    let mut least = [u128::MAX; 7];
     for _ in 0..ROUNDS {
         least[0] = least[0].min(time(&rt, &entailed, &first, &Term::Ctime, true)?);
         least[1] = least[1].min(time(&rt, &entailed, &first, &other, false)?);
         least[2] = least[2].min(time(&rt, &contradicted, &time_at(1), &other, true)?);
         least[3] = least[3].min(time(&rt, &fanned, &first, &other, true)?);
+        least[4] = least[4].min(time(&rt, &none, &first, &other, false)?);
+        least[5] = least[5].min(push_time(&rt, rt.alloc(), false)?);
+        least[6] = least[6].min(push_time(&rt, rt.alloc(), true)?);
     }
-    let [entailed, open, contradicted, fanned] = least;
-    println!(rt; "{entailed} {open} {contradicted} {fanned}")
+    let [entailed, open, contradicted, fanned, none, chained, spread] = least;
+    println!(rt; "{entailed} {open} {contradicted} {fanned} {none} {chained} {spread}")
 }
 END
 (cd "$work/crates/bench_entailment" && rt run > "$work/rt.log" 2>&1) || { tail -n 20 "$work/rt.log"; exit 2; }
@@ -248,7 +279,11 @@ if cc -O2 -o "$work/peer" "$work/peer.c" 2> "$work/cc.log"; then
 fi
 
 for _ in 1 2 3 4 5; do
-    "$work/crates/bench_entailment/out/bench_entailment" >> "$work/ours"
+    python3 - "$work/crates/bench_entailment/out/bench_entailment" >> "$work/ours" << 'PYTHON'
+import resource, subprocess, sys
+line = subprocess.run([sys.argv[1]], capture_output=True, check=True).stdout.decode().strip()
+print(line, resource.getrusage(resource.RUSAGE_CHILDREN).ru_maxrss)
+PYTHON
     [ -z "$peer" ] || "$peer" >> "$work/theirs"
 done
 touch "$work/theirs"
@@ -257,7 +292,7 @@ echo "processor: $(sed -n 's/^model name[^:]*: //p' /proc/cpuinfo | head -n 1)"
 echo "microseconds for one question of 512 constraints, the least of 100 rounds"
 awk '
     function keep(i, x) { if (!(i in least) || x < least[i]) least[i] = x }
-    FILENAME ~ /ours$/ { for (i = 1; i <= 4; i++) keep("ours" i, $i / 1000) }
+    FILENAME ~ /ours$/ { for (i = 1; i <= 7; i++) keep("ours" i, $i / 1000); memory = $8 > memory ? $8 : memory }
     FILENAME ~ /theirs$/ { for (i = 1; i <= 4; i++) keep("theirs" i, $i / 1000) }
     END {
         name[1] = "a chain from its end to its end"
@@ -266,6 +301,10 @@ awk '
         name[4] = "constants, of which the last contradicts"
         for (i = 1; i <= 4; i++) {
             more = ("theirs" i) in least ? sprintf("%.2f of C over numbers, %.1f", least["ours" i] / least["theirs" i], least["theirs" i]) : "C was not built here"
-            printf "%-44s %8.1f  %s\n", name[i], least["ours" i], more
+            printf "%-44s %8.1f  %s%s\n", name[i], least["ours" i], more, least["ours" i] <= 20 ? "" : ", over the aim of 20"
         }
+        printf "%-44s %8.3f  %s\n", "without constraints", least["ours" 5], least["ours" 5] <= 0.02 ? "aim 0.02" : "over the aim of 0.02"
+        printf "%-44s %8.1f\n", "pushing the chain that contradicts", least["ours" 6]
+        printf "%-44s %8.1f\n", "pushing the constants", least["ours" 7]
+        printf "largest resident memory: %.1f MiB\n", memory / 1024
     }' "$work/ours" "$work/theirs"

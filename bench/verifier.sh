@@ -4,7 +4,9 @@
 # which adds two parameters and two constraints, where the innermost node asks what all of them entail; and 200 instances of
 # a formula of 512 nodes. Beyond these, two that a stranger could hand in: 1,950 nodes that each ask what 370 constraints
 # entail, and 3,990 instances of the formula of 512 nodes. It makes its own input, works in a folder of its own, prints
-# microseconds and their ratios to the first proof, and decides nothing.
+# microseconds, their ratios to the first proof and the largest resident memory of a process that does this alone, with
+# statements and proof twice in it, and decides nothing. Aims: the first file's proof under 1 us, each under 100 ms, and
+# under 8 MiB.
 set -euo pipefail
 here=$(cd "$(dirname "$0")" && pwd)
 work=$(mktemp -d)
@@ -206,20 +208,30 @@ cases = [
     nested(185, 2, either(Q, Q), tree(init(3), 1950, 2)),
     instantiated(twenty_one, 3, 4),
 ]
-with open(sys.argv[1], 'wb') as out:
-    for statements, proof in cases:
+for number, (statements, proof) in enumerate(cases):
+    with open(f'{sys.argv[1]}.{number}', 'wb') as out:
         out.write(bytes([len(statements)]) + b''.join(statements) + proof)
 PYTHON
 
-(cd "$work/crates/bench_verifier" && rt run < "$work/input" > "$work/out" 2> "$work/rt.log") || { tail -n 20 "$work/rt.log" "$work/out"; exit 2; }
-python3 - "$work/out" << 'PYTHON'
+(cd "$work/crates/bench_verifier" && rt run < /dev/null > "$work/out" 2> "$work/rt.log") || { tail -n 20 "$work/rt.log" "$work/out"; exit 2; }
+for number in 0 1 2 3 4 5; do
+    python3 - "$work/crates/bench_verifier/out/bench_verifier" "$work/input.$number" >> "$work/rows" << 'PYTHON'
+import resource, subprocess, sys
+line = subprocess.run([sys.argv[1]], stdin=open(sys.argv[2], 'rb'), capture_output=True, check=True).stdout.decode().strip()
+print(resource.getrusage(resource.RUSAGE_CHILDREN).ru_maxrss, line)
+PYTHON
+done
+python3 - "$work/rows" << 'PYTHON'
 import sys
 names = ['first file', '4,096 nodes over 64 conditions on the state', '196 implications deep', '200 instances of 512 nodes',
     'beyond: 1,950 times 370 constraints', 'beyond: 3,990 instances of 512 nodes']
-rows = [line.split() for line in open(sys.argv[1]) if line.split() and line[0].isdigit()]
-first = int(rows[0][0])
+rows = [line.split() for line in open(sys.argv[1])]
+first = int(rows[0][1])
 for name, row in zip(names, rows):
-    nanoseconds = int(row[0])
-    granted = f'granted under {row[1][5:-1]} conditions' if row[1].startswith('Some') else 'refused'
-    print(f'{name}: {nanoseconds / 1000:.1f} us, {nanoseconds / first:.0f} times the first, {granted}')
+    memory, nanoseconds = int(row[0]) / 1024, int(row[1])
+    granted = f'granted under {row[2][5:-1]} conditions' if row[2].startswith('Some') else 'refused'
+    aim = 1000 if name == 'first file' else 100_000_000
+    late = '' if nanoseconds < aim else f', over the aim of {aim / 1000:.0f} us'
+    large = '' if memory < 8 else ', over the aim of 8 MiB'
+    print(f'{name}: {nanoseconds / 1000:.1f} us{late}, {nanoseconds / first:.0f} times the first, {memory:.1f} MiB{large}, {granted}')
 PYTHON

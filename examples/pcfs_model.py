@@ -515,7 +515,7 @@ def second(word):
 
 def issue(word):
     need(word != "0")
-    return number(word, 2**32)
+    return number(word, 2**64)
 
 
 def cited(word):
@@ -529,7 +529,7 @@ def signature(word):
 
 
 def procap(word):
-    return number(word[1:], 2**32) if word[:1] == "@" else read_procap(hexadecimal(word, 32768))
+    return number(word[1:], 2**64) if word[:1] == "@" else read_procap(hexadecimal(word, 32768))
 
 
 # for each operation the kinds of its words and the number of its procaps
@@ -552,23 +552,38 @@ GOAL = [principal, node, permission, cited]
 FORMS = {"at": [second], "as": [principal], "register": [signature], "procap": [issue], "verify": GOAL, "check": GOAL}
 
 
+def fault(text):
+    """The first fault of a line, as its reply."""
+    return lambda: Reply(text)
+
+
 def read_line(line):
-    """The form of a line, what its words write, and its text; for `do` the operation is its form."""
+    """The form of a line, what its words write, and its text; for `do` the operation is its form. First its form is known,
+    then the number of its words is right, then each word is of its kind; a fault of the text comes after these."""
     form, behind = first_word(line)
     kinds = FORMS.get(form)
     if form == "do":
-        need(behind)
+        need(behind, fault("bad 2"))
         form, behind = first_word(behind[1:])
-        need(form in OPERATIONS)
+        need(form in OPERATIONS, fault("bad 1 3"))
         kinds = OPERATIONS[form][0] + [procap] * OPERATIONS[form][1]
-    need(kinds is not None)
+    need(kinds is not None, fault("bad 1 0"))
     words = []
-    for _ in kinds:
-        need(behind)
+    for kind in kinds:
+        need(behind, fault("bad 2"))
+        place = len(line) - len(behind) + 1
         word, behind = first_word(behind[1:])
-        words.append(word)
-    need((behind != "") == (form in ("register", "verify", "check")))
-    return form, [kind(word) for kind, word in zip(kinds, words)], behind[1:]
+        words.append((kind, word, place))
+    need((behind != "") == (form in ("register", "verify", "check")), fault("bad 2"))
+    return form, [written(*word) for word in words], behind[1:]
+
+
+def written(kind, word, place):
+    """What a word of the kind writes, or its fault, which is the place of its first byte."""
+    try:
+        return kind(word)
+    except Bad:
+        raise fault(f"bad 1 {place}")() from None
 
 
 # ---- the server ----------------------------------------------------------------------------------------------------
@@ -624,9 +639,7 @@ class Server:
         try:
             form, words, text = read_line(line)
             return self.do(form, words) if form in OPERATIONS else getattr(self, form)(*words, *([text] if form in ("register", "verify", "check") else []))
-        except Bad:
-            return "bad 9"
-        except (Undecided, ValueError, IndexError, OverflowError, RecursionError):
+        except (Bad, Undecided, ValueError, IndexError, OverflowError, RecursionError):
             return "?"
         except Reply as reply:
             return str(reply)

@@ -22,7 +22,7 @@ use Rattle.access_history.specs.Base.{BaseView}
 use Rattle.access_history.specs.Numbered.{IsNumbered}
 use Rattle.access_history.specs.Authority.{sayings}
 use Rattle.access_history.specs.Citing.{IsGoodIssue}
-use Rattle.access_history.specs.Admission.{goal_of, causes_from, checks, Passes, Admits, Denies, IsNeedMet, IsAdmitted, IsDenied}
+use Rattle.access_history.specs.Admission.{wanted_goal, causes_from, denial_causes, Passes, Admits, Denies, IsNeedMet, IsAdmitted, IsDenied}
 use Rattle.access_history.specs.Lawful.{IsDerived, AreDerived}
 use Rattle.access_history.proofs.ListLemmas.{AllByRecursion-parts, AllByRecursion-weaker, AllByRecursion-contains}
 use Rattle.access_history.proofs.NumberedLemmas.{numbered_item, none_fails, first_failing}
@@ -45,7 +45,7 @@ module _ (key : List ℕ) (state : BaseView) (moment : ℤ) (goal : Goal) (p : P
 
   -- there is one first test that the procap does not pass
   one_cause : (cause other : DenialCause) → Denies key state moment goal p cause → Denies key state moment goal p other → cause ≡ other
-  one_cause cause other first second = (first_failing (Passes key state moment goal p) (checks p.grant) first.place second.place cause other first.first second.first).1
+  one_cause cause other first second = (first_failing (Passes key state moment goal p) (denial_causes p.grant) first.place second.place cause other first.first second.first).1
 
 module _ (key : List ℕ) (state : BaseView) (caller : List ℕ) (procaps : List Procap) (moment : ℤ) where
   -- what is admitted is not denied
@@ -57,9 +57,9 @@ module _ (key : List ℕ) (state : BaseView) (caller : List ℕ) (procaps : List
   one_denial wants place other cause because first second =
       let need : first.need ≡ second.need = (first_failing (IsNeedMet key state caller procaps moment) wants first.index second.index first.need second.need first.first second.first).1 in
       let procap : first.procap ≡ second.procap = numbered_item procaps second.need.place first.procap second.procap (subst (λ (n : Need). IsNumbered procaps n.place first.procap) need first.brought) second.brought in
-      let denies : Denies key state moment (goal_of caller second.need) second.procap cause =
-      subst (λ (p : Procap). Denies key state moment (goal_of caller second.need) p cause) procap (subst (λ (n : Need). Denies key state moment (goal_of caller n) first.procap cause) need first.denies) in
-      (first.place_is ∙ ap (λ (n : Need). n.place) need ∙ sym second.place_is, one_cause key state moment (goal_of caller second.need) second.procap cause because denies second.denies)
+      let denies : Denies key state moment (wanted_goal caller second.need) second.procap cause =
+      subst (λ (p : Procap). Denies key state moment (wanted_goal caller second.need) p cause) procap (subst (λ (n : Need). Denies key state moment (wanted_goal caller n) first.procap cause) need first.denies) in
+      (first.place_is ∙ ap (λ (n : Need). n.place) need ∙ sym second.place_is, one_cause key state moment (wanted_goal caller second.need) second.procap cause because denies second.denies)
 
 -- what a sound grant grants, under the names that it has
 Allows-named : (statements : List StatementView) (state : BaseView) (moment : ℤ) (goal : Goal) (g : GrantView) → SoundGrant statements g → g.goal.who ≡ goal.who → g.goal.file ≡ goal.file → g.goal.perm ≡ goal.perm → Holds g moment (facts state.world) →
@@ -74,11 +74,11 @@ IsDerived-met : (key : List ℕ) (state : BaseView) (caller : List ℕ) (procaps
 IsDerived-met key state caller procaps moment good need met p brought was =
     let statements = sayings state.statements in
     let same : met.procap ≡ p = numbered_item procaps need.place met.procap p met.brought brought in
-    let admits : Admits key state moment (goal_of caller need) p = subst (Admits key state moment (goal_of caller need)) same met.admits in
+    let admits : Admits key state moment (wanted_goal caller need) p = subst (Admits key state moment (wanted_goal caller need)) same met.admits in
     let issue : IsGoodIssue statements was.issue = AllByRecursion-contains (IsGoodIssue statements) state.issues was.issue good was.among in
     let sound : SoundGrant statements was.issue.grant =
     SoundGrant-more (statements_of issue.cites) statements was.issue.grant (Includes-cited statements issue.cites issue.stand) issue.granted.sound in
-    Allows-named statements state moment (goal_of caller need) p.grant (subst (SoundGrant statements) was.grant_is sound) admits.1.0 admits.1.1.0 admits.1.1.1.0 (Holds-admits key state moment (goal_of caller need) p admits)
+    Allows-named statements state moment (wanted_goal caller need) p.grant (subst (SoundGrant statements) was.grant_is sound) admits.1.0 admits.1.1.0 admits.1.1.1.0 (Holds-admits key state moment (wanted_goal caller need) p admits)
 
 -- what an admitted operation needs is derivable, if the grants were issued
 pub AreDerived-admitted : (key : List ℕ) (state : BaseView) (caller : List ℕ) (op : Op) (procaps : List Procap) (moment : ℤ) → AllByRecursion (IsGoodIssue (sayings state.statements)) state.issues → IsAdmitted key state caller op procaps moment →

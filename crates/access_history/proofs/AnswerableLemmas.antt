@@ -32,7 +32,7 @@ use Rattle.access_history.specs.Base.{BaseView}
 use Rattle.access_history.specs.Numbered.{IsNumbered}
 use Rattle.access_history.specs.Authority.{Authority, IsSignedStatement, sayings}
 use Rattle.access_history.specs.Citing.{StandsUnderNumber}
-use Rattle.access_history.specs.Admission.{goal_of, checks, Passes, Admits, IsNeedMet, IsAdmitted}
+use Rattle.access_history.specs.Admission.{wanted_goal, denial_causes, Passes, Admits, IsNeedMet, IsAdmitted}
 use Rattle.access_history.specs.Answer.{moment_of, MaySee, Answers, unsigned, duplicate, registry_full, registered, moved, issued, denied, refused, acted, not_shown, shown}
 use Rattle.access_history.specs.WellFormed.{IsWellFormed}
 use Rattle.access_history.proofs.ListLemmas.{AllByRecursion-contains}
@@ -53,18 +53,18 @@ passes_or key state moment goal p (causes.Time place c) = holds_or moment c
 passes_or key state moment goal p (causes.State place s) = contains_or same_state (facts state.world) s
 
 module _ (key : List ℕ) (state : BaseView) (caller : List ℕ) (procaps : List Procap) (moment : ℤ) where
-  admits_or_fails : (goal : Goal) (p : Procap) → Admits key state moment goal p ⊎ HasFailing (Passes key state moment goal p) (checks p.grant)
-  admits_or_fails goal p = all_or_failing (Passes key state moment goal p) (passes_or key state moment goal p) (checks p.grant)
+  admits_or_fails : (goal : Goal) (p : Procap) → Admits key state moment goal p ⊎ HasFailing (Passes key state moment goal p) (denial_causes p.grant)
+  admits_or_fails goal p = all_or_failing (Passes key state moment goal p) (passes_or key state moment goal p) (denial_causes p.grant)
 
-  met_by : (need : Need) (found : HasItem procaps need.place) → Admits key state moment (goal_of caller need) found.item ⊎ HasFailing (Passes key state moment (goal_of caller need) found.item) (checks found.item.grant)
+  met_by : (need : Need) (found : HasItem procaps need.place) → Admits key state moment (wanted_goal caller need) found.item ⊎ HasFailing (Passes key state moment (wanted_goal caller need) found.item) (denial_causes found.item.grant)
       → OrNot (IsNeedMet key state caller procaps moment need)
   met_by need found (inl admits) = inl (record { procap = found.item; brought = found.numbered; admits = admits })
   met_by need found (inr lacking) =
       inr (λ met. let same : met.procap ≡ found.item = numbered_item procaps need.place met.procap found.item met.brought found.numbered in
-      none_fails (Passes key state moment (goal_of caller need) found.item) (checks found.item.grant) lacking.place lacking.item (subst (Admits key state moment (goal_of caller need)) same met.admits) lacking.first)
+      none_fails (Passes key state moment (wanted_goal caller need) found.item) (denial_causes found.item.grant) lacking.place lacking.item (subst (Admits key state moment (wanted_goal caller need)) same met.admits) lacking.first)
 
   met_at : (need : Need) → HasItem procaps need.place ⊎ ((p : Procap) → IsNumbered procaps need.place p → ⊥) → OrNot (IsNeedMet key state caller procaps moment need)
-  met_at need (inl found) = met_by need found (admits_or_fails (goal_of caller need) found.item)
+  met_at need (inl found) = met_by need found (admits_or_fails (wanted_goal caller need) found.item)
   met_at need (inr none) = inr (λ met. none met.procap met.brought)
 
   met_or : (need : Need) → OrNot (IsNeedMet key state caller procaps moment need)
@@ -141,8 +141,8 @@ module _ (authority : Authority) (state : BaseView) (pass : ℕ) (clock : ℤ) w
   admitted_answer caller op procaps admitted (Some why) is = record { reply = _; event = _; answers = refused caller op procaps why admitted is }
 
   module _ (caller : List ℕ) (op : Op) (procaps : List Procap) (lacking : HasFailing (IsNeedMet authority.key state caller procaps (moment_of state clock)) (needs state.world op)) where
-    denied_answer : (found : HasItem procaps lacking.item.place) → Admits authority.key state (moment_of state clock) (goal_of caller lacking.item) found.item
-        ⊎ HasFailing (Passes authority.key state (moment_of state clock) (goal_of caller lacking.item) found.item) (checks found.item.grant) → HasAnswer authority state pass clock (Act caller op procaps)
+    denied_answer : (found : HasItem procaps lacking.item.place) → Admits authority.key state (moment_of state clock) (wanted_goal caller lacking.item) found.item
+        ⊎ HasFailing (Passes authority.key state (moment_of state clock) (wanted_goal caller lacking.item) found.item) (denial_causes found.item.grant) → HasAnswer authority state pass clock (Act caller op procaps)
     denied_answer found (inl admits) = absurd (lacking.first.fails (record { procap = found.item; brought = found.numbered; admits = admits }))
     denied_answer found (inr failing) =
         record {
@@ -159,7 +159,7 @@ module _ (authority : Authority) (state : BaseView) (pass : ℕ) (clock : ℤ) w
   act_answer caller op procaps formed (inr lacking) =
       let within : IsWithin (slots op) lacking.item = AllByRecursion-contains (IsWithin (slots op)) (needs state.world op) lacking.item (needs_within state.world op) (Contains-failing _ _ lacking.place lacking.item lacking.first) in
       let found : HasItem procaps lacking.item.place = item_of_number procaps lacking.item.place within.0 (omega (arith, within.1, formed.slots)) in
-      denied_answer caller op procaps lacking found (admits_or_fails authority.key state caller procaps (moment_of state clock) (goal_of caller lacking.item) found.item)
+      denied_answer caller op procaps lacking found (admits_or_fails authority.key state caller procaps (moment_of state clock) (wanted_goal caller lacking.item) found.item)
 
   may_see_or : (who : Option (List ℕ)) (g : GrantView) → OrNot (MaySee who g)
   may_see_or None g = inl tt

@@ -21,7 +21,8 @@ use Rattle.bl_syntax.specs.Terms.{AreInOrder, in_order, term_at}
 use Rattle.bl_syntax.proofs.ConditionLemmas.{AreInOrder-times}
 use Rattle.bl_syntax.proofs.ConditionTestLemmas.{Decides-is_up_to}
 use Rattle.access_history.specs.Numbered.{IsNumbered}
-use Rattle.access_history.proofs.ListLemmas.{Contains-head, Contains-cons_cases}
+use Rattle.bl_syntax.proofs.GrantLemmas.{Contains-head}
+use Rattle.access_history.proofs.ListLemmas.{Contains-cons_cases}
 
 -- it holds, or it does not
 abbrev pub OrNot : Type 0 → Type 0

@@ -9,7 +9,7 @@ use Rattle.access_history.specs.declared.event.Event.{Event}
 use Rattle.access_history.specs.declared.event.Event.TheVariants.{Acted}
 use Rattle.access_history.specs.Base.{BaseView}
 use Rattle.access_history.specs.Authority.{Authority}
-use Rattle.access_history.specs.Admission.{goal_of, IsNeedMet}
+use Rattle.access_history.specs.Admission.{wanted_goal, IsNeedMet}
 use Rattle.access_history.specs.Replay.{replay, next_state}
 use Rattle.access_history.specs.Lawful.{IsDerived, IsLawful, AreLawful, no_event, one_more, MayAct, MayFollow}
 use Rattle.access_history.specs.Headline.{WasRightful, Headline}
@@ -40,7 +40,7 @@ WasRightful-each : (key : List ℕ) (state : BaseView) (caller : List ℕ) (proc
     AllByRecursion (WasRightful key state caller procaps moment) wants
 WasRightful-each key state caller procaps moment [] met derived = tt
 WasRightful-each key state caller procaps moment (need ∷ wants) met derived =
-    let holds = Holds-admits key state moment (goal_of caller need) met.0.procap met.0.admits in (
+    let holds = Holds-admits key state moment (wanted_goal caller need) met.0.procap met.0.admits in (
       record {
         procap = met.0.procap;
         brought = met.0.brought;

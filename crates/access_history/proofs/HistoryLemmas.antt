@@ -13,7 +13,7 @@ use Rattle.file_world.specs.declared.refusal.OpFault.{OpFault}
 use Rattle.file_world.specs.declared.reply.OpReply.{OpReply}
 use Rattle.file_world.specs.World.{World}
 use Rattle.world_state.specs.State.{WorldState, ReservesWorld}
-use Rattle.access_history.specs.declared.event.Entry.{Entry}
+use Rattle.access_history.specs.declared.event.Addition.{Addition}
 use Rattle.access_history.specs.declared.event.Issue.{Issue}
 use Rattle.access_history.specs.declared.event.Event.{Event}
 use Rattle.access_history.specs.declared.event.Event.TheVariants.{Registered, Issued, Acted}
@@ -24,7 +24,7 @@ use Rattle.access_history.specs.History.{HistoryView, authority_with, authority_
 use Rattle.access_history.specs.HistoryParts.{kept_by, shown_state, IsKeeping}
 use Rattle.access_history.specs.Keeping.{HasMomentInRange, HasPlaceAmong}
 use Rattle.access_history.specs.Lawful.{IsLawful, one_more, MayFollow}
-use Rattle.access_history.specs.Replay.{world_next, moment_next, statements_with, issues_with, entry_of, replay, next_state}
+use Rattle.access_history.specs.Replay.{world_next, moment_next, statements_with, issues_with, addition_of, replay, next_state}
 use Rattle.access_history.proofs.ReplayLemmas.{replay-more, count-replay}
 
 -- a push that did not fail
@@ -35,14 +35,14 @@ abbrev pub state_with : World → List RegisteredView → List Issue → ℤ →
 state_with world statements issues moment count = record { world = world; statements = statements; issues = issues; moment = moment; count = count }
 
 -- the fields after an event show the state after it
-pub shown_next : (h after : Inside) (event : Event) → after.world.world ≡ world_next h.world.world event → after.statements.entries ≡ statements_with h.statements.entries (entry_of event) → after.issues.items ≡ issues_with h.issues.items (entry_of event) →
+pub shown_next : (h after : Inside) (event : Event) → after.world.world ≡ world_next h.world.world event → after.statements.entries ≡ statements_with h.statements.entries (addition_of event) → after.issues.items ≡ issues_with h.issues.items (addition_of event) →
     after.moment ≡ moment_next h.moment event → after.count ≡ h.count + 1 → shown_state after ≡ next_state (shown_state h) event
 shown_next h after event world statements issues moment count =
     ap (λ (w : World). state_with w after.statements.entries after.issues.items after.moment after.count) world
     ∙ ap (λ (ss : List RegisteredView). state_with (world_next h.world.world event) ss after.issues.items after.moment after.count) statements
-    ∙ ap (λ (is : List Issue). state_with (world_next h.world.world event) (statements_with h.statements.entries (entry_of event)) is after.moment after.count) issues
-    ∙ ap (λ (m : ℤ). state_with (world_next h.world.world event) (statements_with h.statements.entries (entry_of event)) (issues_with h.issues.items (entry_of event)) m after.count) moment
-    ∙ ap (λ (n : ℕ). state_with (world_next h.world.world event) (statements_with h.statements.entries (entry_of event)) (issues_with h.issues.items (entry_of event)) (moment_next h.moment event) n) count
+    ∙ ap (λ (is : List Issue). state_with (world_next h.world.world event) (statements_with h.statements.entries (addition_of event)) is after.moment after.count) issues
+    ∙ ap (λ (m : ℤ). state_with (world_next h.world.world event) (statements_with h.statements.entries (addition_of event)) (issues_with h.issues.items (addition_of event)) m after.count) moment
+    ∙ ap (λ (n : ℕ). state_with (world_next h.world.world event) (statements_with h.statements.entries (addition_of event)) (issues_with h.issues.items (addition_of event)) (moment_next h.moment event) n) count
 
 -- the fields show the state after one more event, and the events have one more at their end
 pub IsKeeping-more : (h after : Inside) (event : Event) → IsKeeping h → MayFollow (authority_of (kept_by h)) (state_of (kept_by h)) event → (state_of (kept_by h)).count < 2 ^ 48 - 1 →
@@ -74,7 +74,7 @@ HasMoment-follows authority state (Issued pass cited proof grant) may = tt
 HasMoment-follows authority state (Acted pass caller op procaps moment) may = may.in_range
 
 -- and there is a place for its statement, if it has one
-pub HasPlace-follows : (authority : Authority) (state : BaseView) (event : Event) → MayFollow authority state event → HasPlaceAmong state.statements (entry_of event)
+pub HasPlace-follows : (authority : Authority) (state : BaseView) (event : Event) → MayFollow authority state event → HasPlaceAmong state.statements (addition_of event)
 HasPlace-follows authority state (Registered pass statement signature) may = may.room
 HasPlace-follows authority state (Issued pass cited proof grant) may = tt
 HasPlace-follows authority state (Acted pass caller op procaps moment) may = tt
@@ -106,19 +106,19 @@ ready_shown h k event keeping is ready =
     subst (λ (w : WorldState). IsReadyIn w event) (sym (world_shown h keeping)) (subst (λ (v : HistoryView). IsReadyFor v event) (sym is) ready)
 
 -- there is a place for what the state keeps of an event that may come next
-pub place_shown : (h : Inside) (k : HistoryView) (event : Event) (entry : Entry) → IsKeeping h → kept_by h ≡ k → entry ≡ entry_of event → MayFollow (authority_of k) (state_of k) event → HasPlaceAmong h.statements.entries entry
-place_shown h k event entry keeping is entry_is may =
-    subst (λ (e : Entry). HasPlaceAmong h.statements.entries e) (sym entry_is)
-    (subst (λ (s : BaseView). HasPlaceAmong s.statements (entry_of event)) (sym keeping.state_is)
-    (subst (λ (v : HistoryView). HasPlaceAmong (state_of v).statements (entry_of event)) (sym is) (HasPlace-follows (authority_of k) (state_of k) event may)))
+pub place_shown : (h : Inside) (k : HistoryView) (event : Event) (addition : Addition) → IsKeeping h → kept_by h ≡ k → addition ≡ addition_of event → MayFollow (authority_of k) (state_of k) event → HasPlaceAmong h.statements.entries addition
+place_shown h k event addition keeping is addition_is may =
+    subst (λ (e : Addition). HasPlaceAmong h.statements.entries e) (sym addition_is)
+    (subst (λ (s : BaseView). HasPlaceAmong s.statements (addition_of event)) (sym keeping.state_is)
+    (subst (λ (v : HistoryView). HasPlaceAmong (state_of v).statements (addition_of event)) (sym is) (HasPlace-follows (authority_of k) (state_of k) event may)))
 
 -- the fields after an event that may come next: each part changed as the event changes it, and the event, which was given back, at the end
-pub IsKeeping-kept : (h after : Inside) (k : HistoryView) (event given : Event) (entry : Entry) → IsKeeping h → kept_by h ≡ k → MayFollow (authority_of k) (state_of k) event → (state_of k).count < 2 ^ 48 - 1 → entry ≡ entry_of event → given ≡ event
+pub IsKeeping-kept : (h after : Inside) (k : HistoryView) (event given : Event) (addition : Addition) → IsKeeping h → kept_by h ≡ k → MayFollow (authority_of k) (state_of k) event → (state_of k).count < 2 ^ 48 - 1 → addition ≡ addition_of event → given ≡ event
     → after.key ≡ h.key → after.ring ≡ h.ring → after.base ≡ h.base
     → after.world.world ≡ world_next h.world.world event → after.moment ≡ moment_next h.moment event
-    → after.statements.entries ≡ statements_with h.statements.entries entry → after.issues.items ≡ issues_with h.issues.items entry
+    → after.statements.entries ≡ statements_with h.statements.entries addition → after.issues.items ≡ issues_with h.issues.items addition
     → after.events.items ≡ h.events.items ++ given ∷ [] → after.count ≡ h.count + 1 → IsKeeping after
-IsKeeping-kept h after k event given entry keeping is follows counted entry_is given_is same_key same_ring same_base world moment statements issues more count =
+IsKeeping-kept h after k event given addition keeping is follows counted addition_is given_is same_key same_ring same_base world moment statements issues more count =
     IsKeeping-more h after event keeping (subst (λ (v : HistoryView). MayFollow (authority_of v) (state_of v) event) (sym is) follows) (subst (λ (v : HistoryView). (state_of v).count < 2 ^ 48 - 1) (sym is) counted) same_key same_ring same_base
     (more ∙ ap (λ (e : Event). h.events.items ++ e ∷ []) given_is)
-    (shown_next h after event world (statements ∙ ap (statements_with h.statements.entries) entry_is) (issues ∙ ap (issues_with h.issues.items) entry_is) moment count)
+    (shown_next h after event world (statements ∙ ap (statements_with h.statements.entries) addition_is) (issues ∙ ap (issues_with h.issues.items) addition_is) moment count)

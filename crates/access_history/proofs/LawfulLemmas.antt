@@ -18,7 +18,8 @@ use Rattle.access_history.specs.Authority.{Authority, MayBeRegistered, IsSignedE
 use Rattle.access_history.specs.Citing.{IsGoodIssue}
 use Rattle.access_history.specs.Replay.{next_state, replay}
 use Rattle.access_history.specs.Lawful.{MayAct, MayFollow, AreLawful, no_event, one_more, IsLawfulBase, IsLawful}
-use Rattle.access_history.proofs.ListLemmas.{AllByRecursion-push, AllByRecursion-weaker, AreDistinct-push}
+use Rattle.bl_syntax.proofs.GrantLemmas.{AllByRecursion-push, AreDistinct-push}
+use Rattle.access_history.proofs.ListLemmas.{AllByRecursion-weaker}
 use Rattle.access_history.proofs.ReplayLemmas.{world_left-after, replay-more, count-replay}
 use Rattle.access_history.proofs.CitingLemmas.{sayings-more, IsGoodIssue-more}
 

@@ -1,13 +1,9 @@
--- What holds of each item, and items that differ, where a list grows at its end.
-use Rattle.std.proofs.Common.{◌≡◌, List, [], ◌∷◌, ◌++◌, refl, sym, ◌⊎◌, inl, inr, ⊎_elim, map, arith}
+-- What holds of each item of a list, and what a list contains.
+use Rattle.std.proofs.Common.{◌≡◌, List, [], ◌∷◌, ◌++◌, refl, ◌⊎◌, inl, inr, ⊎_elim, map, arith}
 use Rattle.std.specs.Prelude.{Contains}
 use Rattle.std.specs.List.{AllByRecursion}
 use Rattle.std.proofs.lemmas.List.Elements.{All-from_recursion, All-contains, Contains-append_cases, Contains-append_right, Contains-push_cases}
-use Rattle.bl_syntax.specs.Grant.{AreDistinct}
-
-pub AllByRecursion-push : {X : Type 0} (P : X → Type 0) (xs : List X) (x : X) → AllByRecursion P xs → P x → AllByRecursion P (xs ++ x ∷ [])
-AllByRecursion-push P [] x all here = (here, tt)
-AllByRecursion-push P (y ∷ ys) x all here = (all.0, AllByRecursion-push P ys x all.1 here)
+use Rattle.bl_syntax.proofs.GrantLemmas.{Contains-head}
 
 pub AllByRecursion-weaker : {X : Type 0} (P Q : X → Type 0) (xs : List X) → ((x : X) → P x → Q x) → AllByRecursion P xs → AllByRecursion Q xs
 AllByRecursion-weaker P Q [] weaker all = tt
@@ -15,9 +11,6 @@ AllByRecursion-weaker P Q (x ∷ xs) weaker all = (weaker x all.0, AllByRecursio
 
 pub AllByRecursion-contains : {X : Type 0} (P : X → Type 0) (xs : List X) (x : X) → AllByRecursion P xs → Contains xs x → P x
 AllByRecursion-contains P xs x all = All-contains P xs x (All-from_recursion P xs all)
-
-pub Contains-head : {X : Type 0} (x y : X) (ys : List X) → y ≡ x → Contains (y ∷ ys) x
-Contains-head x y ys same = (0, omega arith, same)
 
 -- what a list contains is its head or in its tail
 pub Contains-cons_cases : {X : Type 0} (x : X) (xs : List X) (y : X) → Contains (x ∷ xs) y → (x ≡ y) ⊎ Contains xs y
@@ -28,14 +21,6 @@ Contains-cons_cases x xs y here =
 pub AllByRecursion-parts : {X : Type 0} (P : X → Type 0) (xs ys : List X) → AllByRecursion P (xs ++ ys) → AllByRecursion P xs × AllByRecursion P ys
 AllByRecursion-parts P [] ys all = (tt, all)
 AllByRecursion-parts P (x ∷ xs) ys all = let rest = AllByRecursion-parts P xs ys all.1 in ((all.0, rest.0), rest.1)
-
--- what is new may stand at the end
-pub AreDistinct-push : {X : Type 0} (xs : List X) (x : X) → AreDistinct xs → (Contains xs x → ⊥) → AreDistinct (xs ++ x ∷ [])
-AreDistinct-push [] x distinct new = (λ h. absurd (omega (arith, h.1)), tt)
-AreDistinct-push (y ∷ ys) x distinct new = (
-  λ h. ⊎_elim distinct.0 (λ same. new (Contains-head x y ys (sym same))) (Contains-push_cases ys x y h),
-  AreDistinct-push ys x distinct.1 (λ h. new (Contains-append_right (y ∷ []) ys x h)),
-)
 
 -- an item of a list whose image is this
 pub record IsImage {X Y : Type 0} (f : X → Y) (xs : List X) (y : Y) : Type 0 where

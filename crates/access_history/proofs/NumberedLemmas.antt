@@ -7,7 +7,8 @@ use Rattle.std.proofs.lemmas.Option.{slice_get_within, get_or_from_slice_get}
 use Rattle.bl_syntax.specs.FirstFailing.{IsFirstFailing}
 use Rattle.bl_syntax.specs.Grant.{AreDistinct}
 use Rattle.access_history.specs.Numbered.{IsNumbered, HasNumber}
-use Rattle.access_history.proofs.ListLemmas.{AllByRecursion-contains, Contains-head}
+use Rattle.bl_syntax.proofs.GrantLemmas.{Contains-head}
+use Rattle.access_history.proofs.ListLemmas.{AllByRecursion-contains}
 
 Contains-from_get : {A : Type 0} (items : List A) (place : ℕ) (item : A) → slice_get items place ≡ Some item → Contains items item
 Contains-from_get items place item found = (place, slice_get_within items place item found, get_or_from_slice_get items place item item found)

@@ -15,8 +15,8 @@ use Rattle.access_history.specs.Base.{BaseView}
 use Rattle.access_history.specs.Numbered.{IsNumbered}
 
 -- what a procap has to grant the caller for a need
-abbrev pub goal_of : List ℕ → Need → Goal
-goal_of caller need = record { who = caller; file = need.file; perm = need.permission }
+abbrev pub wanted_goal : List ℕ → Need → Goal
+wanted_goal caller need = record { who = caller; file = need.file; perm = need.permission }
 
 -- causes by their conditions, numbered from that place
 abbrev pub causes_from : {A : Type 0} → (ℕ → A → DenialCause) → ℕ → List A → List DenialCause
@@ -24,8 +24,8 @@ causes_from cause place [] = []
 causes_from cause place (condition ∷ conditions) = cause place condition ∷ causes_from cause (place + 1) conditions
 
 -- the tests of a procap with this grant in their order, each under the cause for which it denies. Conditions count from 1
-abbrev pub checks : GrantView → List DenialCause
-checks g = causes.Seal ∷ causes.Principal ∷ causes.File ∷ causes.Permission ∷ (causes_from causes.Time 1 g.times ++ causes_from causes.State 1 g.states)
+abbrev pub denial_causes : GrantView → List DenialCause
+denial_causes g = causes.Seal ∷ causes.Principal ∷ causes.File ∷ causes.Permission ∷ (causes_from causes.Time 1 g.times ++ causes_from causes.State 1 g.states)
 
 -- the procap passes the test of that name: it is sealed under the key, names what the goal names, and its conditions hold at the moment in the state
 abbrev pub Passes : List ℕ → BaseView → ℤ → Goal → Procap → DenialCause → Type 0
@@ -38,18 +38,18 @@ Passes key state moment goal p (causes.State place s) = Contains (facts state.wo
 
 -- the procap passes each test
 abbrev pub Admits : List ℕ → BaseView → ℤ → Goal → Procap → Type 0
-Admits key state moment goal p = AllByRecursion (Passes key state moment goal p) (checks p.grant)
+Admits key state moment goal p = AllByRecursion (Passes key state moment goal p) (denial_causes p.grant)
 
 -- the first test that the procap does not pass
 pub record Denies (key : List ℕ) (state : BaseView) (moment : ℤ) (goal : Goal) (p : Procap) (cause : DenialCause) : Type 0 where
   pub place : ℕ
-  pub first : IsFirstFailing (Passes key state moment goal p) (checks p.grant) place cause
+  pub first : IsFirstFailing (Passes key state moment goal p) (denial_causes p.grant) place cause
 
 -- the procap in the place of the need gives the caller what is needed
 pub record IsNeedMet (key : List ℕ) (state : BaseView) (caller : List ℕ) (procaps : List Procap) (moment : ℤ) (need : Need) : Type 0 where
   pub procap : Procap
   pub brought : IsNumbered procaps need.place procap
-  pub admits : Admits key state moment (goal_of caller need) procap
+  pub admits : Admits key state moment (wanted_goal caller need) procap
 
 -- each need of the operation is met
 abbrev pub IsAdmitted : List ℕ → BaseView → List ℕ → Op → List Procap → ℤ → Type 0
@@ -63,4 +63,4 @@ pub record IsDenied (key : List ℕ) (state : BaseView) (caller : List ℕ) (pro
   pub place_is : place ≡ need.place
   pub procap : Procap
   pub brought : IsNumbered procaps need.place procap
-  pub denies : Denies key state moment (goal_of caller need) procap cause
+  pub denies : Denies key state moment (wanted_goal caller need) procap cause

@@ -1,5 +1,5 @@
 -- Statements cited by their numbers, and the issues that are good (this project's own).
-use Rattle.std.specs.Prelude.{◌≡◌, ◌<◌, ◌≤◌, ℕ, List, [], ◌∷◌, length, map}
+use Rattle.std.specs.Prelude.{◌≡◌, ℕ, List, map}
 use Rattle.std.specs.List.{AllByRecursion}
 use Rattle.bl_syntax.specs.FirstFailing.{IsFirstFailing}
 use Rattle.bl_syntax.specs.Statement.{StatementView}
@@ -8,18 +8,6 @@ use Rattle.proof_verifier.specs.Cited.{AreCited, statements_of}
 use Rattle.proof_verifier.specs.CheckedView.{IsGranted}
 use Rattle.access_history.specs.declared.event.Issue.{Issue}
 use Rattle.access_history.specs.Numbered.{IsNumbered, HasNumber}
-
--- each number is below the next
-abbrev pub DoNumbersRise : List ℕ → Type 0
-DoNumbersRise [] = Unit {0}
-DoNumbersRise (first ∷ []) = Unit {0}
-DoNumbersRise (first ∷ second ∷ others) = (first < second) × DoNumbersRise (second ∷ others)
-
--- 1 to 64 numbers, strictly rising
-pub record AreCitable (numbers : List ℕ) : Type 0 where
-  pub some : 0 < length numbers
-  pub few : length numbers ≤ 64
-  pub rising : DoNumbersRise numbers
 
 -- the numbers alone, in order
 abbrev pub numbers_of : List Cite → List ℕ

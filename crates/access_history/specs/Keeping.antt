@@ -4,8 +4,8 @@ use Rattle.bl_syntax.specs.TimeOrder.{IsMoment}
 use Rattle.policy_statement.specs.Registered.{RegisteredView}
 use Rattle.access_history.specs.declared.event.Event.{Event}
 use Rattle.access_history.specs.declared.event.Event.TheVariants as events
-use Rattle.access_history.specs.declared.event.Entry.{Entry}
-use Rattle.access_history.specs.declared.event.Entry.TheVariants as entries
+use Rattle.access_history.specs.declared.event.Addition.{Addition}
+use Rattle.access_history.specs.declared.event.Addition.TheVariants as additions
 
 -- an event that has a moment has one of the range
 abbrev pub HasMomentInRange : Event → Type 0
@@ -14,7 +14,7 @@ HasMomentInRange (events.Issued pass cited proof grant) = Unit {0}
 HasMomentInRange (events.Acted pass caller op procaps moment) = IsMoment moment
 
 -- a statement more is within the limit
-abbrev pub HasPlaceAmong : List RegisteredView → Entry → Type 0
-HasPlaceAmong statements (entries.Statement statement signature) = length statements < 4096
-HasPlaceAmong statements (entries.Issue issue) = Unit {0}
-HasPlaceAmong statements entries.Operation = Unit {0}
+abbrev pub HasPlaceAmong : List RegisteredView → Addition → Type 0
+HasPlaceAmong statements (additions.Statement statement signature) = length statements < 4096
+HasPlaceAmong statements (additions.Issue issue) = Unit {0}
+HasPlaceAmong statements additions.Operation = Unit {0}

@@ -8,8 +8,8 @@ use Rattle.file_world.specs.Effect.{effect}
 use Rattle.access_history.specs.declared.event.Issue.{Issue}
 use Rattle.access_history.specs.declared.event.Event.{Event}
 use Rattle.access_history.specs.declared.event.Event.TheVariants.{Registered, Issued, Acted}
-use Rattle.access_history.specs.declared.event.Entry.{Entry}
-use Rattle.access_history.specs.declared.event.Entry.TheVariants as entries
+use Rattle.access_history.specs.declared.event.Addition.{Addition}
+use Rattle.access_history.specs.declared.event.Addition.TheVariants as additions
 use Rattle.access_history.specs.Base.{BaseView}
 
 -- a store before its first event: the root, which `admin` owns, and the first moment of the range
@@ -30,22 +30,22 @@ world_next world (Issued pass cited proof grant) = world
 world_next world (Acted pass caller op procaps moment) = world_left world (effect caller op world)
 
 -- what the state keeps of an event beside the event
-abbrev pub entry_of : Event → Entry
-entry_of (Registered pass statement signature) = entries.Statement statement signature
-entry_of (Issued pass cited proof grant) = entries.Issue (record { cited = cited; proof = proof; grant = grant })
-entry_of (Acted pass caller op procaps moment) = entries.Operation
+abbrev pub addition_of : Event → Addition
+addition_of (Registered pass statement signature) = additions.Statement statement signature
+addition_of (Issued pass cited proof grant) = additions.Issue (record { cited = cited; proof = proof; grant = grant })
+addition_of (Acted pass caller op procaps moment) = additions.Operation
 
--- the statements with what an entry adds to them
-abbrev pub statements_with : List RegisteredView → Entry → List RegisteredView
-statements_with statements (entries.Statement statement signature) = statements ++ record { statement = statement; signature = signature } ∷ []
-statements_with statements (entries.Issue issue) = statements
-statements_with statements entries.Operation = statements
+-- the statements with what an event adds to them
+abbrev pub statements_with : List RegisteredView → Addition → List RegisteredView
+statements_with statements (additions.Statement statement signature) = statements ++ record { statement = statement; signature = signature } ∷ []
+statements_with statements (additions.Issue issue) = statements
+statements_with statements additions.Operation = statements
 
--- the issues with what an entry adds to them
-abbrev pub issues_with : List Issue → Entry → List Issue
-issues_with issues (entries.Statement statement signature) = issues
-issues_with issues (entries.Issue issue) = issues ++ issue ∷ []
-issues_with issues entries.Operation = issues
+-- the issues with what an event adds to them
+abbrev pub issues_with : List Issue → Addition → List Issue
+issues_with issues (additions.Statement statement signature) = issues
+issues_with issues (additions.Issue issue) = issues ++ issue ∷ []
+issues_with issues additions.Operation = issues
 
 -- the greatest moment after an event: an operation's moment
 abbrev pub moment_next : ℤ → Event → ℤ
@@ -59,8 +59,8 @@ moment_next last (Acted pass caller op procaps moment) = moment
 abbrev pub next_state : BaseView → Event → BaseView
 next_state state event = record {
   world = world_next state.world event;
-  statements = statements_with state.statements (entry_of event);
-  issues = issues_with state.issues (entry_of event);
+  statements = statements_with state.statements (addition_of event);
+  issues = issues_with state.issues (addition_of event);
   moment = moment_next state.moment event;
   count = state.count + 1;
 }

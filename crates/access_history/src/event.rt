@@ -39,7 +39,7 @@ pub enum Event {
 
 /// What the state keeps of an event beside the event.
 #[derive(Debug, Drop)]
-pub enum Entry {
+pub enum Addition {
     /// A statement more, with its signature.
     Statement(Statement, Bytes),
     /// An issue more.

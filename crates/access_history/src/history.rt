@@ -3,8 +3,8 @@
 ghost use Rattle.std.specs.Prelude.{◌≡◌, ◌≤◌, ◌<◌, ◌-◌, ◌^◌, ◌++◌, ◌∷◌, [], IfOk, OnOk, length};
 
 use crate::base::Base;
-use crate::event::{Entry, Event, Issue};
-use crate::keeping::{add_entry, apply_event};
+use crate::event::{Addition, Event, Issue};
+use crate::keeping::{add_to_state, apply_event};
 use bl_syntax::{NoMemory, Principal};
 use file_world::{Op, OpFault, OpReply};
 use policy_statement::{Keyring, Registered, Registry};
@@ -45,7 +45,7 @@ impl Model for History {
 
 impl History {
     ghost use Rattle.world_state.specs.State.{ReservesWorld};
-    ghost use Rattle.access_history.specs.History.{state_of, world_of, authority_of, entry_of, IsReadyFor};
+    ghost use Rattle.access_history.specs.History.{state_of, world_of, authority_of, addition_of, IsReadyFor};
     ghost use Rattle.access_history.specs.Lawful.{IsLawful, MayFollow};
     ghost use Rattle.access_history.specs.Replay.{fresh};
     ghost use Rattle.access_history.specs.Headline.{Headline};
@@ -84,6 +84,20 @@ impl History {
         ensures { result.now ≡ self.now.ring }
     {
         &self.ring
+    }
+
+    /// The state with which it begins.
+    pub fn base(&self) -> &Base
+        ensures { result.now ≡ self.now.base }
+    {
+        &self.base
+    }
+
+    /// The events since, in their order.
+    pub fn events(&self) -> &[Event]
+        ensures { result.now ≡ self.now.events }
+    {
+        self.events.as_slice()
     }
 
     /// The world.
@@ -178,10 +192,10 @@ impl History {
     }
 
     /// Keeps the event and what the state keeps of it, for which there has to be room. It takes no memory.
-    pub fn keep(&mut self, event: Event, entry: Entry)
+    pub fn keep(&mut self, event: Event, addition: Addition)
         requires room { 1 ≤ self.old.room }
         requires lawful { MayFollow (authority_of self.old) (state_of self.old) event }
-        requires entry { entry ≡ entry_of event }
+        requires addition { addition ≡ addition_of event }
         requires ready { IsReadyFor self.old event }
         requires counted { (state_of self.old).count < 2 ^ 48 - 1 }
         ensures key { self.new.key ≡ self.old.key }
@@ -190,7 +204,7 @@ impl History {
         ensures events { self.new.events ≡ self.old.events ++ event ∷ [] }
     {
         let event = apply_event(&mut self.world, &mut self.moment, event);
-        add_entry(&mut self.statements, &mut self.issues, entry);
+        add_to_state(&mut self.statements, &mut self.issues, addition);
         self.events.push(event).unwrap();
         self.count += 1;
     }

@@ -5,7 +5,7 @@ ghost use Rattle.access_history.specs.History.{IsReadyIn, spare};
 ghost use Rattle.access_history.specs.Keeping.{HasMomentInRange, HasPlaceAmong};
 ghost use Rattle.access_history.specs.Replay.{world_next, moment_next, statements_with, issues_with};
 
-use crate::event::{Entry, Event, Issue};
+use crate::event::{Addition, Event, Issue};
 use policy_statement::Registry;
 use world_state::World;
 
@@ -41,18 +41,18 @@ pub fn apply_event(world: &mut World, last: &mut i64, event: Event) -> Event
 }
 
 /// Adds what the state keeps of an event, for which there has to be room. It takes no memory.
-pub fn add_entry(statements: &mut Registry, issues: &mut Vec<Issue>, entry: Entry)
-    requires place { HasPlaceAmong statements.old.entries entry }
+pub fn add_to_state(statements: &mut Registry, issues: &mut Vec<Issue>, addition: Addition)
+    requires place { HasPlaceAmong statements.old.entries addition }
     requires statements_room { 1 ≤ statements.old.spare }
     requires issues_room { 1 ≤ spare issues.old }
-    ensures statements { statements.new.entries ≡ statements_with statements.old.entries entry }
-    ensures issues { issues.new.items ≡ issues_with issues.old.items entry }
+    ensures statements { statements.new.entries ≡ statements_with statements.old.entries addition }
+    ensures issues { issues.new.items ≡ issues_with issues.old.items addition }
 {
-    match entry {
-        Entry::Statement(statement, signature) => {
+    match addition {
+        Addition::Statement(statement, signature) => {
             let _ = statements.keep(statement, signature);
         }
-        Entry::Issue(issue) => issues.push(issue).unwrap(),
-        Entry::Operation => {}
+        Addition::Issue(issue) => issues.push(issue).unwrap(),
+        Addition::Operation => {}
     }
 }

@@ -13,7 +13,7 @@ mod reply;
 mod request;
 
 pub use base::Base;
-pub use event::{Entry, Event, Events, Issue, Issues, Procaps, Statements};
+pub use event::{Addition, Event, Events, Issue, Issues, Procaps, Statements};
 pub use history::History;
 pub use laws::{
     admitted_operations_are_kept, answers_are_determined, answers_may_follow, fresh_is_lawful,

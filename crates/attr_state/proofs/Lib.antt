@@ -4,4 +4,4 @@ pub mod CopyLemmas
 pub mod FactLemmas
 pub mod MarkLemmas
 pub mod NameLemmas
-pub mod SettledLemmas
+pub mod CurrentLemmas

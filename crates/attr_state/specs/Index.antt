@@ -54,11 +54,11 @@ pub record AreOrdered (entries : MarkEntries) : Type 0 where
   pub sorted : (number : ℕ) (kept : Kept) → kept_at entries number ≡ Some kept → AreSorted kept.attributes.items
 
 -- the marks without one that is only ready to be made
-abbrev pub settled : Option MetaReady → MarkEntries → MarkEntries
-settled None entries = entries
-settled (Some Nothing) entries = entries
-settled (Some (Room number len)) entries = entries
-settled (Some (Made number owner parent)) entries = remove_entry (is_at (nat_cmp number)) entries
+abbrev pub current : Option MetaReady → MarkEntries → MarkEntries
+current None entries = entries
+current (Some Nothing) entries = entries
+current (Some (Room number len)) entries = entries
+current (Some (Made number owner parent)) entries = remove_entry (is_at (nat_cmp number)) entries
 
 -- whether the mark of the node of that number is only ready to be made
 abbrev pub is_held : Option MetaReady → ℕ → Bool
@@ -69,7 +69,7 @@ is_held (Some (Made node owner parent)) number = nat_eq node number
 
 -- the marks as contracts see them
 abbrev pub marks_in : Option MetaReady → MarkEntries → Marks
-marks_in ready entries = marks_of (settled ready entries)
+marks_in ready entries = marks_of (current ready entries)
 
 -- a mark is kept with room for so many attributes
 pub record HasMarkRoom (entries : MarkEntries) (number len : ℕ) : Type 0 where

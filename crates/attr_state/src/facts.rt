@@ -6,9 +6,9 @@ ghost use Rattle.file_world.specs.Facts.{facts_of_marks};
 ghost use Rattle.attr_state.specs.Index.{shown, marks_in, mark_named, AreSorted, IsMarkIndex};
 
 use crate::attributes::value_among;
+use crate::current::current_mark;
 use crate::mark::{KeptMark, KeptMarks};
 use crate::ready::MetaReady;
-use crate::settled::settled_mark;
 use bl_syntax::{NodeId, Term};
 use file_world::ROOT_NUMBER;
 
@@ -23,7 +23,7 @@ fn named_mark<'a>(
     ensures sorted { IfSome result (λ mark. AreSorted mark.now.attributes.items) }
 {
     match node {
-        Term::File(node) => settled_mark(marks, ready, node.0),
+        Term::File(node) => current_mark(marks, ready, node.0),
         _ => None,
     }
 }

@@ -7,6 +7,7 @@
 
 mod applying;
 mod attributes;
+mod current;
 mod facts;
 mod mark;
 mod meta;
@@ -14,7 +15,6 @@ mod name;
 mod preparing;
 mod ready;
 mod refusals;
-mod settled;
 
 pub use file_world::{MetaOp, MetaReply, OpFault, Refusal};
 pub use meta::Meta;

@@ -8,12 +8,12 @@ ghost use Rattle.attr_state.specs.State.{ReservesMeta, IsMetaReady};
 
 use crate::applying::change;
 use crate::attributes::value_among;
+use crate::current::{copy_marks, current_mark};
 use crate::facts::{has_value, is_in, is_owner};
 use crate::mark::{KeptMark, KeptMarks};
 use crate::preparing::{forget, prepare};
 use crate::ready::MetaReady;
 use crate::refusals::{refusal, reply};
-use crate::settled::{copied, settled_mark};
 use bl_syntax::{NoMemory, NodeId, Principal, StatePred, Text};
 use condition_set::Facts;
 use file_world::{MetaOp, MetaReply, OpFault, ROOT_NUMBER};
@@ -64,14 +64,14 @@ impl Meta {
     pub fn contains(&self, node: NodeId) -> bool
         ensures { result ≡ is_some (mark_at self.now.marks node.0) }
     {
-        settled_mark(&self.marks, &self.ready, node.0).is_some()
+        current_mark(&self.marks, &self.ready, node.0).is_some()
     }
 
     /// The owner of a node; none if there is no node of that number. It takes no memory.
     pub fn owner(&self, node: NodeId) -> Option<Principal>
         ensures { result ≡ option_map (λ mark. mark.owner) (mark_at self.now.marks node.0) }
     {
-        match settled_mark(&self.marks, &self.ready, node.0) {
+        match current_mark(&self.marks, &self.ready, node.0) {
             None => None,
             Some(mark) => Some(mark.owner),
         }
@@ -81,7 +81,7 @@ impl Meta {
     pub fn value(&self, node: NodeId, name: &[u8]) -> Option<Text>
         ensures { result ≡ value_of self.now.marks node.0 name.now }
     {
-        match settled_mark(&self.marks, &self.ready, node.0) {
+        match current_mark(&self.marks, &self.ready, node.0) {
             None => None,
             Some(mark) => value_among(mark.attributes.as_slice(), name),
         }
@@ -120,7 +120,7 @@ impl Meta {
         ensures { IfOk result (λ copied. copied ≡ record { marks = self.now.marks; ready = None }) }
     {
         Ok(Meta {
-            marks: copied(&self.marks, &self.ready)?,
+            marks: copy_marks(&self.marks, &self.ready)?,
             ready: None,
         })
     }

@@ -2,22 +2,10 @@
 
 ghost use Rattle.std.specs.Prelude.{◌≡◌, ◌≤◌, length};
 ghost use Rattle.std.specs.List.{list_all};
-ghost use Rattle.bl_syntax.specs.Names.{is_lower_case, is_digit};
 ghost use Rattle.file_world.specs.FileNames.{is_attribute_name_byte, is_attribute_name};
 
+use bl_syntax::byte_classes::{is_digit, is_lower_case};
 use file_world::LONGEST_NAME;
-
-fn is_lower_case(byte: u8) -> bool
-    ensures { result ≡ is_lower_case byte }
-{
-    b'a' <= byte && byte <= b'z'
-}
-
-fn is_digit(byte: u8) -> bool
-    ensures { result ≡ is_digit byte }
-{
-    b'0' <= byte && byte <= b'9'
-}
 
 fn is_attribute_name_byte(byte: u8) -> bool
     ensures { result ≡ is_attribute_name_byte byte }

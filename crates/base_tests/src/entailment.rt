@@ -1,7 +1,7 @@
 //! `entails` beside a plain and slow program that computes the definition.
 
 use crate::rows::word_and_rest;
-use bl_constraints::entails;
+use bl_constraints::ConstraintStack;
 use bl_syntax::{Constraint, NodeId, Term, TimePoint};
 use std::alloc::Global;
 use std::test::Fail;
@@ -39,8 +39,15 @@ fn constraints(alloc: Global, letters: &[u8]) -> Result<Vec<Constraint>, Fail> {
     Ok(psi)
 }
 
-fn answer(psi: &[Constraint], u: &Term, v: &Term) -> bool {
-    psi.len() <= 512 && entails(psi, u, v)
+fn answer(alloc: Global, psi: &[Constraint], u: &Term, v: &Term) -> Result<bool, Fail> {
+    let mut stack = ConstraintStack::new(alloc);
+    for c in psi {
+        if stack.len() >= 512 {
+            return Err(Fail::from("too many constraints"));
+        }
+        stack.push(c)?;
+    }
+    Ok(stack.entails(u, v))
 }
 
 fn is_link(psi: &[Constraint], u: &Term, v: &Term) -> bool {
@@ -120,14 +127,20 @@ fn both(letters: &str) -> Result<(Term, Term), Fail> {
 }
 
 // Whether both programs give that answer.
-fn are_answers(psi: &[Constraint], u: &Term, v: &Term, want: bool) -> bool {
-    answer(psi, u, v) == want && slowly(psi, u, v) == want
+fn are_answers(
+    alloc: Global,
+    psi: &[Constraint],
+    u: &Term,
+    v: &Term,
+    want: bool,
+) -> Result<bool, Fail> {
+    Ok(answer(alloc, psi, u, v)? == want && slowly(psi, u, v) == want)
 }
 
 fn is_row(alloc: Global, letters: &str, question: &str, want: bool) -> Result<bool, Fail> {
     let (u, v) = both(question)?;
     let psi = constraints(alloc, letters.as_bytes())?;
-    Ok(are_answers(psi.as_slice(), &u, &v, want))
+    are_answers(alloc, psi.as_slice(), &u, &v, want)
 }
 
 /// Constraints of two letters each, a question, and its answer.
@@ -194,7 +207,7 @@ fn digit(number: u32) -> Term {
 }
 
 #[test]
-fn all_questions_of_two_constraints_over_six_terms(rt: HostRuntime) {
+fn all_questions_of_two_constraints_over_six_terms(rt: HostRuntime) -> Result<(), Fail> {
     for number in 0..46_656 {
         let psi = [
             Constraint {
@@ -209,8 +222,10 @@ fn all_questions_of_two_constraints_over_six_terms(rt: HostRuntime) {
         let u = digit(number / 1296);
         let v = digit(number / 7776);
         let expected = slowly(&psi, &u, &v);
-        assert_eq!(rt; answer(&psi, &u, &v), expected, "question {number}");
+        let given = answer(rt.alloc(), &psi, &u, &v)?;
+        assert_eq!(rt; given, expected, "question {number}");
     }
+    Ok(())
 }
 
 /// A chain of so many parameters, and a last constraint, in the order of the chain or the other way round.
@@ -240,10 +255,9 @@ fn is_led(alloc: Global, length: u32, forwards: bool) -> Result<bool, Fail> {
     };
     let psi = chain(alloc, length, &last, forwards)?;
     let first = Term::Param(0);
-    Ok(
-        answer(psi.as_slice(), &first, &Term::Ctime)
-            && !answer(psi.as_slice(), &Term::Ctime, &first),
-    )
+    let there = answer(alloc, psi.as_slice(), &first, &Term::Ctime)?;
+    let back = answer(alloc, psi.as_slice(), &Term::Ctime, &first)?;
+    Ok(there && !back)
 }
 
 #[test]
@@ -266,7 +280,7 @@ fn is_contradiction(alloc: Global, end: u8) -> Result<bool, Fail> {
         low: Term::Param(510),
         high: term(end),
     })?;
-    Ok(psi.len() == 512 && answer(psi.as_slice(), &term(b'f'), &term(b'b')))
+    Ok(psi.len() == 512 && answer(alloc, psi.as_slice(), &term(b'f'), &term(b'b'))?)
 }
 
 #[test]

@@ -16,6 +16,7 @@ use Rattle.bl_syntax.specs.Statement.{statement_view, AllTerms, IsNotCtime, IsSt
 use Rattle.bl_syntax.specs.Spelling.{IsSpellable}
 use Rattle.bl_syntax.specs.FormulaReading.{all_terms, is_not_ctime, is_sayable}
 use Rattle.bl_syntax.proofs.FirstFaultLemmas.{Tells-formula_fault}
+use Rattle.bl_syntax.proofs.TermLemmas.{HasTimeInRange-from_spellable}
 
 none_is : (o : Option SyntaxFault) → is_none o ≡ true → o ≡ None
 none_is None e = refl
@@ -59,23 +60,13 @@ terms_not_ctime (on a u v) =
     let whole = each (all_terms is_not_ctime a && is_not_ctime u) (is_not_ctime v) (AllTerms IsNotCtime a × IsNotCtime u) (IsNotCtime v) (each (all_terms is_not_ctime a) (is_not_ctime u) (AllTerms IsNotCtime a) (IsNotCtime u) (terms_not_ctime a) (not_ctime u)) (not_ctime v) in
     (λ e. let h = whole.0 e in (h.0.0, (h.0.1, h.1)), λ h. whole.1 ((h.0, h.1.0), h.1.1))
 
-in_range : (t : Term) → IsSpellable t → HasTimeInRange t
-in_range (Prin name) h = tt
-in_range (File node) h = tt
-in_range (Perm permission) h = tt
-in_range (Time point) h = h
-in_range (Text text) h = tt
-in_range Ctime h = tt
-in_range (Param n) h = tt
-in_range (Bound n) h = tt
-
 list_in_range : (ts : List Term) → AllByRecursion IsSpellable ts → AllByRecursion HasTimeInRange ts
 list_in_range [] h = tt
-list_in_range (t ∷ ts) h = (in_range t h.0, list_in_range ts h.1)
+list_in_range (t ∷ ts) h = (HasTimeInRange-from_spellable t h.0, list_in_range ts h.1)
 
 pub terms_in_range : (f : FormulaView) → AllTerms IsSpellable f → AllTerms HasTimeInRange f
 terms_in_range (atom name terms) h = list_in_range terms h
-terms_in_range (compare c) h = (in_range c.low h.0, in_range c.high h.1)
+terms_in_range (compare c) h = (HasTimeInRange-from_spellable c.low h.0, HasTimeInRange-from_spellable c.high h.1)
 terms_in_range (state s) h = list_in_range (terms_of_state s) h
 terms_in_range (both a b) h = (terms_in_range a h.0, terms_in_range b h.1)
 terms_in_range (either a b) h = (terms_in_range a h.0, terms_in_range b h.1)
@@ -84,8 +75,8 @@ terms_in_range truth h = tt
 terms_in_range falsity h = tt
 terms_in_range (forall_ s a) h = terms_in_range a h
 terms_in_range (exists_ s a) h = terms_in_range a h
-terms_in_range (says k a) h = (in_range k h.0, terms_in_range a h.1)
-terms_in_range (on a u v) h = (terms_in_range a h.0, (in_range u h.1.0, in_range v h.1.1))
+terms_in_range (says k a) h = (HasTimeInRange-from_spellable k h.0, terms_in_range a h.1)
+terms_in_range (on a u v) h = (terms_in_range a h.0, (HasTimeInRange-from_spellable u h.1.0, HasTimeInRange-from_spellable v h.1.1))
 
 -- a formula that passes the test, and whose terms have a spelling, may be said
 pub statement_from_test : (who : List ℕ) (f : FormulaView) (from to : TimePoint) → is_sayable f ≡ true → AllTerms IsSpellable f → IsInRange from → IsInRange to → IsStatement (statement_view who f from to)

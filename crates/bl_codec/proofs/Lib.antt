@@ -4,10 +4,8 @@ pub mod FormulaCodec
 pub mod FormulaLemmas
 pub mod FormulaMemory
 pub mod NodesFoundLemmas
-pub mod KeptLemmas
 pub mod LeafLemmas
 pub mod NodeLemmas
 pub mod StatementCodec
 pub mod IsStatementLemmas
-pub mod ReportsFaultLemmas
 pub mod TermsLemmas

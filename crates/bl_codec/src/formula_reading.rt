@@ -146,7 +146,7 @@ fn atom_at(
 }
 
 /// The fields of a formula that has no formulas in it.
-#[tactic(auto, using(crate::proofs::ReportsFaultLemmas::hands_on, crate::proofs::ReportsFaultLemmas::stops), unfolding(crate::specs::Leaves::leaf_at))]
+#[tactic(auto, using(bl_syntax::proofs::ReportsFaultLemmas::hands_on, bl_syntax::proofs::ReportsFaultLemmas::stops), unfolding(crate::specs::Leaves::leaf_at))]
 fn leaf_at(
     alloc: Global,
     input: usize,
@@ -219,14 +219,6 @@ fn is_leaf_tag(tag: u8) -> bool
     (16 <= tag && tag <= 20) || tag == 24 || tag == 25
 }
 
-#[inline(never)]
-fn box_formula(alloc: Global, f: Formula) -> Result<Box<Formula>, CodecFault>
-    ensures ok { IfOk result (λ b. formula_view b.value ≡ formula_view f) }
-    ensures err { IfErr result (λ fault. fault ≡ NoMemory) }
-{
-    Ok(Box::new(alloc, f)?)
-}
-
 /// Two formulas joined by the connective of that tag.
 #[inline(never)]
 fn boxed_pair(
@@ -238,11 +230,12 @@ fn boxed_pair(
     ensures ok { IfOk result (λ f. formula_view f.value ≡ join_formulas tag (formula_view a.value) (formula_view b.value)) }
     ensures err { IfErr result (λ fault. fault ≡ NoMemory) }
 {
-    match tag {
-        21 => box_formula(alloc, Formula::And(a, b)),
-        22 => box_formula(alloc, Formula::Or(a, b)),
-        _ => box_formula(alloc, Formula::Imp(a, b)),
-    }
+    let f = match tag {
+        21 => Formula::And(a, b),
+        22 => Formula::Or(a, b),
+        _ => Formula::Imp(a, b),
+    };
+    Ok(Box::new(alloc, f)?)
 }
 
 /// A formula inside the binder of that tag.
@@ -256,10 +249,11 @@ fn boxed_binder(
     ensures ok { IfOk result (λ f. formula_view f.value ≡ bind_formula tag sort (formula_view body.value)) }
     ensures err { IfErr result (λ fault. fault ≡ NoMemory) }
 {
-    match tag {
-        26 => box_formula(alloc, Formula::Forall(sort, body)),
-        _ => box_formula(alloc, Formula::Exists(sort, body)),
-    }
+    let f = match tag {
+        26 => Formula::Forall(sort, body),
+        _ => Formula::Exists(sort, body),
+    };
+    Ok(Box::new(alloc, f)?)
 }
 
 /// What a principal says.
@@ -268,7 +262,7 @@ fn boxed_says(alloc: Global, who: &Term, body: Box<Formula>) -> Result<Box<Formu
     ensures ok { IfOk result (λ f. formula_view f.value ≡ says who.now (formula_view body.value)) }
     ensures err { IfErr result (λ fault. fault ≡ NoMemory) }
 {
-    box_formula(alloc, Formula::Says(*who, body))
+    Ok(Box::new(alloc, Formula::Says(*who, body))?)
 }
 
 /// A formula on an interval.
@@ -282,12 +276,12 @@ fn boxed_on(
     ensures ok { IfOk result (λ f. formula_view f.value ≡ on (formula_view body.value) from.now to.now) }
     ensures err { IfErr result (λ fault. fault ≡ NoMemory) }
 {
-    box_formula(alloc, Formula::At(body, *from, *to))
+    Ok(Box::new(alloc, Formula::At(body, *from, *to))?)
 }
 
 /// Two formulas.
 #[cycle(formula)]
-#[tactic(auto, using(crate::proofs::ReportsFaultLemmas::hands_on, crate::proofs::ReportsFaultLemmas::stops), unfolding(bl_syntax::specs::FormulaReading::pair_at))]
+#[tactic(auto, using(bl_syntax::proofs::ReportsFaultLemmas::hands_on, bl_syntax::proofs::ReportsFaultLemmas::stops), unfolding(bl_syntax::specs::FormulaReading::pair_at))]
 fn pair_at(
     alloc: Global,
     input: usize,
@@ -308,7 +302,7 @@ fn pair_at(
 
 /// A binder's sort, and the formula inside it.
 #[cycle(formula)]
-#[tactic(auto, using(crate::proofs::ReportsFaultLemmas::hands_on, crate::proofs::ReportsFaultLemmas::stops), unfolding(bl_syntax::specs::FormulaReading::binder_at))]
+#[tactic(auto, using(bl_syntax::proofs::ReportsFaultLemmas::hands_on, bl_syntax::proofs::ReportsFaultLemmas::stops), unfolding(bl_syntax::specs::FormulaReading::binder_at))]
 fn binder_at(
     alloc: Global,
     input: usize,
@@ -327,7 +321,7 @@ fn binder_at(
 
 /// Who says a formula, and the formula.
 #[cycle(formula)]
-#[tactic(auto, using(crate::proofs::ReportsFaultLemmas::hands_on, crate::proofs::ReportsFaultLemmas::stops), unfolding(bl_syntax::specs::FormulaReading::says_at))]
+#[tactic(auto, using(bl_syntax::proofs::ReportsFaultLemmas::hands_on, bl_syntax::proofs::ReportsFaultLemmas::stops), unfolding(bl_syntax::specs::FormulaReading::says_at))]
 fn says_at(
     alloc: Global,
     input: usize,
@@ -348,7 +342,7 @@ fn says_at(
 
 /// A formula, and the interval on which it holds.
 #[cycle(formula)]
-#[tactic(auto, using(crate::proofs::ReportsFaultLemmas::hands_on, crate::proofs::ReportsFaultLemmas::stops), unfolding(bl_syntax::specs::FormulaReading::on_at))]
+#[tactic(auto, using(bl_syntax::proofs::ReportsFaultLemmas::hands_on, bl_syntax::proofs::ReportsFaultLemmas::stops), unfolding(bl_syntax::specs::FormulaReading::on_at))]
 fn on_at(
     alloc: Global,
     input: usize,
@@ -375,7 +369,7 @@ fn is_formula_tag(tag: u8) -> bool
 
 /// The fields of a formula with that tag, which are its terms and formulas.
 #[cycle(formula)]
-#[tactic(auto, using(crate::proofs::ReportsFaultLemmas::hands_on, crate::proofs::ReportsFaultLemmas::stops), unfolding(bl_syntax::specs::FormulaReading::fields_at))]
+#[tactic(auto, using(bl_syntax::proofs::ReportsFaultLemmas::hands_on, bl_syntax::proofs::ReportsFaultLemmas::stops), unfolding(bl_syntax::specs::FormulaReading::fields_at))]
 fn fields_at(
     alloc: Global,
     input: usize,
@@ -405,7 +399,7 @@ fn fields_at(
 
 /// A formula as one of the nodes that are left, whose formulas are nested at most so deep.
 #[cycle(formula)]
-#[tactic(auto, using(crate::proofs::ReportsFaultLemmas::hands_on, crate::proofs::ReportsFaultLemmas::stops), unfolding(bl_syntax::specs::FormulaReading::node_at))]
+#[tactic(auto, using(bl_syntax::proofs::ReportsFaultLemmas::hands_on, bl_syntax::proofs::ReportsFaultLemmas::stops), unfolding(bl_syntax::specs::FormulaReading::node_at))]
 fn node_at(
     alloc: Global,
     input: usize,
@@ -465,7 +459,7 @@ fn formula_at(
 
 /// A formula within the limits: the reader that formats with formulas in them are made of. It reads at the front of
 /// `bytes`, the rest of an input of `input` bytes, and gives the formula and the bytes after it, or the first fault.
-#[tactic(auto, using(crate::proofs::ReportsFaultLemmas::hands_on), unfolding(bl_syntax::specs::FormulaReading::whole_formula_at))]
+#[tactic(auto, using(bl_syntax::proofs::ReportsFaultLemmas::hands_on), unfolding(bl_syntax::specs::FormulaReading::whole_formula_at))]
 pub fn whole_formula_at(
     alloc: Global,
     input: usize,
@@ -480,7 +474,7 @@ pub fn whole_formula_at(
 }
 
 /// The formula whose spelling begins the bytes, and how many bytes it takes, or the first fault. Bytes may follow it.
-#[tactic(auto, using(crate::proofs::ReportsFaultLemmas::hands_on))]
+#[tactic(auto, using(bl_syntax::proofs::ReportsFaultLemmas::hands_on))]
 pub fn read_formula(alloc: Global, bytes: &[u8]) -> Result<(Formula, usize), CodecFault>
     ensures exact { GivesReadingOrReports (λ x. (formula_view x.0, x.1)) result (reading whole_formula_at bytes.now) }
     ensures front { ReadsFront formula_view IsSpellableFormula formula_spelling bytes.now result }

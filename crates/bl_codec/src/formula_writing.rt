@@ -2,6 +2,7 @@
 
 ghost use Rattle.std.specs.Prelude.{◌≡◌, ◌≤◌, ◌++◌, ◌∷◌, OnOk, OnErr, IsTrue, length};
 ghost use Rattle.std.specs.List.{flat_map, AllByRecursion};
+ghost use Rattle.bl_syntax.specs.BeginsWith.{BeginsWith};
 ghost use Rattle.bl_syntax.specs.Names.{is_predicate_name};
 ghost use Rattle.bl_syntax.specs.Terms.{HasTimeInRange};
 ghost use Rattle.bl_syntax.specs.Formula.{formula_view};
@@ -9,7 +10,6 @@ ghost use Rattle.bl_syntax.specs.WellSorted.{IsWithinLimits, widest_atom, terms_
 ghost use Rattle.bl_syntax.specs.Statement.{AllTerms};
 ghost use Rattle.bl_syntax.specs.Spelling.{IsSpellable, with_length, term_spelling};
 ghost use Rattle.bl_syntax.specs.FormulaSpelling.{AreNamed, IsSpellableFormula, state_spelling, formula_spelling};
-ghost use Rattle.bl_codec.specs.Kept.{Keeps};
 
 use bl_syntax::fields::{put, sort_code};
 use bl_syntax::{Bytes, Formula, NoMemory, StatePred, Term, Word, write_term};
@@ -31,14 +31,14 @@ pub fn write_formula(f: &Formula, out: &mut Bytes) -> Result<(), NoMemory>
 }
 
 /// Adds the spelling of a formula, or a front of it where there is no memory for more.
-#[tactic(auto, using(crate::proofs::KeptLemmas::kept), unfolding(bl_syntax::specs::FormulaSpelling::formula_spelling))]
+#[tactic(auto, using(bl_syntax::proofs::BeginsWithLemmas::writing), unfolding(bl_syntax::specs::FormulaSpelling::formula_spelling))]
 fn put_formula(f: &Formula, out: &mut Bytes) -> Result<(), NoMemory>
     requires arguments { widest_atom (formula_view f.now) ≤ 8 }
     requires times { AllTerms HasTimeInRange (formula_view f.now) }
     ensures ok { OnOk result (out.new ≡ out.old ++ formula_spelling (formula_view f.now)) }
     ensures names { OnOk result (AreNamed (formula_view f.now)) }
     ensures terms { OnOk result (AllTerms IsSpellable (formula_view f.now)) }
-    ensures err { OnErr result (Keeps out.old out.new) }
+    ensures err { OnErr result (BeginsWith out.new out.old) }
 {
     match f {
         Formula::Atom(name, terms) => put_atom(name, terms.as_slice(), out),
@@ -83,14 +83,14 @@ fn put_formula(f: &Formula, out: &mut Bytes) -> Result<(), NoMemory>
 }
 
 /// Adds these bytes and the spellings of two terms, or a front of them.
-#[tactic(auto, using(crate::proofs::KeptLemmas::kept))]
+#[tactic(auto, using(bl_syntax::proofs::BeginsWithLemmas::writing))]
 fn put_two_terms(front: &[u8], low: &Term, high: &Term, out: &mut Bytes) -> Result<(), NoMemory>
     requires low { HasTimeInRange low.now }
     requires high { HasTimeInRange high.now }
     ensures ok { OnOk result (out.new ≡ out.old ++ (front.now ++ (term_spelling low.now ++ term_spelling high.now))) }
     ensures low_spelled { OnOk result (IsSpellable low.now) }
     ensures high_spelled { OnOk result (IsSpellable high.now) }
-    ensures err { OnErr result (Keeps out.old out.new) }
+    ensures err { OnErr result (BeginsWith out.new out.old) }
 {
     put(front, &[], out)?;
     write_term(low, out)?;
@@ -98,12 +98,12 @@ fn put_two_terms(front: &[u8], low: &Term, high: &Term, out: &mut Bytes) -> Resu
 }
 
 /// Adds the spelling of a predicate on the server's state, or a front of it.
-#[tactic(auto, using(crate::proofs::KeptLemmas::kept), unfolding(bl_syntax::specs::FormulaSpelling::state_spelling))]
+#[tactic(auto, using(bl_syntax::proofs::BeginsWithLemmas::writing), unfolding(bl_syntax::specs::FormulaSpelling::state_spelling))]
 fn put_state(s: &StatePred, out: &mut Bytes) -> Result<(), NoMemory>
     requires { AllByRecursion HasTimeInRange (terms_of_state s.now) }
     ensures ok { OnOk result (out.new ≡ out.old ++ state_spelling s.now) }
     ensures spelled { OnOk result (AllByRecursion IsSpellable (terms_of_state s.now)) }
-    ensures err { OnErr result (Keeps out.old out.new) }
+    ensures err { OnErr result (BeginsWith out.new out.old) }
 {
     match s {
         StatePred::Owner(file, owner) => put_two_terms(&[18], file, owner, out),
@@ -117,14 +117,14 @@ fn put_state(s: &StatePred, out: &mut Bytes) -> Result<(), NoMemory>
 }
 
 /// Adds the spelling of an atom, or a front of it.
-#[tactic(auto, using(crate::proofs::KeptLemmas::kept))]
+#[tactic(auto, using(bl_syntax::proofs::BeginsWithLemmas::writing))]
 fn put_atom(name: &Word, terms: &[Term], out: &mut Bytes) -> Result<(), NoMemory>
     requires arguments { length terms.now ≤ 8 }
     requires times { AllByRecursion HasTimeInRange terms.now }
     ensures ok { OnOk result (out.new ≡ out.old ++ 16 ∷ (with_length name.now ++ length terms.now ∷ flat_map term_spelling terms.now)) }
     ensures named { OnOk result (IsTrue (is_predicate_name name.now)) }
     ensures spelled { OnOk result (AllByRecursion IsSpellable terms.now) }
-    ensures err { OnErr result (Keeps out.old out.new) }
+    ensures err { OnErr result (BeginsWith out.new out.old) }
 {
     let bytes = name.bytes();
     put(&[16, bytes.len() as u8], bytes, out)?;
@@ -133,12 +133,12 @@ fn put_atom(name: &Word, terms: &[Term], out: &mut Bytes) -> Result<(), NoMemory
 }
 
 /// Adds the spellings of terms, or a front of them.
-#[tactic(auto, using(crate::proofs::KeptLemmas::kept))]
+#[tactic(auto, using(bl_syntax::proofs::BeginsWithLemmas::writing))]
 fn put_terms(terms: &[Term], out: &mut Bytes) -> Result<(), NoMemory>
     requires { AllByRecursion HasTimeInRange terms.now }
     ensures ok { OnOk result (out.new ≡ out.old ++ flat_map term_spelling terms.now) }
     ensures spelled { OnOk result (AllByRecursion IsSpellable terms.now) }
-    ensures err { OnErr result (Keeps out.old out.new) }
+    ensures err { OnErr result (BeginsWith out.new out.old) }
 {
     match terms {
         [] => Ok(()),

@@ -1,11 +1,11 @@
 //! Statements, both ways.
 
 ghost use Rattle.std.specs.Prelude.{◌≡◌, ◌++◌, OnOk, OnErr};
+ghost use Rattle.bl_syntax.specs.BeginsWith.{BeginsWith};
 ghost use Rattle.bl_syntax.specs.Reading.{reading};
 ghost use Rattle.bl_syntax.specs.FormulaSpelling.{IsSpellableStatement, statement_spelling};
 ghost use Rattle.bl_syntax.specs.FormulaReading.{statement_at};
 ghost use Rattle.bl_syntax.specs.Codec.{GivesReadingOrReports, ReadsFront};
-ghost use Rattle.bl_codec.specs.Kept.{Keeps};
 ghost use Rattle.bl_codec.specs.StatementBody.{body_at};
 
 use crate::formula_reading::whole_formula_at;
@@ -29,11 +29,11 @@ pub fn write_statement(s: &Statement, out: &mut Bytes) -> Result<(), NoMemory>
 }
 
 /// Adds the spelling of a statement, or a front of it where there is no memory for more.
-#[tactic(auto, using(crate::proofs::KeptLemmas::kept), unfolding(bl_syntax::specs::FormulaSpelling::statement_spelling))]
+#[tactic(auto, using(bl_syntax::proofs::BeginsWithLemmas::writing), unfolding(bl_syntax::specs::FormulaSpelling::statement_spelling))]
 fn put_statement(s: &Statement, out: &mut Bytes) -> Result<(), NoMemory>
     ensures ok { OnOk result (out.new ≡ out.old ++ statement_spelling s.now) }
     ensures spelled { OnOk result (IsSpellableStatement s.now) }
-    ensures err { OnErr result (Keeps out.old out.new) }
+    ensures err { OnErr result (BeginsWith out.new out.old) }
 {
     write_name(s.who(), out)?;
     write_formula(s.body(), out)?;
@@ -42,7 +42,7 @@ fn put_statement(s: &Statement, out: &mut Bytes) -> Result<(), NoMemory>
 }
 
 /// The formula and the interval of what a principal says, in a statement that begins at `start`.
-#[tactic(auto, using(crate::proofs::ReportsFaultLemmas::hands_on, crate::proofs::ReportsFaultLemmas::stops), unfolding(crate::specs::StatementBody::body_at))]
+#[tactic(auto, using(bl_syntax::proofs::ReportsFaultLemmas::hands_on, bl_syntax::proofs::ReportsFaultLemmas::stops), unfolding(crate::specs::StatementBody::body_at))]
 fn body_at(
     alloc: Global,
     input: usize,
@@ -68,7 +68,7 @@ fn body_at(
 /// A statement: the reader that formats with statements in them are made of. It reads at the front of `bytes`, the rest
 /// of an input of `input` bytes, and gives the statement and the bytes after it, or the first fault. A statement whose
 /// bytes are whole, but that may not be made, has its fault at its first byte.
-#[tactic(auto, using(crate::proofs::ReportsFaultLemmas::hands_on, crate::proofs::ReportsFaultLemmas::stops), unfolding(bl_syntax::specs::FormulaReading::statement_at, crate::specs::StatementBody::body_at))]
+#[tactic(auto, using(bl_syntax::proofs::ReportsFaultLemmas::hands_on, bl_syntax::proofs::ReportsFaultLemmas::stops), unfolding(bl_syntax::specs::FormulaReading::statement_at, crate::specs::StatementBody::body_at))]
 pub fn statement_at(
     alloc: Global,
     input: usize,
@@ -85,7 +85,7 @@ pub fn statement_at(
 /// The statement whose spelling begins the bytes, and how many bytes it takes, or the first fault. Bytes may follow it.
 /// `NotCanonical(0)` comes also where the bytes are whole and the statement is not closed or not well sorted, or holds a
 /// parameter or the current time.
-#[tactic(auto, using(crate::proofs::ReportsFaultLemmas::hands_on))]
+#[tactic(auto, using(bl_syntax::proofs::ReportsFaultLemmas::hands_on))]
 pub fn read_statement(alloc: Global, bytes: &[u8]) -> Result<(Statement, usize), CodecFault>
     ensures exact { GivesReadingOrReports (λ x. x) result (reading statement_at bytes.now) }
     ensures front { ReadsFront (λ s. s) IsSpellableStatement statement_spelling bytes.now result }

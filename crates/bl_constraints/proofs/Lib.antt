@@ -1,5 +1,6 @@
 pub mod ChainLemmas
+pub mod ConstantLemmas
 pub mod LinkLemmas
-pub mod OrderLemmas
-pub mod SearchLemmas
-pub mod SourceLemmas
+pub mod PlaceLemmas
+pub mod ReachedLemmas
+pub mod TimeLemmas

@@ -1,2 +1,2 @@
-pub mod Search
-pub mod Sources
+pub mod Places
+pub mod Reached

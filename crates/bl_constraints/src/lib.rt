@@ -1,13 +1,15 @@
 //! Entailment between times: whether constraints have it that one term is not after another.
 //!
-//! `entails` answers the definition exactly, and takes no memory. The module `laws` says what the definition is worth.
-//! That its time is at worst quadratic in the number of constraints is measured, and no contract says it.
+//! `ConstraintStack` answers the definition exactly. The module `laws` says what the definition is worth. An answer takes
+//! time about as the number of constraints, for few, and at worst as its square over 64; no contract says so.
 #![tactic(auto)]
 
-mod entailment;
+mod constants;
 pub mod laws;
 mod links;
-mod search;
-mod sources;
+mod places;
+mod reaching;
+mod stack;
+mod tracked;
 
-pub use entailment::entails;
+pub use stack::ConstraintStack;

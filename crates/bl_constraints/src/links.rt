@@ -1,8 +1,7 @@
-//! What two terms alone tell of their order, and where a search ends.
+//! What two terms alone tell of their order.
 
 ghost use Rattle.std.specs.Prelude.{◌≡◌, ◌↔◌, IsTrue, []};
 ghost use Rattle.bl_syntax.specs.Entailment.{IsLink};
-ghost use Rattle.bl_constraints.specs.Search.{IsEnd};
 
 use bl_syntax::{Term, TimePoint};
 
@@ -49,34 +48,4 @@ fn is_same_constant(u: &Term, v: &Term) -> bool
     ensures { IsTrue result ↔ (u.now ≡ v.now) }
 {
     u.is_same(v)
-}
-
-/// Where a search ends.
-#[derive(Clone, Copy)]
-pub(crate) enum End {
-    /// At a term from which this one is linked.
-    To(Term),
-    /// At a constant before this one.
-    Before(TimePoint),
-}
-
-impl End {
-    /// Whether a search ends at the term.
-    pub(crate) fn is_at(&self, t: &Term) -> bool
-        ensures { IsTrue result ↔ IsEnd self.now t.now }
-    {
-        match self {
-            End::To(v) => is_linked(t, v),
-            End::Before(source) => is_before(t, *source),
-        }
-    }
-}
-
-fn is_before(t: &Term, source: TimePoint) -> bool
-    ensures { IsTrue result ↔ IsEnd (End.Before source) t.now }
-{
-    match t {
-        Term::Time(point) => !source.is_up_to(*point),
-        _ => false,
-    }
 }

@@ -12,7 +12,7 @@ pub AllByRecursion-push : {X : Type 0} (P : X → Type 0) (xs : List X) (x : X) 
 AllByRecursion-push P [] x all here = (here, tt)
 AllByRecursion-push P (y ∷ ys) x all here = (all.0, AllByRecursion-push P ys x all.1 here)
 
-Contains-head : {X : Type 0} (x y : X) (ys : List X) → y ≡ x → Contains (y ∷ ys) x
+pub Contains-head : {X : Type 0} (x y : X) (ys : List X) → y ≡ x → Contains (y ∷ ys) x
 Contains-head x y ys same = (0, omega arith, same)
 
 -- what is new may stand at the end

@@ -11,7 +11,7 @@ pub mod GrantLemmas
 pub mod InstanceLemmas
 pub mod PaddingLemmas
 pub mod StatementLemmas
-pub mod StopsWithLemmas
+pub mod ReportsFaultLemmas
 pub mod TermLemmas
 pub mod DropLemmas
 pub mod WordLemmas

@@ -7,6 +7,7 @@ use Rattle.bl_syntax.specs.declared.codec_fault.CodecFault.TheVariants as faults
 use Rattle.bl_syntax.specs.declared.terms.Term.{Term}
 use Rattle.bl_syntax.specs.declared.terms.Term.TheVariants.{Prin, File, Perm, Time, Text, Ctime, Param, Bound}
 use Rattle.bl_syntax.specs.Names.{is_principal_name, is_text}
+use Rattle.bl_syntax.specs.Terms.{HasTimeInRange}
 use Rattle.bl_syntax.specs.Spelling.{IsSpellable, with_length, permission_code, time_spelling, term_spelling}
 use Rattle.bl_syntax.specs.Reading.{Reading, map_reading, place, number_at, name_at, text_at, permission_of, permission_at, time_at, field_at, term_at}
 use Rattle.bl_syntax.specs.Codec.{AreBytes, IsCodec}
@@ -77,3 +78,14 @@ term_memoryless input (tag ∷ more) e =
 
 pub term_codec : IsCodec IsSpellable term_spelling term_at
 term_codec = codec IsSpellable term_spelling term_at term_found term_again term_memoryless
+
+-- a term that has a spelling has its time in range
+pub HasTimeInRange-from_spellable : (t : Term) → IsSpellable t → HasTimeInRange t
+HasTimeInRange-from_spellable (Prin name) h = tt
+HasTimeInRange-from_spellable (File n) h = tt
+HasTimeInRange-from_spellable (Perm permission) h = tt
+HasTimeInRange-from_spellable (Time point) h = h
+HasTimeInRange-from_spellable (Text text) h = tt
+HasTimeInRange-from_spellable Ctime h = tt
+HasTimeInRange-from_spellable (Param n) h = tt
+HasTimeInRange-from_spellable (Bound n) h = tt

@@ -1,8 +1,10 @@
 pub mod Assignment
 pub mod BeginsWith
 pub mod Binders
+pub mod Citable
 pub mod Codec
 pub mod ConditionTests
+pub mod Copying
 pub mod Entailment
 pub mod Equality
 pub mod FirstFailing

@@ -1,9 +1,5 @@
 //! Formulas of the logic.
 
-use crate::boxes::{
-    atom_of, both_of, constraint_of, either_of, every_of, falsity_of, implies_of, on_of, says_of,
-    some_of, state_of, truth_of,
-};
 use crate::lists::NoMemory;
 use crate::names::Word;
 use crate::terms::{Constraint, Sort, StatePred, Term, Terms, are_same};
@@ -75,6 +71,7 @@ impl Drop for Formula {
 impl Formula {
     ghost use Rattle.std.specs.Prelude.{◌≡◌, ◌↔◌, IfOk, IsTrue};
     ghost use Rattle.bl_syntax.specs.Formula.{formula_view};
+    ghost use Rattle.bl_syntax.specs.Copying.{join_again, wrap_again, leaf_again};
 
     /// An equal formula in memory of its own.
     pub fn copy(&self, alloc: Global) -> Result<Formula, NoMemory>
@@ -88,19 +85,68 @@ impl Formula {
         ensures { IfOk result (λ copied. formula_view copied.value ≡ formula_view self.now) }
     {
         match self {
-            Formula::Atom(name, terms) => atom_of(alloc, name, terms.copy(alloc)?),
-            Formula::Cons(c) => constraint_of(alloc, c),
-            Formula::State(s) => state_of(alloc, s),
-            Formula::And(a, b) => both_of(alloc, a.boxed_copy(alloc)?, b.boxed_copy(alloc)?),
-            Formula::Or(a, b) => either_of(alloc, a.boxed_copy(alloc)?, b.boxed_copy(alloc)?),
-            Formula::Imp(a, b) => implies_of(alloc, a.boxed_copy(alloc)?, b.boxed_copy(alloc)?),
-            Formula::True => truth_of(alloc),
-            Formula::False => falsity_of(alloc),
-            Formula::Forall(sort, a) => every_of(alloc, *sort, a.boxed_copy(alloc)?),
-            Formula::Exists(sort, a) => some_of(alloc, *sort, a.boxed_copy(alloc)?),
-            Formula::Says(who, a) => says_of(alloc, who, a.boxed_copy(alloc)?),
-            Formula::At(a, from, to) => on_of(alloc, a.boxed_copy(alloc)?, from, to),
+            Formula::And(a, b) | Formula::Or(a, b) | Formula::Imp(a, b) => {
+                let first = a.boxed_copy(alloc)?;
+                let second = b.boxed_copy(alloc)?;
+                self.join_again(alloc, first, second)
+            }
+            Formula::Forall(_, a)
+            | Formula::Exists(_, a)
+            | Formula::Says(_, a)
+            | Formula::At(a, _, _) => {
+                let inner = a.boxed_copy(alloc)?;
+                self.wrap_again(alloc, inner)
+            }
+            _ => self.copy_leaf(alloc),
         }
+    }
+
+    /// Two formulas under the connective of this one.
+    #[inline(never)]
+    fn join_again(
+        &self,
+        alloc: Global,
+        a: Box<Formula>,
+        b: Box<Formula>,
+    ) -> Result<Box<Formula>, NoMemory>
+        ensures { IfOk result (λ f. formula_view f.value ≡ join_again (formula_view self.now) (formula_view a.value) (formula_view b.value)) }
+    {
+        let f = match self {
+            Formula::And(_, _) => Formula::And(a, b),
+            Formula::Or(_, _) => Formula::Or(a, b),
+            _ => Formula::Imp(a, b),
+        };
+        Ok(Box::new(alloc, f)?)
+    }
+
+    /// A formula under the binder of this one, said by who says this one, or on its interval.
+    #[inline(never)]
+    fn wrap_again(&self, alloc: Global, a: Box<Formula>) -> Result<Box<Formula>, NoMemory>
+        ensures { IfOk result (λ f. formula_view f.value ≡ wrap_again (formula_view self.now) (formula_view a.value)) }
+    {
+        let f = match self {
+            Formula::Forall(sort, _) => Formula::Forall(*sort, a),
+            Formula::Exists(sort, _) => Formula::Exists(*sort, a),
+            Formula::Says(who, _) => Formula::Says(*who, a),
+            Formula::At(_, from, to) => Formula::At(a, *from, *to),
+            _ => return Ok(a),
+        };
+        Ok(Box::new(alloc, f)?)
+    }
+
+    /// A copy of a formula with no formulas in it.
+    #[inline(never)]
+    fn copy_leaf(&self, alloc: Global) -> Result<Box<Formula>, NoMemory>
+        ensures { IfOk result (λ f. formula_view f.value ≡ leaf_again (formula_view self.now)) }
+    {
+        let f = match self {
+            Formula::Atom(name, terms) => Formula::Atom(*name, terms.copy(alloc)?),
+            Formula::Cons(c) => Formula::Cons(*c),
+            Formula::State(s) => Formula::State(*s),
+            Formula::True => Formula::True,
+            _ => Formula::False,
+        };
+        Ok(Box::new(alloc, f)?)
     }
 
     /// Whether it is the same formula.

@@ -1,6 +1,6 @@
 //! Lists that contracts see as lists, and the one error of a growth that is refused.
 
-ghost use Rattle.std.specs.Prelude.{◌≡◌, [], ◌∷◌, ◌++◌, OnOk, OnErr, IfOk, length, take};
+ghost use Rattle.std.specs.Prelude.{◌≡◌, [], ◌∷◌, ◌++◌, ◌+◌, ◌≤◌, OnOk, OnErr, IfOk, length, take, drop};
 ghost use Rattle.bl_syntax.specs.declared.lists.NoMemory.{NoMemory};
 
 use std::alloc::{AllocError, AllocFailed, Global};
@@ -124,4 +124,21 @@ impl<T: Copy> Sequence<T> {
         self.items.extend_from_slice(items)?;
         Ok(())
     }
+
+    /// Puts these items over as many from `at` on. It takes no memory.
+    pub fn overwrite(&mut self, at: usize, items: &[T])
+        requires { at + length items.now ≤ length self.old }
+        ensures { self.new ≡ take at self.old ++ (items.now ++ drop (at + length items.now) self.old) }
+    {
+        overwrite(&mut self.items, at, items);
+    }
+}
+
+// Puts these items over as many from `at` on.
+fn overwrite<T: Copy>(all: &mut [T], at: usize, items: &[T])
+    requires { at + length items.now ≤ length all.old }
+    ensures { all.new ≡ take at all.old ++ (items.now ++ drop (at + length items.now) all.old) }
+{
+    let end = at + items.len();
+    all[at..end].copy_from_slice(items);
 }

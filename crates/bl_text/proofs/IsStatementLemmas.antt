@@ -4,7 +4,7 @@ use Rattle.std.specs.Prelude.{max, not, nat_le, ◌&&◌, codes, Option, Some, N
 use Rattle.std.specs.Option.{option_map}
 use Rattle.std.specs.List.{AllByRecursion, slice_get}
 use Rattle.std.specs.Str.{bytes_eq}
-use Rattle.std.proofs.lemmas.Bool.{false≢true}
+use Rattle.std.proofs.lemmas.Bool.{false≢true, and_parts}
 use Rattle.std.proofs.lemmas.Bool.Decides.{nat_tests}
 use Rattle.std.proofs.lemmas.Slice.Eq.{bytes_eq-Decides}
 use Rattle.bl_syntax.specs.declared.terms.Sort.{Sort}
@@ -33,8 +33,9 @@ use Rattle.bl_text.specs.Pieces.{count, expect_sign, term_of, require_sayable, r
 use Rattle.bl_text.specs.Grammar.{Level, is_saying, AreArguments, one, further, IsCall, call, Is, for_every, for_some, implication, one_disjunction, or_further, one_conjunction, and_further, one_unary, saying, one_postfix, on_interval, one_primary, group, called, one_simple}
 use Rattle.bl_text.specs.Texts.{beginning, expect_word, time_constant, principal_name, opening, at_end, span, IsSayingText, whole_saying}
 use Rattle.bl_syntax.proofs.StatementLemmas.{IsStatement-from_parts}
-use Rattle.bl_text.proofs.SameTokensLemmas.{bind_ok, expected_ok}
+use Rattle.bl_text.proofs.PieceLemmas.{bind_ok, expected_ok, left_behind, left_node}
 use Rattle.bl_text.proofs.LexedLemmas.{IsWritten, IsLexed, token_lexed}
+use Rattle.bl_syntax.proofs.GrantLemmas.{AllByRecursion-push}
 
 pub ok_same : {A : Type 0} {a b : A} → ◌≡◌ {A = Result A TextFault} (Ok a) (Ok b) → a ≡ b
 ok_same h = cc
@@ -149,7 +150,7 @@ unread_speaker scope here t (tokens.Sign sign) is none h = unread scope here t h
 unread_speaker scope here t End is none h = unread scope here t h (rw is refl)
 unread_speaker scope here t Bad is none h = unread scope here t h (rw is refl)
 
-name_term : (scope : List Variable) (here : Cursor) (name : List ℕ) → here.token ≡ Name name → term_of scope here ≡ Ok (Prin name)
+pub name_term : (scope : List Variable) (here : Cursor) (name : List ℕ) → here.token ≡ Name name → term_of scope here ≡ Ok (Prin name)
 unfolding term_of
 name_term scope here name is = rw is
 
@@ -245,14 +246,6 @@ left_of : (text : List ℕ) (from left : ℕ) → (token_from text from left).le
 unfolding token_from
 left_of text from left = refl
 
-left_behind : (text : List ℕ) (here : Cursor) → (cursor_after text here).left ≡ here.left
-unfolding cursor_after
-left_behind text here = left_of text here.end here.left
-
-left_node : (text : List ℕ) (here : Cursor) → (cursor_after_node text here).left ≡ here.left - 1
-unfolding cursor_after_node
-left_node text here = left_of text here.end (here.left - 1)
-
 lexed_behind : (text : List ℕ) (here : Cursor) → IsLexed (cursor_after text here).token
 unfolding cursor_after
 lexed_behind text here = token_lexed text here.end here.left
@@ -261,15 +254,11 @@ lexed_node : (text : List ℕ) (here : Cursor) → IsLexed (cursor_after_node te
 unfolding cursor_after_node
 lexed_node text here = token_lexed text here.end (here.left - 1)
 
-all_more : {A : Type 0} (P : A → Type 0) (xs : List A) (x : A) → AllByRecursion P xs → P x → AllByRecursion P (xs ++ x ∷ [])
-all_more P [] x all more = (more, tt)
-all_more P (y ∷ ys) x all more = (all.0, all_more P ys x all.1 more)
-
 all_as : {A : Type 0} (P Q : A → Type 0) (xs : List A) → ((x : A) → P x → Q x) → AllByRecursion P xs → AllByRecursion Q xs
 all_as P Q [] f all = tt
 all_as P Q (x ∷ xs) f all = (f x all.0, all_as P Q xs f all.1)
 
-length_more : {A : Type 0} (xs : List A) (x : A) → length (xs ++ x ∷ []) ≡ length xs + 1
+pub length_more : {A : Type 0} (xs : List A) (x : A) → length (xs ++ x ∷ []) ≡ length xs + 1
 length_more [] x = refl
 length_more (y ∷ ys) x = let more = length_more ys x in ap suc more ∙ omega arith
 
@@ -292,7 +281,7 @@ arguments_read {text} {scope} {is_atom} {here} (further mid place terms t args c
     record {
       lexed = lexed_node text place;
       nodes = (let room = term.0.room in let left = left_node text place in let same : place.left ≡ mid.left = ap (λ (p : Cursor). p.left) found.1 ∙ left_behind text mid in let before = others.nodes in omega arith);
-      said = all_more (IsSaid scope) terms t others.said term.0.said;
+      said = AllByRecursion-push (IsSaid scope) terms t others.said term.0.said;
       few = λ is. (let some = term.1 is in omega arith);
     }
 
@@ -303,10 +292,6 @@ pub record IsApplied (scope : List Variable) (terms : List Term) (f : FormulaVie
   pub wide : widest_atom f ≤ 8
   pub sorted : IsWellSorted [] (sorts_of scope) f
   pub sayable : AllTerms IsSayable f
-
-and_parts : (a b : Bool) → (a && b) ≡ true → (a ≡ true) × (b ≡ true)
-and_parts true b h = (refl, h)
-and_parts false b h = absurd (false≢true h)
 
 then_true : (a b : Bool) → (a && not b) ≡ false → a ≡ true → b ≡ true
 then_true true true h is = refl
@@ -479,7 +464,7 @@ bare_read text scope name here there f h =
       sayable = read.sayable;
     })
 
-named_time_never : (here there : Cursor) (f : FormulaView) → named_time here ≡ Ok (f, there) → ⊥
+pub named_time_never : (here there : Cursor) (f : FormulaView) → named_time here ≡ Ok (f, there) → ⊥
 unfolding named_time
 named_time_never here there f h = let room = bind_ok (count here) _ (f, there) h in refused room.1.1
 

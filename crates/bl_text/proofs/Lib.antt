@@ -1,7 +1,4 @@
 pub mod OneFaultLemmas
-pub mod ViablePrefixLemmas
-pub mod ViablePrefixTexts
-pub mod ExactLemmas
 pub mod LexedLemmas
 pub mod TotalLemmas
 pub mod PieceTotalLemmas
@@ -17,12 +14,10 @@ pub mod Reader
 pub mod IsStatementLemmas
 pub mod SentencePieces
 pub mod SentenceTexts
-pub mod SameTokensLemmas
-pub mod SameTokensStatement
-pub mod StatementSentences
 pub mod TextLemmas
-pub mod ViableLemmas
-pub mod ViableTexts
 pub mod FirstTokensLemmas
 pub mod WordLemmas
-pub mod WrittenLemmas
+pub mod PartLemmas
+pub mod TextSentences
+pub mod ExactLemmas
+pub mod ExactTexts

@@ -1,7 +1,7 @@
 -- The reader finds each text of a formula, and each fault. So a text is one formula or has one fault, and never both.
 use Rattle.std.proofs.Common.{◌≡◌, ℕ, suc, ◌+◌, Bool, true, false, List, [], ◌∷◌, ◌++◌, length, refl, sym, ap, ◌∙◌, subst, arith, Result, Ok, Err, ◌⊎◌, inl, inr}
-use Rattle.std.specs.Prelude.{nat_lt, if◌then◌else◌, ◌||◌, ◌==◌}
-use Rattle.std.proofs.lemmas.Bool.{false≢true}
+use Rattle.std.specs.Prelude.{nat_lt, if◌then◌else◌, ◌==◌}
+use Rattle.std.proofs.lemmas.Bool.{false≢true, or_parts, or_from}
 use Rattle.std.proofs.lemmas.Bool.Decides.{nat_tests}
 use Rattle.bl_syntax.specs.declared.terms.Sort.{Sort}
 use Rattle.bl_syntax.specs.declared.terms.Term.{Term}
@@ -84,23 +84,15 @@ some_is t s a h = ap (λ b. if b then forall_ s a else exists_ s a) (other_word 
 
 -- ---- which signs end a level
 
-pub or_false : (a b : Bool) → a ≡ false → b ≡ false → (a || b) ≡ false
-or_false true b ha hb = absurd (false≢true (sym ha))
-or_false false b ha hb = hb
-
-or_parts : (a b : Bool) → (a || b) ≡ false → (a ≡ false) × (b ≡ false)
-or_parts true b h = absurd (false≢true (sym h))
-or_parts false b h = (refl, h)
-
 conjunction_goes_on-or : (t : Token) → is_sign signs.Or t ≡ true → is_continued_by conjunction t ≡ false
-conjunction_goes_on-or t h = or_false _ _ (other_sign signs.Or signs.And t h refl) (other_sign signs.Or signs.At t h refl)
+conjunction_goes_on-or t h = or_from _ _ (other_sign signs.Or signs.And t h refl) (other_sign signs.Or signs.At t h refl)
 
 conjunction_goes_on-implies : (t : Token) → is_sign signs.Implies t ≡ true → is_continued_by conjunction t ≡ false
-conjunction_goes_on-implies t h = or_false _ _ (other_sign signs.Implies signs.And t h refl) (other_sign signs.Implies signs.At t h refl)
+conjunction_goes_on-implies t h = or_from _ _ (other_sign signs.Implies signs.And t h refl) (other_sign signs.Implies signs.At t h refl)
 
 formula_goes_on-close : (t : Token) → is_sign signs.Close t ≡ true → is_continued_by formula t ≡ false
 formula_goes_on-close t h =
-    or_false _ _ (or_false _ _ (or_false _ _ (other_sign signs.Close signs.Implies t h refl) (other_sign signs.Close signs.Or t h refl)) (other_sign signs.Close signs.And t h refl)) (other_sign signs.Close signs.At t h refl)
+    or_from _ _ (or_from _ _ (or_from _ _ (other_sign signs.Close signs.Implies t h refl) (other_sign signs.Close signs.Or t h refl)) (other_sign signs.Close signs.And t h refl)) (other_sign signs.Close signs.At t h refl)
 
 -- the signs that a level's end excludes
 no_at : (t : Token) → is_continued_by conjunction t ≡ false → is_sign signs.At t ≡ false
@@ -119,7 +111,7 @@ formula_conjunction : (t : Token) → is_continued_by formula t ≡ false → is
 formula_conjunction t h =
     let at_end : is_sign signs.At t ≡ false = (or_parts _ _ h).1 in
     let and_end : is_sign signs.And t ≡ false = (or_parts _ _ (or_parts _ _ h).0).1 in
-    or_false (is_sign signs.And t) (is_sign signs.At t) and_end at_end
+    or_from (is_sign signs.And t) (is_sign signs.At t) and_end at_end
 
 expected_sign : (text : List ℕ) (sign : Sign) (here there : Cursor) → expect_sign text sign here ≡ Ok there → is_sign sign here.token ≡ true
 unfolding expect_sign

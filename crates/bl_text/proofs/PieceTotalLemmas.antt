@@ -1,5 +1,5 @@
 -- Each piece of a text answers, and never because memory runs out. What it takes is counted.
-use Rattle.std.proofs.Common.{◌≡◌, ℕ, ◌+◌, ◌-◌, ◌≤◌, Bool, true, false, List, [], refl, arith, Result, Ok, Err}
+use Rattle.std.proofs.Common.{◌≡◌, ℕ, ◌+◌, ◌≤◌, Bool, true, false, List, [], refl, arith, Result, Ok, Err}
 use Rattle.std.specs.Prelude.{◌≢◌, ◌&&◌, nat_le, MatchResult, if◌then◌else◌}
 use Rattle.std.proofs.lemmas.Bool.Decides.{nat_tests}
 use Rattle.bl_syntax.specs.declared.terms.Sort.TheVariants as sorts
@@ -14,23 +14,24 @@ use Rattle.bl_tokens.specs.declared.tokens.Keyword.TheVariants as keywords
 use Rattle.bl_tokens.specs.declared.tokens.Token.{Token}
 use Rattle.bl_tokens.specs.declared.tokens.Token.TheVariants as tokens
 use Rattle.bl_tokens.specs.declared.tokens.Cursor.{Cursor}
-use Rattle.bl_tokens.specs.Tokens.{token_from, cursor_after, cursor_after_node, is_sign, is_word}
+use Rattle.bl_tokens.specs.Tokens.{cursor_after, cursor_after_node, is_sign, is_word}
 use Rattle.bl_text.specs.Scope.{Variable}
 use Rattle.bl_text.specs.Pieces.{◌>>=◌, count, expect_sign, term_of, require_sayable, require_sort, argument, next_argument, time_argument, interval, variable_name, sort_at, binder, speaker, less_sign, comparison, apply_predicate, bare_predicate, named_time, name_alone, constant_formula, simple_by, simple_formula}
 use Rattle.bl_text.specs.Texts.{expect_word, time_constant, principal_name, opening, at_end, span}
-use Rattle.bl_text.specs.Met.{IsAt, unexpected, unknown_name, bad_date, wrong_sort, too_large}
-use Rattle.bl_text.proofs.FirstTokensLemmas.{ErrsAt}
-use Rattle.bl_text.proofs.PieceLemmas.{term_errs, sayable_errs, sorted_errs, variable_errs_by, sort_errs_by, less_errs, applied_errs}
-use Rattle.bl_text.proofs.SameTokensStatement.{name_errs_by, time_errs_by, ended_errs}
+use Rattle.bl_text.specs.Met.{IsMisread, unexpected, unknown_name, bad_date}
+use Rattle.bl_text.proofs.PieceLemmas.{IsAt, misread_there, wrong_sort, too_large, ErrsAt, Misreads, term_errs, sayable_errs, sorted_errs, variable_misreads_by, sort_misreads_by, less_misreads, applied_errs, name_misreads_by, time_misreads_by, ended_misreads, left_behind, left_node}
 
 -- a fault of the text itself
 abbrev pub IsOfText : TextFault → Type 0
 IsOfText e = e ≢ NoMemory
 
+pub misread_of_text : {at : ℕ} {e : TextFault} → IsMisread at e → IsOfText e
+misread_of_text {at} unexpected = λ same. (let never : Unexpected at ≡ NoMemory = same in cc)
+misread_of_text {at} unknown_name = λ same. (let never : TextFault.UnknownName at ≡ NoMemory = same in cc)
+misread_of_text {at} bad_date = λ same. (let never : TextFault.BadDate at ≡ NoMemory = same in cc)
+
 pub of_text : {at : ℕ} {e : TextFault} → IsAt at e → IsOfText e
-of_text {at} unexpected = λ same. (let never : Unexpected at ≡ NoMemory = same in cc)
-of_text {at} unknown_name = λ same. (let never : TextFault.UnknownName at ≡ NoMemory = same in cc)
-of_text {at} bad_date = λ same. (let never : TextFault.BadDate at ≡ NoMemory = same in cc)
+of_text (misread_there e h) = misread_of_text h
 of_text {at} wrong_sort = λ same. (let never : Sort at ≡ NoMemory = same in cc)
 of_text {at} too_large = λ same. (let never : TooLarge at ≡ NoMemory = same in cc)
 
@@ -60,22 +61,18 @@ answered P r h read stopped = resolved IsOfText P r h read stopped
 abbrev pub Any : {A : Type 0} → A → Type 0
 Any a = Unit {0}
 
-errs_answers : {A : Type 0} (at : ℕ) (r : Result A TextFault) → ErrsAt at r → Answers r Any
+pub errs_answers : {A : Type 0} (at : ℕ) (r : Result A TextFault) → ErrsAt at r → Answers r Any
 errs_answers at (Ok a) h = tt
 errs_answers at (Err e) h = of_text h
+
+misreads_answer : {A : Type 0} (at : ℕ) (r : Result A TextFault) → Misreads at r → Answers r Any
+misreads_answer at (Ok a) h = tt
+misreads_answer at (Err e) h = misread_of_text h
 
 if_answers : {A : Type 0} (P : A → Type 0) (b : Bool) (x y : Result A TextFault) → (b ≡ true → Answers x P) → (b ≡ false → Answers y P) → Answers (if b then x else y) P
 if_answers P b x y hx hy = decided IsOfText P b x y hx hy
 
 -- ---- the nodes that are left
-
-pub left_behind : (text : List ℕ) (here : Cursor) → (cursor_after text here).left ≡ here.left
-unfolding cursor_after token_from
-left_behind text here = refl
-
-pub left_node : (text : List ℕ) (here : Cursor) → (cursor_after_node text here).left ≡ here.left - 1
-unfolding cursor_after_node token_from
-left_node text here = refl
 
 pub count_answers : (here : Cursor) → Answers (count here) (λ u. 1 ≤ here.left)
 unfolding count
@@ -83,7 +80,7 @@ count_answers here = if_answers (λ u. 1 ≤ here.left) (nat_le 1 here.left) (Ok
 
 pub expected_answers : (text : List ℕ) (sign : Sign') (here : Cursor) → Answers (expect_sign text sign here) (λ place. place.left ≡ here.left)
 unfolding expect_sign
-expected_answers text sign here = if_answers (λ (place : Cursor). place.left ≡ here.left) (is_sign sign here.token) (Ok (cursor_after text here)) (Err (Unexpected here.at)) (λ is. left_behind text here) (λ other. of_text unexpected)
+expected_answers text sign here = if_answers (λ (place : Cursor). place.left ≡ here.left) (is_sign sign here.token) (Ok (cursor_after text here)) (Err (Unexpected here.at)) (λ is. left_behind text here) (λ other. misread_of_text unexpected)
 
 -- ---- arguments
 
@@ -118,9 +115,9 @@ interval_answers text st scope here =
 pub binder_answers : (text : List ℕ) (here : Cursor) → Answers (binder text here) (λ v. v.2.left + 1 ≤ here.left)
 unfolding binder
 binder_answers text here =
-    answers_then _ _ (count here) _ (count_answers here) (λ _ some. answers_then Any _ (variable_name (cursor_after_node text here)) _ (errs_answers _ _ (variable_errs_by (cursor_after_node text here) (cursor_after_node text here).token refl))
+    answers_then _ _ (count here) _ (count_answers here) (λ _ some. answers_then Any _ (variable_name (cursor_after_node text here)) _ (misreads_answer _ _ (variable_misreads_by (cursor_after_node text here) (cursor_after_node text here).token refl))
     (λ name _. answers_then _ _ (expect_sign text signs.Colon (cursor_after text (cursor_after_node text here))) _ (expected_answers text signs.Colon (cursor_after text (cursor_after_node text here)))
-    (λ place one. answers_then Any _ (sort_at place) _ (errs_answers _ _ (sort_errs_by place place.token refl)) (λ s _. answers_then _ _ (expect_sign text signs.Dot (cursor_after text place)) _ (expected_answers text signs.Dot (cursor_after text place))
+    (λ place one. answers_then Any _ (sort_at place) _ (misreads_answer _ _ (sort_misreads_by place place.token refl)) (λ s _. answers_then _ _ (expect_sign text signs.Dot (cursor_after text place)) _ (expected_answers text signs.Dot (cursor_after text place))
     (λ last two. omega (arith, left_node text here, left_behind text (cursor_after_node text here), left_behind text place))))))
 
 pub speaker_answers : (text : List ℕ) (scope : List Variable) (here : Cursor) → Answers (speaker text scope here) (λ v. v.1.left + 1 ≤ here.left)
@@ -139,7 +136,7 @@ comparison_answers : (text : List ℕ) (st : Bool) (scope : List Variable) (here
 unfolding comparison
 comparison_answers text st scope here =
     answers_then Any _ (term_of scope here) _ (errs_answers _ _ (term_errs scope here)) (λ low _. answers_then _ _ (count here) _ (count_answers here)
-    (λ _ some. answers_then Any _ (less_sign (cursor_after_node text here)) _ (errs_answers _ _ (less_errs (cursor_after_node text here))) (λ _ _. answers_then Any _ (require_sayable st here.at low) _ (errs_answers _ _ (sayable_errs st here.at low))
+    (λ _ some. answers_then Any _ (less_sign (cursor_after_node text here)) _ (misreads_answer _ _ (less_misreads (cursor_after_node text here))) (λ _ _. answers_then Any _ (require_sayable st here.at low) _ (errs_answers _ _ (sayable_errs st here.at low))
     (λ _ _. answers_then Any _ (require_sort scope sorts.Time here.at low) _ (errs_answers _ _ (sorted_errs scope sorts.Time here.at low)) (λ _ _. answers_then _ _ (count (cursor_after_node text here)) _ (count_answers (cursor_after_node text here))
     (λ _ _. answers_then _ _ (time_argument st scope (cursor_after_node text (cursor_after_node text here))) _ (time_argument_answers st scope (cursor_after_node text (cursor_after_node text here)))
     (λ high _. omega (arith, left_node text here, left_node text (cursor_after_node text here), left_node text (cursor_after_node text (cursor_after_node text here))))))))))
@@ -169,19 +166,19 @@ simple_answers text st scope here = simple_by_answers text st scope here here.to
 
 word_answers : (text : List ℕ) (word : Word) (here : Cursor) → Answers (expect_word text word here) Any
 unfolding expect_word
-word_answers text word here = if_answers Any (is_word word here.token) (Ok (cursor_after text here)) (Err (Unexpected here.at)) (λ is. tt) (λ other. of_text unexpected)
+word_answers text word here = if_answers Any (is_word word here.token) (Ok (cursor_after text here)) (Err (Unexpected here.at)) (λ is. tt) (λ other. misread_of_text unexpected)
 
 time_answers : (here : Cursor) → Answers (time_constant here) Any
-time_answers here = errs_answers _ _ (time_errs_by here here.token refl)
+time_answers here = misreads_answer _ _ (time_misreads_by here here.token refl)
 
 pub opening_answers : (text : List ℕ) (here : Cursor) → Answers (opening text here) Any
 unfolding opening
 opening_answers text here =
-    answers_then Any _ (principal_name here) _ (errs_answers _ _ (name_errs_by here here.token refl)) (λ who _. answers_then Any _ (expect_word text keywords.Says (cursor_after text here)) _ (word_answers text keywords.Says (cursor_after text here)) (λ place _. tt))
+    answers_then Any _ (principal_name here) _ (misreads_answer _ _ (name_misreads_by here here.token refl)) (λ who _. answers_then Any _ (expect_word text keywords.Says (cursor_after text here)) _ (word_answers text keywords.Says (cursor_after text here)) (λ place _. tt))
 
 pub span_answers : (text : List ℕ) (here : Cursor) → Answers (span text here) Any
 unfolding span
 span_answers text here =
     answers_then Any _ (expect_word text keywords.From here) _ (word_answers text keywords.From here) (λ first _. answers_then Any _ (time_constant first) _ (time_answers first)
     (λ from _. answers_then Any _ (expect_word text keywords.To (cursor_after text first)) _ (word_answers text keywords.To (cursor_after text first)) (λ second _. answers_then Any _ (time_constant second) _ (time_answers second)
-    (λ to _. answers_then Any _ (at_end (cursor_after text second)) _ (errs_answers _ _ (ended_errs (cursor_after text second))) (λ _ _. tt)))))
+    (λ to _. answers_then Any _ (at_end (cursor_after text second)) _ (misreads_answer _ _ (ended_misreads (cursor_after text second))) (λ _ _. tt)))))

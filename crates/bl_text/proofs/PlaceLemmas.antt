@@ -53,7 +53,7 @@ no_space_by lexer space (byte ∷ more) t n h good = by_test (byte == 32) refl
 space_bad : (more : List ℕ) → first_lexeme (32 ∷ more) ≡ bad_lexeme
 space_bad more = refl
 
-no_space : (bytes : List ℕ) (t : Token) (n : ℕ) → first_lexeme bytes ≡ sized_lexeme t n → is_bad t ≡ false → prefix_len (is_in classes.Space) bytes ≡ 0
+pub no_space : (bytes : List ℕ) (t : Token) (n : ℕ) → first_lexeme bytes ≡ sized_lexeme t n → is_bad t ≡ false → prefix_len (is_in classes.Space) bytes ≡ 0
 no_space bytes t n h good = no_space_by first_lexeme space_bad bytes t n h good
 
 -- a token at its first byte

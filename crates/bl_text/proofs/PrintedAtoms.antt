@@ -4,7 +4,7 @@ use Rattle.std.specs.Prelude.{◌<◌, codes, not, ◌&&◌}
 use Rattle.std.specs.List.{AllByRecursion}
 use Rattle.std.specs.Str.{bytes_eq}
 use Rattle.std.specs.Fmt.{decimal}
-use Rattle.std.proofs.lemmas.Bool.{false≢true}
+use Rattle.std.proofs.lemmas.Bool.{false≢true, and_from}
 use Rattle.std.proofs.lemmas.Bool.Decides.{nat_tests}
 use Rattle.std.proofs.lemmas.Slice.Eq.{bytes_eq-Decides}
 use Rattle.bl_syntax.specs.declared.terms.Sort.{Sort}
@@ -30,14 +30,12 @@ use Rattle.bl_text.specs.PrintedTokens.{EndsRun, term_token}
 use Rattle.bl_text.proofs.ReadLemmas.{expected-Ok}
 use Rattle.bl_text.proofs.WordLemmas.{word_lexed, name_lexed, variable_lexed}
 use Rattle.bl_text.proofs.PlaceLemmas.{Stands, stands_behind, stands_at, space_skipped}
-use Rattle.bl_text.proofs.PrintedLemmas.{scope_of, IsPrintable, term_read, sort_fits, Word, word, spaced_word, term_word, count_ok, sorted_ok, argument_ok, time_argument_ok, if_true, if_false, arguments_more}
+use Rattle.bl_text.proofs.PrintedLemmas.{scope_of, IsPrintableTerm, term_read, sort_fits, Word, word, spaced_word, term_word, count_ok, sorted_ok, argument_ok, time_argument_ok, if_true, if_false, arguments_more, others_end}
 use Rattle.bl_text.proofs.PrintedFormulas.{Ends, at_ends, Reading, Reader, operand_read, postfix_place, unary_place, formula_place, place_left}
+use Rattle.bl_text.proofs.PieceLemmas.{colon_sign, dot_sign, comma_sign, close_sign, open_interval_sign, close_interval_sign, open_sign, says_keyword}
+use Rattle.bl_text.proofs.PartLemmas.{variable_found}
 
 -- ---- binders
-
-variable_ok : (here : Cursor) (name : List ℕ) → here.token ≡ tokens.Variable name → variable_name here ≡ Ok name
-unfolding variable_name
-variable_ok here name is = rw is
 
 sort_ok : (here : Cursor) (s : Sort) → here.token ≡ tokens.SortName s → sort_at here ≡ Ok s
 unfolding sort_at
@@ -45,14 +43,6 @@ sort_ok here s is = rw is
 
 sign_ok : (text : List ℕ) (here : Cursor) {place : Cursor} (sign : signs.the_data) → here.token ≡ tokens.Sign sign → is_sign sign (tokens.Sign sign) ≡ true → cursor_after text here ≡ place → expect_sign text sign here ≡ Ok place
 sign_ok text here {place} sign token itself next = expected-Ok text sign here (ap (is_sign sign) token ∙ itself) ∙ ap Ok next
-
-colon_is : is_sign signs.Colon (tokens.Sign signs.Colon) ≡ true
-unfolding is_sign
-colon_is = refl
-
-dot_is : is_sign signs.Dot (tokens.Sign signs.Dot) ≡ true
-unfolding is_sign
-dot_is = refl
 
 sort_lexed : (s : Sort) (rest : List ℕ) → EndsRun rest → first_lexeme (sort_text s ++ rest) ≡ sized_lexeme (tokens.SortName s) (length (sort_text s))
 sort_lexed sorts.Principal rest ends = word_lexed 112 (114 ∷ 105 ∷ 110 ∷ 99 ∷ 105 ∷ 112 ∷ 97 ∷ 108 ∷ []) rest refl refl ends
@@ -92,10 +82,10 @@ binder_read text here left depth at s body few some nodes next stands =
       to = d.to + 1;
       stands = stands_behind (32 ∷ []) body d.stands;
       is = binder_ok text here (token_from text (d.to + 1) (left - 1)) (88 ∷ decimal depth) s sort (count_ok here (let n = nodes in omega arith))
-          (ap variable_name next ∙ variable_ok variable (88 ∷ decimal depth) v.token)
-          (ap (λ h. expect_sign text signs.Colon (cursor_after text h)) next ∙ ap (expect_sign text signs.Colon) v.next ∙ sign_ok text _ signs.Colon c.token colon_is c.next)
+          (ap variable_name next ∙ variable_found variable (88 ∷ decimal depth) v.token)
+          (ap (λ h. expect_sign text signs.Colon (cursor_after text h)) next ∙ ap (expect_sign text signs.Colon) v.next ∙ sign_ok text _ signs.Colon c.token colon_sign c.next)
           (sort_ok sort s w.token)
-          (ap (expect_sign text signs.Dot) w.next ∙ sign_ok text _ signs.Dot d.token dot_is (d.next ∙ space_skipped (left - 1) d.stands));
+          (ap (expect_sign text signs.Dot) w.next ∙ sign_ok text _ signs.Dot d.token dot_sign (d.next ∙ space_skipped (left - 1) d.stands));
     }
 
 keyword_word : {text : List ℕ} {from : ℕ} (left : ℕ) (first : ℕ) (others rest : List ℕ) (w : Word') → Stands text from (first ∷ (others ++ 32 ∷ rest)) → first_lexeme (first ∷ (others ++ 32 ∷ rest)) ≡ sized_lexeme (tokens.Keyword w) (length (first ∷ others))
@@ -207,11 +197,7 @@ speaker_plain (tokens.Sign s) speaks = absurd speaks
 speaker_plain tokens.End speaks = absurd speaks
 speaker_plain tokens.Bad speaks = absurd speaks
 
-says_is : is_word keywords.Says (tokens.Keyword keywords.Says) ≡ true
-unfolding is_word
-says_is = refl
-
-pub says_read : (st : Bool) (parameters binders : List Sort) (k : Term) (a : FormulaView) → length binders ≤ 512 → IsPrintable parameters binders st k → HasSort parameters binders sorts.Principal k → IsSpeakerToken (term_token (length binders) k) → Reader st binders a → Reader st binders (says k a)
+pub says_read : (st : Bool) (parameters binders : List Sort) (k : Term) (a : FormulaView) → length binders ≤ 512 → IsPrintableTerm parameters binders st k → HasSort parameters binders sorts.Principal k → IsSpeakerToken (term_token (length binders) k) → Reader st binders a → Reader st binders (says k a)
 says_read st parameters binders k a few printable sort speaks read text depth from left rest deep nodes ends stands =
     let d = length binders in
     let ta = operand 3 (rank a) (formula_text d a) in
@@ -220,7 +206,7 @@ says_read st parameters binders k a few printable sort speaks read text depth fr
     let s = spaced_word (left - 1) (codes "says") (32 ∷ (ta ++ rest)) (tokens.Keyword keywords.Says) w.stands refl refl in
     let here = token_from text from left in
     let word_here = token_from text w.to (left - 1) in
-    let at_word : is_word keywords.Says (cursor_after_node text here).token ≡ true = ap (λ (h : Cursor). is_word keywords.Says h.token) w.node ∙ ap (is_word keywords.Says) s.token ∙ says_is in
+    let at_word : is_word keywords.Says (cursor_after_node text here).token ≡ true = ap (λ (h : Cursor). is_word keywords.Says h.token) w.node ∙ ap (is_word keywords.Says) s.token ∙ says_keyword in
     let place : cursor_after_node text (cursor_after_node text here) ≡ token_from text (s.to + 1) (left - 1 - 1) = ap (cursor_after_node text) w.node ∙ s.node ∙ space_skipped (left - 1 - 1) s.stands in
     let term = term_read parameters binders here k w.token printable.in_scope few in
     let spoken : speaker text (scope_of binders) here ≡ Ok (k, token_from text (s.to + 1) (left - 1 - 1)) =
@@ -247,24 +233,12 @@ at_is : is_sign signs.At (tokens.Sign signs.At) ≡ true
 unfolding is_sign
 at_is = refl
 
-open_interval_is : is_sign signs.OpenInterval (tokens.Sign signs.OpenInterval) ≡ true
-unfolding is_sign
-open_interval_is = refl
-
-close_interval_is : is_sign signs.CloseInterval (tokens.Sign signs.CloseInterval) ≡ true
-unfolding is_sign
-close_interval_is = refl
-
-comma_is : is_sign signs.Comma (tokens.Sign signs.Comma) ≡ true
-unfolding is_sign
-comma_is = refl
-
 interval_parts : (a u v rest : List ℕ) → (a ++ (codes " @ [" ++ (u ++ (codes "," ++ (v ++ codes "]"))))) ++ rest ≡ a ++ (codes " @ [" ++ (u ++ (codes "," ++ (v ++ (codes "]" ++ rest)))))
 interval_parts a u v rest =
     append_assoc a (codes " @ [" ++ (u ++ (codes "," ++ (v ++ codes "]")))) rest
     ∙ ap (λ bs. a ++ (codes " @ [" ++ bs)) (append_assoc u (codes "," ++ (v ++ codes "]")) rest ∙ ap (λ bs. u ++ (44 ∷ bs)) (append_assoc v (codes "]") rest))
 
-pub on_read : (st : Bool) (parameters binders : List Sort) (a : FormulaView) (u v : Term) → length binders ≤ 512 → IsPrintable parameters binders st u → IsPrintable parameters binders st v → HasSort parameters binders sorts.Time u → HasSort parameters binders sorts.Time v
+pub on_read : (st : Bool) (parameters binders : List Sort) (a : FormulaView) (u v : Term) → length binders ≤ 512 → IsPrintableTerm parameters binders st u → IsPrintableTerm parameters binders st v → HasSort parameters binders sorts.Time u → HasSort parameters binders sorts.Time v
     → Reader st binders a → Reader st binders (on a u v)
 on_read st parameters binders a u v few pu pv su sv read text depth from left rest deep nodes ends stands =
     let d = length binders in
@@ -286,11 +260,11 @@ on_read st parameters binders a u v few pu pv su sv read text depth from left re
     let place = token_from text closes.to (l - 1 - 1 - 1) in
     let iv : interval text st (scope_of binders) mid ≡ Ok (u, v, place) =
     interval_ok text st (scope_of binders) mid first second place u v (count_ok mid (let n = sign.nodes in omega arith))
-    (ap (expect_sign text signs.OpenInterval) sign.node ∙ sign_ok text _ signs.OpenInterval opens.token open_interval_is opens.next)
+    (ap (expect_sign text signs.OpenInterval) sign.node ∙ sign_ok text _ signs.OpenInterval opens.token open_interval_sign opens.next)
     (time_argument_ok st (scope_of binders) first u (term_read parameters binders first u low.token pu.in_scope few) (pu.sayable first.at) (sort_fits parameters binders sorts.Time u su) (let n = low.nodes in omega arith))
-    (ap (expect_sign text signs.Comma) low.node ∙ sign_ok text _ signs.Comma comma.token comma_is comma.next)
+    (ap (expect_sign text signs.Comma) low.node ∙ sign_ok text _ signs.Comma comma.token comma_sign comma.next)
     (time_argument_ok st (scope_of binders) second v (term_read parameters binders second v high.token pv.in_scope few) (pv.sayable second.at) (sort_fits parameters binders sorts.Time v sv) (let n = high.nodes in omega arith))
-    (ap (expect_sign text signs.CloseInterval) high.node ∙ sign_ok text _ signs.CloseInterval closes.token close_interval_is closes.next) in
+    (ap (expect_sign text signs.CloseInterval) high.node ∙ sign_ok text _ signs.CloseInterval closes.token close_interval_sign closes.next) in
     let same : l - 1 - 1 - 1 ≡ left - size (on a u v) = omega arith in
     record {
       to = closes.to;
@@ -331,14 +305,6 @@ simple_name : (text : List ℕ) (st : Bool) (scope : List Variable) (here : Curs
 unfolding simple_formula
 simple_name text st scope here name is = rw is refl
 
-open_is' : is_sign signs.Open (tokens.Sign signs.Open) ≡ true
-unfolding is_sign
-open_is' = refl
-
-close_is' : is_sign signs.Close (tokens.Sign signs.Close) ≡ true
-unfolding is_sign
-close_is' = refl
-
 open_no_says : is_word keywords.Says (tokens.Sign signs.Open) ≡ false
 unfolding is_word
 open_no_says = refl
@@ -351,12 +317,8 @@ arguments_parts depth name t others rest =
     append_assoc name (arguments_text depth (t ∷ others)) rest
     ∙ ap (λ bs. name ++ (40 ∷ bs)) (append_assoc (term_text depth t) (terms_text depth others ++ codes ")") rest ∙ ap (λ bs. term_text depth t ++ bs) (append_assoc (terms_text depth others) (codes ")") rest))
 
-others_end : (depth : ℕ) (others : List Term) (rest : List ℕ) → EndsRun (terms_text depth others ++ 41 ∷ rest)
-others_end depth [] rest = (refl, refl)
-others_end depth (t ∷ others) rest = (refl, refl)
-
 -- a name with these arguments, where it may be applied to them
-pub applied_read : (st : Bool) (parameters binders : List Sort) (name : List ℕ) (terms : List Term) (f : FormulaView) → length binders ≤ 512 → is_principal_name name ≡ true → AllByRecursion (IsPrintable parameters binders st) terms
+pub applied_read : (st : Bool) (parameters binders : List Sort) (name : List ℕ) (terms : List Term) (f : FormulaView) → length binders ≤ 512 → is_principal_name name ≡ true → AllByRecursion (IsPrintableTerm parameters binders st) terms
     → (is_predicate_name name ≡ true → length terms ≤ 8) → ((at : ℕ) → apply_predicate (scope_of binders) at name terms ≡ Ok f) → size f ≡ 1 + length terms
     → (text : List ℕ) (depth from left : ℕ) (rest : List ℕ) → size f ≤ left → Ends rest → Stands text from ((name ++ arguments_text (length binders) terms) ++ rest)
     → Reading text st primary (scope_of binders) depth (token_from text from left) left 5 f rest
@@ -398,20 +360,16 @@ applied_read st parameters binders name (t ∷ others) f few named all ninth fit
     let same : l ≡ left - size f = omega arith in
     let call_is : IsCall text st (scope_of binders) here (token_from text closed.to l) f =
     call name mid (token_from text closed.to l) (t ∷ others) f w.token (count_ok here (let n = w.nodes in omega arith))
-    (subst (λ (p : Cursor). AreArguments text st (scope_of binders) is_atom p mid (t ∷ others)) begun more.are) (sign_ok text _ signs.Close closed.token close_is' closed.next) (fits_ here.at) in
+    (subst (λ (p : Cursor). AreArguments text st (scope_of binders) is_atom p mid (t ∷ others)) begun more.are) (sign_ok text _ signs.Close closed.token close_sign closed.next) (fits_ here.at) in
     record {
       to = closed.to;
       stands = closed.stands;
-      is = place_left closed.to same (called (scope_of binders) depth here (token_from text closed.to l) f (name_no_sign here.token name signs.Open w.token) (calling_next text here name w.token (ap (is_sign signs.Open) next ∙ open_is')) call_is);
+      is = place_left closed.to same (called (scope_of binders) depth here (token_from text closed.to l) f (name_no_sign here.token name signs.Open w.token) (calling_next text here name w.token (ap (is_sign signs.Open) next ∙ open_sign)) call_is);
       plain = λ h. name_no_quantifier here.token name w.token;
       silent = λ h. not_saying_next text here name w.token (ap (is_word keywords.Says) next ∙ open_no_says);
     }
 
 -- ---- which arguments fit
-
-and_true : (a b : Bool) → a ≡ true → b ≡ true → (a && b) ≡ true
-and_true true b ha hb = hb
-and_true false b ha hb = absurd (false≢true ha)
 
 may_fits : (parameters binders : List Sort) (terms : List Term) → HaveSorts parameters binders sorts_of_may terms → are_may_arguments (scope_of binders) terms ≡ true
 unfolding are_may_arguments
@@ -419,8 +377,8 @@ may_fits parameters binders [] h = absurd h
 may_fits parameters binders (a ∷ []) h = absurd h.1
 may_fits parameters binders (a ∷ b ∷ []) h = absurd h.1.1
 may_fits parameters binders (a ∷ b ∷ c ∷ []) h =
-    and_true (is_of_wanted_sort (scope_of binders) sorts.Principal a && is_of_wanted_sort (scope_of binders) sorts.File b) (is_of_wanted_sort (scope_of binders) sorts.Perm c)
-    (and_true (is_of_wanted_sort (scope_of binders) sorts.Principal a) (is_of_wanted_sort (scope_of binders) sorts.File b) (sort_fits parameters binders sorts.Principal a h.0) (sort_fits parameters binders sorts.File b h.1.0)) (sort_fits parameters binders sorts.Perm c h.1.1.0)
+    and_from (is_of_wanted_sort (scope_of binders) sorts.Principal a && is_of_wanted_sort (scope_of binders) sorts.File b) (is_of_wanted_sort (scope_of binders) sorts.Perm c)
+    (and_from (is_of_wanted_sort (scope_of binders) sorts.Principal a) (is_of_wanted_sort (scope_of binders) sorts.File b) (sort_fits parameters binders sorts.Principal a h.0) (sort_fits parameters binders sorts.File b h.1.0)) (sort_fits parameters binders sorts.Perm c h.1.1.0)
 may_fits parameters binders (a ∷ b ∷ c ∷ d ∷ more) h = absurd h.1.1.1
 
 atom_ok : (parameters binders : List Sort) (name : List ℕ) (terms : List Term) (at : ℕ) → FitsPredicate parameters binders name terms → is_predicate_name name ≡ true → apply_predicate (scope_of binders) at name terms ≡ Ok (atom name terms)
@@ -434,21 +392,21 @@ atom_ok parameters binders name terms at h named = if_true _ _ named ∙ if_fals
 owner_ok : (parameters binders : List Sort) (file owner : Term) (at : ℕ) → HasSort parameters binders sorts.File file → HasSort parameters binders sorts.Principal owner → apply_predicate (scope_of binders) at (codes "owner") (file ∷ owner ∷ []) ≡ Ok (state (Owner file owner))
 unfolding apply_predicate apply_state apply_owner
 owner_ok parameters binders file owner at f o =
-    if_true _ _ (and_true (is_of_wanted_sort (scope_of binders) sorts.File file) (is_of_wanted_sort (scope_of binders) sorts.Principal owner) (sort_fits parameters binders sorts.File file f) (sort_fits parameters binders sorts.Principal owner o))
+    if_true _ _ (and_from (is_of_wanted_sort (scope_of binders) sorts.File file) (is_of_wanted_sort (scope_of binders) sorts.Principal owner) (sort_fits parameters binders sorts.File file f) (sort_fits parameters binders sorts.Principal owner o))
 
 attribute_ok : (parameters binders : List Sort) (file name value : Term) (at : ℕ) → HasSort parameters binders sorts.File file → HasSort parameters binders sorts.Text name → HasSort parameters binders sorts.Text value
     → apply_predicate (scope_of binders) at (codes "has_xattr") (file ∷ name ∷ value ∷ []) ≡ Ok (state (HasXattr file name value))
 unfolding apply_predicate apply_state apply_attribute
 attribute_ok parameters binders file name value at f n v =
-    if_true _ _ (and_true (is_of_wanted_sort (scope_of binders) sorts.File file && is_of_wanted_sort (scope_of binders) sorts.Text name) (is_of_wanted_sort (scope_of binders) sorts.Text value)
-    (and_true (is_of_wanted_sort (scope_of binders) sorts.File file) (is_of_wanted_sort (scope_of binders) sorts.Text name) (sort_fits parameters binders sorts.File file f) (sort_fits parameters binders sorts.Text name n)) (sort_fits parameters binders sorts.Text value v))
+    if_true _ _ (and_from (is_of_wanted_sort (scope_of binders) sorts.File file && is_of_wanted_sort (scope_of binders) sorts.Text name) (is_of_wanted_sort (scope_of binders) sorts.Text value)
+    (and_from (is_of_wanted_sort (scope_of binders) sorts.File file) (is_of_wanted_sort (scope_of binders) sorts.Text name) (sort_fits parameters binders sorts.File file f) (sort_fits parameters binders sorts.Text name n)) (sort_fits parameters binders sorts.Text value v))
 
 directory_ok : (parameters binders : List Sort) (file directory : Term) (at : ℕ) → HasSort parameters binders sorts.File file → HasSort parameters binders sorts.File directory → apply_predicate (scope_of binders) at (codes "in_dir") (file ∷ directory ∷ []) ≡ Ok (state (InDir file directory))
 unfolding apply_predicate apply_state apply_directory
 directory_ok parameters binders file directory at f o =
-    if_true _ _ (and_true (is_of_wanted_sort (scope_of binders) sorts.File file) (is_of_wanted_sort (scope_of binders) sorts.File directory) (sort_fits parameters binders sorts.File file f) (sort_fits parameters binders sorts.File directory o))
+    if_true _ _ (and_from (is_of_wanted_sort (scope_of binders) sorts.File file) (is_of_wanted_sort (scope_of binders) sorts.File directory) (sort_fits parameters binders sorts.File file f) (sort_fits parameters binders sorts.File directory o))
 
-pub atom_read : (st : Bool) (parameters binders : List Sort) (name : List ℕ) (terms : List Term) → length binders ≤ 512 → is_principal_name name ≡ true → is_predicate_name name ≡ true → AllByRecursion (IsPrintable parameters binders st) terms → length terms ≤ 8
+pub atom_read : (st : Bool) (parameters binders : List Sort) (name : List ℕ) (terms : List Term) → length binders ≤ 512 → is_principal_name name ≡ true → is_predicate_name name ≡ true → AllByRecursion (IsPrintableTerm parameters binders st) terms → length terms ≤ 8
     → FitsPredicate parameters binders name terms → Reader st binders (atom name terms)
 atom_read st parameters binders name terms few named predicate all ninth h text depth from left rest deep nodes ends stands =
     applied_read st parameters binders name terms (atom name terms) few named all (λ is. ninth) (λ at. atom_ok parameters binders name terms at h predicate) refl text depth from left rest nodes ends stands
@@ -461,7 +419,7 @@ three_text depth name a b c =
     ap (λ bs. name ++ (40 ∷ (term_text depth a ++ bs))) (append_assoc (codes "," ++ term_text depth b) ((codes "," ++ term_text depth c) ++ []) (codes ")")
     ∙ append_assoc (codes ",") (term_text depth b) (((codes "," ++ term_text depth c) ++ []) ++ codes ")") ∙ ap (λ bs. 44 ∷ (term_text depth b ++ bs)) (append_assoc (codes "," ++ term_text depth c) [] (codes ")")))
 
-pub state_read : (st : Bool) (parameters binders : List Sort) (s : StatePred) → length binders ≤ 512 → AllByRecursion (IsPrintable parameters binders st) (terms_of_state s) → IsSortedState parameters binders s → Reader st binders (state s)
+pub state_read : (st : Bool) (parameters binders : List Sort) (s : StatePred) → length binders ≤ 512 → AllByRecursion (IsPrintableTerm parameters binders st) (terms_of_state s) → IsSortedState parameters binders s → Reader st binders (state s)
 state_read st parameters binders (Owner a b) few all h text depth from left rest deep nodes ends stands =
     applied_read st parameters binders (codes "owner") (a ∷ b ∷ []) (state (Owner a b)) few refl all (λ is. absurd (false≢true is)) (λ at. owner_ok parameters binders a b at h.0 h.1) refl text depth from left rest nodes ends
     (stands_at refl (ap (λ bs. bs ++ rest) (sym (two_text (length binders) (codes "owner") a b))) stands)

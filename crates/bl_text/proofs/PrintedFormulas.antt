@@ -21,6 +21,7 @@ use Rattle.bl_text.specs.PrintedTokens.{EndsRun}
 use Rattle.bl_text.proofs.ReadLemmas.{expected-Ok, is_at}
 use Rattle.bl_text.proofs.PlaceLemmas.{Stands, stands_behind, stands_at, space_skipped}
 use Rattle.bl_text.proofs.PrintedLemmas.{scope_of, word, spaced_word, count_ok}
+use Rattle.bl_text.proofs.PieceLemmas.{close_sign, open_sign}
 
 -- ---- what may follow a formula
 
@@ -210,14 +211,6 @@ open_silent : (text : List ℕ) (here : Cursor) → here.token ≡ tokens.Sign s
 unfolding is_saying
 open_silent text here is = rw is refl
 
-open_is : is_sign signs.Open (tokens.Sign signs.Open) ≡ true
-unfolding is_sign
-open_is = refl
-
-close_is : is_sign signs.Close (tokens.Sign signs.Close) ≡ true
-unfolding is_sign
-close_is = refl
-
 -- a formula in parentheses
 grouped : (st : Bool) (binders : List Sort) (f : FormulaView) → Reader st binders f → (text : List ℕ) (depth from left : ℕ) (rest : List ℕ) → depth + 1 + size f ≤ 512 → size f ≤ left
     → Stands text from (codes "(" ++ (formula_text (length binders) f ++ codes ")") ++ rest) → Reading text st primary (scope_of binders) depth (token_from text from left) left 5 f rest
@@ -230,11 +223,11 @@ grouped st binders f read text depth from left rest deep nodes stands =
     let closed = word (left - size f) (codes ")") rest (tokens.Sign signs.Close) inside.stands refl refl in
     let body : Is text st formula (scope_of binders) (depth + 1) (cursor_after text here) mid f = is_at (sym opened.next) (to_formula f inside.plain inside.silent inside.is) in
     let room : nat_lt depth 512 ≡ true = (let d = deep in grind (arith, nat_tests)) in
-    let found : expect_sign text signs.Close mid ≡ Ok (token_from text closed.to (left - size f)) = expected-Ok text signs.Close mid (ap (is_sign signs.Close) closed.token ∙ close_is) ∙ ap Ok closed.next in
+    let found : expect_sign text signs.Close mid ≡ Ok (token_from text closed.to (left - size f)) = expected-Ok text signs.Close mid (ap (is_sign signs.Close) closed.token ∙ close_sign) ∙ ap Ok closed.next in
     record {
       to = closed.to;
       stands = closed.stands;
-      is = group (scope_of binders) depth here mid (token_from text closed.to (left - size f)) f (ap (is_sign signs.Open) opened.token ∙ open_is) room body found;
+      is = group (scope_of binders) depth here mid (token_from text closed.to (left - size f)) f (ap (is_sign signs.Open) opened.token ∙ open_sign) room body found;
       plain = λ h. open_plain here.token opened.token;
       silent = λ h. open_silent text here opened.token;
     }
@@ -356,7 +349,7 @@ both_read st binders a b read_a read_b text depth from left rest deep nodes ends
     record {
       to = second.to;
       stands = second.stands;
-      is = place_left second.to same (and_further (scope_of binders) depth (token_from text from left) (token_from text first.to (left - size a)) (token_from text second.to (left - size a - 1 - size b)) a b first.is sign.is_it sign.room (is_at (sym sign.next) second.is));
+      is = place_left second.to same (and_further (scope_of binders) depth (token_from text from left) (token_from text first.to (left - size a)) (token_from text second.to (left - size a - 1 - size b)) a b first.is sign.is_it sign.room (is_at {place = token_from text sign.to (left - size a - 1)} {place' = cursor_after_node text (token_from text first.to (left - size a))} {there = token_from text second.to (left - size a - 1 - size b)} (sym sign.next) second.is));
       plain = λ h. first.plain refl;
       silent = λ h. absurd (false≢true h);
     }
@@ -372,7 +365,7 @@ either_read st binders a b read_a read_b text depth from left rest deep nodes en
     record {
       to = second.to;
       stands = second.stands;
-      is = place_left second.to same (or_further (scope_of binders) depth (token_from text from left) (token_from text first.to (left - size a)) (token_from text second.to (left - size a - 1 - size b)) a b first.is sign.is_it sign.room (is_at (sym sign.next) second.is));
+      is = place_left second.to same (or_further (scope_of binders) depth (token_from text from left) (token_from text first.to (left - size a)) (token_from text second.to (left - size a - 1 - size b)) a b first.is sign.is_it sign.room (is_at {place = token_from text sign.to (left - size a - 1)} {place' = cursor_after_node text (token_from text first.to (left - size a))} {there = token_from text second.to (left - size a - 1 - size b)} (sym sign.next) second.is));
       plain = λ h. first.plain refl;
       silent = λ h. absurd (false≢true h);
     }
@@ -388,7 +381,7 @@ implies_read st binders a b read_a read_b text depth from left rest deep nodes e
     record {
       to = second.to;
       stands = second.stands;
-      is = place_left second.to same (implication (scope_of binders) depth (token_from text from left) (token_from text first.to (left - size a)) (token_from text second.to (left - size a - 1 - size b)) a b (first.plain refl) first.is sign.is_it sign.room (is_at (sym sign.next) second.is));
+      is = place_left second.to same (implication (scope_of binders) depth (token_from text from left) (token_from text first.to (left - size a)) (token_from text second.to (left - size a - 1 - size b)) a b (first.plain refl) first.is sign.is_it sign.room (is_at {place = token_from text sign.to (left - size a - 1)} {place' = cursor_after_node text (token_from text first.to (left - size a))} {there = token_from text second.to (left - size a - 1 - size b)} (sym sign.next) second.is));
       plain = λ h. absurd (false≢true h);
       silent = λ h. absurd (false≢true h);
     }

@@ -1,5 +1,5 @@
 -- What is printed of a formula is a text of it.
-use Rattle.std.proofs.Common.{◌≡◌, ℕ, zero, suc, ◌+◌, ◌-◌, ◌≤◌, Bool, true, false, List, [], ◌∷◌, ◌++◌, length, append_assoc, append-nil, refl, sym, ap, ◌∙◌, subst, arith, Result, Ok, Err}
+use Rattle.std.proofs.Common.{◌≡◌, ℕ, zero, suc, ◌+◌, ◌-◌, ◌≤◌, Bool, true, false, List, [], ◌∷◌, ◌++◌, length, append_assoc, append-nil, refl, sym, ap, ◌∙◌, subst, arith, Ok, Err}
 use Rattle.std.specs.Prelude.{◌<◌, codes, nat_le, ◌&&◌, IsSome, Option, Some, None, if◌then◌else◌}
 use Rattle.std.specs.Option.{option_map}
 use Rattle.std.specs.List.{AllByRecursion, slice_get}
@@ -30,6 +30,8 @@ use Rattle.bl_text.specs.PrintedTokens.{EndsRun, term_token, IsInDepth}
 use Rattle.bl_text.proofs.ReadLemmas.{expected-Ok}
 use Rattle.bl_text.proofs.PrintedTerms.{term_lexed}
 use Rattle.bl_text.proofs.PlaceLemmas.{Stands, stands_behind, stands_at, is_bad, here_at, token_stands, space_skipped}
+use Rattle.bl_text.proofs.PieceLemmas.{comma_sign}
+use Rattle.bl_text.proofs.IsStatementLemmas.{at_place, variable_term, name_term, length_more}
 
 -- ---- binders
 
@@ -68,7 +70,7 @@ place_found (s ∷ binders) (suc n) less few =
 -- ---- terms
 
 -- the term may stand in the text
-pub record IsPrintable (parameters binders : List Sort) (st : Bool) (t : Term) : Type 0 where
+pub record IsPrintableTerm (parameters binders : List Sort) (st : Bool) (t : Term) : Type 0 where
   pub spellable : IsSpellable t
   pub in_scope : IsInScope parameters binders t
   pub sayable : (at : ℕ) → require_sayable st at t ≡ Ok tt
@@ -87,21 +89,9 @@ in_depth parameters binders Ctime h few = tt
 in_depth parameters binders (Param n) h few = tt
 in_depth parameters binders (Bound n) h few = let found = some_is (slice_get binders n) h in (slice_get_within binders n found.0 found.1, few)
 
-abbrev at_place : ℕ → Option ℕ → Result Term TextFault
-at_place at None = Err (TextFault.UnknownName at)
-at_place at (Some inner) = Ok (Bound inner)
-
-variable_term : (scope : List Variable) (here : Cursor) (name : List ℕ) → here.token ≡ tokens.Variable name → term_of scope here ≡ at_place here.at (place_of scope name)
-unfolding term_of
-variable_term scope here name is = rw is
-
 constant_term : (scope : List Variable) (here : Cursor) (c : Term) → here.token ≡ tokens.Constant c → term_of scope here ≡ Ok c
 unfolding term_of
 constant_term scope here c is = rw is
-
-name_term : (scope : List Variable) (here : Cursor) (name : List ℕ) → here.token ≡ tokens.Name name → term_of scope here ≡ Ok (Prin name)
-unfolding term_of
-name_term scope here name is = rw is
 
 pub term_read : (parameters binders : List Sort) (here : Cursor) (t : Term) → here.token ≡ term_token (length binders) t → IsInScope parameters binders t → length binders ≤ 512 → term_of (scope_of binders) here ≡ Ok t
 term_read parameters binders here (Prin name) is h few = name_term (scope_of binders) here name is
@@ -188,7 +178,7 @@ term_good depth Ctime = refl
 term_good depth (Param n) = refl
 term_good depth (Bound n) = refl
 
-pub term_word : {text : List ℕ} {from : ℕ} (left : ℕ) (parameters binders : List Sort) (st : Bool) (t : Term) (rest : List ℕ) → IsPrintable parameters binders st t → length binders ≤ 512 → EndsRun rest → Stands text from (term_text (length binders) t ++ rest)
+pub term_word : {text : List ℕ} {from : ℕ} (left : ℕ) (parameters binders : List Sort) (st : Bool) (t : Term) (rest : List ℕ) → IsPrintableTerm parameters binders st t → length binders ≤ 512 → EndsRun rest → Stands text from (term_text (length binders) t ++ rest)
     → Word text (token_from text from left) left (term_token (length binders) t) rest
 term_word left parameters binders st t rest p few ends stands =
     word left (term_text (length binders) t) rest (term_token (length binders) t) stands (term_lexed (length binders) t rest p.spellable (in_depth parameters binders t p.in_scope few) ends) (term_good (length binders) t)
@@ -219,14 +209,6 @@ pub time_argument_ok : (st : Bool) (scope : List Variable) (here : Cursor) (t : 
 unfolding time_argument
 time_argument_ok st scope here t term said fit some = rw (term, said, sorted_ok scope sorts.Time here.at t fit, count_ok here some) refl
 
-length_more : {A : Type 0} (xs : List A) (x : A) → length (xs ++ x ∷ []) ≡ length xs + 1
-length_more [] x = refl
-length_more (y ∷ ys) x = let more = length_more ys x in ap suc more ∙ omega arith
-
-comma_is : is_sign signs.Comma (tokens.Sign signs.Comma) ≡ true
-unfolding is_sign
-comma_is = refl
-
 -- terms that were read, and where the reading stands
 pub record Arguments (text : List ℕ) (st : Bool) (scope : List Variable) (is_atom : Bool) (start : Cursor) (left : ℕ) (terms : List Term) (rest : List ℕ) : Type 0 where
   pub to : ℕ
@@ -240,14 +222,14 @@ close_ends : (rest : List ℕ) → EndsRun (41 ∷ rest)
 close_ends rest = (refl, refl)
 
 -- what stands after an argument ends it
-others_end : (depth : ℕ) (others : List Term) (rest : List ℕ) → EndsRun (terms_text depth others ++ 41 ∷ rest)
+pub others_end : (depth : ℕ) (others : List Term) (rest : List ℕ) → EndsRun (terms_text depth others ++ 41 ∷ rest)
 others_end depth [] rest = (refl, refl)
 others_end depth (t ∷ others) rest = (refl, refl)
 
 others_parts : (depth : ℕ) (t : Term) (others : List Term) (rest : List ℕ) → terms_text depth (t ∷ others) ++ 41 ∷ rest ≡ codes "," ++ (term_text depth t ++ (terms_text depth others ++ 41 ∷ rest))
 others_parts depth t others rest = ap (λ bs. 44 ∷ bs) (append_assoc (term_text depth t) (terms_text depth others) (41 ∷ rest))
 
-pub arguments_more : {text : List ℕ} {st : Bool} {is_atom : Bool} {start : Cursor} (parameters binders : List Sort) (others terms : List Term) (from left : ℕ) (rest : List ℕ) → length binders ≤ 512 → AllByRecursion (IsPrintable parameters binders st) others
+pub arguments_more : {text : List ℕ} {st : Bool} {is_atom : Bool} {start : Cursor} (parameters binders : List Sort) (others terms : List Term) (from left : ℕ) (rest : List ℕ) → length binders ≤ 512 → AllByRecursion (IsPrintableTerm parameters binders st) others
     → AreArguments text st (scope_of binders) is_atom start (token_from text from left) terms → Stands text from (terms_text (length binders) others ++ 41 ∷ rest) → length others ≤ left → (is_atom ≡ true → length terms + length others ≤ 8)
     → Arguments text st (scope_of binders) is_atom start (left - length others) (terms ++ others) (41 ∷ rest)
 arguments_more {text} {st} {is_atom} {start} parameters binders [] terms from left rest few all are stands nodes ninth =
@@ -261,7 +243,7 @@ arguments_more {text} {st} {is_atom} {start} parameters binders (t ∷ others) t
     let mid = token_from text from left in
     let place = token_from text comma.to left in
     let read : argument st (scope_of binders) place ≡ Ok t = argument_ok st (scope_of binders) place t (term_read parameters binders place t found.token all.0.in_scope few) (all.0.sayable place.at) (let n = found.nodes in omega arith) in
-    let here : expect_sign text signs.Comma mid ≡ Ok place = expected-Ok text signs.Comma mid (ap (is_sign signs.Comma) comma.token ∙ comma_is) ∙ ap Ok comma.next in
+    let here : expect_sign text signs.Comma mid ≡ Ok place = expected-Ok text signs.Comma mid (ap (is_sign signs.Comma) comma.token ∙ comma_sign) ∙ ap Ok comma.next in
     let step : AreArguments text st (scope_of binders) is_atom start (token_from text found.to (left - 1)) (terms ++ t ∷ []) =
     subst (λ (p : Cursor). AreArguments text st (scope_of binders) is_atom start p (terms ++ t ∷ [])) found.node
     (further mid place terms t are here (next_argument_ok st (scope_of binders) is_atom (length terms) place t read (λ is. (let most = ninth is in omega arith)))) in

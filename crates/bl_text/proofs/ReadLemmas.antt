@@ -1,8 +1,8 @@
 -- Steps of a reading.
 use Rattle.std.proofs.Common.{◌≡◌, ℕ, Bool, true, false, List, refl, sym, subst, arith, Result, Ok, Err}
-use Rattle.std.specs.Prelude.{◌<◌, ◌≤◌, ◌&&◌, ◌||◌, nat_lt, IfOk, IfErr, MatchResult}
+use Rattle.std.specs.Prelude.{◌<◌, ◌≤◌, ◌||◌, nat_lt, IfOk, IfErr, MatchResult}
 use Rattle.std.proofs.lemmas.Bool.Decides.{nat_tests}
-use Rattle.std.proofs.lemmas.Bool.{false≢true}
+use Rattle.std.proofs.lemmas.Bool.{false≢true, or_left, or_right}
 use Rattle.bl_syntax.specs.declared.terms.Term.{Term}
 use Rattle.bl_tokens.specs.declared.faults.TextFault.{TextFault}
 use Rattle.bl_syntax.specs.Formula.{FormulaView}
@@ -25,10 +25,6 @@ use Rattle.bl_text.specs.Read.{IntervalHasFirstFault, no_memory_for_interval, in
 -- an error that is handed on
 pub passed : {T : Type 0} (r : Result T TextFault) (e : TextFault) (P : TextFault → Type 0) → r ≡ Err e → P e → IfErr r P
 passed r e P is h = subst (λ r'. IfErr r' P) (sym is) h
-
-pub and_parts : (a b : Bool) → (a && b) ≡ true → (a ≡ true) × (b ≡ true)
-and_parts true b h = (refl, h)
-and_parts false b h = absurd (false≢true h)
 
 pub expected-Ok : (text : List ℕ) (sign : Sign) (here : Cursor) → is_sign sign here.token ≡ true → expect_sign text sign here ≡ Ok (cursor_after text here)
 unfolding expect_sign
@@ -75,14 +71,6 @@ is_at {text} {in_statement} {level} {scope} {depth} {place} {place'} {there} {f}
 pub is_form : {text : List ℕ} {in_statement : Bool} {level : Level} {scope : List scopes.Variable} {depth : ℕ} {here there : Cursor} {f f' : FormulaView} → f' ≡ f
     → Is text in_statement level scope depth here there f → Is text in_statement level scope depth here there f'
 is_form {text} {in_statement} {level} {scope} {depth} {here} {there} {f} {f'} same h = subst (λ (a : FormulaView). Is text in_statement level scope depth here there a) (sym same) h
-
-or_left : (a b : Bool) → a ≡ true → (a || b) ≡ true
-or_left true b h = refl
-or_left false b h = absurd (false≢true h)
-
-or_right : (a b : Bool) → b ≡ true → (a || b) ≡ true
-or_right true b h = refl
-or_right false b h = h
 
 pub every_quantifies : (t : Token) → is_word keywords.Forall t ≡ true → is_quantifier t ≡ true
 every_quantifies t h = or_left _ _ h

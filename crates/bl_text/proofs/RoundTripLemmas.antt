@@ -1,9 +1,9 @@
 -- What is printed of a formula or of a statement is a text of it.
 use Rattle.std.proofs.Common.{◌≡◌, ℕ, ◌+◌, ◌-◌, ◌≤◌, Bool, true, false, List, [], ◌∷◌, ◌++◌, length, append_assoc, append-nil, refl, sym, ap, ◌∙◌, subst, arith, Ok, Err}
-use Rattle.std.specs.Prelude.{codes, max, not, ◌&&◌, Option, Some, None}
+use Rattle.std.specs.Prelude.{codes, max, not, Option, Some, None}
 use Rattle.std.specs.List.{AllByRecursion}
 use Rattle.std.specs.Option.{is_some}
-use Rattle.std.proofs.lemmas.Bool.{false≢true}
+use Rattle.std.proofs.lemmas.Bool.{false≢true, and_parts}
 use Rattle.std.proofs.lemmas.Bool.Decides.{nat_tests}
 use Rattle.bl_syntax.specs.declared.terms.Sort.{Sort}
 use Rattle.bl_syntax.specs.declared.terms.Sort.TheVariants as sorts
@@ -33,14 +33,15 @@ use Rattle.bl_text.specs.Pieces.{count, term_of, require_sayable, require_sort, 
 use Rattle.bl_text.specs.Grammar.{primary, is_quantifier, is_saying, is_call, one_simple}
 use Rattle.bl_text.specs.Printed.{time_text, term_text, formula_text, span_text, statement_text}
 use Rattle.bl_text.specs.PrintedTokens.{term_token}
-use Rattle.bl_text.specs.RoundTrip.{IsNoParameter, NamesSpeakers, HasRoundTrip}
+use Rattle.bl_text.specs.RoundTrip.{IsNoParameter, NamesSpeakers, IsPrintable}
 use Rattle.bl_text.specs.Texts.{beginning, is_end, IsFormulaText, whole, expect_word, time_constant, principal_name, opening, at_end, span, whole_saying, IsStatementText}
 use Rattle.bl_text.proofs.WordLemmas.{word_lexed, name_lexed}
 use Rattle.bl_text.proofs.PrintedTerms.{term_lexed}
 use Rattle.bl_text.proofs.PlaceLemmas.{Stands, stands_behind, stands_at, space_skipped, token_stands}
-use Rattle.bl_text.proofs.PrintedLemmas.{scope_of, IsPrintable, term_read, sort_fits, Word, word, spaced_word, term_word, count_ok, sorted_ok, time_argument_ok, if_true}
+use Rattle.bl_text.proofs.PrintedLemmas.{scope_of, IsPrintableTerm, term_read, sort_fits, Word, word, spaced_word, term_word, count_ok, sorted_ok, time_argument_ok, if_true}
 use Rattle.bl_text.proofs.PrintedFormulas.{Ends, Reading, Reader, to_formula, both_read, either_read, implies_read}
 use Rattle.bl_text.proofs.PrintedAtoms.{IsSpeakerToken, saying_at, forall_read, exists_read, says_read, on_read, atom_read, state_read}
+use Rattle.bl_text.proofs.PieceLemmas.{up_to_sign, says_keyword}
 
 -- ---- comparisons and constants
 
@@ -130,10 +131,6 @@ term_no_saying text here (tokens.Sign s) is h no_says = absurd h
 term_no_saying text here tokens.End is h no_says = absurd h
 term_no_saying text here tokens.Bad is h no_says = absurd h
 
-up_to_is : is_sign signs.UpTo (tokens.Sign signs.UpTo) ≡ true
-unfolding is_sign
-up_to_is = refl
-
 up_to_no_says : is_word keywords.Says (tokens.Sign signs.UpTo) ≡ false
 unfolding is_word
 up_to_no_says = refl
@@ -147,7 +144,7 @@ comparison_ok : (text : List ℕ) (st : Bool) (scope : List Variable) (here : Cu
 unfolding comparison
 comparison_ok text st scope here low high term room less said sort next last = rw (term, room, less, said, sort, next, last) refl
 
-pub compare_read : (st : Bool) (parameters binders : List Sort) (c : Constraint) → length binders ≤ 512 → IsPrintable parameters binders st c.low → IsPrintable parameters binders st c.high → HasSort parameters binders sorts.Time c.low → HasSort parameters binders sorts.Time c.high → Reader st binders (compare c)
+pub compare_read : (st : Bool) (parameters binders : List Sort) (c : Constraint) → length binders ≤ 512 → IsPrintableTerm parameters binders st c.low → IsPrintableTerm parameters binders st c.high → HasSort parameters binders sorts.Time c.low → HasSort parameters binders sorts.Time c.high → Reader st binders (compare c)
 compare_read st parameters binders c few pu pv su sv text depth from left rest deep nodes ends stands =
     let d = length binders in
     let tv = term_text d c.high ++ rest in
@@ -165,7 +162,7 @@ compare_read st parameters binders c few pu pv su sv text depth from left rest d
     let read : simple_formula text st (scope_of binders) here ≡ Ok (compare c, token_from text h.to (left - 1 - 1 - 1)) =
     simple_term text st (scope_of binders) here (term_token d c.low) w.token kind
     ∙ comparison_ok text st (scope_of binders) here c.low c.high (term_read parameters binders here c.low w.token pu.in_scope few) (count_ok here (let n = w.nodes in omega arith))
-    (less_ok (cursor_after_node text here) (ap (is_sign signs.UpTo) next_token ∙ up_to_is)) (pu.sayable here.at) (sorted_ok (scope_of binders) sorts.Time here.at c.low (sort_fits parameters binders sorts.Time c.low su))
+    (less_ok (cursor_after_node text here) (ap (is_sign signs.UpTo) next_token ∙ up_to_sign)) (pu.sayable here.at) (sorted_ok (scope_of binders) sorts.Time here.at c.low (sort_fits parameters binders sorts.Time c.low su))
     (ap count w.node ∙ count_ok sign_here (let n = s.nodes in omega arith))
     (ap (time_argument st (scope_of binders)) second ∙ time_argument_ok st (scope_of binders) last_here c.high (term_read parameters binders last_here c.high h.token pv.in_scope few) (pv.sayable last_here.at) (sort_fits parameters binders sorts.Time c.high sv) (let n = h.nodes in omega arith))
     ∙ ap (λ p. Ok (compare c, p)) place in
@@ -255,10 +252,10 @@ sayable_ok true parameters binders (Param n) none now scoped at = absurd (false�
 sayable_ok false parameters binders (Param n) none now scoped at = refl
 sayable_ok st parameters binders (Bound n) none now scoped at = refl
 
-printable : (st : Bool) (parameters binders : List Sort) (t : Term) → (st ≡ true → parameters ≡ []) → IsWritable st t → IsInScope parameters binders t → IsPrintable parameters binders st t
+printable : (st : Bool) (parameters binders : List Sort) (t : Term) → (st ≡ true → parameters ≡ []) → IsWritable st t → IsInScope parameters binders t → IsPrintableTerm parameters binders st t
 printable st parameters binders t none w scoped = record { spellable = w.0; in_scope = scoped; sayable = sayable_ok st parameters binders t none w.1 scoped }
 
-all_printable : (st : Bool) (parameters binders : List Sort) (terms : List Term) → (st ≡ true → parameters ≡ []) → AllByRecursion (IsWritable st) terms → AllByRecursion (IsInScope parameters binders) terms → AllByRecursion (IsPrintable parameters binders st) terms
+all_printable : (st : Bool) (parameters binders : List Sort) (terms : List Term) → (st ≡ true → parameters ≡ []) → AllByRecursion (IsWritable st) terms → AllByRecursion (IsInScope parameters binders) terms → AllByRecursion (IsPrintableTerm parameters binders st) terms
 all_printable st parameters binders [] none all scoped = tt
 all_printable st parameters binders (t ∷ terms) none all scoped = (printable st parameters binders t none all.0 scoped.0, all_printable st parameters binders terms none all.1 scoped.1)
 
@@ -285,10 +282,6 @@ speaker_token parameters binders depth (Perm permission) h p = never_sort (λ (s
 speaker_token parameters binders depth (Time point) h p = never_sort (λ (same : sorts.Time ≡ sorts.Principal). cc) h
 speaker_token parameters binders depth (Text constant) h p = never_sort (λ (same : sorts.Text ≡ sorts.Principal). cc) h
 speaker_token parameters binders depth Ctime h p = never_sort (λ (same : sorts.Time ≡ sorts.Principal). cc) h
-
-and_parts : (a b : Bool) → (a && b) ≡ true → (a ≡ true) × (b ≡ true)
-and_parts true b h = (refl, h)
-and_parts false b h = absurd (false≢true h)
 
 principal_from_predicate : (name : List ℕ) → is_predicate_name name ≡ true → is_principal_name name ≡ true
 principal_from_predicate name h = (and_parts (is_principal_name name) (not (is_among state_predicates name)) h).0
@@ -353,7 +346,7 @@ all_terms_as P Q (exists_ s a) g h = all_terms_as P Q a g h
 all_terms_as P Q (says k a) g h = (g k h.0, all_terms_as P Q a g h.1)
 all_terms_as P Q (on a u v) g h = (all_terms_as P Q a g h.0, (g u h.1.0, g v h.1.1))
 
-pub printed_formula : (parameters : List Sort) (f : FormulaView) → HasRoundTrip parameters f → IsFormulaText (formula_text 0 f) f
+pub printed_formula : (parameters : List Sort) (f : FormulaView) → IsPrintable parameters f → IsFormulaText (formula_text 0 f) f
 printed_formula parameters f h =
     let text = formula_text 0 f in
     let limits = h.formula.within_limits in
@@ -444,10 +437,6 @@ from_ends rest = record {
   no_up_to = refl;
 }
 
-says_is : is_word keywords.Says (tokens.Keyword keywords.Says) ≡ true
-unfolding is_word
-says_is = refl
-
 from_is : is_word keywords.From (tokens.Keyword keywords.From) ≡ true
 unfolding is_word
 from_is = refl
@@ -489,7 +478,7 @@ printed_statement s h =
     let here = token_from text (says_.to + 1) 512 in
     let opened : opening text (beginning text) ≡ Ok (s.who, here) =
     opening_ok text (beginning text) here s.who (name_ok (beginning text) s.who name.token)
-    (ap (expect_word text keywords.Says) name.next ∙ word_expected_ok text keywords.Says (token_from text name.to 512) (ap (is_word keywords.Says) says_.token ∙ says_is) ∙ ap Ok (says_.next ∙ space_skipped 512 says_.stands)) in
+    (ap (expect_word text keywords.Says) name.next ∙ word_expected_ok text keywords.Says (token_from text name.to 512) (ap (is_word keywords.Says) says_.token ∙ says_keyword) ∙ ap Ok (says_.next ∙ space_skipped 512 says_.stands)) in
     let terms = both_terms IsSpellable IsNotCtime s.body h.body.terms st.no_ctime in
     let r = form_read true [] s.body [] (λ is. refl) (let n = limits.nodes in omega arith) st.body_is_formula.well_sorted (all_terms_as (λ t. IsSpellable t × IsNotCtime t) (IsWritable true) s.body (λ t w. (w.0, λ is. w.1)) terms)
     h.body.names (speakers_closed [] s.body st.body_is_formula.well_sorted) limits.arguments text 0 (says_.to + 1) 512 times (let n = limits.nodes in omega arith) limits.nodes (from_ends _)

@@ -23,7 +23,7 @@ use Rattle.bl_text.specs.Pieces.{count, expect_sign, term_of, require_sayable, r
 use Rattle.bl_text.specs.Texts.{is_end, expect_word, time_constant, principal_name, opening, at_end, span}
 use Rattle.bl_text.specs.Sentences.{IsSign, IsTerm, principal, constant, variable, IsSpeaker, named, bound}
 use Rattle.bl_text.proofs.FirstTokensLemmas.{bare as bared, bare_token}
-use Rattle.bl_text.proofs.PieceLemmas.{Unsorted, applied_unsorted}
+use Rattle.bl_text.proofs.PieceLemmas.{Only, applied_only}
 use Rattle.bl_text.proofs.ReadLemmas.{expected-Ok}
 use Rattle.bl_text.proofs.IsStatementLemmas.{at_place, variable_term}
 use Rattle.bl_text.proofs.PieceTotalLemmas.{Any, chained, decided}
@@ -125,12 +125,12 @@ time_argument_limited {scope} st here term is =
     chained IsLimit Any Any (term_of scope here) _ (term_limited here term is) (λ t _. chained IsLimit Any Any (require_sayable st here.at t) _ (sayable_limited st here.at t)
     (λ _ _. chained IsLimit Any Any (require_sort scope sorts.Time here.at t) _ (sorted_limited scope sorts.Time here.at t) (λ _ _. chained IsLimit Any Any (count here) _ (count_limited here) (λ _ _. tt))))
 
-unsorted_limited : {A : Type 0} (at : ℕ) (r : Result A TextFault) → Unsorted at r → Limited r Any
+unsorted_limited : {A : Type 0} (at : ℕ) (r : Result A TextFault) → Only (Sort at) r → Limited r Any
 unsorted_limited at (Ok a) h = tt
 unsorted_limited at (Err e) h = subst IsLimit (sym h) tt
 
 pub applied_limited : (scope : List Variable) (at : ℕ) (name : List ℕ) (terms : List Term) → Limited (apply_predicate scope at name terms) Any
-applied_limited scope at name terms = unsorted_limited at _ (applied_unsorted scope at name terms)
+applied_limited scope at name terms = unsorted_limited at _ (applied_only scope at name terms)
 
 -- ---- intervals, binders and speakers
 

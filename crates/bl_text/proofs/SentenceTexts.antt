@@ -1,7 +1,7 @@
 -- A text whose tokens are a sentence of the grammar is read to its end, or stops for sorts or for want of room.
 use Rattle.std.proofs.Common.{◌≡◌, ℕ, zero, suc, ◌+◌, Bool, true, false, List, [], ◌∷◌, ◌++◌, length, append_assoc, refl, sym, ap, ◌∙◌, subst, Ok, ◌⊎◌, inl, inr}
-use Rattle.std.specs.Prelude.{nat_lt, ◌&&◌, ◌||◌, ◌==◌}
-use Rattle.std.proofs.lemmas.Bool.{false≢true}
+use Rattle.std.specs.Prelude.{nat_lt, ◌==◌}
+use Rattle.std.proofs.lemmas.Bool.{false≢true, or_from, and_right}
 use Rattle.bl_syntax.specs.declared.terms.Term.{Term}
 use Rattle.bl_syntax.specs.declared.terms.Term.TheVariants.{Time}
 use Rattle.bl_syntax.specs.Formula.{FormulaView}
@@ -42,16 +42,8 @@ unfolding is_sign is_word
 sign_no_word sign word (tokens.Sign found) h = refl
 sign_no_word sign word _ h = absurd (false≢true h)
 
-both_false : (a b : Bool) → a ≡ false → b ≡ false → (a || b) ≡ false
-both_false false b h k = k
-both_false true b h k = absurd (false≢true (sym h))
-
-and_false : (a b : Bool) → b ≡ false → (a && b) ≡ false
-and_false true b h = h
-and_false false b h = refl
-
 sign_plain : (sign : Sign') (t : Token) → is_sign sign t ≡ true → is_quantifier t ≡ false
-sign_plain sign t h = both_false _ _ (sign_no_word sign keywords.Forall t h) (sign_no_word sign keywords.Exists t h)
+sign_plain sign t h = or_from _ _ (sign_no_word sign keywords.Forall t h) (sign_no_word sign keywords.Exists t h)
 
 name_plain : (name : List ℕ) → is_quantifier (tokens.Name name) ≡ false
 unfolding is_word
@@ -101,7 +93,7 @@ name_calls text here name is h = rw is h
 
 calls_not : (text : List ℕ) (here : Cursor) → is_sign signs.Open (cursor_after_node text here).token ≡ false → is_call text here ≡ false
 unfolding is_call
-calls_not text here h = and_false _ _ h
+calls_not text here h = and_right _ _ h
 
 speaker_says : {scope : List Variable} {who : Token} (text : List ℕ) (here : Cursor) → IsSpeaker scope who → here.token ≡ who → is_word keywords.Says (cursor_after_node text here).token ≡ true → is_saying text here ≡ true
 unfolding is_saying cursor_after_node
@@ -110,7 +102,7 @@ speaker_says text here (bound name some) is h = rw is h
 
 says_not : (text : List ℕ) (here : Cursor) → is_word keywords.Says (cursor_after_node text here).token ≡ false → is_saying text here ≡ false
 unfolding is_saying
-says_not text here h = and_false _ _ h
+says_not text here h = and_right _ _ h
 
 sign_says_not : (text : List ℕ) (here : Cursor) (sign : Sign') (t : Token) → here.token ≡ t → is_sign sign t ≡ true → is_saying text here ≡ false
 unfolding is_saying is_sign

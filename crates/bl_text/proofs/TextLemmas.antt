@@ -1,7 +1,7 @@
 -- A whole text is one formula or one statement, or has one fault, and never both.
 use Rattle.std.proofs.Common.{◌≡◌, ℕ, Bool, true, false, List, [], refl, sym, ap, ◌∙◌, subst, Result, Ok, Err, inl, inr}
 use Rattle.std.specs.Prelude.{if◌then◌else◌, IfOk, IfErr, MatchResult}
-use Rattle.std.proofs.lemmas.Bool.{false≢true}
+use Rattle.std.proofs.lemmas.Bool.{false≢true, or_from}
 use Rattle.bl_syntax.specs.declared.terms.TimePoint.{TimePoint}
 use Rattle.bl_syntax.specs.declared.formula.Formula.{Formula}
 use Rattle.bl_syntax.specs.Formula.{FormulaView}
@@ -18,15 +18,15 @@ use Rattle.bl_tokens.specs.declared.tokens.Token.TheVariants.{Name, LongWord, Co
 use Rattle.bl_tokens.specs.declared.tokens.Token.TheVariants as tokens
 use Rattle.bl_tokens.specs.declared.tokens.Cursor.{Cursor}
 use Rattle.bl_tokens.specs.Tokens.{cursor_after, is_sign, is_word}
-use Rattle.bl_text.specs.Pieces.{◌>>=◌}
 use Rattle.bl_text.specs.Grammar.{formula, is_continued_by, Is}
 use Rattle.bl_text.specs.FirstFaults.{HasFirstFault}
 use Rattle.bl_text.specs.Texts.{beginning, is_end, IsFormulaText, whole, FormulaFault, in_formula, behind_formula, opening, span, expect_word, at_end, IsSayingText, whole_saying, IsStatementText, StatementFault, in_opening, in_body, in_span, AreOneFault}
-use Rattle.bl_text.proofs.OneFaultLemmas.{or_false, word_is, one_reading, read_or_fault, one_stop}
+use Rattle.bl_text.proofs.OneFaultLemmas.{word_is, one_reading, read_or_fault, one_stop}
+use Rattle.bl_text.proofs.PieceLemmas.{bind_ok}
 
 -- no sign goes on after what is no sign
 no_signs : (t : Token) → ((sign : Sign) → is_sign sign t ≡ false) → is_continued_by formula t ≡ false
-no_signs t none = or_false _ _ (or_false _ _ (or_false _ _ (none signs.Implies) (none signs.Or)) (none signs.And)) (none signs.At)
+no_signs t none = or_from _ _ (or_from _ _ (or_from _ _ (none signs.Implies) (none signs.Or)) (none signs.And)) (none signs.At)
 
 end_no_sign : (t : Token) (sign : Sign) → is_end t ≡ true → is_sign sign t ≡ false
 unfolding is_sign
@@ -67,10 +67,6 @@ formula_fault_once (behind_formula there f d at_end more) (behind_formula there'
 
 -- ---- statements
 
-bind_Ok : {A B : Type 0} (r : Result A TextFault) (k : A → Result B TextFault) (b : B) → (r >>= k) ≡ Ok b → (a : A) × ((r ≡ Ok a) × (k a ≡ Ok b))
-bind_Ok (Ok a) k b h = (a, (refl, h))
-bind_Ok {A} {B} (Err e) k b h = absurd (let never : ◌≡◌ {A = Result B TextFault} (Err e) (Ok b) = h in cc)
-
 chosen_word : (b : Bool) (x : Result Cursor TextFault) (e : TextFault) (y : Cursor) → (if b then x else Err e) ≡ Ok y → b ≡ true
 chosen_word true x e y h = refl
 chosen_word false x e y h = absurd (let never : ◌≡◌ {A = Result Cursor TextFault} (Err e) (Ok y) = h in cc)
@@ -82,7 +78,7 @@ word_there text word here there h = chosen_word (is_word word here.token) (Ok (c
 span_ends : (text : List ℕ) (here : Cursor) (p : TimePoint × TimePoint) → span text here ≡ Ok p → is_continued_by formula here.token ≡ false
 unfolding span
 span_ends text here p h =
-    let first = bind_Ok (expect_word text keywords.From here) _ p h in word_ends keywords.From here.token (word_there text keywords.From here first.0 first.1.0)
+    let first = bind_ok (expect_word text keywords.From here) _ p h in word_ends keywords.From here.token (word_there text keywords.From here first.0 first.1.0)
 
 -- what opens a statement is determined
 opened_once : (text : List ℕ) (here : Cursor) {who_here who_here' : Cursor} {who who' : List ℕ} → opening text here ≡ Ok (who, who_here) → opening text here ≡ Ok (who', who_here') → (who ≡ who') × (who_here ≡ who_here')

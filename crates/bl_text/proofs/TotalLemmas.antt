@@ -20,10 +20,12 @@ use Rattle.bl_text.specs.Grammar.{Level, formula, disjunction, conjunction, unar
 use Rattle.bl_text.specs.FirstFaults.{ArgumentsHaveFirstFault, in_first_argument, in_argument, CallHasFirstFault, at_name, in_arguments, before_close, by_sorts, HasFirstFault, in_binder, in_body, in_premise, at_implies, in_conclusion, in_first_disjunct, at_or, in_disjunct, in_first_conjunct, at_and, in_conjunct, in_speaker, in_said, in_postfix, in_primary, in_interval, too_deep, in_group, not_closed, in_call, in_simple}
 use Rattle.bl_text.specs.Texts.{beginning, is_end, IsFormulaText, whole, FormulaFault, in_formula, behind_formula, opening, span, IsSayingText, whole_saying, IsStatementText, StatementFault, in_opening, in_span}
 use Rattle.bl_text.specs.Texts as texts
-use Rattle.bl_text.specs.Met.{unexpected, too_large}
+use Rattle.bl_text.specs.Met.{unexpected}
 use Rattle.bl_text.proofs.ReadLemmas.{expected-Ok, is_call-name, formula_ended}
 use Rattle.bl_text.proofs.IsStatementLemmas.{statement_said}
-use Rattle.bl_text.proofs.PieceTotalLemmas.{IsOfText, of_text, Any, answered, left_behind, left_node, count_answers, expected_answers, argument_answers, next_argument_answers, interval_answers, binder_answers, speaker_answers, applied_answers, simple_answers, opening_answers, span_answers}
+use Rattle.bl_text.proofs.PieceLemmas.{too_large, left_behind, left_node}
+use Rattle.bl_text.proofs.PieceTotalLemmas.{IsOfText, of_text, misread_of_text, Any, answered, count_answers, expected_answers, argument_answers, next_argument_answers, interval_answers, binder_answers, speaker_answers, applied_answers, simple_answers, opening_answers, span_answers}
+use Rattle.std.proofs.lemmas.Bool.{or_from}
 
 -- ---- tests
 
@@ -34,10 +36,6 @@ by_test false holds fails = fails refl
 or_parts : {V : Type 0} (a b : Bool) → (a || b) ≡ true → (a ≡ true → V) → (b ≡ true → V) → V
 or_parts true b h left right = left refl
 or_parts false b h left right = right h
-
-ended_two : (a t : Bool) → a ≡ false → t ≡ false → (a || t) ≡ false
-ended_two false t h rest = rest
-ended_two true t h rest = absurd (let never : true ≡ false = h in cc)
 
 ended_three : (o a t : Bool) → o ≡ false → (a || t) ≡ false → (o || a || t) ≡ false
 ended_three false a t h rest = rest
@@ -161,7 +159,7 @@ and_out text st scope depth here next (suc k) mid a few d ended left =
     (λ place b e ended' less. and_out text st scope depth here next k place (both a b) (omega (arith, left_node text mid)) (and_further scope depth here mid place a b d sign room e) ended' (omega (arith, left_node text mid)))
     (λ e h n. stops e (in_conjunct scope depth here mid a e d sign room h) n))
     (λ e full n. stops e (at_and scope depth here mid a e d sign full) n))
-    (λ no. reads mid a d (ended_two _ _ no ended) left)
+    (λ no. reads mid a d (or_from _ _ no ended) left)
 
 conjunction_out : (text : List ℕ) (st : Bool) (scope : List Variable) (depth : ℕ) (here : Cursor) → Below text st (measure conjunction depth here) → Outcome text st conjunction scope depth here
 conjunction_out text st scope depth here below =
@@ -232,7 +230,7 @@ outcome text st level scope depth here = below_all text st (suc (measure level d
 pub formula_or_its_fault : (text : List ℕ) → ((f : FormulaView) × IsFormulaText text f) ⊎ ((e : TextFault) × FormulaFault text e × IsOfText e)
 formula_or_its_fault text =
     come_out (outcome text false formula [] 0 (beginning text))
-    (λ place f d ended left. by_test (is_end place.token) (λ end. inl (f, whole place d end)) (λ more. inr (Unexpected place.at, behind_formula place f d ended more, of_text unexpected)))
+    (λ place f d ended left. by_test (is_end place.token) (λ end. inl (f, whole place d end)) (λ more. inr (Unexpected place.at, behind_formula place f d ended more, misread_of_text unexpected)))
     (λ e h n. inr (e, in_formula e h, n))
 
 pub stated : {text : List ℕ} {s : StatementView} → IsSayingText text s → IsStatementText text s

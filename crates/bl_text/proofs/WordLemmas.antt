@@ -5,7 +5,7 @@ use Rattle.std.specs.List.{prefix_len, take_while, starts_with, list_all, AllByR
 use Rattle.std.specs.Str.{bytes_eq}
 use Rattle.std.specs.Str.Parse.{digits_value}
 use Rattle.std.specs.Fmt.{decimal}
-use Rattle.std.proofs.lemmas.Bool.{false≢true}
+use Rattle.std.proofs.lemmas.Bool.{false≢true, and_parts, or_parts, and_right, and_left}
 use Rattle.std.proofs.lemmas.Bool.Decides.{nat_tests}
 use Rattle.std.proofs.lemmas.Slice.Eq.{bytes_eq-Decides}
 use Rattle.std.proofs.lemmas.Fmt.{decimal_digit, decimal_is_IsNumeral, decimal_nonempty, first_decimal, length-decimal-le}
@@ -37,10 +37,6 @@ cond_false : {A : Type 0} (b : Bool) (x y : A) → b ≡ false → cond b x y �
 cond_false true x y h = absurd (false≢true (sym h))
 cond_false false x y h = refl
 
-and_parts : (a b : Bool) → (a && b) ≡ true → (a ≡ true) × (b ≡ true)
-and_parts true b h = (refl, h)
-and_parts false b h = absurd (false≢true h)
-
 run_len : (p : ℕ → Bool) (xs rest : List ℕ) → list_all p xs ≡ true → StopsAt p rest → prefix_len p (xs ++ rest) ≡ length xs
 run_len p [] [] all stops = refl
 run_len p [] (byte ∷ more) all stops = cond_false (p byte) _ _ stops
@@ -50,10 +46,6 @@ run_len p (x ∷ xs) rest all stops =
 
 run_is : (p : ℕ → Bool) (xs rest : List ℕ) → list_all p xs ≡ true → StopsAt p rest → take_while p (xs ++ rest) ≡ xs
 run_is p xs rest all stops = ap (λ n. take n (xs ++ rest)) (run_len p xs rest all stops) ∙ take-append_seam xs rest
-
-or_parts : (a b : Bool) → (a || b) ≡ false → (a ≡ false) × (b ≡ false)
-or_parts true b h = absurd (false≢true (sym h))
-or_parts false b h = (refl, h)
 
 stops_word : (rest : List ℕ) → EndsRun rest → StopsAt (is_in classes.Word) rest
 stops_word [] ends = tt
@@ -151,7 +143,7 @@ numeral_is zero small = ap is_numeral (decimal_digit 0 (omega arith))
 numeral_is (suc n) small =
     let some = decimal_nonempty (suc n) small in let first = first_decimal (suc n) (omega arith) small in grind (arith, nat_tests)
 
-numeral_found : (limit n : ℕ) → n < 2 ^ 64 → n < limit → numeral_below limit (decimal n) ≡ Some n
+pub numeral_found : (limit n : ℕ) → n < 2 ^ 64 → n < limit → numeral_below limit (decimal n) ≡ Some n
 numeral_found limit n small below =
     let value = (decimal_is_IsNumeral n small).1 in
     let fits : nat_lt (digits_value 10 (decimal n)) limit ≡ true = ap (λ m. nat_lt m limit) value ∙ (grind (arith, nat_tests)) in
@@ -183,14 +175,6 @@ variable_lexed n rest few ends =
     ∙ cond_true (nat_le (length (88 ∷ decimal n)) 32) _ _ fits
 
 -- ---- times
-
-and_left_false : (a b : Bool) → a ≡ false → (a && b) ≡ false
-and_left_false true b h = absurd (false≢true (sym h))
-and_left_false false b h = refl
-
-and_right_false : (a b : Bool) → b ≡ false → (a && b) ≡ false
-and_right_false true b h = h
-and_right_false false b h = refl
 
 -- what is false in front makes the whole test false
 abbrev date_from : Bool → Bool → Bool → Bool → Bool → Bool → Bool → Bool
@@ -238,10 +222,10 @@ no_minus : (bytes : List ℕ) → has_byte bytes 4 45 ≡ false → has_date_fro
 no_minus bytes h = date_4 (nat_le 10 (length bytes)) (has_two bytes 0) (has_two bytes 2) (has_byte bytes 4 45) (has_two bytes 5) (has_byte bytes 7 45) (has_two bytes 8) h
 
 two_left : (bytes : List ℕ) (place : ℕ) → is_digit (slice_index bytes place) ≡ false → has_two bytes place ≡ false
-two_left bytes place h = and_left_false (is_digit (slice_index bytes place)) (is_digit (slice_index bytes (place + 1))) h
+two_left bytes place h = and_left (is_digit (slice_index bytes place)) (is_digit (slice_index bytes (place + 1))) h
 
 two_right : (bytes : List ℕ) (place : ℕ) → is_digit (slice_index bytes (place + 1)) ≡ false → has_two bytes place ≡ false
-two_right bytes place h = and_right_false (is_digit (slice_index bytes place)) (is_digit (slice_index bytes (place + 1))) h
+two_right bytes place h = and_right (is_digit (slice_index bytes place)) (is_digit (slice_index bytes (place + 1))) h
 
 -- digits with another end than `-` are no date
 no_date : (ds rest : List ℕ) → list_all is_digit ds ≡ true → EndsRun rest → has_date_front (ds ++ rest) ≡ false
@@ -302,7 +286,7 @@ second_lexed n rest few ends =
 
 no_inf : (ds rest : List ℕ) → list_all is_digit ds ≡ true → 0 < length ds → starts_with nat_eq (ds ++ rest) (codes "inf") ≡ false
 no_inf [] rest all some = absurd (omega arith)
-no_inf (d ∷ more) rest all some = let digit = (and_parts (is_digit d) (list_all is_digit more) all).0 in and_left_false (nat_eq 105 d) _ (digit_no_letter d digit)
+no_inf (d ∷ more) rest all some = let digit = (and_parts (is_digit d) (list_all is_digit more) all).0 in and_left (nat_eq 105 d) _ (digit_no_letter d digit)
   where
     digit_no_letter : (byte : ℕ) → is_digit byte ≡ true → nat_eq 105 byte ≡ false
     digit_no_letter byte h = grind (arith, nat_tests)

@@ -9,7 +9,5 @@ pub mod Read
 pub mod RoundTrip
 pub mod Scope
 pub mod Sentences
-pub mod ViablePrefix
 pub mod FirstFaults
 pub mod Texts
-pub mod Written

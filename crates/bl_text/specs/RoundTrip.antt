@@ -33,7 +33,7 @@ NamesSpeakers (says k a) = IsNoParameter k × NamesSpeakers a
 NamesSpeakers (on a u v) = NamesSpeakers a
 
 -- where the parameters have these sorts
-pub record HasRoundTrip (parameters : List Sort) (f : FormulaView) : Type 0 where
+pub record IsPrintable (parameters : List Sort) (f : FormulaView) : Type 0 where
   pub formula : IsFormula parameters f
   pub spellable : IsSpellableFormula f
   pub speakers : NamesSpeakers f

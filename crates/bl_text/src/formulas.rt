@@ -27,13 +27,9 @@ use bl_tokens::{
 };
 use std::alloc::Global;
 
-/// Drops what was read so far; the fault is the answer. No caller has room for a formula.
+/// Drops what was read so far. No caller has room for a formula.
 #[inline(never)]
-fn refuse(_read: Box<Formula>, fault: TextFault) -> Result<Box<Formula>, TextFault>
-    ensures { result ≡ Err fault }
-{
-    Err(fault)
-}
+fn discard(_read: Box<Formula>) {}
 
 /// The formula on the interval after the sign `@` at that place. It goes past the interval.
 #[inline(never)]
@@ -210,7 +206,60 @@ fn call_here(
     Ok(Box::new(alloc, f)?)
 }
 
-/// Reads the formula at that place, and goes past it.
+/// Reads a formula without signs.
+fn primary(
+    alloc: Global,
+    text: &[u8],
+    in_statement: bool,
+    scope: &Scope<'_>,
+    here: &mut Cursor,
+    ahead: &Cursor,
+) -> Result<Box<Formula>, TextFault>
+    requires scope { length (variables scope.now) ≤ 512 }
+    requires within { here.old.end ≤ length text.now }
+    requires ahead { ahead.now ≡ cursor_after_node text.now here.old }
+    requires ahead_within { ahead.now.end ≤ length text.now }
+    requires ahead_left { ahead.now.left ≡ here.old.left - 1 }
+    requires not_open { is_sign Sign.Open here.old.token ≡ false }
+    ensures read { IfOk result (λ f. (depth : ℕ) → ReadsFormula text.now in_statement grammar.primary (variables scope.now) depth here.old here.new (formula_view f.value)) }
+    ensures fault { IfErr result (λ e. (depth : ℕ) → HasFirstFault text.now in_statement grammar.primary (variables scope.now) depth here.old e) }
+{
+    if is_call(here, ahead) {
+        call_here(alloc, text, in_statement, scope, here, ahead)
+    } else {
+        simple_here(alloc, text, in_statement, scope, here, ahead)
+    }
+}
+
+/// Reads a formula without parentheses round it, on intervals.
+#[inline(never)]
+fn postfix(
+    alloc: Global,
+    text: &[u8],
+    in_statement: bool,
+    scope: &Scope<'_>,
+    here: &mut Cursor,
+    ahead: &Cursor,
+) -> Result<Box<Formula>, TextFault>
+    requires scope { length (variables scope.now) ≤ 512 }
+    requires within { here.old.end ≤ length text.now }
+    requires ahead { ahead.now ≡ cursor_after_node text.now here.old }
+    requires ahead_within { ahead.now.end ≤ length text.now }
+    requires ahead_left { ahead.now.left ≡ here.old.left - 1 }
+    requires not_open { is_sign Sign.Open here.old.token ≡ false }
+    ensures read { IfOk result (λ f. (depth : ℕ) → ReadsFormula text.now in_statement grammar.postfix (variables scope.now) depth here.old here.new (formula_view f.value)) }
+    ensures fault { IfErr result (λ e. (depth : ℕ) → HasFirstFault text.now in_statement grammar.postfix (variables scope.now) depth here.old e) }
+{
+    let first = primary(alloc, text, in_statement, scope, here, ahead)?;
+    let mut a = first;
+    'at: while is_sign(Sign::At, &here.token) {
+        a = on_interval(alloc, text, in_statement, scope, a, here)?;
+    }
+    Ok(a)
+}
+
+/// Reads the formula at that place, and goes past it. It only chooses the function that does, so it takes no frame.
+#[inline(always)]
 #[cycle(descent)]
 pub fn formula_at(
     alloc: Global,
@@ -284,6 +333,7 @@ fn for_some(
 }
 
 /// Reads the formula at that place, which begins with no quantifier.
+#[inline(never)]
 #[cycle(descent)]
 fn implication(
     alloc: Global,
@@ -309,10 +359,16 @@ fn implication(
             step_node(text, here);
             match formula_at(alloc, text, in_statement, scope, depth, here, ahead) {
                 Ok(b) => Ok(implies_of(alloc, a, b)?),
-                Err(fault) => refuse(a, fault),
+                Err(fault) => {
+                    discard(a);
+                    Err(fault)
+                }
             }
         }
-        Err(fault) => refuse(a, fault),
+        Err(fault) => {
+            discard(a);
+            Err(fault)
+        }
     }
 }
 
@@ -340,10 +396,16 @@ fn disjunction(
                 step_node(text, here);
                 match conjunction(alloc, text, in_statement, scope, depth, here, ahead) {
                     Ok(b) => a = either_of(alloc, a, b)?,
-                    Err(fault) => return refuse(a, fault),
+                    Err(fault) => {
+                        discard(a);
+                        return Err(fault);
+                    }
                 }
             }
-            Err(fault) => return refuse(a, fault),
+            Err(fault) => {
+                discard(a);
+                return Err(fault);
+            }
         }
     }
     Ok(a)
@@ -373,16 +435,24 @@ fn conjunction(
                 step_node(text, here);
                 match unary(alloc, text, in_statement, scope, depth, here, ahead) {
                     Ok(b) => a = both_of(alloc, a, b)?,
-                    Err(fault) => return refuse(a, fault),
+                    Err(fault) => {
+                        discard(a);
+                        return Err(fault);
+                    }
                 }
             }
-            Err(fault) => return refuse(a, fault),
+            Err(fault) => {
+                discard(a);
+                return Err(fault);
+            }
         }
     }
     Ok(a)
 }
 
-/// Reads a formula that a principal says, or one without `says`.
+/// Reads a formula that a principal says, or one without `says`. It only chooses the function that does, so that what
+/// reads a formula without parentheses takes no room while one in parentheses is read.
+#[inline(always)]
 #[cycle(descent)]
 fn unary(
     alloc: Global,
@@ -401,8 +471,10 @@ fn unary(
     look_ahead(text, here, ahead);
     if is_saying(here, ahead) {
         says_formula(alloc, text, in_statement, scope, depth, here, ahead)
+    } else if is_sign(Sign::Open, &here.token) {
+        grouped(alloc, text, in_statement, scope, depth, here, ahead)
     } else {
-        postfix(alloc, text, in_statement, scope, depth, here, ahead)
+        postfix(alloc, text, in_statement, scope, here, ahead)
     }
 }
 
@@ -432,9 +504,10 @@ fn says_formula(
     Ok(says_of(alloc, &who, a)?)
 }
 
-/// Reads a formula on intervals.
+/// Reads the formula in the parentheses that open at that place, on intervals.
+#[inline(never)]
 #[cycle(descent)]
-fn postfix(
+fn grouped(
     alloc: Global,
     text: &[u8],
     in_statement: bool,
@@ -448,43 +521,16 @@ fn postfix(
     requires ahead { ahead.old ≡ cursor_after_node text.now here.old }
     requires ahead_within { ahead.old.end ≤ length text.now }
     requires ahead_left { ahead.old.left ≡ here.old.left - 1 }
+    requires open { is_sign Sign.Open here.old.token ≡ true }
     ensures read { IfOk result (λ f. ReadsFormula text.now in_statement grammar.postfix (variables scope.now) depth here.old here.new (formula_view f.value)) }
     ensures fault { IfErr result (λ e. HasFirstFault text.now in_statement grammar.postfix (variables scope.now) depth here.old e) }
 {
-    let first = primary(alloc, text, in_statement, scope, depth, here, ahead)?;
+    let first = group(alloc, text, in_statement, scope, depth, here, ahead)?;
     let mut a = first;
     'at: while is_sign(Sign::At, &here.token) {
         a = on_interval(alloc, text, in_statement, scope, a, here)?;
     }
     Ok(a)
-}
-
-/// Reads a formula in parentheses or without signs.
-#[cycle(descent)]
-fn primary(
-    alloc: Global,
-    text: &[u8],
-    in_statement: bool,
-    scope: &Scope<'_>,
-    depth: u16,
-    here: &mut Cursor,
-    ahead: &mut Cursor,
-) -> Result<Box<Formula>, TextFault>
-    requires scope { length (variables scope.now) + here.old.left ≤ 512 }
-    requires within { here.old.end ≤ length text.now }
-    requires ahead { ahead.old ≡ cursor_after_node text.now here.old }
-    requires ahead_within { ahead.old.end ≤ length text.now }
-    requires ahead_left { ahead.old.left ≡ here.old.left - 1 }
-    ensures read { IfOk result (λ f. ReadsFormula text.now in_statement grammar.primary (variables scope.now) depth here.old here.new (formula_view f.value)) }
-    ensures fault { IfErr result (λ e. HasFirstFault text.now in_statement grammar.primary (variables scope.now) depth here.old e) }
-{
-    if is_sign(Sign::Open, &here.token) {
-        group(alloc, text, in_statement, scope, depth, here, ahead)
-    } else if is_call(here, ahead) {
-        call_here(alloc, text, in_statement, scope, here, ahead)
-    } else {
-        simple_here(alloc, text, in_statement, scope, here, ahead)
-    }
 }
 
 /// Reads the formula in the parentheses that open at that place.
@@ -514,6 +560,9 @@ fn group(
     let a = formula_at(alloc, text, in_statement, scope, depth + 1, here, ahead)?;
     match go_behind(text, Sign::Close, here) {
         Ok(()) => Ok(a),
-        Err(fault) => refuse(a, fault),
+        Err(fault) => {
+            discard(a);
+            Err(fault)
+        }
     }
 }

@@ -1,19 +1,20 @@
 //! Laws of the texts. A law is the contract of an empty function, which nothing calls.
 
-ghost use Rattle.std.specs.Prelude.{◌≡◌, ◌≢◌, ◌⊎◌, ℕ, List};
+ghost use Rattle.std.specs.Prelude.{◌≡◌, ◌≢◌, ◌⊎◌, ℕ, ◌+◌, List};
 ghost use Rattle.bl_syntax.specs.Formula.{FormulaView, compare, state};
 ghost use Rattle.bl_syntax.specs.Statement.{StatementView, IsStatement};
 ghost use Rattle.bl_tokens.specs.declared.faults.TextFault.{TextFault};
 ghost use Rattle.bl_text.specs.Texts.{IsFormulaText, FormulaFault, IsSayingText, IsStatementText, StatementFault, AreOneFault};
 ghost use Rattle.bl_text.specs.Exact.{IsExact};
 ghost use Rattle.bl_text.specs.Printed.{constraint_text, state_text, formula_text, statement_text};
-ghost use Rattle.bl_text.specs.RoundTrip.{HasRoundTrip};
+ghost use Rattle.bl_text.specs.RoundTrip.{IsPrintable};
 ghost use Rattle.bl_syntax.specs.FormulaSpelling.{IsSpellableStatement};
 ghost use Rattle.bl_syntax.specs.declared.terms.Sort.{Sort};
 ghost use Rattle.bl_syntax.specs.declared.terms.Constraint.{Constraint};
 ghost use Rattle.bl_syntax.specs.declared.terms.StatePred.{StatePred};
 ghost use Rattle.bl_text.specs.Sentences.{IsSentence, IsSentenceText, IsStatementSentence};
-ghost use Rattle.bl_text.specs.ViablePrefix.{IsGrammarFault, IsNoViablePrefix};
+ghost use Rattle.bl_text.specs.FirstTokens.{SameTokens};
+ghost use Rattle.bl_text.specs.Met.{IsMisread};
 
 /// A text is one of one formula at most.
 pub fn one_formula()
@@ -49,11 +50,12 @@ pub fn one_fault_of_a_statement()
         → AreOneFault e f }
 {}
 
-/// The place of the first fault of a text of no formula is exact. It is met at one token: the one at
-/// its place, or where a predicate's arguments are wrong, the predicate's `)`. The tokens before that
-/// one can be completed to a sentence of the grammar, which asks for no sorts and no number of
-/// arguments and has no limits: so no fault is told too late. Each text with the same tokens up to
-/// that one, and the same next token, has the fault too: so none is told too early.
+/// The place of the first fault of a text of no formula is exact. It is met at one token. The tokens
+/// before that one can be completed to a sentence of the grammar, which asks for no sorts and no
+/// number of arguments and has no limits; where the fault is one of sorts or size, so can those with
+/// it. So no fault is told too late. Each text with the same tokens up to it has the fault too, and
+/// where the token has no room or a predicate no arguments, each with the same next token as well:
+/// so none is told too early.
 pub fn exact_fault_of_a_formula()
     ensures { (text : List ℕ) (e : TextFault) → FormulaFault text e
         → (e ≡ TextFault.NoMemory) ⊎ IsExact FormulaFault IsSentence text e }
@@ -79,17 +81,17 @@ pub fn sayable_text()
 /// What a formula is written as is a text of it, where it is closed and well sorted within the limits, has a
 /// spelling, and has no parameter before a `says`.
 pub fn formula_round_trip()
-    ensures { (parameters : List Sort) (f : FormulaView) → HasRoundTrip parameters f → IsFormulaText (formula_text 0 f) f }
+    ensures { (parameters : List Sort) (f : FormulaView) → IsPrintable parameters f → IsFormulaText (formula_text 0 f) f }
 {}
 
 /// What a condition on time is written as is a text of it, likewise.
 pub fn constraint_round_trip()
-    ensures { (parameters : List Sort) (c : Constraint) → HasRoundTrip parameters (compare c) → IsFormulaText (constraint_text 0 c) (compare c) }
+    ensures { (parameters : List Sort) (c : Constraint) → IsPrintable parameters (compare c) → IsFormulaText (constraint_text 0 c) (compare c) }
 {}
 
 /// What a condition on the server's state is written as is a text of it, likewise.
 pub fn state_round_trip()
-    ensures { (parameters : List Sort) (s : StatePred) → HasRoundTrip parameters (state s) → IsFormulaText (state_text 0 s) (state s) }
+    ensures { (parameters : List Sort) (s : StatePred) → IsPrintable parameters (state s) → IsFormulaText (state_text 0 s) (state s) }
 {}
 
 /// What a statement is written as is a text of it, where it has a spelling.
@@ -128,15 +130,15 @@ pub fn statement_of_a_sentence()
         ⊎ ((at : ℕ) × (StatementFault text (TextFault.Sort at) ⊎ StatementFault text (TextFault.TooLarge at))) }
 {}
 
-/// A fault `Unexpected`, `UnknownName` or `BadDate` of a text of no formula is at the first byte of a
-/// token of the text, and the tokens of no text with the same tokens up to and with that one are a
-/// sentence of the grammar. So none is told too early.
-pub fn no_sentence_behind_a_fault()
-    ensures { (text : List ℕ) (e : TextFault) → FormulaFault text e → IsGrammarFault e → IsNoViablePrefix IsSentence text e }
+/// Where a fault `Unexpected`, `UnknownName` or `BadDate` of a text of no formula is met, no sentence
+/// of the grammar goes on: no text with the same tokens up to and with that one has those of one.
+pub fn no_sentence_goes_on()
+    ensures { (text : List ℕ) (e : TextFault) (at : ℕ) → IsMisread at e → (x : IsExact FormulaFault IsSentence text e)
+        → (other : List ℕ) → SameTokens text other (x.number + 1) 0 → IsSentenceText IsSentence other → ⊥ }
 {}
 
-/// Such a fault of a text of no statement is at the first byte of a token likewise.
-pub fn no_statement_behind_a_fault()
-    ensures { (text : List ℕ) (e : TextFault) → StatementFault text e → IsGrammarFault e
-        → IsNoViablePrefix IsStatementSentence text e }
+/// No sentence of the grammar of statements goes on after such a fault of a text of no statement.
+pub fn no_statement_goes_on()
+    ensures { (text : List ℕ) (e : TextFault) (at : ℕ) → IsMisread at e → (x : IsExact StatementFault IsStatementSentence text e)
+        → (other : List ℕ) → SameTokens text other (x.number + 1) 0 → IsSentenceText IsStatementSentence other → ⊥ }
 {}

@@ -15,7 +15,5 @@ mod scope;
 pub use bl_tokens::{TextFault, parse_time};
 pub use parse::{parse_formula, parse_statement};
 pub use pieces::{require_sort, term_of};
-pub use print::{
-    print_constraint, print_formula, print_number, print_state, print_statement, print_term,
-};
+pub use print::{print_constraint, print_formula, print_state, print_statement, print_term};
 pub use scope::Scope;

@@ -1,28 +1,16 @@
 //! The text that a term, a constraint, a state predicate, a formula or a statement is written as.
-#![tactic(auto, using(crate::proofs::WrittenLemmas::writing))]
+#![tactic(auto, using(bl_syntax::proofs::BeginsWithLemmas::writing))]
 
 ghost use Rattle.std.specs.Prelude.{◌≡◌, ◌++◌, ◌∷◌, [], ℕ, OnOk, OnErr};
 ghost use Rattle.std.specs.Fmt.{decimal, signed_decimal};
+ghost use Rattle.bl_syntax.specs.BeginsWith.{BeginsWith};
 ghost use Rattle.bl_syntax.specs.Formula.{formula_view};
-ghost use Rattle.bl_text.specs.Written.{BeginsWith};
 ghost use Rattle.bl_text.specs.Printed.{time_text, permission_text, sort_text, term_text, terms_text, arguments_text, constraint_text, state_text, inner_depth, binder_text, interval_text, rank, operand, formula_text, said_text, span_text, statement_text};
 
+use bl_syntax::decimal::{put_counted, put_decimal, put_text};
 use bl_syntax::{
     Bytes, Constraint, Formula, NoMemory, Perm, Sort, StatePred, Statement, Term, TimePoint,
 };
-
-/// Writes a number in decimal, all of it or nothing.
-pub fn print_number(number: u64, out: &mut Bytes) -> Result<(), NoMemory>
-    ensures ok { OnOk result (out.new ≡ out.old ++ decimal number) }
-    ensures err { OnErr result (out.new ≡ out.old) }
-{
-    let len = out.len();
-    let written = write_number(out, number);
-    if written.is_err() {
-        out.truncate(len);
-    }
-    written
-}
 
 /// Writes a term outside all binders, all of it or nothing.
 pub fn print_term(term: &Term, out: &mut Bytes) -> Result<(), NoMemory>
@@ -102,7 +90,7 @@ fn write_said(out: &mut Bytes, body: &Formula) -> Result<(), NoMemory>
     ensures ok { OnOk result (out.new ≡ out.old ++ said_text (formula_view body.now)) }
     ensures err { OnErr result (BeginsWith out.new out.old) }
 {
-    write(out, " says ")?;
+    put_text(out, " says ")?;
     write_formula(out, 0, body)
 }
 
@@ -110,9 +98,9 @@ fn write_span(out: &mut Bytes, from: &TimePoint, to: &TimePoint) -> Result<(), N
     ensures ok { OnOk result (out.new ≡ out.old ++ span_text from.now to.now) }
     ensures err { OnErr result (BeginsWith out.new out.old) }
 {
-    write(out, " from ")?;
+    put_text(out, " from ")?;
     write_time(out, from)?;
-    write(out, " to ")?;
+    put_text(out, " to ")?;
     write_time(out, to)
 }
 
@@ -145,21 +133,21 @@ fn write_formula(out: &mut Bytes, depth: u64, f: &Formula) -> Result<(), NoMemor
         Formula::State(s) => write_state(out, depth, s),
         Formula::And(a, b) => {
             write_operand(out, 2, depth, a)?;
-            write(out, " & ")?;
+            put_text(out, " & ")?;
             write_operand(out, 3, depth, b)
         }
         Formula::Or(a, b) => {
             write_operand(out, 1, depth, a)?;
-            write(out, " | ")?;
+            put_text(out, " | ")?;
             write_operand(out, 2, depth, b)
         }
         Formula::Imp(a, b) => {
             write_operand(out, 1, depth, a)?;
-            write(out, " => ")?;
+            put_text(out, " => ")?;
             write_operand(out, 0, depth, b)
         }
-        Formula::True => write(out, "true"),
-        Formula::False => write(out, "false"),
+        Formula::True => put_text(out, "true"),
+        Formula::False => put_text(out, "false"),
         Formula::Forall(sort, a) => {
             write_binder(out, "forall X", depth, *sort)?;
             write_operand(out, 0, inner_depth(depth), a)
@@ -170,7 +158,7 @@ fn write_formula(out: &mut Bytes, depth: u64, f: &Formula) -> Result<(), NoMemor
         }
         Formula::Says(who, a) => {
             write_term(out, depth, who)?;
-            write(out, " says ")?;
+            put_text(out, " says ")?;
             write_operand(out, 3, depth, a)
         }
         Formula::At(a, from, to) => {
@@ -189,9 +177,9 @@ fn write_operand(out: &mut Bytes, lowest: u8, depth: u64, f: &Formula) -> Result
     if lowest <= rank(f) {
         write_formula(out, depth, f)
     } else {
-        write(out, "(")?;
+        put_text(out, "(")?;
         write_formula(out, depth, f)?;
-        write(out, ")")
+        put_text(out, ")")
     }
 }
 
@@ -206,10 +194,10 @@ fn write_binder(out: &mut Bytes, word: &str, depth: u64, sort: Sort) -> Result<(
     ensures ok { OnOk result (out.new ≡ out.old ++ binder_text word.now depth sort) }
     ensures err { OnErr result (BeginsWith out.new out.old) }
 {
-    write_counted(out, word, depth)?;
-    write(out, ":")?;
+    put_counted(out, word, depth)?;
+    put_text(out, ":")?;
     write_sort(out, sort)?;
-    write(out, ". ")
+    put_text(out, ". ")
 }
 
 fn write_interval(out: &mut Bytes, depth: u64, from: &Term, to: &Term) -> Result<(), NoMemory>
@@ -218,7 +206,7 @@ fn write_interval(out: &mut Bytes, depth: u64, from: &Term, to: &Term) -> Result
 {
     write_following(out, " @ [", depth, from)?;
     write_following(out, ",", depth, to)?;
-    write(out, "]")
+    put_text(out, "]")
 }
 
 /// Writes the arguments of a predicate in parentheses; nothing where there are none.
@@ -231,7 +219,7 @@ fn write_arguments(out: &mut Bytes, depth: u64, terms: &[Term]) -> Result<(), No
         [first, others @ ..] => {
             write_following(out, "(", depth, first)?;
             write_others(out, depth, others)?;
-            write(out, ")")
+            put_text(out, ")")
         }
     }
 }
@@ -251,7 +239,7 @@ fn write_constraint(out: &mut Bytes, depth: u64, constraint: &Constraint) -> Res
     ensures err { OnErr result (BeginsWith out.new out.old) }
 {
     write_term(out, depth, &constraint.low)?;
-    write(out, " <= ")?;
+    put_text(out, " <= ")?;
     write_term(out, depth, &constraint.high)
 }
 
@@ -274,14 +262,14 @@ fn write_state(out: &mut Bytes, depth: u64, state: &StatePred) -> Result<(), NoM
             write_following(out, ",", depth, directory)?;
         }
     }
-    write(out, ")")
+    put_text(out, ")")
 }
 
 fn write_following(out: &mut Bytes, before: &str, depth: u64, term: &Term) -> Result<(), NoMemory>
     ensures ok { OnOk result (out.new ≡ out.old ++ (before.now ++ term_text depth term.now)) }
     ensures err { OnErr result (BeginsWith out.new out.old) }
 {
-    write(out, before)?;
+    put_text(out, before)?;
     write_term(out, depth, term)
 }
 
@@ -292,16 +280,16 @@ fn write_term(out: &mut Bytes, depth: u64, term: &Term) -> Result<(), NoMemory>
 {
     match term {
         Term::Prin(name) => out.extend(name.bytes()),
-        Term::File(number) => write_counted(out, "#", number.0),
+        Term::File(number) => put_counted(out, "#", number.0),
         Term::Perm(permission) => write_permission(out, permission),
         Term::Time(point) => write_time(out, point),
         Term::Text(constant) => {
-            write(out, "\"")?;
+            put_text(out, "\"")?;
             out.extend(constant.bytes())?;
-            write(out, "\"")
+            put_text(out, "\"")
         }
-        Term::Ctime => write(out, "ctime"),
-        Term::Param(number) => write_counted(out, "?", u64::from(*number)),
+        Term::Ctime => put_text(out, "ctime"),
+        Term::Param(number) => put_counted(out, "?", u64::from(*number)),
         Term::Bound(inner) => write_variable(out, depth, *inner),
     }
 }
@@ -311,7 +299,7 @@ fn write_variable(out: &mut Bytes, depth: u64, inner: u32) -> Result<(), NoMemor
     ensures ok { OnOk result (out.new ≡ out.old ++ term_text depth (Term.Bound inner)) }
     ensures err { OnErr result (BeginsWith out.new out.old) }
 {
-    write_counted(
+    put_counted(
         out,
         "X",
         depth.saturating_sub(u64::from(inner)).saturating_sub(1),
@@ -323,11 +311,11 @@ fn write_sort(out: &mut Bytes, sort: Sort) -> Result<(), NoMemory>
     ensures err { OnErr result (BeginsWith out.new out.old) }
 {
     match sort {
-        Sort::Principal => write(out, "principal"),
-        Sort::File => write(out, "file"),
-        Sort::Perm => write(out, "perm"),
-        Sort::Time => write(out, "time"),
-        Sort::Text => write(out, "text"),
+        Sort::Principal => put_text(out, "principal"),
+        Sort::File => put_text(out, "file"),
+        Sort::Perm => put_text(out, "perm"),
+        Sort::Time => put_text(out, "time"),
+        Sort::Text => put_text(out, "text"),
     }
 }
 
@@ -336,11 +324,11 @@ fn write_permission(out: &mut Bytes, permission: &Perm) -> Result<(), NoMemory>
     ensures err { OnErr result (BeginsWith out.new out.old) }
 {
     match permission {
-        Perm::Read => write(out, "read"),
-        Perm::Write => write(out, "write"),
-        Perm::Execute => write(out, "execute"),
-        Perm::Identity => write(out, "identity"),
-        Perm::Govern => write(out, "govern"),
+        Perm::Read => put_text(out, "read"),
+        Perm::Write => put_text(out, "write"),
+        Perm::Execute => put_text(out, "execute"),
+        Perm::Identity => put_text(out, "identity"),
+        Perm::Govern => put_text(out, "govern"),
     }
 }
 
@@ -349,9 +337,9 @@ fn write_time(out: &mut Bytes, point: &TimePoint) -> Result<(), NoMemory>
     ensures err { OnErr result (BeginsWith out.new out.old) }
 {
     match point {
-        TimePoint::NegInf => write(out, "-inf"),
+        TimePoint::NegInf => put_text(out, "-inf"),
         TimePoint::At(second) => write_second(out, *second),
-        TimePoint::PosInf => write(out, "+inf"),
+        TimePoint::PosInf => put_text(out, "+inf"),
     }
 }
 
@@ -360,34 +348,8 @@ fn write_second(out: &mut Bytes, second: i64) -> Result<(), NoMemory>
     ensures err { OnErr result (BeginsWith out.new out.old) }
 {
     if second < 0 {
-        write_counted(out, "-", second.unsigned_abs())
+        put_counted(out, "-", second.unsigned_abs())
     } else {
-        write_number(out, second.unsigned_abs())
+        put_decimal(out, second.unsigned_abs())
     }
-}
-
-fn write_counted(out: &mut Bytes, before: &str, number: u64) -> Result<(), NoMemory>
-    ensures ok { OnOk result (out.new ≡ out.old ++ (before.now ++ decimal number)) }
-    ensures err { OnErr result (BeginsWith out.new out.old) }
-{
-    write(out, before)?;
-    write_number(out, number)
-}
-
-/// Writes a number in decimal, or a part of it where there is no memory.
-fn write_number(out: &mut Bytes, number: u64) -> Result<(), NoMemory>
-    ensures ok { OnOk result (out.new ≡ out.old ++ decimal number) }
-    ensures err { OnErr result (BeginsWith out.new out.old) }
-{
-    if 10 <= number {
-        write_number(out, number / 10)?;
-    }
-    out.push(b'0' + (number % 10) as u8)
-}
-
-fn write(out: &mut Bytes, text: &str) -> Result<(), NoMemory>
-    ensures ok { OnOk result (out.new ≡ out.old ++ text.now) }
-    ensures err { OnErr result (BeginsWith out.new out.old) }
-{
-    out.extend(text.as_bytes())
 }

@@ -18,7 +18,7 @@ use Rattle.file_world.proofs.EffectLemmas.{none_hold, directory_from, can_add, n
 use Rattle.file_tree.specs.declared.ready.Ready.{Ready}
 use Rattle.file_tree.specs.declared.ready.Ready.TheVariants.{Contents, Made, Gone, Moved}
 use Rattle.file_tree.specs.State.{spot, child_or_none}
-use Rattle.file_tree.specs.Index.{Entries, node_shown, rows_of, kept_at, reserved_at, place_of, published_nodes, expected_number, tree_in, HasContentsRoom, IsTreeIndex, Puts, Fills, Removes, Relocates, IsChangeable, Changes, number_ready}
+use Rattle.file_tree.specs.Index.{Entries, node_shown, rows_of, kept_at, reserved_at, spot_place, published_nodes, expected_number, tree_in, HasContentsRoom, IsTreeIndex, Puts, Fills, Removes, Relocates, IsChangeable, Changes, number_ready}
 use Rattle.file_tree.proofs.IndexLemmas.{rows-append, take-append_one}
 use Rattle.file_tree.proofs.KeptLemmas.{some_kept, IsKept-from, short_name}
 use Rattle.file_tree.proofs.ChildLemmas.{child-added_here, child-added_elsewhere, child-filled, child-removed_within, child-removed_here, child-removed_elsewhere, child-moved_here, child-moved_from, child-moved_elsewhere}
@@ -47,7 +47,7 @@ makable old next kind directory name kept can =
       can = can;
       short = short_name name can.named;
       holds = some_kept old directory can.directory found;
-      held = ap is_some (kept.index directory name ∙ cond-true (is_place (place_of (spot directory name)) (at directory name)) _ _ (is_place-refl (at directory name)));
+      held = ap is_some (kept.index directory name ∙ cond-true (is_place (spot_place (spot directory name)) (at directory name)) _ _ (is_place-refl (at directory name)));
     }
 
 pub made_file : (old : Entries) (next : ℕ) (directory : NodeId) (name : List ℕ) → IsChangeable old next (Made File (spot directory.0 name)) (Create directory name) → IsMakable old next File directory.0 name
@@ -87,7 +87,7 @@ Changes-made old new next total kind directory name is puts sum =
     ∙ (puts.here ∙ (sym (child-added_here tree kind place is.kept.tree is.can) ∙ ap (λ (p : Place). child_of (changed_tree (add kind place) tree).rows p.directory p.name) e)))
     (λ f. puts.elsewhere d x f
     ∙ (is.kept.index d x
-    ∙ (cond-false (is_place (place_of (spot directory name)) (at d x)) _ _ f
+    ∙ (cond-false (is_place (spot_place (spot directory name)) (at d x)) _ _ f
     ∙ sym (child-added_elsewhere tree kind place is.kept.tree is.can d x f)))))
     (sum ∙ (sym (sum_with_new tree.rows next kind place) ∙ ap contents_sum (sym rows)))
   where
@@ -206,7 +206,7 @@ movable old next directory name target renamed is =
       short_too = short_name renamed (not-false _ h.1.1.1.1.1.0);
       kept = some_kept old child.child child.stands.node child.stands.found;
       holds = some_kept old target.0 holds.node holds.found;
-      held = ap is_some (is.kept.index target.0 renamed ∙ cond-true (is_place (place_of (spot target.0 renamed)) (at target.0 renamed)) _ _ (is_place-refl (at target.0 renamed)));
+      held = ap is_some (is.kept.index target.0 renamed ∙ cond-true (is_place (spot_place (spot target.0 renamed)) (at target.0 renamed)) _ _ (is_place-refl (at target.0 renamed)));
     })
 
 pub Changes-moved : (old new : Entries) (next total number directory target : ℕ) (name renamed : List ℕ) → IsMovable old next number directory target name renamed → Relocates old new number (at directory name) (at target renamed) → total ≡ contents_sum (rows_of old) → Changes new next total (changed_tree (move number (at target renamed)) (tree_in None old next))
@@ -227,7 +227,7 @@ Changes-moved old new next total number directory target name renamed is relocat
     ∙ (relocates.there ∙ (sym (child-moved_from tree number from to is.tree is.can is.there is.apart) ∙ ap (λ (p : Place). child_of after p.directory p.name) e)))
     (λ g. relocates.elsewhere d x g f
     ∙ (is.index d x
-    ∙ (cond-false (is_place (place_of (spot target renamed)) (at d x)) _ _ f
+    ∙ (cond-false (is_place (spot_place (spot target renamed)) (at d x)) _ _ f
     ∙ sym (child-moved_elsewhere tree number from to is.tree is.can is.there d x g f))))))
     (sum ∙ (same_sum (rows_of old) number to is.can.node is.can.found ∙ ap contents_sum (sym relocates.rows)))
   where

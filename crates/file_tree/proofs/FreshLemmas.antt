@@ -13,7 +13,7 @@ use Rattle.file_world.proofs.TreeLemmas.{IsTree-fresh}
 use Rattle.file_tree.specs.declared.node.KeptNode.{KeptNode as Kept}
 use Rattle.file_tree.specs.declared.ready.Spot.{Spot}
 use Rattle.file_tree.specs.declared.ready.Ready.{Ready}
-use Rattle.file_tree.specs.Index.{Entries, node_shown, rows_of, number_in, reserved_at, place_of, reserved_spot, published_nodes, expected_number, tree_in, IsReservedFree, IsTreeIndex, above_zero}
+use Rattle.file_tree.specs.Index.{Entries, node_shown, rows_of, number_in, reserved_at, spot_place, reserved_spot, published_nodes, expected_number, tree_in, IsReservedFree, IsTreeIndex, above_zero}
 use Rattle.file_tree.proofs.KeptLemmas.{IsKept-from, child_short, child_above_zero}
 
 no_child : (directory : ℕ) (name : List ℕ) → child_of fresh_tree.rows directory name ≡ None
@@ -62,7 +62,7 @@ child_any entries next ready directory name kept =
     by : (held : Option Spot) → IsReservedFree held (rows_of (published_nodes ready entries)) → above_zero (child_of (rows_of (published_nodes ready entries)) directory name) ≡ child_of (rows_of (published_nodes ready entries)) directory name → above_zero (expected_number held (rows_of (published_nodes ready entries)) directory name) ≡ child_of (rows_of (published_nodes ready entries)) directory name
     by None free s = s
     by (Some spot) free s =
-        split (is_place (place_of spot) (at directory name))
-        (λ t. ap above_zero (cond-true (is_place (place_of spot) (at directory name)) (Some 0) (child_of (rows_of (published_nodes ready entries)) directory name) t)
-        ∙ (sym free ∙ ap (λ (p : Place). child_of (rows_of (published_nodes ready entries)) p.directory p.name) (is_place-true (place_of spot) (at directory name) t)))
-        (λ f. ap above_zero (cond-false (is_place (place_of spot) (at directory name)) (Some 0) (child_of (rows_of (published_nodes ready entries)) directory name) f) ∙ s)
+        split (is_place (spot_place spot) (at directory name))
+        (λ t. ap above_zero (cond-true (is_place (spot_place spot) (at directory name)) (Some 0) (child_of (rows_of (published_nodes ready entries)) directory name) t)
+        ∙ (sym free ∙ ap (λ (p : Place). child_of (rows_of (published_nodes ready entries)) p.directory p.name) (is_place-true (spot_place spot) (at directory name) t)))
+        (λ f. ap above_zero (cond-false (is_place (spot_place spot) (at directory name)) (Some 0) (child_of (rows_of (published_nodes ready entries)) directory name) f) ∙ s)

@@ -16,7 +16,7 @@ use Rattle.file_world.specs.Tree.{Place, Node, Nodes, node_at, is_place}
 use Rattle.file_world.specs.TreeEffect.{at, revise}
 use Rattle.file_world.proofs.RowLemmas.{split, cond_at_true, cond_at_false, lookup-append_none, above_found, rising_head, rising_tail}
 use Rattle.file_tree.specs.declared.node.KeptNode.{KeptNode as Kept}
-use Rattle.file_tree.specs.Index.{Entries, node_shown, rows_of, kept_at, number_in, reserved_at, Puts, Keeps, AreNumbersBelow}
+use Rattle.file_tree.specs.Index.{Entries, node_shown, rows_of, kept_at, number_in, reserved_at, Puts, ChangesRoomAlone, AreNumbersBelow}
 
 -- ---- tests of numbers and names
 
@@ -176,8 +176,8 @@ ChangesName-removed was now name updates same = record { names = updates.0; same
 pub same_names : (was now : Kept) → now.names.entries ≡ was.names.entries → (name : List ℕ) → number_in (Some now) name ≡ number_in (Some was) name
 same_names was now e name = ap (λ (entries : List (List ℕ × ℕ)). lookup (is_at (slice_cmp nat_cmp name)) entries) e
 
-pub Keeps-from_set : (old new : Entries) (number : ℕ) (was now : Kept) → kept_at old number ≡ Some was → SetsValue old new number now → ((name : List ℕ) → number_in (Some now) name ≡ number_in (Some was) name) → node_shown now ≡ node_shown was → Keeps old new
-Keeps-from_set old new number was now there sets names same =
+pub ChangesRoomAlone-from_set : (old new : Entries) (number : ℕ) (was now : Kept) → kept_at old number ≡ Some was → SetsValue old new number now → ((name : List ℕ) → number_in (Some now) name ≡ number_in (Some was) name) → node_shown now ≡ node_shown was → ChangesRoomAlone old new
+ChangesRoomAlone-from_set old new number was now there sets names same =
     record { same_held = held-set old new number was now there sets names; same_rows = ap rows_of sets.entries ∙ rows-set_value_same old number was now there same }
 
 -- where the directory is not kept, no name is

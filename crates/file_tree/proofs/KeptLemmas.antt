@@ -14,7 +14,7 @@ use Rattle.file_world.proofs.PlaceLemmas.{is_place-true}
 use Rattle.file_tree.specs.declared.node.KeptNode.{KeptNode as Kept}
 use Rattle.file_tree.specs.declared.ready.Spot.{Spot}
 use Rattle.file_tree.specs.declared.ready.Ready.TheVariants.{Nothing, Contents, Made, Gone, Moved}
-use Rattle.file_tree.specs.Index.{Entries, node_shown, rows_of, kept_at, number_in, reserved_at, place_of, expected_number, tree_in, HasContentsRoom, IsTreeIndex, Puts, Keeps, AreNumbersBelow, AddsLast, Prepares, Stays}
+use Rattle.file_tree.specs.Index.{Entries, node_shown, rows_of, kept_at, number_in, reserved_at, spot_place, expected_number, tree_in, HasContentsRoom, IsTreeIndex, Puts, ChangesRoomAlone, AreNumbersBelow, AddsLast, Prepares, Stays}
 use Rattle.file_tree.proofs.IndexLemmas.{same_test, node_at-kept, node_at-missing, kept_at-append, kept_at-last, take-append_one}
 use Rattle.file_tree.proofs.ChildLemmas.{stands_in}
 
@@ -99,30 +99,30 @@ length_in_sum rows number = by (node_at rows number) refl
 
 -- ---- what is prepared
 
-pub Stays-from_Keeps : (old new : Entries) (next : ℕ) → IsTreeIndex old next None → Keeps old new → Stays old new next
-Stays-from_Keeps old new next kept keeps =
+pub Stays-from_ChangesRoomAlone : (old new : Entries) (next : ℕ) → IsTreeIndex old next None → ChangesRoomAlone old new → Stays old new next
+Stays-from_ChangesRoomAlone old new next kept keeps =
     record {
       kept = IsKept-from new (tree_in None old next) kept.tree keeps.same_rows (λ directory name. keeps.same_held directory name ∙ kept.index directory name);
       same_rows = keeps.same_rows;
     }
 
-pub Prepares-contents : (old new : Entries) (next number len : ℕ) → IsTreeIndex old next None → Keeps old new → HasContentsRoom new number len → Prepares old new next (Contents number len)
+pub Prepares-contents : (old new : Entries) (next number len : ℕ) → IsTreeIndex old next None → ChangesRoomAlone old new → HasContentsRoom new number len → Prepares old new next (Contents number len)
 Prepares-contents old new next number len kept keeps room =
-    let stays = Stays-from_Keeps old new next kept keeps in
+    let stays = Stays-from_ChangesRoomAlone old new next kept keeps in
     record {
       kept = record { tree = stays.kept.tree; index = stays.kept.index; free = tt; prepared = room };
       same_rows = keeps.same_rows;
     }
 
 -- one name is held
-expected-put : (old new : Entries) (next : ℕ) (spot : Spot) → IsTreeIndex old next None → Puts old new (place_of spot) (Some 0) → (directory : ℕ) (name : List ℕ) → reserved_at new directory name ≡ expected_number (Some spot) (rows_of old) directory name
+expected-put : (old new : Entries) (next : ℕ) (spot : Spot) → IsTreeIndex old next None → Puts old new (spot_place spot) (Some 0) → (directory : ℕ) (name : List ℕ) → reserved_at new directory name ≡ expected_number (Some spot) (rows_of old) directory name
 expected-put old new next spot kept puts directory name =
-    split (is_place (place_of spot) (at directory name))
-    (λ t. let same = is_place-true (place_of spot) (at directory name) t in
-    ap (λ (p : Place). reserved_at new p.directory p.name) (sym same) ∙ (puts.here ∙ sym (cond-true (is_place (place_of spot) (at directory name)) _ _ t)))
-    (λ f. puts.elsewhere directory name f ∙ (kept.index directory name ∙ sym (cond-false (is_place (place_of spot) (at directory name)) _ _ f)))
+    split (is_place (spot_place spot) (at directory name))
+    (λ t. let same = is_place-true (spot_place spot) (at directory name) t in
+    ap (λ (p : Place). reserved_at new p.directory p.name) (sym same) ∙ (puts.here ∙ sym (cond-true (is_place (spot_place spot) (at directory name)) _ _ t)))
+    (λ f. puts.elsewhere directory name f ∙ (kept.index directory name ∙ sym (cond-false (is_place (spot_place spot) (at directory name)) _ _ f)))
 
-pub Prepares-moved : (old new : Entries) (next number : ℕ) (from to : Spot) → IsTreeIndex old next None → Puts old new (place_of to) (Some 0) → child_of (rows_of old) to.directory to.name ≡ None → Prepares old new next (Moved number from to)
+pub Prepares-moved : (old new : Entries) (next number : ℕ) (from to : Spot) → IsTreeIndex old next None → Puts old new (spot_place to) (Some 0) → child_of (rows_of old) to.directory to.name ≡ None → Prepares old new next (Moved number from to)
 Prepares-moved old new next number from to kept puts free =
     record {
       kept = record {
@@ -156,9 +156,9 @@ pub below_after_put : (old mid : Entries) (next : ℕ) (place : Place) (number :
 below_after_put old mid next place number kept puts =
     below_next_kept mid next (subst (λ (r : Nodes). IsTree (record { rows = r; next = next })) (sym puts.same_rows) kept.tree)
 
-pub Prepares-made : (old mid new : Entries) (next : ℕ) (kind : Kind) (spot : Spot) → IsTreeIndex old next None → Puts old mid (place_of spot) (Some 0) → AddsLast mid new next (new_node kind (place_of spot)) → child_of (rows_of old) spot.directory spot.name ≡ None → Prepares old new next (Made kind spot)
+pub Prepares-made : (old mid new : Entries) (next : ℕ) (kind : Kind) (spot : Spot) → IsTreeIndex old next None → Puts old mid (spot_place spot) (Some 0) → AddsLast mid new next (new_node kind (spot_place spot)) → child_of (rows_of old) spot.directory spot.name ≡ None → Prepares old new next (Made kind spot)
 Prepares-made old mid new next kind spot kept puts adds free =
-    let below = below_after_put old mid next (place_of spot) (Some 0) kept puts in
+    let below = below_after_put old mid next (spot_place spot) (Some 0) kept puts in
     let settled_is : take (length new - 1) new ≡ mid = ap (λ (es : Entries). take (length es - 1) es) adds.last ∙ take-append_one mid (next, adds.kept) in
     let rows : rows_of (take (length new - 1) new) ≡ rows_of old = ap rows_of settled_is ∙ puts.same_rows in
     record {
@@ -175,24 +175,24 @@ Prepares-made old mid new next kind spot kept puts adds free =
     }
 
 -- a name that was held is given up
-released : (mid new : Entries) (tree : FileTree) (spot : Spot) → IsTree tree → rows_of mid ≡ tree.rows → ((directory : ℕ) (name : List ℕ) → reserved_at mid directory name ≡ expected_number (Some spot) tree.rows directory name) → child_of tree.rows spot.directory spot.name ≡ None → Puts mid new (place_of spot) None → IsTreeIndex new tree.next None × (rows_of new ≡ tree.rows)
+released : (mid new : Entries) (tree : FileTree) (spot : Spot) → IsTree tree → rows_of mid ≡ tree.rows → ((directory : ℕ) (name : List ℕ) → reserved_at mid directory name ≡ expected_number (Some spot) tree.rows directory name) → child_of tree.rows spot.directory spot.name ≡ None → Puts mid new (spot_place spot) None → IsTreeIndex new tree.next None × (rows_of new ≡ tree.rows)
 released mid new tree spot is rows held free puts =
     let same : rows_of new ≡ tree.rows = puts.same_rows ∙ rows in (
       IsKept-from new tree is same
           (λ directory name.
-          split (is_place (place_of spot) (at directory name))
-          (λ t. let e = is_place-true (place_of spot) (at directory name) t in
+          split (is_place (spot_place spot) (at directory name))
+          (λ t. let e = is_place-true (spot_place spot) (at directory name) t in
           ap (λ (p : Place). reserved_at new p.directory p.name) (sym e) ∙ (puts.here ∙ (sym free ∙ ap (λ (p : Place). child_of tree.rows p.directory p.name) e)))
-          (λ f. puts.elsewhere directory name f ∙ (held directory name ∙ cond-false (is_place (place_of spot) (at directory name)) _ _ f))),
+          (λ f. puts.elsewhere directory name f ∙ (held directory name ∙ cond-false (is_place (spot_place spot) (at directory name)) _ _ f))),
       same,
     )
 
-pub Stays-released : (old mid same new : Entries) (next : ℕ) (spot : Spot) → IsTreeIndex old next None → Puts old mid (place_of spot) (Some 0) → same ≡ mid → Puts same new (place_of spot) None → child_of (rows_of old) spot.directory spot.name ≡ None → Stays old new next
+pub Stays-released : (old mid same new : Entries) (next : ℕ) (spot : Spot) → IsTreeIndex old next None → Puts old mid (spot_place spot) (Some 0) → same ≡ mid → Puts same new (spot_place spot) None → child_of (rows_of old) spot.directory spot.name ≡ None → Stays old new next
 Stays-released old mid same new next spot kept puts e gone free =
-    let r = released mid new (tree_in None old next) spot kept.tree puts.same_rows (expected-put old mid next spot kept puts) free (subst (λ (es : Entries). Puts es new (place_of spot) None) e gone) in
+    let r = released mid new (tree_in None old next) spot kept.tree puts.same_rows (expected-put old mid next spot kept puts) free (subst (λ (es : Entries). Puts es new (spot_place spot) None) e gone) in
     record { kept = r.0; same_rows = r.1 }
 
-pub forgets_moved : (old new : Entries) (next number : ℕ) (from to : Spot) → IsTreeIndex old next (Some (Moved number from to)) → Puts old new (place_of to) None → IsTreeIndex new next None × (rows_of new ≡ rows_of old)
+pub forgets_moved : (old new : Entries) (next number : ℕ) (from to : Spot) → IsTreeIndex old next (Some (Moved number from to)) → Puts old new (spot_place to) None → IsTreeIndex new next None × (rows_of new ≡ rows_of old)
 forgets_moved old new next number from to kept puts = released old new (tree_in None old next) to kept.tree refl kept.index kept.free puts
 
 removed_last : (before : Entries) (next : ℕ) (kept : Kept) → kept_at before next ≡ None → remove_entry (is_at (nat_cmp next)) (before ++ (next, kept) ∷ []) ≡ before
@@ -202,7 +202,7 @@ removed_last (entry ∷ before) next kept missing =
     (λ t. absurd (none-some _ (sym (cond_at_true (is_at (nat_cmp next) entry.0) _ _ _ t missing))))
     (λ f. cond-false (is_at (nat_cmp next) entry.0) _ _ f ∙ ap (λ (rest : Entries). entry ∷ rest) (removed_last before next kept (cond_at_false (is_at (nat_cmp next) entry.0) _ _ _ f missing)))
 
-pub forgets_made : (old mid new : Entries) (next : ℕ) (kind : Kind) (spot : Spot) → IsTreeIndex old next (Some (Made kind spot)) → mid ≡ remove_entry (is_at (nat_cmp next)) old → Puts mid new (place_of spot) None → IsTreeIndex new next None × (rows_of new ≡ rows_of (take (length old - 1) old))
+pub forgets_made : (old mid new : Entries) (next : ℕ) (kind : Kind) (spot : Spot) → IsTreeIndex old next (Some (Made kind spot)) → mid ≡ remove_entry (is_at (nat_cmp next)) old → Puts mid new (spot_place spot) None → IsTreeIndex new next None × (rows_of new ≡ rows_of (take (length old - 1) old))
 forgets_made old mid new next kind spot kept e puts =
     let last = kept.prepared in
     let settled_is : take (length old - 1) old ≡ last.before = ap (λ (es : Entries). take (length es - 1) es) last.last ∙ take-append_one last.before (next, last.kept) in
@@ -215,7 +215,7 @@ forgets_made old mid new next kind spot kept e puts =
     ∙ (ap (λ (es : Entries). reserved_at es directory name) (sym last.last)
     ∙ (kept.index directory name ∙ ap (λ (es : Entries). expected_number (Some spot) (rows_of es) directory name) settled_is)))
     (ap (λ (es : Entries). child_of (rows_of es) spot.directory spot.name) (sym settled_is) ∙ kept.free)
-    (subst (λ (es : Entries). Puts es new (place_of spot) None) mid_is puts) in
+    (subst (λ (es : Entries). Puts es new (spot_place spot) None) mid_is puts) in
     (r.0, r.1 ∙ ap rows_of (sym settled_is))
 
 pub forgets_nothing : (entries : Entries) (next : ℕ) → IsTreeIndex entries next (Some Nothing) → IsTreeIndex entries next None

@@ -4,9 +4,9 @@ use borrow.Rule.Slice.PartMut.{post_of}
 use Rattle.std.proofs.lemmas.Bool.{cases_lt}
 use Rattle.std.proofs.lemmas.List.{take-append-le, take-replicate, length-replicate}
 use Rattle.std.proofs.Math.Seq.{take-append-add}
-use Rattle.file_world.specs.TreeEffect.{write_at, part_of}
+use Rattle.file_world.specs.TreeEffect.{write_at, bytes_in}
 
-pub none_of_none : (offset len : ℕ) → part_of [] offset len ≡ []
+pub none_of_none : (offset len : ℕ) → bytes_in [] offset len ≡ []
 none_of_none zero zero = refl
 none_of_none zero (suc len) = refl
 none_of_none (suc offset) zero = refl

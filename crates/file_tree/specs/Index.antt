@@ -39,8 +39,8 @@ number_in (Some kept) name = lookup (is_at (slice_cmp nat_cmp name)) kept.names.
 abbrev pub reserved_at : Entries → ℕ → List ℕ → Option ℕ
 reserved_at entries directory name = number_in (kept_at entries directory) name
 
-abbrev pub place_of : Spot → Place
-place_of spot = record { directory = spot.directory; name = spot.name }
+abbrev pub spot_place : Spot → Place
+spot_place spot = record { directory = spot.directory; name = spot.name }
 
 -- the place whose name is held for what is ready
 abbrev pub reserved_spot : Option Ready → Option Spot
@@ -64,7 +64,7 @@ published_nodes (Some (Moved number from to)) entries = entries
 abbrev pub expected_number : Option Spot → Nodes → ℕ → List ℕ → Option ℕ
 expected_number None rows directory name = child_of rows directory name
 expected_number (Some spot) rows directory name =
-    if is_place (place_of spot) (at directory name) then Some 0 else child_of rows directory name
+    if is_place (spot_place spot) (at directory name) then Some 0 else child_of rows directory name
 
 -- the name that is held stands for no node
 abbrev pub IsReservedFree : Option Spot → Nodes → Type 0
@@ -90,7 +90,7 @@ abbrev pub IsPrepared : Option Ready → Entries → ℕ → Type 0
 IsPrepared None entries next = Unit {0}
 IsPrepared (Some Nothing) entries next = Unit {0}
 IsPrepared (Some (Contents number len)) entries next = HasContentsRoom entries number len
-IsPrepared (Some (Made kind spot)) entries next = IsLast entries next (new_node kind (place_of spot))
+IsPrepared (Some (Made kind spot)) entries next = IsLast entries next (new_node kind (spot_place spot))
 IsPrepared (Some (Gone number spot)) entries next = Unit {0}
 IsPrepared (Some (Moved number from to)) entries next = Unit {0}
 
@@ -111,7 +111,7 @@ pub record Puts (old new : Entries) (place : Place) (number : Option ℕ) : Type
   pub same_rows : rows_of new ≡ rows_of old
 
 -- all is as before, but for room
-pub record Keeps (old new : Entries) : Type 0 where
+pub record ChangesRoomAlone (old new : Entries) : Type 0 where
   pub same_held : (directory : ℕ) (name : List ℕ) → reserved_at new directory name ≡ reserved_at old directory name
   pub same_rows : rows_of new ≡ rows_of old
 

@@ -4,7 +4,7 @@ ghost use Rattle.std.specs.Prelude.{◌≡◌, ◌≤◌, ◌<◌, ◌^◌, ◌+
 ghost use Rattle.file_world.specs.Limits.{longest_name};
 ghost use Rattle.file_world.specs.Tree.{node_at, contents_sum};
 ghost use Rattle.file_world.specs.TreeEffect.{at, contents_of, write_at, resize_to, tree_after};
-ghost use Rattle.file_tree.specs.Index.{rows_of, kept_at, reserved_at, place_of, published_nodes, tree_in, number_ready, HasContentsRoom, Puts, Fills, Removes, Replaces, Relocates, IsChangeable, Changes};
+ghost use Rattle.file_tree.specs.Index.{rows_of, kept_at, reserved_at, spot_place, published_nodes, tree_in, number_ready, HasContentsRoom, Puts, Fills, Removes, Replaces, Relocates, IsChangeable, Changes};
 
 use crate::name::Name;
 use crate::node::KeptNodes;
@@ -82,7 +82,7 @@ pub fn truncate(nodes: &mut KeptNodes, total: u64, number: u64, len: u64) -> u64
 pub fn unlink(nodes: &mut KeptNodes, total: u64, number: u64, spot: &Spot) -> u64
     requires there { IsSome (kept_at nodes.old.entries number) }
     requires summed { total ≡ contents_sum (rows_of nodes.old.entries) }
-    ensures { Removes nodes.old.entries nodes.new.entries number (place_of spot.now) result }
+    ensures { Removes nodes.old.entries nodes.new.entries number (spot_place spot.now) result }
 {
     let freed = length_at(nodes, number);
     let _ = nodes.remove(&number);
@@ -92,7 +92,7 @@ pub fn unlink(nodes: &mut KeptNodes, total: u64, number: u64, spot: &Spot) -> u6
 
 fn set_place(nodes: &mut KeptNodes, number: u64, to: &Spot)
     requires { IsSome (kept_at nodes.old.entries number) }
-    ensures { Replaces nodes.old.entries nodes.new.entries number (place_of to.now) }
+    ensures { Replaces nodes.old.entries nodes.new.entries number (spot_place to.now) }
 {
     let node = nodes.get_mut(&number).unwrap();
     node.parent = to.directory;
@@ -104,7 +104,7 @@ pub fn relocate(nodes: &mut KeptNodes, number: u64, from: &Spot, to: &Spot)
     requires there { IsSome (kept_at nodes.old.entries number) }
     requires holds { IsSome (kept_at nodes.old.entries to.now.directory) }
     requires held { IsSome (reserved_at nodes.old.entries to.now.directory to.now.name) }
-    ensures { Relocates nodes.old.entries nodes.new.entries number (place_of from.now) (place_of to.now) }
+    ensures { Relocates nodes.old.entries nodes.new.entries number (spot_place from.now) (spot_place to.now) }
 {
     let entered: Result<(), NoMemory> = enter(nodes, to, number);
     entered.unwrap();
@@ -116,7 +116,7 @@ pub fn relocate(nodes: &mut KeptNodes, number: u64, from: &Spot, to: &Spot)
 pub fn publish(nodes: &mut KeptNodes, next: u64, spot: &Spot)
     requires holds { IsSome (kept_at nodes.old.entries spot.now.directory) }
     requires held { IsSome (reserved_at nodes.old.entries spot.now.directory spot.now.name) }
-    ensures { Puts nodes.old.entries nodes.new.entries (place_of spot.now) (Some next) }
+    ensures { Puts nodes.old.entries nodes.new.entries (spot_place spot.now) (Some next) }
 {
     let entered: Result<(), NoMemory> = enter(nodes, spot, next);
     entered.unwrap();

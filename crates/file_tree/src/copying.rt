@@ -19,7 +19,11 @@ fn unroomed(ready: &Option<Ready>) -> Option<Ready>
 }
 
 /// The same nodes, with nothing ready.
-pub fn copied(nodes: &KeptNodes, next: u64, ready: &Option<Ready>) -> Result<KeptNodes, NoMemory>
+pub fn copy_nodes(
+    nodes: &KeptNodes,
+    next: u64,
+    ready: &Option<Ready>,
+) -> Result<KeptNodes, NoMemory>
     requires { IsTreeIndex nodes.now.entries next ready.now }
     ensures kept { IfOk result (λ copied. IsTreeIndex copied.entries next None) }
     ensures same { IfOk result (λ copied. rows_of copied.entries ≡ rows_of (published_nodes ready.now nodes.now.entries)) }

@@ -6,7 +6,7 @@ ghost use Rattle.std.specs.Map.{keys_of};
 ghost use Rattle.std.specs.Ordering.{nat_cmp};
 ghost use Rattle.std.specs.Cmp.Lexicographic.{slice_cmp};
 ghost use Rattle.file_world.specs.Tree.{node_at};
-ghost use Rattle.file_world.specs.TreeEffect.{contents_of, is_directory, names_in, part_of, tree_refusal, tree_reply};
+ghost use Rattle.file_world.specs.TreeEffect.{contents_of, is_directory, names_in, bytes_in, tree_refusal, tree_reply};
 ghost use Rattle.file_tree.specs.Index.{rows_of, named_node, tree_in, IsTreeIndex};
 
 use crate::name::Name;
@@ -18,7 +18,7 @@ use std::alloc::Global;
 use std::collections::BTreeMap;
 
 fn part(alloc: Global, contents: &[u8], offset: u64, len: u64) -> Result<Bytes, NoMemory>
-    ensures { IfOk result (λ bytes. bytes ≡ part_of contents.now offset len) }
+    ensures { IfOk result (λ bytes. bytes ≡ bytes_in contents.now offset len) }
 {
     let start = (offset as usize).min(contents.len());
     let end = start + (len as usize).min(contents.len() - start);
@@ -33,7 +33,7 @@ fn bytes_of(
     len: u64,
 ) -> Result<Bytes, NoMemory>
     ensures { IfOk result
-        (λ bytes. bytes ≡ part_of (contents_of (node_at (rows_of nodes.now.entries) number)) offset len) }
+        (λ bytes. bytes ≡ bytes_in (contents_of (node_at (rows_of nodes.now.entries) number)) offset len) }
 {
     match nodes.get(&number) {
         None => Ok(Bytes::new(alloc)),

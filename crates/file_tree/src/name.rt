@@ -6,32 +6,14 @@ ghost use Rattle.std.specs.Cmp.Lexicographic.{pointwise, slice_cmp, nat_list_cmp
 ghost use Rattle.std.specs.Cmp.Rules.{comparing};
 ghost use Rattle.std.specs.Ordering.{nat_cmp};
 ghost use Rattle.std.proofs.Common.{rules, Some};
-ghost use Rattle.bl_syntax.specs.Names.{is_lower_case, is_digit};
 ghost use Rattle.file_world.specs.Limits.{longest_name};
-ghost use Rattle.file_world.specs.FileNames.{is_upper_case, is_node_name_byte, is_node_name};
+ghost use Rattle.file_world.specs.FileNames.{is_node_name_byte, is_node_name};
 
 use bl_syntax::Short;
+use bl_syntax::byte_classes::{is_digit, is_lower_case, is_upper_case};
 use file_world::LONGEST_NAME;
 use std::cmp::Ordering;
 use std::marker::Model;
-
-fn is_lower_case(byte: u8) -> bool
-    ensures { result ≡ is_lower_case byte }
-{
-    b'a' <= byte && byte <= b'z'
-}
-
-fn is_upper_case(byte: u8) -> bool
-    ensures { result ≡ is_upper_case byte }
-{
-    b'A' <= byte && byte <= b'Z'
-}
-
-fn is_digit(byte: u8) -> bool
-    ensures { result ≡ is_digit byte }
-{
-    b'0' <= byte && byte <= b'9'
-}
 
 fn is_node_name_byte(byte: u8) -> bool
     ensures { result ≡ is_node_name_byte byte }

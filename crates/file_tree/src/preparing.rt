@@ -4,7 +4,7 @@ ghost use Rattle.std.specs.Prelude.{◌≡◌, ◌≤◌, ◌<◌, ℕ, length, 
 ghost use Rattle.file_world.specs.Limits.{longest_name};
 ghost use Rattle.file_world.specs.Tree.{node_at};
 ghost use Rattle.file_world.specs.TreeEffect.{child_of, is_directory, new_node, tree_refusal};
-ghost use Rattle.file_tree.specs.Index.{rows_of, kept_at, reserved_at, place_of, reserved_spot, published_nodes, tree_in, IsTreeIndex, Puts, Keeps, AddsLast, Prepares, Stays, AreNumbersBelow};
+ghost use Rattle.file_tree.specs.Index.{rows_of, kept_at, reserved_at, spot_place, reserved_spot, published_nodes, tree_in, IsTreeIndex, Puts, ChangesRoomAlone, AddsLast, Prepares, Stays, AreNumbersBelow};
 ghost use Rattle.file_tree.specs.State.{ready_for, spot as spot_at};
 
 use crate::name::Name;
@@ -19,8 +19,8 @@ use std::collections::BTreeMap;
 /// Keeps a number under a name in a directory. It takes no memory where the name is there.
 pub fn enter(nodes: &mut KeptNodes, spot: &Spot, number: u64) -> Result<(), NoMemory>
     requires { IsSome (kept_at nodes.old.entries spot.now.directory) }
-    ensures ok { OnOk result (Puts nodes.old.entries nodes.new.entries (place_of spot.now) (Some number)) }
-    ensures err { OnErr result (Keeps nodes.old.entries nodes.new.entries) }
+    ensures ok { OnOk result (Puts nodes.old.entries nodes.new.entries (spot_place spot.now) (Some number)) }
+    ensures err { OnErr result (ChangesRoomAlone nodes.old.entries nodes.new.entries) }
     ensures succeeds { IsSome (reserved_at nodes.old.entries spot.now.directory spot.now.name) → IsOk result }
 {
     let node = nodes.get_mut(&spot.directory).unwrap();
@@ -33,7 +33,7 @@ pub fn enter(nodes: &mut KeptNodes, spot: &Spot, number: u64) -> Result<(), NoMe
 
 /// Takes a name out of a directory.
 pub fn release(nodes: &mut KeptNodes, spot: &Spot)
-    ensures { Puts nodes.old.entries nodes.new.entries (place_of spot.now) None }
+    ensures { Puts nodes.old.entries nodes.new.entries (spot_place spot.now) None }
 {
     if let Some(node) = nodes.get_mut(&spot.directory) {
         let _ = node.names.remove(&spot.name);
@@ -48,7 +48,7 @@ fn add(
     spot: &Spot,
 ) -> Result<(), NoMemory>
     requires { AreNumbersBelow nodes.old.entries next }
-    ensures ok { OnOk result (AddsLast nodes.old.entries nodes.new.entries next (new_node kind (place_of spot.now))) }
+    ensures ok { OnOk result (AddsLast nodes.old.entries nodes.new.entries next (new_node kind (spot_place spot.now))) }
     ensures err { OnErr result (nodes.new.entries ≡ nodes.old.entries) }
 {
     let node = KeptNode {

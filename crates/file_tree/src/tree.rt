@@ -6,7 +6,7 @@ ghost use Rattle.file_tree.specs.State.{Reserves, IsReady};
 ghost use Rattle.file_tree.specs.Index.{option_number, above_zero};
 
 use crate::applying::change;
-use crate::copying::copied;
+use crate::copying::copy_nodes;
 use crate::listing::reply;
 use crate::name::Name;
 use crate::node::{KeptNode, KeptNodes};
@@ -120,7 +120,7 @@ impl Tree {
         ensures { IfOk result (λ copied. copied ≡ record { tree = self.now.tree; ready = None }) }
     {
         Ok(Tree {
-            nodes: copied(&self.nodes, self.next, &self.ready)?,
+            nodes: copy_nodes(&self.nodes, self.next, &self.ready)?,
             next: self.next,
             total: self.total,
             ready: None,

@@ -3,12 +3,8 @@ use Rattle.std.specs.Prelude.{ℕ, List, [], ◌∷◌, length, codes, Bool, fal
 use Rattle.std.specs.List.{list_all, starts_with}
 use Rattle.std.specs.Prelude.{nat_eq}
 use Rattle.std.specs.Str.{bytes_eq}
-use Rattle.bl_syntax.specs.Names.{is_lower_case, is_digit}
+use Rattle.bl_syntax.specs.Names.{is_lower_case, is_digit, is_upper_case}
 use Rattle.file_world.specs.Limits.{longest_name}
-
--- from `A` to `Z`
-abbrev pub is_upper_case : ℕ → Bool
-is_upper_case byte = nat_le 65 byte && nat_le byte 90
 
 -- what a node's name is made of: letters, digits, `_`, `.` and `-`
 abbrev pub is_node_name_byte : ℕ → Bool

@@ -18,7 +18,7 @@ use Rattle.file_world.specs.declared.reply.MetaReply.{MetaReply}
 use Rattle.file_world.specs.declared.reply.TreeReply.{TreeReply}
 use Rattle.file_world.specs.Outcome.{NoneHolds, IsFirst, refused, replied}
 use Rattle.file_world.specs.Tree.{Node, Nodes, FileTree, node_at, IsTree}
-use Rattle.file_world.specs.TreeEffect.{at, child_of, names_in, is_directory, is_into_itself, write_at, resize_to, part_of as bytes_part, tree_effect, TreeChange, changed_tree, fresh_tree}
+use Rattle.file_world.specs.TreeEffect.{at, child_of, names_in, is_directory, is_into_itself, write_at, resize_to, bytes_in, tree_effect, TreeChange, changed_tree, fresh_tree}
 use Rattle.file_world.specs.Attributes.{Marks, value_at, AreMarks}
 use Rattle.file_world.specs.AttributeEffect.{IsMetaOperation, IsAskable, marks_after, meta_effect, fresh_marks}
 use Rattle.file_world.specs.World.{Item, World, tree_of, marks_of, IsWorld, fresh_world}
@@ -106,7 +106,7 @@ RenamesKeepTheRest = (caller : List ℕ) (directory target : NodeId) (name renam
 -- what is written is read back, the bytes beside it stay, and a gap before it is zero
 abbrev pub WritesAreReadBack : Type 0
 WritesAreReadBack = (old bytes : List ℕ) (offset : ℕ) → 0 < length bytes
-    → (bytes_part (write_at old offset bytes) offset (length bytes) ≡ bytes)
+    → (bytes_in (write_at old offset bytes) offset (length bytes) ≡ bytes)
     × (take offset (write_at old offset bytes) ≡ take offset old ++ replicate (offset - length old) 0)
     × (drop (offset + length bytes) (write_at old offset bytes) ≡ drop (offset + length bytes) old)
 

@@ -77,8 +77,8 @@ abbrev pub resize_to : List ℕ → ℕ → List ℕ
 resize_to old len = take len old ++ replicate (len - length old) 0
 
 -- the bytes from an offset, at most so many, and none from the end on
-abbrev pub part_of : List ℕ → ℕ → ℕ → List ℕ
-part_of contents offset len = take len (drop offset contents)
+abbrev pub bytes_in : List ℕ → ℕ → ℕ → List ℕ
+bytes_in contents offset len = take len (drop offset contents)
 
 -- ---- the names in a directory
 
@@ -163,7 +163,7 @@ tree_refusal tree op = first_of (tests_of tree op)
 -- ---- replies
 
 abbrev pub tree_reply : FileTree → TreeOp → TreeReply
-tree_reply tree (Read file offset len) = BytesOf (part_of (contents_of (node_at tree.rows file.0)) offset len)
+tree_reply tree (Read file offset len) = BytesOf (bytes_in (contents_of (node_at tree.rows file.0)) offset len)
 tree_reply tree (Write file offset bytes) = Done
 tree_reply tree (Truncate file len) = Done
 tree_reply tree (ListOf directory) = NamesOf (names_in tree.rows directory.0)

@@ -8,7 +8,7 @@ use Rattle.bl_syntax.specs.declared.codec_fault.CodecFault.TheVariants as faults
 use Rattle.bl_syntax.specs.Reading.{◌>>=◌, Reading, map_reading, GivesReading}
 use Rattle.bl_syntax.specs.Codec.{AreBytes, IsCodec, ReportsFault, GivesReadingOrReports}
 use Rattle.bl_syntax.proofs.CodecLemmas.{bind_ok, by_test, ok_is, made_ok, made_memoryless, AreBytes-rest, codec}
-use Rattle.bl_syntax.proofs.StopsWithLemmas.{stops, hands_on, stops_with}
+use Rattle.bl_syntax.proofs.ReportsFaultLemmas.{stops, hands_on, stops_with}
 use Rattle.procap.specs.Procap.{at_end}
 use Rattle.procap.proofs.ItemsLemmas.{test_memoryless}
 use Rattle.access_history.specs.declared.event.Event.{Event}

@@ -14,7 +14,7 @@ use record_parts::{acted_at, issued_at, registered_at};
 use std::alloc::Global;
 
 /// An event at the front of `bytes`, the rest of an input of `input` bytes.
-#[tactic(auto, using(bl_syntax::proofs::StopsWithLemmas::hands_on, bl_syntax::proofs::StopsWithLemmas::stops), unfolding(crate::specs::EventReading::event_at))]
+#[tactic(auto, using(bl_syntax::proofs::ReportsFaultLemmas::hands_on, bl_syntax::proofs::ReportsFaultLemmas::stops), unfolding(crate::specs::EventReading::event_at))]
 fn event_at(alloc: Global, input: usize, bytes: &[u8]) -> Result<(Event, &[u8]), CodecFault>
     ensures { GivesReadingOrReports (λ x. (x.0, x.1.now)) result (event_at input bytes.now) }
 {

@@ -1,25 +1,24 @@
 //! Writing events.
 
 ghost use Rattle.std.specs.Prelude.{◌≡◌, ◌++◌, OnOk, OnErr};
-ghost use Rattle.procap.specs.Writing.{Begins};
+ghost use Rattle.bl_syntax.specs.BeginsWith.{BeginsWith};
 ghost use Rattle.journal_records.specs.EventSpelling.{event_spelling, IsSpellableEvent, HasFittingFields};
 
 use access_history::Event;
 use bl_syntax::{Bytes, NoMemory};
 use record_parts::{write_acted, write_issued, write_registered};
-use std::alloc::Global;
 
 /// Adds the payload of an event, without its pass, or nothing. The moment of an operation lies in the range of moments, its
 /// names have at most 255 bytes, procaps and cited numbers are at most 255, and signatures and bytes to write have fewer
-/// than 2^32 bytes. No memory is taken from `alloc`.
-pub fn write_event(alloc: Global, e: &Event, out: &mut Bytes) -> Result<(), NoMemory>
+/// than 2^32 bytes.
+pub fn write_event(e: &Event, out: &mut Bytes) -> Result<(), NoMemory>
     requires { HasFittingFields e.now }
     ensures ok { OnOk result (out.new ≡ out.old ++ event_spelling e.now) }
     ensures spelled { OnOk result (IsSpellableEvent e.now) }
     ensures err { OnErr result (out.new ≡ out.old) }
 {
     let len = out.len();
-    let added = add_event(alloc, e, out);
+    let added = add_event(e, out);
     if added.is_err() {
         out.truncate(len);
     }
@@ -27,12 +26,12 @@ pub fn write_event(alloc: Global, e: &Event, out: &mut Bytes) -> Result<(), NoMe
 }
 
 /// Adds the payload of an event, or a front of it.
-#[tactic(auto, using(procap::proofs::WritingLemmas::kept), unfolding(crate::specs::EventSpelling::event_spelling))]
-fn add_event(alloc: Global, e: &Event, out: &mut Bytes) -> Result<(), NoMemory>
+#[tactic(auto, using(bl_syntax::proofs::BeginsWithLemmas::writing), unfolding(crate::specs::EventSpelling::event_spelling))]
+fn add_event(e: &Event, out: &mut Bytes) -> Result<(), NoMemory>
     requires { HasFittingFields e.now }
     ensures ok { OnOk result (out.new ≡ out.old ++ event_spelling e.now) }
     ensures spelled { OnOk result (IsSpellableEvent e.now) }
-    ensures err { OnErr result (Begins out.old out.new) }
+    ensures err { OnErr result (BeginsWith out.new out.old) }
 {
     match e {
         Event::Registered {
@@ -50,7 +49,7 @@ fn add_event(alloc: Global, e: &Event, out: &mut Bytes) -> Result<(), NoMemory>
             grant,
         } => {
             out.push(2)?;
-            write_issued(alloc, cited.as_slice(), proof, grant, out)
+            write_issued(cited.as_slice(), proof, grant, out)
         }
         Event::Acted {
             pass: _,

@@ -14,18 +14,14 @@ use Rattle.bl_text.specs.Pieces.{◌>>=◌, term_of, require_sort}
 use Rattle.bl_text.specs.Scope.{place_of}
 use Rattle.bl_text.proofs.LexedLemmas.{IsWritten, IsLexed, token_lexed}
 use Rattle.bl_text.proofs.IsStatementLemmas.{unread_speaker, at_place, variable_term}
-use Rattle.proof_term.specs.declared.rule.Axiom.{Axiom}
 use Rattle.proof_term.specs.declared.rule.Axiom.TheVariants as axioms
-use Rattle.proof_term.specs.declared.rule.OnePremise.{OnePremise}
 use Rattle.proof_term.specs.declared.rule.OnePremise.TheVariants as one
-use Rattle.proof_term.specs.declared.rule.TwoPremises.{TwoPremises}
 use Rattle.proof_term.specs.declared.rule.TwoPremises.TheVariants as two
 use Rattle.proof_term.specs.declared.rule.Rule.{Rule}
 use Rattle.proof_term.specs.declared.rule.Rule.TheVariants.{Axiom as AxiomRule, One, Two}
 use Rattle.proof_term.specs.Limits.{HasTimesInRange}
 use Rattle.proof_term.specs.Proof.{ProofView}
-use Rattle.proof_term.specs.Rules.{by_axiom, by_one, by_two}
-use Rattle.proof_term.specs.RuleTimes.{IsOneInRange, IsTwoInRange}
+use Rattle.proof_term.proofs.TimeLemmas.{times_axiom, times_one, times_two}
 use Rattle.proof_text.specs.declared.cursor.ProofCursor.{ProofCursor}
 use Rattle.proof_text.specs.declared.names.PlainRule.{PlainRule}
 use Rattle.proof_text.specs.declared.names.PlainRule.TheVariants.{ConsR, InterR, AndR, OrR1, OrR2, TrueR, ImpR, ForallR, ExistsR, SaysR, AtR}
@@ -196,41 +192,12 @@ head_rule text levels here x h =
 
 -- ---- proofs
 
-axiom_times : (r : Axiom) → HasTimesInRange (by_axiom r)
-axiom_times (axioms.Init n) = tt
-axiom_times axioms.ConsR = tt
-axiom_times axioms.InterR = tt
-axiom_times axioms.TrueR = tt
-axiom_times (axioms.FalseL n) = tt
-
-one_times : (r : OnePremise) (p : ProofView) → IsOneInRange r → HasTimesInRange p → HasTimesInRange (by_one r p)
-one_times one.OrR1 p h k = k
-one_times one.OrR2 p h k = k
-one_times one.ImpR p h k = k
-one_times one.ForallR p h k = k
-one_times (one.ExistsR t) p h k = (h, k)
-one_times one.SaysR p h k = k
-one_times one.AtR p h k = k
-one_times (one.ConsL n) p h k = k
-one_times (one.InterL n) p h k = k
-one_times (one.AndL n) p h k = k
-one_times (one.ForallL n t) p h k = (h, k)
-one_times (one.ExistsL n) p h k = k
-one_times (one.SaysL n) p h k = k
-one_times (one.Claim n) p h k = k
-one_times (one.AtL n) p h k = k
-
-two_times : (r : TwoPremises) (p q : ProofView) → IsTwoInRange r → HasTimesInRange p → HasTimesInRange q → HasTimesInRange (by_two r p q)
-two_times two.AndR p q h k l = (k, l)
-two_times (two.OrL n) p q h k l = (k, l)
-two_times (two.ImpL n t1 t2) p q h k l = (h, (k, l))
-
 proof_times : {text : List ℕ} {levels : ℕ} {here there : ProofCursor} {d : ProofView} → IsProof text levels here there d → HasTimesInRange d
-proof_times (no_premise levels here there r d begins same) = subst HasTimesInRange (sym same) (axiom_times r)
+proof_times (no_premise levels here there r d begins same) = subst HasTimesInRange (sym same) (times_axiom r)
 proof_times {text} (one_premise levels here first mid there r p d begins more closes same) =
-    subst HasTimesInRange (sym same) (one_times r p (head_rule text levels here (One r, first) begins) (proof_times more))
+    subst HasTimesInRange (sym same) (times_one r p (head_rule text levels here (One r, first) begins) (proof_times more))
 proof_times {text} (two_premises levels here first mid second last there r p q d begins more comma others closes same) =
-    subst HasTimesInRange (sym same) (two_times r p q (head_rule text levels here (Two r, first) begins) (proof_times more) (proof_times others))
+    subst HasTimesInRange (sym same) (times_two r p q (head_rule text levels here (Two r, first) begins) (proof_times more) (proof_times others))
 
 pub IsProofText-times : {text : List ℕ} {d : ProofView} → IsProofText text d → HasTimesInRange d
 IsProofText-times (whole_proof there is ends) = proof_times is

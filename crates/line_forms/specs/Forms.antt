@@ -6,17 +6,20 @@ use Rattle.line_words.specs.declared.kinds.WordKind.TheVariants as kinds
 use Rattle.line_forms.specs.declared.forms.Operation.{Operation}
 use Rattle.line_forms.specs.declared.forms.Operation.TheVariants.{Read, Write, Truncate, List as ListOf, Lookup, Create, Mkdir, Unlink, Rename, Getattr, Setattr, Delattr, Chown}
 use Rattle.line_forms.specs.declared.forms.Form.{Form}
-use Rattle.line_forms.specs.declared.forms.Form.TheVariants.{At, As, Register, Procap, Verify, Check, Do}
+use Rattle.line_forms.specs.declared.forms.Form.TheVariants.{At, As, Login, Register, Procap, Verify, Check, Do, Statement, Goal}
 
 -- the form of that name, but for `do`
 abbrev pub form_named : List ℕ → Option Form
 form_named word =
     if bytes_eq word (codes "at") then Some At else
     if bytes_eq word (codes "as") then Some As else
+    if bytes_eq word (codes "login") then Some Login else
     if bytes_eq word (codes "register") then Some Register else
     if bytes_eq word (codes "procap") then Some Procap else
     if bytes_eq word (codes "verify") then Some Verify else
     if bytes_eq word (codes "check") then Some Check else
+    if bytes_eq word (codes "statement") then Some Statement else
+    if bytes_eq word (codes "goal") then Some Goal else
     None
 
 -- the operation on the tree of that name
@@ -70,18 +73,24 @@ kinds_of_operation Chown = kinds.Node ∷ kinds.Who ∷ kinds.Procap ∷ []
 abbrev pub kinds_of : Form → List WordKind
 kinds_of At = kinds.Second ∷ []
 kinds_of As = kinds.Who ∷ []
+kinds_of Login = kinds.Who ∷ kinds.SignatureHex ∷ []
 kinds_of Register = kinds.Signature ∷ []
 kinds_of Procap = kinds.Issue ∷ []
 kinds_of Verify = kinds.Who ∷ kinds.Node ∷ kinds.Permission ∷ kinds.Cited ∷ []
 kinds_of Check = kinds.Who ∷ kinds.Node ∷ kinds.Permission ∷ kinds.Cited ∷ []
 kinds_of (Do operation) = kinds_of_operation operation
+kinds_of Statement = []
+kinds_of Goal = kinds.Who ∷ kinds.Node ∷ kinds.Permission ∷ []
 
 -- whether a text stands at the end of a line of that form
 abbrev pub has_text : Form → Bool
 has_text At = false
 has_text As = false
+has_text Login = false
 has_text Register = true
 has_text Procap = false
 has_text Verify = true
 has_text Check = true
 has_text (Do operation) = false
+has_text Statement = true
+has_text Goal = true

@@ -9,6 +9,9 @@ use Rattle.line_forms.specs.declared.forms.Form.TheVariants.{Do}
 use Rattle.line_forms.specs.declared.fault.LineFault.{LineFault}
 use Rattle.line_forms.specs.declared.fault.LineFault.TheVariants.{BadWord, BadCount}
 use Rattle.line_forms.specs.Forms.{form_named, operation_named, kinds_of, has_text}
+use Rattle.line_forms.specs.Modes.{known}
+use Rattle.line_forms.specs.declared.mode.Mode.{Mode}
+use Rattle.line_forms.specs.declared.mode.Mode.TheVariants.{Operator, Guest, User, Inquiry}
 
 -- a form, and what stands after the words that name it
 abbrev pub Head : Type 0
@@ -29,11 +32,18 @@ abbrev pub by_form : List ℕ → Option Form → Result Head LineFault
 by_form behind None = Err (BadWord 0)
 by_form behind (Some form) = Ok (form, behind)
 
--- the form that the first words of a line name
-abbrev pub head_of : List ℕ → Result Head LineFault
-head_of line =
-    if bytes_eq (first_cut line).word (codes "do") then operation_head (length line) (first_cut line).behind
-    else by_form (first_cut line).behind (form_named (first_cut line).word)
+-- the operation that the second word names, where operations are done
+abbrev pub do_head : Mode → ℕ → List ℕ → Result Head LineFault
+do_head Operator whole behind = operation_head whole behind
+do_head Guest whole behind = operation_head whole behind
+do_head (User who) whole behind = operation_head whole behind
+do_head Inquiry whole behind = Err (BadWord 0)
+
+-- the form that the first words of a line name in this mode
+abbrev pub head_in : Mode → List ℕ → Result Head LineFault
+head_in mode line =
+    if bytes_eq (first_cut line).word (codes "do") then do_head mode (length line) (first_cut line).behind
+    else by_form (first_cut line).behind (known mode (form_named (first_cut line).word))
 
 -- whether this may stand after the words: a space and a text, or nothing
 abbrev pub may_end : Bool → Option (List ℕ) → Bool

@@ -1,11 +1,12 @@
-//! What a line of a script asks for.
+//! What a line of a script or a session asks for.
 
 use bl_syntax::{Bytes, Goal, Numbers, Principal, Statement};
 use file_world::Op;
 use line_words::ProcapWords;
 use proof_term::ProofTree;
 
-/// What a line of a script asks for.
+/// What a line of a script or a session asks for. That of a session sets neither the clock nor the caller, checks no proof
+/// without an issue, and has each signature and procap with it.
 #[derive(Debug, Drop)]
 pub enum Command {
     /// Sets the clock, in whole seconds from 1970-01-01T00:00:00Z.

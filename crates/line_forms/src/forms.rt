@@ -28,11 +28,14 @@ pub enum Operation {
 pub enum Form {
     At,
     As,
+    Login,
     Register,
     Procap,
     Verify,
     Check,
     Do(Operation),
+    Statement,
+    Goal,
 }
 
 /// The form of that name, but for `do`.
@@ -43,6 +46,8 @@ pub fn form_named(word: &[u8]) -> Option<Form>
         Some(Form::At)
     } else if word == b"as".as_slice() {
         Some(Form::As)
+    } else if word == b"login".as_slice() {
+        Some(Form::Login)
     } else if word == b"register".as_slice() {
         Some(Form::Register)
     } else if word == b"procap".as_slice() {
@@ -51,6 +56,10 @@ pub fn form_named(word: &[u8]) -> Option<Form>
         Some(Form::Verify)
     } else if word == b"check".as_slice() {
         Some(Form::Check)
+    } else if word == b"statement".as_slice() {
+        Some(Form::Statement)
+    } else if word == b"goal".as_slice() {
+        Some(Form::Goal)
     } else {
         None
     }
@@ -144,11 +153,14 @@ pub fn kinds_of(form: Form) -> &'static [Kind]
     match form {
         Form::At => &[Kind::Second],
         Form::As => &[Kind::Who],
+        Form::Login => &[Kind::Who, Kind::SignatureHex],
         Form::Register => &[Kind::Signature],
         Form::Procap => &[Kind::Issue],
         Form::Verify => &[Kind::Who, Kind::Node, Kind::Permission, Kind::Cited],
         Form::Check => &[Kind::Who, Kind::Node, Kind::Permission, Kind::Cited],
         Form::Do(operation) => kinds_of_operation(operation),
+        Form::Statement => &[],
+        Form::Goal => &[Kind::Who, Kind::Node, Kind::Permission],
     }
 }
 
@@ -160,8 +172,11 @@ pub fn has_text(form: Form) -> bool
         Form::Register => true,
         Form::Verify => true,
         Form::Check => true,
+        Form::Statement => true,
+        Form::Goal => true,
         Form::At => false,
         Form::As => false,
+        Form::Login => false,
         Form::Procap => false,
         Form::Do(_) => false,
     }

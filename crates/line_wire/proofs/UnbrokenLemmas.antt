@@ -226,7 +226,7 @@ text_unbroken (texts.TooLarge at) = placed_unbroken 5 at
 text_unbroken texts.NoMemory = refl
 
 fault_unbroken : (fault : LineFault) → IsUnbroken (fault_text fault)
-fault_unbroken (lines.BadWord place) = refl
+fault_unbroken (lines.BadWord place) = decimal_unbroken place
 fault_unbroken lines.BadCount = refl
 fault_unbroken (lines.BadText fault) = text_unbroken fault
 fault_unbroken lines.NoMemory = refl
@@ -252,4 +252,8 @@ reply_unbroken (replies.Step step) h = step_unbroken step h
 reply_unbroken (replies.Checked g) h = checked_unbroken g h
 reply_unbroken (replies.Unproved fault) h = unproved_unbroken fault
 reply_unbroken (replies.Faulty fault) h = fault_unbroken fault
+reply_unbroken replies.TooLong h = refl
+reply_unbroken replies.NotLoggedIn h = refl
+reply_unbroken replies.Full h = refl
+reply_unbroken replies.Stopped h = refl
 reply_unbroken replies.NoMemory h = refl

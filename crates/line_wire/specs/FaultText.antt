@@ -32,9 +32,9 @@ bad_text_text (texts.Sort at) = placed_text (codes "bad 4 ") 4 at
 bad_text_text (texts.TooLarge at) = placed_text (codes "bad 4 ") 5 at
 bad_text_text texts.NoMemory = codes "nomemory"
 
--- faults of words have one number together; out of memory is no fault of the line
+-- a bad word by its place, then a wrong number of words, then a bad text by its own fault; out of memory is no fault of the line
 abbrev pub fault_text : LineFault → List ℕ
-fault_text (BadWord place) = codes "bad 9"
-fault_text BadCount = codes "bad 9"
+fault_text (BadWord place) = codes "bad 1 " ++ decimal place
+fault_text BadCount = codes "bad 2"
 fault_text (BadText fault) = bad_text_text fault
 fault_text NoMemory = codes "nomemory"

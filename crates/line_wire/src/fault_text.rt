@@ -51,14 +51,14 @@ fn write_bad_text(out: &mut Bytes, fault: TextFault) -> Result<(), NoMemory>
     }
 }
 
-/// Writes the fault of a line. Faults of words have one number together.
+/// Writes the fault of a line: its number, and the place of a bad word or of the fault in a text.
 pub fn write_fault(out: &mut Bytes, fault: LineFault) -> Result<(), NoMemory>
     ensures ok { OnOk result (out.new ≡ out.old ++ fault_text fault) }
     ensures err { OnErr result (BeginsWith out.new out.old) }
 {
     match fault {
-        LineFault::BadWord(_) => put_text(out, "bad 9"),
-        LineFault::BadCount => put_text(out, "bad 9"),
+        LineFault::BadWord(place) => put_counted(out, "bad 1 ", place as u64),
+        LineFault::BadCount => put_text(out, "bad 2"),
         LineFault::BadText(fault) => write_bad_text(out, fault),
         LineFault::NoMemory => put_text(out, "nomemory"),
     }

@@ -10,7 +10,7 @@ ghost use Rattle.line_wire.specs.ReplyText.{reply_text, output_of};
 ghost use Rattle.line_wire.specs.Unbroken.{IsUnbroken, IsUnbrokenReply};
 
 /// The first word of a reply says what became of the line: `ok`, `denied`, `refused`, `rejected`, `absent`,
-/// `unproved`, `bad` or `nomemory`.
+/// `unproved`, `bad`, `full`, `stopped` or `nomemory`.
 pub fn first_word_says_what_became_of_it()
     ensures { (reply : LineReply) → (first_cut (reply_text reply)).word ≡ reply_word reply }
 {}

@@ -18,6 +18,14 @@ pub enum LineReply {
     Unproved(CheckFault),
     /// The line asks for nothing. Out of memory is no fault of a line: it is written as `NoMemory` is.
     Faulty(LineFault),
+    /// The line is longer than a line may be, and no later one is read.
+    TooLong,
+    /// Nobody is logged in.
+    NotLoggedIn,
+    /// There is no room for the event.
+    Full,
+    /// A disk failed, and the store takes no more steps.
+    Stopped,
     /// Out of memory, and nothing changed.
     NoMemory,
 }

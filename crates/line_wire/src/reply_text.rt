@@ -47,6 +47,10 @@ fn write_text(alloc: Global, out: &mut Bytes, reply: &LineReply) -> Result<(), N
         LineReply::Checked(grant) => write_checked(out, grant),
         LineReply::Unproved(fault) => write_unproved(out, *fault),
         LineReply::Faulty(fault) => write_fault(out, *fault),
+        LineReply::TooLong => put_text(out, "bad 3"),
+        LineReply::NotLoggedIn => put_text(out, "rejected 4"),
+        LineReply::Full => put_text(out, "full"),
+        LineReply::Stopped => put_text(out, "stopped"),
         LineReply::NoMemory => put_text(out, "nomemory"),
     }
 }

@@ -7,7 +7,7 @@ use Rattle.bl_syntax.specs.Names.{is_text_byte, is_text}
 use Rattle.line_text.specs.Words.{has_first, is_word_end, HasNo}
 use Rattle.line_text.proofs.WordLemmas.{HasNo-all}
 use Rattle.line_words.specs.Cutting.{Position, beginning, quoted, plain, ends, next, Cut, with_byte, cut_from, first_cut}
-use Rattle.line_words.specs.Lengths.{place_of, first_len}
+use Rattle.line_words.specs.Lengths.{place_of_byte, first_len}
 
 -- so many bytes, and what stands after them
 abbrev pub cut_at : ℕ → List ℕ → Cut
@@ -19,9 +19,9 @@ plain_step : (is_end : Bool) (byte : ℕ) (bytes : List ℕ) (n : ℕ) → cut_f
 plain_step true byte bytes n h = refl
 plain_step false byte bytes n h = rw (one-add, h) refl
 
-cut_plain : (line : List ℕ) → cut_from plain line ≡ cut_at (place_of 32 line) line
+cut_plain : (line : List ℕ) → cut_from plain line ≡ cut_at (place_of_byte 32 line) line
 cut_plain [] = refl
-cut_plain (byte ∷ bytes) = plain_step (byte == 32) byte bytes (place_of 32 bytes) (cut_plain bytes)
+cut_plain (byte ∷ bytes) = plain_step (byte == 32) byte bytes (place_of_byte 32 bytes) (cut_plain bytes)
 
 -- one more byte between quotes
 quoted_more : (byte : ℕ) (bytes : List ℕ) (m p : ℕ) → cut_from quoted bytes ≡ cut_at (m + p) bytes → with_byte byte (cut_from quoted bytes) ≡ cut_at ((1 + m) + p) (byte ∷ bytes)
@@ -31,27 +31,27 @@ drop_one : (byte : ℕ) (bytes : List ℕ) (m : ℕ) → drop (1 + m) (byte ∷ 
 drop_one byte bytes m = rw one-add refl
 
 -- between quotes up to the closing one, and on to the next space
-quoted_open : (byte : ℕ) (bytes : List ℕ) (m : ℕ) → cut_from quoted bytes ≡ cut_at (m + place_of 32 (drop m bytes)) bytes
-    → with_byte byte (cut_from quoted bytes) ≡ cut_at ((1 + m) + place_of 32 (drop (1 + m) (byte ∷ bytes))) (byte ∷ bytes)
-quoted_open byte bytes m h = rw drop_one (quoted_more byte bytes m (place_of 32 (drop m bytes)) h)
+quoted_open : (byte : ℕ) (bytes : List ℕ) (m : ℕ) → cut_from quoted bytes ≡ cut_at (m + place_of_byte 32 (drop m bytes)) bytes
+    → with_byte byte (cut_from quoted bytes) ≡ cut_at ((1 + m) + place_of_byte 32 (drop (1 + m) (byte ∷ bytes))) (byte ∷ bytes)
+quoted_open byte bytes m h = rw drop_one (quoted_more byte bytes m (place_of_byte 32 (drop m bytes)) h)
 
-quoted_close : (bytes : List ℕ) → with_byte 34 (cut_from plain bytes) ≡ cut_at (0 + place_of 32 (34 ∷ bytes)) (34 ∷ bytes)
-quoted_close bytes = rw zero-add (plain_step false 34 bytes (place_of 32 bytes) (cut_plain bytes))
+quoted_close : (bytes : List ℕ) → with_byte 34 (cut_from plain bytes) ≡ cut_at (0 + place_of_byte 32 (34 ∷ bytes)) (34 ∷ bytes)
+quoted_close bytes = rw zero-add (plain_step false 34 bytes (place_of_byte 32 bytes) (cut_plain bytes))
 
-quoted_step : (is_close : Bool) (byte : ℕ) (bytes : List ℕ) (m : ℕ) → (byte == 34) ≡ is_close → cut_from quoted bytes ≡ cut_at (m + place_of 32 (drop m bytes)) bytes
-    → with_byte byte (cut_from (cond is_close plain quoted) bytes) ≡ cut_at (cond (not is_close) (1 + m) 0 + place_of 32 (drop (cond (not is_close) (1 + m) 0) (byte ∷ bytes))) (byte ∷ bytes)
+quoted_step : (is_close : Bool) (byte : ℕ) (bytes : List ℕ) (m : ℕ) → (byte == 34) ≡ is_close → cut_from quoted bytes ≡ cut_at (m + place_of_byte 32 (drop m bytes)) bytes
+    → with_byte byte (cut_from (cond is_close plain quoted) bytes) ≡ cut_at (cond (not is_close) (1 + m) 0 + place_of_byte 32 (drop (cond (not is_close) (1 + m) 0) (byte ∷ bytes))) (byte ∷ bytes)
 quoted_step true byte bytes m is h = let e : byte ≡ 34 = eqb-true byte 34 is in rw e (quoted_close bytes)
 quoted_step false byte bytes m is h = quoted_open byte bytes m h
 
-cut_quoted : (line : List ℕ) → cut_from quoted line ≡ cut_at (place_of 34 line + place_of 32 (drop (place_of 34 line) line)) line
+cut_quoted : (line : List ℕ) → cut_from quoted line ≡ cut_at (place_of_byte 34 line + place_of_byte 32 (drop (place_of_byte 34 line) line)) line
 cut_quoted [] = refl
-cut_quoted (byte ∷ bytes) = quoted_step (byte == 34) byte bytes (place_of 34 bytes) refl (cut_quoted bytes)
+cut_quoted (byte ∷ bytes) = quoted_step (byte == 34) byte bytes (place_of_byte 34 bytes) refl (cut_quoted bytes)
 
 begin_step : (is_quote : Bool) (byte : ℕ) (bytes : List ℕ) → (byte == 34) ≡ is_quote
     → cond (byte == 32) (record { word = []; behind = byte ∷ bytes }) (with_byte byte (cut_from (cond is_quote quoted plain) bytes))
-    ≡ cut_at (cond is_quote (1 + place_of 34 bytes) 0 + place_of 32 (drop (cond is_quote (1 + place_of 34 bytes) 0) (byte ∷ bytes))) (byte ∷ bytes)
-begin_step true byte bytes is = let e : byte ≡ 34 = eqb-true byte 34 is in rw e (quoted_open 34 bytes (place_of 34 bytes) (cut_quoted bytes))
-begin_step false byte bytes is = rw zero-add (plain_step (byte == 32) byte bytes (place_of 32 bytes) (cut_plain bytes))
+    ≡ cut_at (cond is_quote (1 + place_of_byte 34 bytes) 0 + place_of_byte 32 (drop (cond is_quote (1 + place_of_byte 34 bytes) 0) (byte ∷ bytes))) (byte ∷ bytes)
+begin_step true byte bytes is = let e : byte ≡ 34 = eqb-true byte 34 is in rw e (quoted_open 34 bytes (place_of_byte 34 bytes) (cut_quoted bytes))
+begin_step false byte bytes is = rw zero-add (plain_step (byte == 32) byte bytes (place_of_byte 32 bytes) (cut_plain bytes))
 
 pub first_cut-len : (line : List ℕ) → first_cut line ≡ cut_at (first_len line) line
 first_cut-len [] = refl

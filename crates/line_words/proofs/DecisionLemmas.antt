@@ -26,13 +26,13 @@ use Rattle.procap.specs.declared.procap.Procap.{Procap}
 use Rattle.procap.specs.Procap.{procap_spelling, procap_at}
 use Rattle.procap.proofs.ProcapLemmas.{procap_codec}
 use Rattle.line_words.specs.Cited.{AreJoined, one_number, more_numbers, IsCited}
-use Rattle.line_words.specs.Grammar.{IsName, is_name_word, IsPrincipal, IsData, IsQuoted, IsPermission, IsSignature, IsSigned, by_ring, by_bytes}
-use Rattle.line_words.specs.Numbers.{IsDigits, IsInteger, plain, negated, IsSecond, IsNumberBelow, IsNumber, IsFile, IsIssue}
+use Rattle.line_words.specs.Grammar.{IsName, is_name_word, IsPrincipal, IsData, IsQuoted, IsPermission, IsSignature, IsSignatureHex, IsSigned, by_ring, by_bytes}
+use Rattle.line_words.specs.Numbers.{IsDigits, IsInteger, plain, negated, IsSecond, IsNumberBelow, IsNumber, IsLongNumber, IsFile, IsIssue}
 use Rattle.line_words.specs.Numerals.{IsPlain}
-use Rattle.line_words.specs.Procaps.{IsHeld, IsProcapWord, by_number, held}
-use Rattle.line_words.specs.declared.procap_word.ProcapWord.TheVariants.{Held, Issue}
+use Rattle.line_words.specs.Procaps.{IsProcapHex, IsProcapWord, by_number, by_spelling}
+use Rattle.line_words.specs.declared.procap_word.ProcapWord.TheVariants.{Procap as BySpelling, Issue}
 use Rattle.line_words.proofs.CitedLemmas.{rising-short, rising-more, rising-fewer, IsFirst, alone, followed, first_of, no_first, AreJoined-same}
-use Rattle.line_words.proofs.NumeralLemmas.{number_of, IsWritten-below, IsInteger-from_minus, IsInteger-unique, IsNumber-unique}
+use Rattle.line_words.proofs.NumeralLemmas.{number_of, IsWritten-below, IsInteger-from_minus, IsInteger-unique, IsNumberBelow-unique}
 use Rattle.line_words.proofs.ProcapLemmas.{number_of_word, not_given}
 
 -- there is such a value, or there is none
@@ -124,10 +124,10 @@ file_decided (byte ∷ digits) = elim (cases_eq byte 35) [
 
 pub issue_decided : (word : List ℕ) → IsDecided (IsIssue word)
 issue_decided word =
-    refined (IsNumber word) (IsIssue word) (number_decided (2 ^ 32) (omega arith) word) (λ n h. elim (cases_lt 0 n) [
+    refined (IsLongNumber word) (IsIssue word) (number_decided (2 ^ 64) (omega arith) word) (λ n h. elim (cases_lt 0 n) [
       | inl some ↦ inl (record { number_is = h; some = omega arith })
       | inr none ↦ inr (λ i. omega (arith, i.some, none))
-    ]) (λ m n h k. IsNumber-unique h k) (λ n i. i.number_is)
+    ]) (λ m n h k. IsNumberBelow-unique (2 ^ 64) (omega arith) h k) (λ n i. i.number_is)
 
 no_integer : {word : List ℕ} {n : ℤ} → IsInteger word n → (IsDigits word → ⊥) → ((digits : List ℕ) → word ≡ 45 ∷ digits → IsDigits digits → ⊥) → ⊥
 no_integer (plain digits h) not_plain not_negated = not_plain h
@@ -291,6 +291,13 @@ data_decided word =
       | inr few ↦ inl (record { hex = h; few = few })
     ]) (IsHex-same word) (λ bytes d. d.hex)
 
+pub signature_hex_decided : (word : List ℕ) → IsDecided (IsSignatureHex word)
+signature_hex_decided word =
+    refined (IsHex word) (IsSignatureHex word) (hex_decided word) (λ bytes h. elim (cases_lt 32768 (length bytes)) [
+      | inl many ↦ inr (λ s. omega (arith, s.few, many))
+      | inr few ↦ inl (record { hex = h; few = few })
+    ]) (IsHex-same word) (λ bytes s. s.hex)
+
 long_signature : (word bytes : List ℕ) → IsHex word bytes → 1 ≤ length bytes → IsSignature word bytes ⊎ (IsSignature word bytes → ⊥)
 long_signature word bytes h some = elim (cases_lt 32768 (length bytes)) [
   | inl many ↦ inr (λ s. omega (arith, s.few, many))
@@ -391,37 +398,37 @@ rest_of (Ok x) = x.1
 rest_of (Err e) = []
 
 -- what is read of the bytes of a procap
-read_again : (word bytes : List ℕ) (p : Procap) → IsHex word bytes → IsHeld word p → procap_at (length bytes) bytes ≡ Ok (p, [])
+read_again : (word bytes : List ℕ) (p : Procap) → IsHex word bytes → IsProcapHex word p → procap_at (length bytes) bytes ≡ Ok (p, [])
 read_again word bytes p is h =
     let bytes_are : bytes ≡ procap_spelling p ++ [] = IsHex-same word bytes (procap_spelling p) is h.hex ∙ sym (append-nil (procap_spelling p)) in
     subst (λ b. procap_at (length bytes) b ≡ Ok (p, [])) (sym bytes_are) (procap_codec.again (length bytes) p [] h.spelled)
 
-by_rest : (word bytes : List ℕ) (p : Procap) (rest : List ℕ) → IsHex word bytes → procap_at (length bytes) bytes ≡ Ok (p, rest) → IsDecided (IsHeld word)
+by_rest : (word bytes : List ℕ) (p : Procap) (rest : List ℕ) → IsHex word bytes → procap_at (length bytes) bytes ≡ Ok (p, rest) → IsDecided (IsProcapHex word)
 by_rest word bytes p [] hex is =
     let found = procap_codec.found (length bytes) bytes [] p hex.in_range is in
     inl (p, record { spelled = found.0; hex = subst (IsHex word) (found.1 ∙ append-nil (procap_spelling p)) hex })
 by_rest word bytes p (byte ∷ rest) hex is = inr (λ q h. let never : [] ≡ byte ∷ rest = ap rest_of (sym (read_again word bytes q hex h) ∙ is) in absurd (cc))
 
-by_reading : (word bytes : List ℕ) → IsHex word bytes → (r : Result (Procap × List ℕ) CodecFault) → procap_at (length bytes) bytes ≡ r → IsDecided (IsHeld word)
+by_reading : (word bytes : List ℕ) → IsHex word bytes → (r : Result (Procap × List ℕ) CodecFault) → procap_at (length bytes) bytes ≡ r → IsDecided (IsProcapHex word)
 by_reading word bytes hex (Ok pair) is = by_rest word bytes pair.0 pair.1 hex is
 by_reading word bytes hex (Err e) is = inr (λ q h. let both : ◌≡◌ {A = Result (Procap × List ℕ) CodecFault} (Ok (q, [])) (Err e) = sym (read_again word bytes q hex h) ∙ is in absurd (cc))
 
-held_decided : (word : List ℕ) → IsDecided (IsHeld word)
-held_decided word = elim (hex_decided word) [
+pub procap_hex_decided : (word : List ℕ) → IsDecided (IsProcapHex word)
+procap_hex_decided word = elim (hex_decided word) [
   | inl one ↦ by_reading word one.0 one.1 (procap_at (length one.0) one.0) refl
   | inr none ↦ inr (λ p h. none (procap_spelling p) h.hex)
 ]
 
 without_sign : (word : List ℕ) → ((rest : List ℕ) → word ≢ codes "@" ++ rest) → IsDecided (IsProcapWord word)
-without_sign word no_sign = elim (held_decided word) [
-  | inl one ↦ inl (Held one.0, held word one.0 one.1)
+without_sign word no_sign = elim (procap_hex_decided word) [
+  | inl one ↦ inl (BySpelling one.0, by_spelling word one.0 one.1)
   | inr none ↦ inr (λ given h. not_given h no_sign none)
 ]
 
 pub procap_decided : (word : List ℕ) → IsDecided (IsProcapWord word)
 procap_decided [] = without_sign [] (λ rest same. absurd (cc))
 procap_decided (byte ∷ digits) = elim (cases_eq byte 64) [
-  | inl sign ↦ elim (number_decided (2 ^ 32) (omega arith) digits) [
+  | inl sign ↦ elim (number_decided (2 ^ 64) (omega arith) digits) [
     | inl one ↦ inl (Issue one.0, subst (λ b. IsProcapWord (b ∷ digits) (Issue one.0)) (sym sign) (by_number digits one.0 one.1))
     | inr none ↦ inr (λ given h. let of = number_of_word h digits (ap (λ b. b ∷ digits) sign) in none of.0 of.1)
   ]

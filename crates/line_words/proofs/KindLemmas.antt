@@ -1,13 +1,15 @@
 -- A word of a kind writes one thing.
-use Rattle.std.proofs.Common.{◌≡◌, ◌^◌, ℕ, List, [], ◌∷◌, ◌++◌, refl, sym, ap, ◌∙◌, arith}
+use Rattle.std.proofs.Common.{◌≡◌, ◌^◌, ℕ, List, [], ◌∷◌, ◌++◌, Some, refl, sym, ap, ◌∙◌, arith}
 use Rattle.line_words.specs.declared.kinds.WordKind.{WordKind}
-use Rattle.line_words.specs.declared.kinds.WordKind.TheVariants.{Node, Target, Name, NewName, Offset, Len, Most, Data, Value, Who, Permission, Second, Issue, Cited, Signature, Procap}
+use Rattle.line_words.specs.declared.kinds.WordKind.TheVariants.{Node, Target, Name, NewName, Offset, Len, Most, Data, Value, Who, Permission, Second, Issue, Cited, Signature, Procap, SignatureHex, ProcapHex}
 use Rattle.line_words.specs.declared.arguments.Arguments.{Arguments}
+use Rattle.line_words.specs.declared.procap_word.ProcapWord.TheVariants.{Procap as BySpelling}
+use Rattle.line_text.proofs.HexLemmas.{IsHex-same}
 use Rattle.line_words.specs.Kinds.{Sets}
-use Rattle.line_words.proofs.NumeralLemmas.{IsFile-unique, IsNumberBelow-unique, IsSecond-unique, IsNumber-unique}
+use Rattle.line_words.proofs.NumeralLemmas.{IsFile-unique, IsNumberBelow-unique, IsSecond-unique}
 use Rattle.line_words.proofs.GrammarLemmas.{IsName-unique, IsPrincipal-unique, IsData-unique, IsQuoted-unique, permission-unique}
 use Rattle.line_words.proofs.CitedLemmas.{AreJoined-same}
-use Rattle.line_words.proofs.ProcapLemmas.{IsProcapWord-same, IsSigned-same}
+use Rattle.line_words.proofs.ProcapLemmas.{IsProcapHex-same, IsProcapWord-same, IsSigned-same}
 
 pub Sets-unique : (kind : WordKind) (word : List ℕ) (before first second : Arguments) → Sets kind word before first → Sets kind word before second → first ≡ second
 Sets-unique Node word before first second h k = h.1 ∙ ap (λ x. record before { node = x }) (IsFile-unique h.0 k.0) ∙ sym k.1
@@ -22,7 +24,9 @@ Sets-unique Value word before first second h k = h.1 ∙ ap (λ x. record before
 Sets-unique Who word before first second h k = h.1 ∙ ap (λ x. record before { who = x }) (IsPrincipal-unique h.0 k.0) ∙ sym k.1
 Sets-unique Permission word before first second h k = h.1 ∙ ap (λ x. record before { perm = x }) (permission-unique first.perm second.perm (sym h.0 ∙ k.0)) ∙ sym k.1
 Sets-unique Second word before first second h k = h.1 ∙ ap (λ x. record before { second = x }) (IsSecond-unique h.0 k.0) ∙ sym k.1
-Sets-unique Issue word before first second h k = h.1 ∙ ap (λ x. record before { issue = x }) (IsNumber-unique h.0.number_is k.0.number_is) ∙ sym k.1
+Sets-unique Issue word before first second h k = h.1 ∙ ap (λ x. record before { issue = x }) (IsNumberBelow-unique (2 ^ 64) (omega arith) h.0.number_is k.0.number_is) ∙ sym k.1
 Sets-unique Cited word before first second h k = h.1 ∙ ap (λ x. record before { cited = x }) (AreJoined-same h.0.joined word second.cited refl k.0.joined) ∙ sym k.1
 Sets-unique Signature word before first second h k = h.1 ∙ ap (λ x. record before { signature = x }) (IsSigned-same h.0 word second.signature refl k.0) ∙ sym k.1
 Sets-unique Procap word before first second h k = h.2 ∙ ap (λ x. record before { procaps = before.procaps ++ x ∷ [] }) (IsProcapWord-same h.1 word k.0 refl k.1) ∙ sym k.2
+Sets-unique SignatureHex word before first second h k = h.2 ∙ ap (λ x. record before { signature = Some x }) (IsHex-same word h.0 k.0 h.1.hex k.1.hex) ∙ sym k.2
+Sets-unique ProcapHex word before first second h k = h.2 ∙ ap (λ x. record before { procaps = before.procaps ++ BySpelling x ∷ [] }) (IsProcapHex-same word h.0 k.0 h.1 k.1) ∙ sym k.2

@@ -1,5 +1,5 @@
 -- A word in the place of a procap or of a signature is one thing only.
-use Rattle.std.proofs.Common.{◌≡◌, ◌≢◌, ℕ, List, [], ◌∷◌, ◌++◌, length, not, Option, MatchOption, Some, None, refl, sym, ap, ◌∙◌, subst, arith}
+use Rattle.std.proofs.Common.{◌≡◌, ◌≢◌, ◌^◌, ℕ, List, [], ◌∷◌, ◌++◌, length, not, Option, MatchOption, Some, None, refl, sym, ap, ◌∙◌, subst, arith}
 use Rattle.std.specs.Prelude.{codes, ◌==◌}
 use Rattle.std.proofs.lemmas.Bool.{false≢true}
 use Rattle.std.proofs.lemmas.Option.{none-some, same_Some}
@@ -10,55 +10,55 @@ use Rattle.procap.specs.declared.procap.Procap.{Procap}
 use Rattle.procap.specs.Procap.{procap_spelling, IsSpellableProcap}
 use Rattle.procap.proofs.ProcapLemmas.{procap_codec}
 use Rattle.line_words.specs.declared.procap_word.ProcapWord.{ProcapWord}
-use Rattle.line_words.specs.declared.procap_word.ProcapWord.TheVariants.{Held, Issue}
+use Rattle.line_words.specs.declared.procap_word.ProcapWord.TheVariants.{Procap as BySpelling, Issue}
 use Rattle.line_text.specs.Words.{HasNo}
-use Rattle.line_words.specs.Numbers.{IsNumber}
-use Rattle.line_words.specs.Procaps.{IsHeld, IsProcapWord, by_number, held}
+use Rattle.line_words.specs.Numbers.{IsLongNumber}
+use Rattle.line_words.specs.Procaps.{IsProcapHex, IsProcapWord, by_number, by_spelling}
 use Rattle.line_words.specs.Grammar.{IsSignature, IsSigned, by_ring, by_bytes}
-use Rattle.line_words.proofs.NumeralLemmas.{IsNumber-unique}
+use Rattle.line_words.proofs.NumeralLemmas.{IsNumberBelow-unique}
 
 -- ---- procaps
 
 pub procap-unique : (p q : Procap) → IsSpellableProcap p → IsSpellableProcap q → procap_spelling p ≡ procap_spelling q → p ≡ q
 procap-unique p q first second same = (procap_codec.apart p q [] [] first second (ap (λ l. l ++ []) same)).0
 
-IsHeld-same : (word : List ℕ) (p q : Procap) → IsHeld word p → IsHeld word q → p ≡ q
-IsHeld-same word p q first second =
+pub IsProcapHex-same : (word : List ℕ) (p q : Procap) → IsProcapHex word p → IsProcapHex word q → p ≡ q
+IsProcapHex-same word p q first second =
     procap-unique p q first.spelled second.spelled (IsHex-same word (procap_spelling p) (procap_spelling q) first.hex second.hex)
 
 -- what a word holds whose bytes are read
-pub IsHeld-read : (word bytes : List ℕ) → IsHex word bytes → (read : Option Procap) → MatchOption read ((p : Procap) → IsSpellableProcap p → bytes ≡ procap_spelling p → ⊥) (λ p. IsSpellableProcap p × (bytes ≡ procap_spelling p))
-    → MatchOption read ((p : Procap) → IsHeld word p → ⊥) (IsHeld word)
-IsHeld-read word bytes is None none = λ p h. none p h.spelled (IsHex-same word bytes (procap_spelling p) is h.hex)
-IsHeld-read word bytes is (Some p) h = record { spelled = h.0; hex = subst (IsHex word) h.1 is }
+pub IsProcapHex-read : (word bytes : List ℕ) → IsHex word bytes → (read : Option Procap) → MatchOption read ((p : Procap) → IsSpellableProcap p → bytes ≡ procap_spelling p → ⊥) (λ p. IsSpellableProcap p × (bytes ≡ procap_spelling p))
+    → MatchOption read ((p : Procap) → IsProcapHex word p → ⊥) (IsProcapHex word)
+IsProcapHex-read word bytes is None none = λ p h. none p h.spelled (IsHex-same word bytes (procap_spelling p) is h.hex)
+IsProcapHex-read word bytes is (Some p) h = record { spelled = h.0; hex = subst (IsHex word) h.1 is }
 
 -- an `@` is no digit
 pub no_sign : (digits bytes : List ℕ) → IsHex (64 ∷ digits) bytes → ⊥
 no_sign digits bytes is = false≢true (IsHex-all (λ byte. not (byte == 64)) refl refl (64 ∷ digits) bytes is)
 
-pub number_of_word : {word : List ℕ} {given : ProcapWord} → IsProcapWord word given → (digits : List ℕ) → word ≡ 64 ∷ digits → (number : ℕ) × IsNumber digits number × (given ≡ Issue number)
+pub number_of_word : {word : List ℕ} {given : ProcapWord} → IsProcapWord word given → (digits : List ℕ) → word ≡ 64 ∷ digits → (number : ℕ) × IsLongNumber digits number × (given ≡ Issue number)
 number_of_word (by_number ds number h) digits same =
     let digits_are : ds ≡ digits = let both : 64 ∷ ds ≡ 64 ∷ digits = same in cc in
-    (number, subst (λ w. IsNumber w number) digits_are h, refl)
-number_of_word (held word p h) digits same = absurd (no_sign digits (procap_spelling p) (subst (λ w. IsHex w (procap_spelling p)) same h.hex))
+    (number, subst (λ w. IsLongNumber w number) digits_are h, refl)
+number_of_word (by_spelling word p h) digits same = absurd (no_sign digits (procap_spelling p) (subst (λ w. IsHex w (procap_spelling p)) same h.hex))
 
-pub IsProcapWord-number : (word digits : List ℕ) (number issue : ℕ) → word ≡ 64 ∷ digits → IsNumber digits number → issue ≡ number → IsProcapWord word (Issue issue)
-IsProcapWord-number word digits number issue same h is = rw (same, is) (by_number digits number h)
+pub IsProcapWord-number : (word digits : List ℕ) (number : ℕ) → word ≡ 64 ∷ digits → IsLongNumber digits number → IsProcapWord word (Issue number)
+IsProcapWord-number word digits number same h = rw same (by_number digits number h)
 
 pub IsProcapWord-same : {word : List ℕ} {first : ProcapWord} → IsProcapWord word first → (other : List ℕ) (second : ProcapWord) → word ≡ other → IsProcapWord other second → first ≡ second
 IsProcapWord-same (by_number digits m h) other second same k =
     let of = number_of_word k digits (sym same) in
-    ap Issue (IsNumber-unique h of.1) ∙ sym of.2
-IsProcapWord-same (held word p h) other second same (by_number digits n k) = absurd (no_sign digits (procap_spelling p) (subst (λ w. IsHex w (procap_spelling p)) same h.hex))
-IsProcapWord-same (held word p h) other second same (held w q k) = ap Held (IsHeld-same w p q (subst (λ v. IsHeld v p) same h) k)
+    ap Issue (IsNumberBelow-unique (2 ^ 64) (omega arith) h of.1) ∙ sym of.2
+IsProcapWord-same (by_spelling word p h) other second same (by_number digits n k) = absurd (no_sign digits (procap_spelling p) (subst (λ w. IsHex w (procap_spelling p)) same h.hex))
+IsProcapWord-same (by_spelling word p h) other second same (by_spelling w q k) = ap BySpelling (IsProcapHex-same w p q (subst (λ v. IsProcapHex v p) same h) k)
 
 -- what is written of a procap gives it
-pub IsProcapWord-shown : (p : Procap) → IsSpellableProcap p → AreBytes (procap_spelling p) → IsProcapWord (hex_word (procap_spelling p)) (Held p)
-IsProcapWord-shown p spelled fits = held (hex_word (procap_spelling p)) p (record { spelled = spelled; hex = record { in_range = fits; word_is = refl } })
+pub IsProcapWord-shown : (p : Procap) → IsSpellableProcap p → AreBytes (procap_spelling p) → IsProcapWord (hex_word (procap_spelling p)) (BySpelling p)
+IsProcapWord-shown p spelled fits = by_spelling (hex_word (procap_spelling p)) p (record { spelled = spelled; hex = record { in_range = fits; word_is = refl } })
 
-pub not_given : {word : List ℕ} {given : ProcapWord} → IsProcapWord word given → ((rest : List ℕ) → word ≢ codes "@" ++ rest) → ((p : Procap) → IsHeld word p → ⊥) → ⊥
+pub not_given : {word : List ℕ} {given : ProcapWord} → IsProcapWord word given → ((rest : List ℕ) → word ≢ codes "@" ++ rest) → ((p : Procap) → IsProcapHex word p → ⊥) → ⊥
 not_given (by_number digits number h) no_sign no_procap = no_sign digits refl
-not_given (held word p h) no_sign no_procap = no_procap p h
+not_given (by_spelling word p h) no_sign no_procap = no_procap p h
 
 -- ---- signatures
 

@@ -1,12 +1,13 @@
 -- A word is of a kind, or of no such kind; words of given kinds come next, or one of them is the first bad one.
-use Rattle.std.proofs.Common.{◌^◌, ◌-◌, ℕ, List, [], ◌∷◌, ◌++◌, length, ◌⊎◌, inl, inr, refl, arith}
+use Rattle.std.proofs.Common.{◌^◌, ◌-◌, ℕ, List, [], ◌∷◌, ◌++◌, length, Some, ◌⊎◌, inl, inr, refl, arith}
 use Rattle.line_words.specs.declared.kinds.WordKind.{WordKind}
-use Rattle.line_words.specs.declared.kinds.WordKind.TheVariants.{Node, Target, Name, NewName, Offset, Len, Most, Data, Value, Who, Permission, Second, Issue, Cited, Signature, Procap}
+use Rattle.line_words.specs.declared.kinds.WordKind.TheVariants.{Node, Target, Name, NewName, Offset, Len, Most, Data, Value, Who, Permission, Second, Issue, Cited, Signature, Procap, SignatureHex, ProcapHex}
 use Rattle.line_words.specs.declared.arguments.Arguments.{Arguments}
+use Rattle.line_words.specs.declared.procap_word.ProcapWord.TheVariants.{Procap as BySpelling}
 use Rattle.line_words.specs.Cutting.{first_cut}
 use Rattle.line_words.specs.Kinds.{Sets, IsOutside}
 use Rattle.line_words.specs.Reading.{AreWords, IsBadWord, missing, outside, later}
-use Rattle.line_words.proofs.DecisionLemmas.{number_decided, file_decided, issue_decided, second_decided, name_decided, principal_decided, quoted_decided, permission_decided, data_decided, signed_decided, cited_decided, procap_decided}
+use Rattle.line_words.proofs.DecisionLemmas.{number_decided, file_decided, issue_decided, second_decided, name_decided, principal_decided, quoted_decided, permission_decided, data_decided, signature_hex_decided, signed_decided, cited_decided, procap_hex_decided, procap_decided}
 
 -- the word sets the field, or it is of no such kind
 abbrev IsTold : WordKind → List ℕ → Arguments → Type 0
@@ -30,6 +31,14 @@ set_or_outside Cited word before = elim (cited_decided word) [ inl one ↦ inl (
 set_or_outside Signature word before = elim (signed_decided word) [ inl one ↦ inl (record before { signature = one.0 }, (one.1, refl)) | inr none ↦ inr (λ b a h. none a.signature h.0) ]
 set_or_outside Procap word before = elim (procap_decided word) [
   | inl one ↦ inl (record before { procaps = before.procaps ++ one.0 ∷ [] }, (one.0, one.1, refl))
+  | inr none ↦ inr (λ b a h. none h.0 h.1)
+]
+set_or_outside SignatureHex word before = elim (signature_hex_decided word) [
+  | inl one ↦ inl (record before { signature = Some one.0 }, (one.0, one.1, refl))
+  | inr none ↦ inr (λ b a h. none h.0 h.1)
+]
+set_or_outside ProcapHex word before = elim (procap_hex_decided word) [
+  | inl one ↦ inl (record before { procaps = before.procaps ++ BySpelling one.0 ∷ [] }, (one.0, one.1, refl))
   | inr none ↦ inr (λ b a h. none h.0 h.1)
 ]
 

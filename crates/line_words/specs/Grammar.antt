@@ -45,6 +45,11 @@ pub record IsSignature (word bytes : List ℕ) : Type 0 where
   pub some : 1 ≤ length bytes
   pub few : length bytes ≤ 32768
 
+-- the bytes of a signature in hexadecimal, at most 32,768 of them
+pub record IsSignatureHex (word bytes : List ℕ) : Type 0 where
+  pub hex : IsHex word bytes
+  pub few : length bytes ≤ 32768
+
 -- for a signature: a `-` for the ring's key, or the signature itself
 pub data IsSigned : List ℕ → Option (List ℕ) → Type 0 where
   by_ring : IsSigned (codes "-") None

@@ -28,7 +28,7 @@ pub record IsNumberBelow (limit : ℕ) (word : List ℕ) (number : ℕ) : Type 0
   pub decimal_is : word ≡ decimal number
   pub fits : number < limit
 
--- the number of a statement or an issue
+-- the number of a statement
 abbrev pub IsNumber : List ℕ → ℕ → Type 0
 IsNumber word number = IsNumberBelow (2 ^ 32) word number
 
@@ -48,5 +48,5 @@ pub record IsFile (word : List ℕ) (node : NodeId) : Type 0 where
 
 -- the number of an issue, from 1
 pub record IsIssue (word : List ℕ) (number : ℕ) : Type 0 where
-  pub number_is : IsNumber word number
+  pub number_is : IsLongNumber word number
   pub some : 1 ≤ number

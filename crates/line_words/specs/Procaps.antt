@@ -3,16 +3,16 @@ use Rattle.std.specs.Prelude.{ℕ, List, ◌∷◌}
 use Rattle.line_text.specs.HexWord.{IsHex}
 use Rattle.procap.specs.declared.procap.Procap.{Procap}
 use Rattle.procap.specs.Procap.{procap_spelling, IsSpellableProcap}
-use Rattle.line_words.specs.Numbers.{IsNumber}
+use Rattle.line_words.specs.Numbers.{IsLongNumber}
 use Rattle.line_words.specs.declared.procap_word.ProcapWord.{ProcapWord}
-use Rattle.line_words.specs.declared.procap_word.ProcapWord.TheVariants.{Held, Issue}
+use Rattle.line_words.specs.declared.procap_word.ProcapWord.TheVariants.{Procap as BySpelling, Issue}
 
 -- the bytes of a procap in hexadecimal
-pub record IsHeld (word : List ℕ) (p : Procap) : Type 0 where
+pub record IsProcapHex (word : List ℕ) (p : Procap) : Type 0 where
   pub spelled : IsSpellableProcap p
   pub hex : IsHex word (procap_spelling p)
 
 -- for a procap: an `@` and the number of an issue, or the procap itself
 pub data IsProcapWord : List ℕ → ProcapWord → Type 0 where
-  by_number : (digits : List ℕ) (number : ℕ) → IsNumber digits number → IsProcapWord (64 ∷ digits) (Issue number)
-  held : (word : List ℕ) (p : Procap) → IsHeld word p → IsProcapWord word (Held p)
+  by_number : (digits : List ℕ) (number : ℕ) → IsLongNumber digits number → IsProcapWord (64 ∷ digits) (Issue number)
+  by_spelling : (word : List ℕ) (p : Procap) → IsProcapHex word p → IsProcapWord word (BySpelling p)

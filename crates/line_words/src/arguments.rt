@@ -5,9 +5,9 @@ ghost use Rattle.line_words.specs.Kinds.{blank, Sets, IsOutside};
 
 use crate::cited::cited_numbers;
 use crate::kinds::WordKind;
-use crate::named::{data, name, permission, principal, quoted, signed};
+use crate::named::{data, name, permission, principal, quoted, signature_hex, signed};
 use crate::numerals::{count, file, issue, long_number, second};
-use crate::procap_word::{ProcapWords, procap_word};
+use crate::procap_word::{ProcapWord, ProcapWords, procap_of_hex, procap_word};
 use bl_syntax::{Bytes, NoMemory, NodeId, Numbers, Perm, Principal, Text};
 use std::alloc::Global;
 
@@ -86,6 +86,38 @@ impl Arguments {
         }
     }
 
+    // Sets the signature that the word writes out, and tells whether it writes one.
+    fn set_signature(&mut self, alloc: Global, word: &[u8]) -> Result<bool, NoMemory>
+        ensures set { IfOk result (λ fits. IsTrue fits → Sets WordKind.SignatureHex word.now self.old self.new) }
+        ensures outside { IfOk result (λ fits. fits ≡ false → IsOutside WordKind.SignatureHex word.now) }
+        ensures kept { IfOk result (λ fits. fits ≡ false → self.new ≡ self.old) }
+        ensures err { OnErr result (self.new ≡ self.old) }
+    {
+        match signature_hex(alloc, word)? {
+            Some(bytes) => {
+                self.signature = Some(bytes);
+                Ok(true)
+            }
+            None => Ok(false),
+        }
+    }
+
+    // Adds the procap that the word writes out, and tells whether it writes one.
+    fn add_written_procap(&mut self, alloc: Global, word: &[u8]) -> Result<bool, NoMemory>
+        ensures set { IfOk result (λ fits. IsTrue fits → Sets WordKind.ProcapHex word.now self.old self.new) }
+        ensures outside { IfOk result (λ fits. fits ≡ false → IsOutside WordKind.ProcapHex word.now) }
+        ensures kept { IfOk result (λ fits. fits ≡ false → self.new ≡ self.old) }
+        ensures err { OnErr result (self.new ≡ self.old) }
+    {
+        match procap_of_hex(alloc, word)? {
+            Some(p) => {
+                self.procaps.push(ProcapWord::Procap(p))?;
+                Ok(true)
+            }
+            None => Ok(false),
+        }
+    }
+
     /// Reads a word into the field of its kind. It returns false exactly if the word is not of the kind; then, and if
     /// memory runs out, no field is changed.
     pub fn read(&mut self, alloc: Global, kind: WordKind, word: &[u8]) -> Result<bool, NoMemory>
@@ -103,14 +135,16 @@ impl Arguments {
             WordKind::Len => Ok(put(&mut self.len, long_number(word))),
             WordKind::Most => Ok(put(&mut self.len, count(word))),
             WordKind::Data => Ok(put(&mut self.bytes, data(alloc, word)?)),
-            WordKind::Value => Ok(put(&mut self.value, quoted(word))),
+            WordKind::Value => Ok(put(&mut self.value, quoted_text(word))),
             WordKind::Who => Ok(put(&mut self.who, principal(word))),
             WordKind::Permission => Ok(put(&mut self.perm, permission(word))),
             WordKind::Second => Ok(put(&mut self.second, second(word))),
             WordKind::Issue => Ok(put(&mut self.issue, issue(word))),
             WordKind::Cited => Ok(put(&mut self.cited, cited_numbers(alloc, word)?)),
-            WordKind::Signature => Ok(put(&mut self.signature, signed(alloc, word)?)),
+            WordKind::Signature => Ok(put(&mut self.signature, signature(alloc, word)?)),
             WordKind::Procap => self.add_procap(alloc, word),
+            WordKind::SignatureHex => self.set_signature(alloc, word),
+            WordKind::ProcapHex => self.add_written_procap(alloc, word),
         }
     }
 }

@@ -2,7 +2,7 @@
 
 ghost use Rattle.std.specs.Prelude.{◌≡◌, ◌≤◌, ◌==◌, length, position};
 ghost use Rattle.line_words.specs.Cutting.{first_cut};
-ghost use Rattle.line_words.specs.Lengths.{place_of, closing_place, first_len};
+ghost use Rattle.line_words.specs.Lengths.{place_of_byte, closing_place, first_len};
 
 fn first_stop(line: &[u8], stop: u8) -> Option<usize>
     ensures { result ≡ position (λ byte. byte == stop) line.now }
@@ -11,8 +11,8 @@ fn first_stop(line: &[u8], stop: u8) -> Option<usize>
 }
 
 // The place of the first such byte, or the length.
-fn place_of(line: &[u8], stop: u8) -> usize
-    ensures same { result ≡ place_of stop line.now }
+fn place_of_byte(line: &[u8], stop: u8) -> usize
+    ensures same { result ≡ place_of_byte stop line.now }
     ensures within { result ≤ length line.now }
 {
     first_stop(line, stop).unwrap_or(line.len())
@@ -28,7 +28,7 @@ fn closing_place(line: &[u8]) -> usize
         [] => 0,
         [first, others @ ..] => {
             if *first == b'"' {
-                1 + place_of(others, b'"')
+                1 + place_of_byte(others, b'"')
             } else {
                 0
             }
@@ -42,7 +42,7 @@ fn first_len(line: &[u8]) -> usize
     ensures within { result ≤ length line.now }
 {
     let closing = closing_place(line);
-    closing + place_of(&line[closing..], b' ')
+    closing + place_of_byte(&line[closing..], b' ')
 }
 
 /// The first word of a line, and what stands after it: a space and the rest of the line, or nothing.

@@ -1,5 +1,8 @@
 //! The kinds of words.
 
+ghost use Rattle.std.specs.Prelude.{◌≡◌};
+ghost use Rattle.line_words.specs.Kinds.{kind_in};
+
 /// What a word of a line stands for.
 #[derive(Clone, Copy, Debug, PartialEq, Eq)]
 pub enum WordKind {
@@ -35,4 +38,32 @@ pub enum WordKind {
     Signature,
     /// A procap in hexadecimal, or `@N` for that of an issue.
     Procap,
+    /// A signature of at most 32,768 bytes in hexadecimal.
+    SignatureHex,
+    /// A procap in hexadecimal.
+    ProcapHex,
+}
+
+/// The kind of a word in a line in which signatures and procaps have to be written out, or need not: then a signature is
+/// not left to the ring, nor a procap named by its issue.
+pub fn kind_in(is_written_out: bool, kind: WordKind) -> WordKind
+    ensures { result ≡ kind_in is_written_out kind }
+{
+    match kind {
+        WordKind::Signature => {
+            if is_written_out {
+                WordKind::SignatureHex
+            } else {
+                kind
+            }
+        }
+        WordKind::Procap => {
+            if is_written_out {
+                WordKind::ProcapHex
+            } else {
+                kind
+            }
+        }
+        _ => kind,
+    }
 }

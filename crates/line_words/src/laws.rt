@@ -11,7 +11,7 @@ ghost use Rattle.procap.specs.declared.procap.Procap.{Procap};
 ghost use Rattle.procap.specs.Procap.{procap_spelling, IsSpellableProcap};
 ghost use Rattle.line_words.specs.declared.arguments.Arguments.{Arguments};
 ghost use Rattle.line_words.specs.declared.kinds.WordKind.{WordKind};
-ghost use Rattle.line_words.specs.declared.procap_word.ProcapWord.TheVariants.{Held};
+ghost use Rattle.line_words.specs.declared.procap_word.ProcapWord.TheVariants.{Procap as BySpelling};
 ghost use Rattle.line_words.specs.Cutting.{first_cut};
 ghost use Rattle.line_words.specs.Kinds.{Sets, IsOutside};
 ghost use Rattle.line_words.specs.Grammar.{IsData, IsQuoted};
@@ -85,5 +85,5 @@ pub fn shown_bytes_are_read()
 
 /// The word that is shown of a procap gives that procap.
 pub fn shown_procap_is_given()
-    ensures { (p : Procap) → IsSpellableProcap p → AreBytes (procap_spelling p) → IsProcapWord (hex_word (procap_spelling p)) (Held p) }
+    ensures { (p : Procap) → IsSpellableProcap p → AreBytes (procap_spelling p) → IsProcapWord (hex_word (procap_spelling p)) (BySpelling p) }
 {}

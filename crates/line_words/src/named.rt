@@ -3,7 +3,7 @@
 ghost use Rattle.std.specs.Prelude.{◌≡◌, ◌↔◌, ℕ, List, Option, codes, IsTrue, IfOk, MatchOption};
 ghost use Rattle.std.specs.List.{list_all};
 ghost use Rattle.bl_syntax.specs.declared.terms.Perm.{Perm};
-ghost use Rattle.line_words.specs.Grammar.{is_word_byte, is_name_word, IsName, IsPrincipal, IsData, IsQuoted, IsPermission, IsSignature, IsSigned};
+ghost use Rattle.line_words.specs.Grammar.{is_word_byte, is_name_word, IsName, IsPrincipal, IsData, IsQuoted, IsPermission, IsSignature, IsSignatureHex, IsSigned};
 
 use bl_syntax::{Bytes, NoMemory, Perm, Principal, Text};
 use line_text::{read_hex, rest_after, split_word};
@@ -78,7 +78,7 @@ fn is_quote(bytes: &[u8]) -> bool
 }
 
 /// The text constant that the word has between quotes.
-pub fn quoted(word: &[u8]) -> Option<Text>
+pub fn quoted_text(word: &[u8]) -> Option<Text>
     ensures { MatchOption result ((text : List ℕ) → IsQuoted word.now text → ⊥) (IsQuoted word.now) }
 {
     match rest_after(word, b"\"") {
@@ -107,8 +107,24 @@ pub fn permission(word: &[u8]) -> Option<Perm>
     }
 }
 
-// The signature whose bytes the word writes in hexadecimal.
-fn signature(alloc: Global, word: &[u8]) -> Result<Option<Bytes>, NoMemory>
+/// The signature whose bytes the word writes in hexadecimal, if there are at most 32,768.
+pub fn signature_hex(alloc: Global, word: &[u8]) -> Result<Option<Bytes>, NoMemory>
+    ensures { IfOk result (λ r. MatchOption r ((bytes : List ℕ) → IsSignatureHex word.now bytes → ⊥) (IsSignatureHex word.now)) }
+{
+    match read_hex(alloc, word)? {
+        Some(bytes) => {
+            if bytes.len() <= MOST_SIGNATURE {
+                Ok(Some(bytes))
+            } else {
+                Ok(None)
+            }
+        }
+        None => Ok(None),
+    }
+}
+
+// The signature of some bytes that the word writes in hexadecimal.
+fn some_signature(alloc: Global, word: &[u8]) -> Result<Option<Bytes>, NoMemory>
     ensures { IfOk result (λ r. MatchOption r ((bytes : List ℕ) → IsSignature word.now bytes → ⊥) (IsSignature word.now)) }
 {
     match read_hex(alloc, word)? {
@@ -130,13 +146,13 @@ fn is_dash(word: &[u8]) -> bool
 }
 
 /// What the word gives for a signature: none for the ring's key if it is a `-`, or the signature.
-pub fn signed(alloc: Global, word: &[u8]) -> Result<Option<Option<Bytes>>, NoMemory>
+pub fn signature(alloc: Global, word: &[u8]) -> Result<Option<Option<Bytes>>, NoMemory>
     ensures { IfOk result (λ r. MatchOption r ((given : Option (List ℕ)) → IsSigned word.now given → ⊥) (IsSigned word.now)) }
 {
     if is_dash(word) {
         return Ok(Some(None));
     }
-    match signature(alloc, word)? {
+    match some_signature(alloc, word)? {
         Some(bytes) => Ok(Some(Some(bytes))),
         None => Ok(None),
     }

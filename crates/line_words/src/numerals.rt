@@ -92,16 +92,12 @@ pub fn number(word: &[u8]) -> Option<u32>
     u32::try_from(digits_value(word)).ok()
 }
 
-/// The number of an issue that the word writes: a number from 1.
+/// The number of an issue that the word writes: a number from 1, below 2^64.
 pub fn issue(word: &[u8]) -> Option<u64>
     ensures { MatchOption result ((n : ℕ) → IsIssue word.now n → ⊥) (IsIssue word.now) }
 {
-    let number = number(word)?;
-    if 1 <= number {
-        Some(u64::from(number))
-    } else {
-        None
-    }
+    let number = long_number(word)?;
+    if 1 <= number { Some(number) } else { None }
 }
 
 /// The number that the word writes: decimal digits without leading zeros, below 2^64.

@@ -4,9 +4,9 @@ ghost use Rattle.std.specs.Prelude.{◌≡◌, IfOk, MatchOption};
 ghost use Rattle.procap.specs.declared.procap.Procap.{Procap};
 ghost use Rattle.procap.specs.Procap.{procap_spelling, IsSpellableProcap};
 ghost use Rattle.line_words.specs.declared.procap_word.ProcapWord.{ProcapWord};
-ghost use Rattle.line_words.specs.Procaps.{IsHeld, IsProcapWord};
+ghost use Rattle.line_words.specs.Procaps.{IsProcapHex, IsProcapWord};
 
-use crate::numerals::number;
+use crate::numerals::long_number;
 use bl_syntax::{CodecFault, NoMemory, Sequence};
 use line_text::{read_hex, rest_after};
 use procap::{Procap, read_procap};
@@ -16,7 +16,7 @@ use std::alloc::Global;
 #[derive(Debug, Drop)]
 pub enum ProcapWord {
     /// The procap itself, by its bytes.
-    Held(Procap),
+    Procap(Procap),
     /// The number of its issue.
     Issue(u64),
 }
@@ -37,9 +37,9 @@ fn procap_of(alloc: Global, bytes: &[u8]) -> Result<Option<Procap>, NoMemory>
     }
 }
 
-// The procap whose bytes the word writes.
-fn held(alloc: Global, word: &[u8]) -> Result<Option<Procap>, NoMemory>
-    ensures { IfOk result (λ r. MatchOption r ((p : Procap) → IsHeld word.now p → ⊥) (IsHeld word.now)) }
+/// The procap whose bytes the word writes in hexadecimal.
+pub fn procap_of_hex(alloc: Global, word: &[u8]) -> Result<Option<Procap>, NoMemory>
+    ensures { IfOk result (λ r. MatchOption r ((p : Procap) → IsProcapHex word.now p → ⊥) (IsProcapHex word.now)) }
 {
     match read_hex(alloc, word)? {
         Some(bytes) => procap_of(alloc, bytes.as_slice()),
@@ -53,13 +53,13 @@ pub fn procap_word(alloc: Global, word: &[u8]) -> Result<Option<ProcapWord>, NoM
     ensures { IfOk result (λ r. MatchOption r ((given : ProcapWord) → IsProcapWord word.now given → ⊥) (IsProcapWord word.now)) }
 {
     if let Some(digits) = rest_after(word, b"@") {
-        return match number(digits) {
-            Some(number) => Ok(Some(ProcapWord::Issue(u64::from(number)))),
+        return match long_number(digits) {
+            Some(number) => Ok(Some(ProcapWord::Issue(number))),
             None => Ok(None),
         };
     }
-    match held(alloc, word)? {
-        Some(p) => Ok(Some(ProcapWord::Held(p))),
+    match procap_of_hex(alloc, word)? {
+        Some(p) => Ok(Some(ProcapWord::Procap(p))),
         None => Ok(None),
     }
 }

@@ -13,7 +13,7 @@ use Rattle.file_world.specs.declared.reply.OpReply.{OpReply}
 use Rattle.file_world.specs.Effect.{refusal, reply}
 use Rattle.file_world.specs.World.{World}
 use Rattle.world_state.specs.State.{WorldState, ReservesWorld}
-use Rattle.access_history.specs.declared.event.Entry.TheVariants as entries
+use Rattle.access_history.specs.declared.event.Addition.TheVariants as additions
 use Rattle.access_history.specs.declared.event.Event.TheVariants.{Acted}
 use Rattle.access_history.specs.declared.reply.Denial.{Denial}
 use Rattle.access_history.specs.declared.reply.StepReply.TheVariants as replies
@@ -45,14 +45,14 @@ refused_decided before after pass clock caller op procaps why count admitted ref
 -- it is done, and its event is to be kept
 pub acted_decided : (before after : HistoryView) (pass : ℕ) (clock : ℤ) (caller : List ℕ) (op given : Op) (procaps : List Procap) (moment : ℤ) (told : OpReply) (pending : Pending) → IsAdmitted before.key (state_of before) caller op procaps (moment_of (state_of before) clock) →
     given ≡ op → moment ≡ moment_of (state_of before) clock → ReservesWorld caller (state_of before).world op (Ok told) (world_of after) →
-    pending ≡ record { event = Acted pass caller given procaps moment; entry = entries.Operation } → IsPlanned before pass clock (Act caller op procaps) (Keep (replies.Operation told) pending) after
+    pending ≡ record { event = Acted pass caller given procaps moment; addition = additions.Operation } → IsPlanned before pass clock (Act caller op procaps) (Keep (replies.Operation told) pending) after
 acted_decided before after pass clock caller op given procaps moment told pending admitted given_is moment_is reserves pending_is =
     kept_decided before after pass clock (Act caller op procaps) (replies.Operation (reply (state_of before).world op)) (Acted pass caller op procaps (moment_of (state_of before) clock)) (Keep (replies.Operation told) pending)
     (acted caller op procaps admitted reserves.0)
     reserves.2 (
       ap (λ (r : OpReply). replies.Operation r) reserves.1,
-      pending_is ∙ ap (λ (o : Op). record { event = Acted pass caller o procaps moment; entry = entries.Operation }) given_is
-          ∙ ap (λ (m : ℤ). record { event = Acted pass caller op procaps m; entry = entries.Operation }) moment_is,
+      pending_is ∙ ap (λ (o : Op). record { event = Acted pass caller o procaps moment; addition = additions.Operation }) given_is
+          ∙ ap (λ (m : ℤ). record { event = Acted pass caller op procaps m; addition = additions.Operation }) moment_is,
     )
 
 -- it has no effect: it is refused, or out of memory

@@ -33,15 +33,16 @@ use Rattle.file_world.specs.Effect.{IsOperation, refusal}
 use Rattle.file_world.specs.Needs.{needs}
 use Rattle.access_history.specs.declared.event.Event.{Event}
 use Rattle.access_history.specs.declared.event.Event.TheVariants.{Registered, Issued, Acted}
-use Rattle.access_history.specs.declared.event.Entry.TheVariants as entries
+use Rattle.access_history.specs.declared.event.Addition.TheVariants as additions
 use Rattle.access_history.specs.declared.reply.StepReply.{StepReply}
 use Rattle.access_history.specs.declared.request.StepRequest.TheVariants.{Act}
 use Rattle.access_history.specs.Admission.{IsAdmitted, IsNeedMet}
 use Rattle.access_history.specs.Answer.{Answers, moment_of, denied, refused, acted}
 use Rattle.access_history.specs.Authority.{Authority, IsSignedStatement, MayBeRegistered, sayings}
 use Rattle.access_history.specs.Base.{BaseView}
-use Rattle.access_history.specs.Citing.{AreCitable, AreFound, DoNumbersRise, IsAbsent, IsGoodIssue, StandsUnderNumber, numbers_of}
-use Rattle.access_history.specs.History.{HistoryView, authority_of, state_of, entry_of, IsReadyFor}
+use Rattle.bl_syntax.specs.Citable.{AreCitable, DoRise}
+use Rattle.access_history.specs.Citing.{AreFound, IsAbsent, IsGoodIssue, StandsUnderNumber, numbers_of}
+use Rattle.access_history.specs.History.{HistoryView, authority_of, state_of, addition_of, IsReadyFor}
 use Rattle.access_history.specs.Keeping.{HasMomentInRange}
 use Rattle.access_history.specs.Lawful.{IsLawfulBase, MayAct}
 use Rattle.access_history.specs.Numbered.{IsNumbered, HasNumber}
@@ -100,7 +101,7 @@ pub registered_pending : (h : HistoryView) (pass : ℕ) (statement : StatementVi
 registered_pending h pass statement signature told pending is may pending_is = record {
   follows = may_register h.key h.ring (state_of h).statements statement signature told is may;
   event_is = ap (λ (p : Pending). p.event) pending_is;
-  entry_is = ap (λ (p : Pending). p.entry) pending_is;
+  addition_is = ap (λ (p : Pending). p.addition) pending_is;
   ready = tt;
 }
 
@@ -147,12 +148,12 @@ refused_proof : (cites : List Cite) (proof : ProofView) (g : GrantView) (fault :
 refused_proof cites proof g fault not_memory fails granted =
     ⊎_elim (λ memory. not_memory memory) (λ is. let both : graded g ≡ refusal_of fault = sym granted.verdict_is ∙ is in absurd cc) fails
 
-numbers_rise : (cites : List Cite) → DoCitesRise cites → DoNumbersRise (numbers_of cites)
+numbers_rise : (cites : List Cite) → DoCitesRise cites → DoRise (numbers_of cites)
 numbers_rise [] rises = tt
 numbers_rise (first ∷ []) rises = tt
 numbers_rise (first ∷ second ∷ others) rises = (rises.0, numbers_rise (second ∷ others) rises.1)
 
-cites_rise : (cites : List Cite) → DoNumbersRise (numbers_of cites) → DoCitesRise cites
+cites_rise : (cites : List Cite) → DoRise (numbers_of cites) → DoCitesRise cites
 cites_rise [] rises = tt
 cites_rise (first ∷ []) rises = tt
 cites_rise (first ∷ second ∷ others) rises = (rises.0, cites_rise (second ∷ others) rises.1)
@@ -232,7 +233,7 @@ issued_found h pass cited proof g cites (Ok pending) counted citable found gives
     record {
       follows = record { cites = cites; cited = sym found.numbers_are; rising = AreCited-numbers cites (subst AreCitable (sym found.numbers_are) citable); stand = found.stand; granted = gives.0 };
       event_is = ap (λ (p : Pending). p.event) is;
-      entry_is = ap (λ (p : Pending). p.entry) is;
+      addition_is = ap (λ (p : Pending). p.addition) is;
       ready = tt;
     }
 issued_found h pass cited proof g cites (Err (Damaged damage)) counted citable found gives =
@@ -323,7 +324,7 @@ acted_pending before after pass caller op procaps moment reply pending base time
         derived = AreDerived-admitted before.key state caller op procaps moment base.good_issues admitted;
       };
       event_is = event;
-      entry_is = planned.1 ∙ ap entry_of event;
+      addition_is = planned.1 ∙ ap addition_of event;
       ready = subst (λ (e : Event). IsReadyFor after e) event planned.2;
     }
 

@@ -2,14 +2,15 @@
 use Rattle.std.proofs.Common.{◌≡◌, ◌≤◌, ◌<◌, ◌+◌, ℕ, List, [], ◌∷◌, ◌++◌, length, take, drop, get_or, refl, sym, ap, subst, ◌∙◌, arith}
 use Rattle.std.specs.List.{AllByRecursion}
 use Rattle.std.proofs.lemmas.List.{map-append, length-map, length-take-le, take-append-drop, take_all, take_more, drop_more}
+use Rattle.bl_syntax.specs.Citable.{DoRise, AreCitable}
 use Rattle.bl_syntax.specs.FirstFailing.{IsFirstFailing}
 use Rattle.bl_syntax.specs.Statement.{StatementView}
 use Rattle.proof_verifier.specs.declared.cites.Cite.{Cite}
 use Rattle.proof_verifier.specs.Cited.{AreCited}
 use Rattle.proof_verifier.specs.Cited as cited
 use Rattle.access_history.specs.Numbered.{IsNumbered, HasNumber}
-use Rattle.access_history.specs.Citing.{DoNumbersRise, AreCitable, numbers_of, StandsUnderNumber, AreFound, IsAbsent, IsMoved}
-use Rattle.access_history.proofs.ListLemmas.{AllByRecursion-push}
+use Rattle.access_history.specs.Citing.{numbers_of, StandsUnderNumber, AreFound, IsAbsent, IsMoved}
+use Rattle.bl_syntax.proofs.GrantLemmas.{AllByRecursion-push}
 use Rattle.access_history.proofs.NumberedLemmas.{HasNumber-item}
 
 -- the first item that lacks a property
@@ -51,7 +52,7 @@ AreFound-more statements numbers place number cites after statement said within 
       (AllByRecursion-push (StandsUnderNumber statements) cites (record { number = number; statement = said }) found.stand (subst (λ (s : StatementView). IsNumbered statements number s) (sym same) numbered));
 }
 
-rising : (cites : List Cite) → DoNumbersRise (numbers_of cites) → cited.DoCitesRise cites
+rising : (cites : List Cite) → DoRise (numbers_of cites) → cited.DoCitesRise cites
 rising [] rises = tt
 rising (first ∷ []) rises = tt
 rising (first ∷ second ∷ others) rises = (rises.0, rising (second ∷ others) rises.1)
@@ -61,4 +62,4 @@ pub AreCited-found : (statements : List StatementView) (numbers : List ℕ) (pla
 AreCited-found statements numbers place cites all found citable =
     let same : numbers_of cites ≡ numbers = found.numbers_are ∙ take_all place numbers all in
     let count : length cites ≡ length numbers = sym (length-map cites (λ (c : Cite). c.number)) ∙ ap length same in
-    record { some = omega (arith, count, citable.some); few = omega (arith, count, citable.few); rising = rising cites (subst DoNumbersRise (sym same) citable.rising) }
+    record { some = omega (arith, count, citable.some); few = omega (arith, count, citable.few); rising = rising cites (subst DoRise (sym same) citable.rising) }

@@ -15,7 +15,7 @@ use Rattle.access_history.specs.declared.reply.StepReply.TheVariants as replies
 use Rattle.access_history.specs.Numbered.{IsNumbered, HasNumber}
 use Rattle.access_history.specs.Citing.{StandsUnderNumber, numbers_of}
 use Rattle.access_history.specs.Authority.{MayBeRegistered, sayings}
-use Rattle.access_history.specs.History.{HistoryView, authority_of, state_of, entry_of, IsReadyFor}
+use Rattle.access_history.specs.History.{HistoryView, authority_of, state_of, addition_of, IsReadyFor}
 use Rattle.access_history.specs.Answer.{Answers, registered, issued}
 use Rattle.op_gate.specs.declared.planned.Planned.{Planned}
 use Rattle.op_gate.specs.declared.planned.Planned.TheVariants.{Answer, Keep, NoMemory}
@@ -30,7 +30,7 @@ kept_decided before after pass clock request reply event (Keep told pending) ans
     let event_is : event ≡ pending.event = sym (ap (λ (p : Pending). p.event) keeps.1) in (
       subst (λ (r : StepReply). Answers (authority_of before) (state_of before) pass clock request r (Some pending.event)) (sym keeps.0)
           (subst (λ (e : Event). Answers (authority_of before) (state_of before) pass clock request reply (Some e)) event_is answers),
-      subst (λ (e : Event). pending.entry ≡ entry_of e) event_is (ap (λ (p : Pending). p.entry) keeps.1),
+      subst (λ (e : Event). pending.addition ≡ addition_of e) event_is (ap (λ (p : Pending). p.addition) keeps.1),
       subst (IsReadyFor after) event_is ready,
     )
 kept_decided before after pass clock request reply event NoMemory answers ready keeps = tt

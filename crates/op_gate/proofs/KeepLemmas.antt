@@ -21,7 +21,7 @@ CanKeep-planned before after pass clock request reply pending same room base at 
     record {
       room = subst (λ (h : HistoryView). 1 ≤ h.room) (sym same) room;
       lawful = subst (λ (h : HistoryView). MayFollow (authority_of h) (state_of h) pending.event) (sym same) follows;
-      entry = planned.1;
+      addition = planned.1;
       ready = planned.2;
     }
 

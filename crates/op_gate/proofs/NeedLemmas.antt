@@ -16,8 +16,8 @@ use Rattle.world_state.specs.Needed.{placed}
 use Rattle.access_history.specs.declared.reply.DenialCause.{DenialCause}
 use Rattle.access_history.specs.Base.{BaseView}
 use Rattle.access_history.specs.Numbered.{IsNumbered}
-use Rattle.access_history.specs.Admission.{Admits, Denies, IsAdmitted, IsDenied, IsNeedMet, Passes, checks, goal_of}
-use Rattle.access_history.proofs.ListLemmas.{AllByRecursion-push}
+use Rattle.access_history.specs.Admission.{Admits, Denies, IsAdmitted, IsDenied, IsNeedMet, Passes, denial_causes, wanted_goal}
+use Rattle.bl_syntax.proofs.GrantLemmas.{AllByRecursion-push}
 use Rattle.access_history.proofs.NumberedLemmas.{none_fails, numbered_item}
 
 abbrev Pair : Type 0
@@ -93,12 +93,12 @@ all_met key state caller op procaps moment pairs place same all met =
     subst (AllByRecursion P) same (subst (λ (xs : List Pair). AllByRecursion P (placed 1 xs)) (take_all place pairs all) met)
 
 -- a need whose procap denies is not met
-not_met : (key : List ℕ) (state : BaseView) (caller : List ℕ) (procaps : List Procap) (moment : ℤ) (wanted : Need) (p : Procap) (cause : DenialCause) → IsNumbered procaps wanted.place p → Denies key state moment (goal_of caller wanted) p cause →
+not_met : (key : List ℕ) (state : BaseView) (caller : List ℕ) (procaps : List Procap) (moment : ℤ) (wanted : Need) (p : Procap) (cause : DenialCause) → IsNumbered procaps wanted.place p → Denies key state moment (wanted_goal caller wanted) p cause →
     IsNeedMet key state caller procaps moment wanted → ⊥
 not_met key state caller procaps moment wanted p cause brought denies met =
     let same : met.procap ≡ p = numbered_item procaps wanted.place met.procap p met.brought brought in
-    let admits : Admits key state moment (goal_of caller wanted) p = subst (λ (q : Procap). Admits key state moment (goal_of caller wanted) q) same met.admits in
-    none_fails (Passes key state moment (goal_of caller wanted) p) (checks p.grant) denies.place cause admits denies.first
+    let admits : Admits key state moment (wanted_goal caller wanted) p = subst (λ (q : Procap). Admits key state moment (wanted_goal caller wanted) q) same met.admits in
+    none_fails (Passes key state moment (wanted_goal caller wanted) p) (denial_causes p.grant) denies.place cause admits denies.first
 
 -- the first need that is not met
 pub denied_at : (key : List ℕ) (state : BaseView) (caller : List ℕ) (op : Op) (procaps : List Procap) (moment : ℤ) (pairs : List Pair) (place : ℕ) (pair : Pair) (p : Procap) (cause : DenialCause) → placed 1 pairs ≡ needs state.world op →

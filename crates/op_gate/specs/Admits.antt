@@ -15,11 +15,12 @@ use Rattle.bl_syntax.specs.Grant.{GrantView}
 use Rattle.bl_syntax.specs.Statement.{StatementView}
 use Rattle.policy_statement.specs.declared.registry.RegisterFault.{RegisterFault}
 use Rattle.policy_statement.specs.declared.registry.RegisterFault.TheVariants as registry
-use Rattle.access_history.specs.declared.event.Entry.TheVariants as entries
+use Rattle.access_history.specs.declared.event.Addition.TheVariants as additions
 use Rattle.access_history.specs.declared.event.Event.{Event}
 use Rattle.access_history.specs.declared.event.Event.TheVariants.{Registered, Issued}
-use Rattle.access_history.specs.Citing.{AreCitable, AreFound, IsGoodIssue, numbers_of}
-use Rattle.access_history.specs.History.{HistoryView, authority_of, state_of, entry_of, IsReadyFor}
+use Rattle.bl_syntax.specs.Citable.{AreCitable}
+use Rattle.access_history.specs.Citing.{AreFound, IsGoodIssue, numbers_of}
+use Rattle.access_history.specs.History.{HistoryView, authority_of, state_of, addition_of, IsReadyFor}
 use Rattle.access_history.specs.Lawful.{MayFollow}
 use Rattle.op_gate.specs.declared.damage.Damage.TheVariants.{Shape, Unsigned, Unproved, Duplicate}
 use Rattle.op_gate.specs.declared.damage.AdmitFault.{AdmitFault}
@@ -31,7 +32,7 @@ use Rattle.op_gate.specs.Damage.{IsDamagedBy}
 pub record IsPendingAs (before after : HistoryView) (event : Event) (pending : Pending) : Type 0 where
   pub follows : MayFollow (authority_of before) (state_of before) event
   pub event_is : pending.event ≡ event
-  pub entry_is : pending.entry ≡ entry_of event
+  pub addition_is : pending.addition ≡ addition_of event
   pub ready : IsReadyFor after event
 
 -- the event is pending, or it has this first damage, or there was no memory
@@ -49,11 +50,11 @@ pub record IsTimely (state : BaseView) (op : Op) (procaps : List Procap) (moment
 
 -- what the state keeps of a statement, pending with its event
 abbrev pub pending_statement : ℕ → StatementView → List ℕ → Pending
-pending_statement pass statement signature = record { event = Registered pass statement signature; entry = entries.Statement statement signature }
+pending_statement pass statement signature = record { event = Registered pass statement signature; addition = additions.Statement statement signature }
 
 -- what the state keeps of an issue, pending with its event
 abbrev pub pending_issue : ℕ → List ℕ → ProofView → GrantView → Pending
-pending_issue pass cited proof g = record { event = Issued pass cited proof g; entry = entries.Issue (record { cited = cited; proof = proof; grant = g }) }
+pending_issue pass cited proof g = record { event = Issued pass cited proof g; addition = additions.Issue (record { cited = cited; proof = proof; grant = g }) }
 
 -- the grant is the verdict on the proof from what is cited and is pending, or it is not, or there was no memory
 abbrev pub GivesIssue : ℕ → List Cite → ProofView → GrantView → Result Pending AdmitFault → Type 0

@@ -14,7 +14,7 @@ use Rattle.access_history.specs.declared.request.StepRequest.{StepRequest}
 use Rattle.access_history.specs.Base.{BaseView}
 use Rattle.access_history.specs.Admission.{IsDenied}
 use Rattle.access_history.specs.Answer.{Answers}
-use Rattle.access_history.specs.History.{HistoryView, authority_of, state_of, entry_of, IsReadyFor}
+use Rattle.access_history.specs.History.{HistoryView, authority_of, state_of, addition_of, IsReadyFor}
 use Rattle.access_history.specs.Lawful.{MayFollow}
 use Rattle.op_gate.specs.declared.planned.Planned.{Planned}
 use Rattle.op_gate.specs.declared.planned.Planned.TheVariants.{Answer, Keep, NoMemory}
@@ -28,7 +28,7 @@ IsDenial key state caller op procaps moment denial =
 -- the plan is this reply with this event, or out of memory
 abbrev pub Keeps : StepReply → Event → Planned → Type 0
 Keeps reply event (Answer told) = ⊥
-Keeps reply event (Keep told pending) = (told ≡ reply) × (pending ≡ record { event = event; entry = entry_of event })
+Keeps reply event (Keep told pending) = (told ≡ reply) × (pending ≡ record { event = event; addition = addition_of event })
 Keeps reply event NoMemory = Unit {0}
 
 -- what is told of an operation without effect, after that many events
@@ -40,7 +40,7 @@ plan_of_fault count faults.NoMemory = NoMemory
 abbrev pub IsPlanned : HistoryView → ℕ → ℤ → StepRequest → Planned → HistoryView → Type 0
 IsPlanned before pass clock request (Answer reply) after = Answers (authority_of before) (state_of before) pass clock request reply None
 IsPlanned before pass clock request (Keep reply pending) after =
-    Answers (authority_of before) (state_of before) pass clock request reply (Some pending.event) × (pending.entry ≡ entry_of pending.event) × IsReadyFor after pending.event
+    Answers (authority_of before) (state_of before) pass clock request reply (Some pending.event) × (pending.addition ≡ addition_of pending.event) × IsReadyFor after pending.event
 IsPlanned before pass clock request NoMemory after = Unit {0}
 
 -- a gate: the key of the seal, the ring of those whose signatures are accepted, the history's base and events, and the event that is decided and not kept yet
@@ -55,5 +55,5 @@ pub record GateView : Type 0 where
 pub record CanKeep (h : HistoryView) (p : Pending) : Type 0 where
   pub room : 1 ≤ h.room
   pub lawful : MayFollow (authority_of h) (state_of h) p.event
-  pub entry : p.entry ≡ entry_of p.event
+  pub addition : p.addition ≡ addition_of p.event
   pub ready : IsReadyFor h p.event

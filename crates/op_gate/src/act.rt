@@ -10,7 +10,7 @@ ghost use Rattle.op_gate.specs.Decision.{IsPlanned, IsDenial, plan_of_fault};
 
 use crate::cause::denial_cause;
 use crate::planned::{Pending, Planned};
-use access_history::{Denial, Entry, Event, History, Procaps, StepReply};
+use access_history::{Addition, Denial, Event, History, Procaps, StepReply};
 use bl_syntax::{Goal, Principal};
 use file_world::{Op, OpFault};
 use procap::Procap;
@@ -73,8 +73,8 @@ pub fn deny(
 }
 
 // The event of an operation, of which the state keeps nothing beside it.
-fn acted(pass: u64, caller: Principal, op: Op, procaps: Procaps, moment: i64) -> Pending
-    ensures { result ≡ record { event = Event.Acted pass caller op procaps moment; entry = Entry.Operation } }
+fn pend_act(pass: u64, caller: Principal, op: Op, procaps: Procaps, moment: i64) -> Pending
+    ensures { result ≡ record { event = Event.Acted pass caller op procaps moment; addition = Addition.Operation } }
 {
     Pending {
         event: Event::Acted {
@@ -84,12 +84,12 @@ fn acted(pass: u64, caller: Principal, op: Op, procaps: Procaps, moment: i64) ->
             procaps,
             moment,
         },
-        entry: Entry::Operation,
+        addition: Addition::Operation,
     }
 }
 
 // What is told of an operation without effect, after that many events.
-fn refused(fault: OpFault, count: u64) -> Planned
+fn plan_of_refusal(fault: OpFault, count: u64) -> Planned
     ensures { result ≡ plan_of_fault count fault }
 {
     match fault {
@@ -118,9 +118,9 @@ pub fn act(
     match answer {
         Ok(reply) => Planned::Keep(
             StepReply::Operation(reply),
-            acted(pass, caller, op, procaps, moment),
+            pend_act(pass, caller, op, procaps, moment),
         ),
-        Err(fault) => refused(fault, count),
+        Err(fault) => plan_of_refusal(fault, count),
     }
 }
 

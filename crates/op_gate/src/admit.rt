@@ -2,7 +2,8 @@
 
 ghost use Rattle.std.specs.Prelude.{◌≡◌, ◌↔◌, ◌<◌, ◌-◌, ◌^◌, ◌≤◌, ℕ, List, IfErr, IfOk, IsTrue, MatchOption, OnOk};
 ghost use Rattle.access_history.specs.declared.event.Event.TheVariants as events;
-ghost use Rattle.access_history.specs.Citing.{AreCitable, DoNumbersRise, numbers_of};
+ghost use Rattle.bl_syntax.specs.Citable.{AreCitable, DoRise};
+ghost use Rattle.access_history.specs.Citing.{numbers_of};
 ghost use Rattle.access_history.specs.Authority.{sayings};
 ghost use Rattle.access_history.specs.History.{authority_of, state_of};
 ghost use Rattle.op_gate.specs.Admits.{FindsCited, GivesPending, GivesIssue, IsTimely, LacksNext, pending_issue, pending_statement, proof_damage, register_damage};
@@ -81,7 +82,7 @@ fn admit_registered(
 
 // Whether each number is below the next.
 fn do_rise(numbers: &[u32]) -> bool
-    ensures { IsTrue result ↔ DoNumbersRise numbers.now }
+    ensures { IsTrue result ↔ DoRise numbers.now }
 {
     match numbers {
         [first, second, ..] => *first < *second && do_rise(&numbers[1..]),
@@ -139,7 +140,7 @@ fn issue(alloc: Global, pass: u64, checked: Checked) -> Result<Pending, AdmitFau
     ensures err { IfErr result (λ fault. fault ≡ AdmitFault.NoMemory) }
 {
     match issue_parts(alloc, &checked) {
-        Ok(parts) => Ok(issued(pass, checked, parts)),
+        Ok(parts) => Ok(pend_issue(pass, checked, parts)),
         Err(_) => Err(AdmitFault::NoMemory),
     }
 }

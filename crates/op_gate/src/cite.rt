@@ -3,7 +3,8 @@
 ghost use Rattle.std.specs.Prelude.{◌≡◌, ◌↔◌, IsTrue, IfOk, MatchOption};
 ghost use Rattle.std.specs.List.{AllByRecursion};
 ghost use Rattle.access_history.specs.Authority.{sayings};
-ghost use Rattle.access_history.specs.Citing.{AreCitable, StandsUnderNumber, IsMoved, numbers_of};
+ghost use Rattle.bl_syntax.specs.Citable.{AreCitable};
+ghost use Rattle.access_history.specs.Citing.{StandsUnderNumber, IsMoved, numbers_of};
 ghost use Rattle.op_gate.specs.Citations.{GivesCitation as AreStatements};
 
 use bl_syntax::{NoMemory, Numbers};

@@ -12,7 +12,7 @@ ghost use Rattle.op_gate.specs.Rejection.{rejection_of};
 
 use crate::cite::{cited_numbers, first_moved};
 use crate::planned::{Pending, Planned};
-use access_history::{Entry, Event, History, Issue, Rejection, StepReply};
+use access_history::{Addition, Event, History, Issue, Rejection, StepReply};
 use bl_syntax::{Bytes, Grant, NoMemory, Numbers, Principal, Statement};
 use policy_statement::RegisterFault as RegistryFault;
 use procap::Procap;
@@ -20,7 +20,7 @@ use proof_verifier::Checked;
 use std::alloc::Global;
 
 // The answer to a statement that may not be registered, or out of memory.
-fn rejected(fault: RegistryFault) -> Planned
+fn rejection(fault: RegistryFault) -> Planned
     ensures { MatchOption (rejection_of fault) (result ≡ Planned.NoMemory) (λ rejection. result ≡ Planned.Answer (StepReply.Rejected rejection)) }
 {
     match fault {
@@ -38,16 +38,16 @@ fn rejected(fault: RegistryFault) -> Planned
 }
 
 // What the registry keeps of a statement, in memory of its own.
-fn statement_entry(
+fn statement_addition(
     alloc: Global,
     statement: &Statement,
     signature: &Bytes,
-) -> Result<Entry, NoMemory>
-    ensures { IfOk result (λ entry. entry ≡ Entry.Statement statement.now signature.now) }
+) -> Result<Addition, NoMemory>
+    ensures { IfOk result (λ addition. addition ≡ Addition.Statement statement.now signature.now) }
 {
     let statement = statement.copy(alloc)?;
     let signature = signature.copy(alloc)?;
-    Ok(Entry::Statement(statement, signature))
+    Ok(Addition::Statement(statement, signature))
 }
 
 /// The event that registers the statement, and what the registry keeps of it.
@@ -57,16 +57,16 @@ pub fn registered(
     statement: Statement,
     signature: Bytes,
 ) -> Result<Pending, NoMemory>
-    ensures { IfOk result (λ pending. pending ≡ record { event = Event.Registered pass statement signature; entry = Entry.Statement statement signature }) }
+    ensures { IfOk result (λ pending. pending ≡ record { event = Event.Registered pass statement signature; addition = Addition.Statement statement signature }) }
 {
-    match statement_entry(alloc, &statement, &signature) {
-        Ok(entry) => {
+    match statement_addition(alloc, &statement, &signature) {
+        Ok(addition) => {
             let event = Event::Registered {
                 pass,
                 statement,
                 signature,
             };
-            Ok(Pending { event, entry })
+            Ok(Pending { event, addition })
         }
         Err(refused) => Err(refused),
     }
@@ -105,7 +105,7 @@ pub fn decide_register(
             let number = history.statements().len() as u32 + 1;
             keep_statement(alloc, pass, number, statement, signature)
         }
-        Err(fault) => rejected(fault),
+        Err(fault) => rejection(fault),
     }
 }
 
@@ -197,8 +197,8 @@ pub fn issue_parts(alloc: Global, checked: &Checked) -> Result<IssueParts, NoMem
 }
 
 /// The event that issues the grant of the checked proof, and what the state keeps of it.
-pub fn issued(pass: u64, checked: Checked, parts: IssueParts) -> Pending
-    ensures { result ≡ record { event = Event.Issued pass parts.cited checked.proof checked.grant; entry = Entry.Issue parts.issue } }
+pub fn pend_issue(pass: u64, checked: Checked, parts: IssueParts) -> Pending
+    ensures { result ≡ record { event = Event.Issued pass parts.cited checked.proof checked.grant; addition = Addition.Issue parts.issue } }
 {
     let IssueParts { cited, issue } = parts;
     let (_cites, proof, grant) = checked.into_parts();
@@ -209,7 +209,7 @@ pub fn issued(pass: u64, checked: Checked, parts: IssueParts) -> Pending
             proof,
             grant,
         },
-        entry: Entry::Issue(issue),
+        addition: Addition::Issue(issue),
     }
 }
 
@@ -222,7 +222,7 @@ fn keep_issue(alloc: Global, pass: u64, number: u64, checked: Checked) -> Planne
     match issue_parts(alloc, &checked) {
         Ok(parts) => Planned::Keep(
             StepReply::Issue(number, times, states),
-            issued(pass, checked, parts),
+            pend_issue(pass, checked, parts),
         ),
         Err(_) => Planned::NoMemory,
     }

@@ -60,7 +60,7 @@ fn put(place: &mut Option<Pending>, pending: Pending)
 }
 
 // The answer, or out of memory.
-fn answered(reply: Result<StepReply, NoMemory>) -> Planned
+fn plan_of_answer(reply: Result<StepReply, NoMemory>) -> Planned
     ensures { MatchResult reply (λ told. result ≡ Planned.Answer told) (λ _. result ≡ Planned.NoMemory) }
 {
     match reply {
@@ -90,7 +90,7 @@ fn decide_request(
             decide_act(alloc, history, pass, caller, op, procaps, clock)
         }
         StepRequest::ShowProcap(number, who) => {
-            answered(decide_show(alloc, history, number, &who))
+            plan_of_answer(decide_show(alloc, history, number, &who))
         }
     }
 }
@@ -105,7 +105,7 @@ impl Gate {
     ghost use Rattle.op_gate.specs.Damage.{TellsDamage};
     ghost use Rattle.op_gate.specs.Decision.{IsDenial};
     ghost use Rattle.access_history.specs.Authority.{sayings};
-    ghost use Rattle.access_history.specs.Citing.{AreCitable};
+    ghost use Rattle.bl_syntax.specs.Citable.{AreCitable};
     ghost use Rattle.access_history.specs.History.{authority_with};
     ghost use Rattle.op_gate.specs.Issued.{HasNone, IsProcapOf};
     ghost use Rattle.op_gate.specs.Citations.{GivesCitation as AreStatements};
@@ -205,8 +205,8 @@ impl Gate {
         match reserve_next(&mut self.history) {
             Ok(()) => match admit(alloc, &mut self.history, event) {
                 Ok(pending) => {
-                    let Pending { event, entry } = pending;
-                    self.history.keep(event, entry);
+                    let Pending { event, addition } = pending;
+                    self.history.keep(event, addition);
                     Ok(())
                 }
                 Err(fault) => Err(fault),
@@ -233,8 +233,8 @@ impl Gate {
         ensures kept { IfSome self.old.pending (λ event. self.new ≡ record self.old { events = self.old.events ++ event ∷ []; pending = None }) }
     {
         if let Some(pending) = self.pending.take() {
-            let Pending { event, entry } = pending;
-            self.history.keep(event, entry);
+            let Pending { event, addition } = pending;
+            self.history.keep(event, addition);
         }
     }
 

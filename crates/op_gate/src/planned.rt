@@ -1,12 +1,12 @@
 //! What is to be done on a request.
 
-use access_history::{Entry, Event, StepReply};
+use access_history::{Addition, Event, StepReply};
 
 /// An event that was decided, and what the state keeps beside it.
 #[derive(Debug, Drop)]
 pub struct Pending {
     pub event: Event,
-    pub entry: Entry,
+    pub addition: Addition,
 }
 
 /// What is to be done on a request.

@@ -1,4 +1,6 @@
-//! The file server as a program: `pcfs script` answers the lines of its standard input on its standard output.
+//! The file server as a program: `pcfs script` answers the lines of its standard input on its standard output, over a
+//! store in memory, or with `--stored` over the one in the files `pcfs.a` and `pcfs.b` of the current folder, which
+//! `pcfs init` makes.
 //!
 //! It ends with the status that `pcfs_top::run::run` answers, or with 19, where the secrets file is bad or cannot be
 //! read. Where there is no memory for its words or its secrets,
@@ -7,7 +9,7 @@
 #![tactic(auto)]
 
 use bl_syntax::Bytes;
-use pcfs_ports::{StdSink, StdSource, TakeFault, read_to_end};
+use pcfs_ports::{FileDisk, StdSink, StdSource, TakeFault, read_to_end};
 use pcfs_secrets::{SecretFault, Secrets};
 use pcfs_top::run::run;
 use std::io::{self, ErrorKind};
@@ -23,6 +25,11 @@ const BAD_SECRETS: u8 = 19;
 
 /// The file with the secrets.
 const SECRETS_FILE: &str = "pcfs.secrets";
+
+/// The files of the two areas.
+const FIRST_FILE: &str = "pcfs.a";
+
+const SECOND_FILE: &str = "pcfs.b";
 
 /// Why there are no secrets.
 #[derive(Debug, Drop)]
@@ -100,5 +107,17 @@ fn main(rt: HostRuntime) -> ExitCode {
     };
     let mut input = StdSource::new(rt.reader());
     let mut output = StdSink::new(io::writer(&rt));
-    ExitCode::from(run(&rt, rt.alloc(), &words, &secrets, &mut input, &mut output))
+    let a = FileDisk::new(&rt, FIRST_FILE);
+    let b = FileDisk::new(&rt, SECOND_FILE);
+    let ended = run(
+        &rt,
+        rt.alloc(),
+        &words,
+        &secrets,
+        &mut input,
+        &mut output,
+        a,
+        b,
+    );
+    ExitCode::from(ended.status)
 }

@@ -2,10 +2,12 @@
 
 use crate::short_form::{RowFault, Texts, add_numbered, add_written_out, number_of, parts_at};
 use crate::values::add_value;
+use bl_syntax::decimal::put_counted;
 use bl_syntax::{Bytes, NoMemory, Numbers};
-use pcfs_ports::{MemorySink, MemorySource};
+use line_text::write_hex;
+use pcfs_ports::{MemoryDisk, MemorySink, MemorySource};
 use pcfs_secrets::Secrets;
-use pcfs_top::run::run;
+use pcfs_top::run::{Ended, run};
 use std::alloc::Global;
 use std::sync::Wait;
 use std::thread::Threads;
@@ -19,9 +21,72 @@ pub struct Case {
     input: Bytes,
     failing_reads: Numbers,
     failing_writes: Numbers,
+    first: Area,
+    second: Area,
+    shows: Shows,
     found: Bytes,
     wanted: Bytes,
     status: u8,
+}
+
+/// A disk of a case: its bytes, and the calls of it that fail.
+#[derive(Drop)]
+struct Area {
+    bytes: Bytes,
+    failing: Numbers,
+}
+
+/// What is shown of the disks after a run.
+#[derive(Clone, Copy, PartialEq, Eq)]
+enum Shows {
+    Nothing,
+    Lengths,
+    Bytes,
+}
+
+/// The bytes of the disks as a case left them.
+#[derive(Drop)]
+pub struct Left {
+    first: Bytes,
+    second: Bytes,
+}
+
+impl Left {
+    /// Disks without bytes.
+    pub fn new(alloc: Global) -> Left {
+        Left {
+            first: Bytes::new(alloc),
+            second: Bytes::new(alloc),
+        }
+    }
+
+    // Keeps the bytes of the disks that a run gave back, and returns its status.
+    fn keep(&mut self, ended: Ended<MemoryDisk>) -> Result<u8, RowFault> {
+        self.first.clear();
+        self.first.extend(ended.a.image())?;
+        self.second.clear();
+        self.second.extend(ended.b.image())?;
+        Ok(ended.status)
+    }
+
+    // Adds the line that shows the disks.
+    fn show(&self, alloc: Global, shows: Shows, out: &mut Bytes) -> Result<(), NoMemory> {
+        match shows {
+            Shows::Nothing => Ok(()),
+            Shows::Lengths => {
+                put_counted(out, "lengths ", self.first.len() as u64)?;
+                put_counted(out, " ", self.second.len() as u64)?;
+                out.push(b'\n')
+            }
+            Shows::Bytes => {
+                out.extend(b"bytes ")?;
+                write_hex(alloc, self.first.as_slice(), out)?;
+                out.push(b' ')?;
+                write_hex(alloc, self.second.as_slice(), out)?;
+                out.push(b'\n')
+            }
+        }
+    }
 }
 
 /// How a case ended: what its calls said and then what the run wrote, the run's status, and what was wanted of both.
@@ -50,6 +115,41 @@ fn set_words(alloc: Global, text: &str, words: &mut Vec<String>) -> Result<(), R
             words.push(word.to_string(alloc)?)?;
         }
     }
+    Ok(())
+}
+
+impl Area {
+    // A disk without bytes, of which no call fails.
+    fn new(alloc: Global) -> Area {
+        Area {
+            bytes: Bytes::new(alloc),
+            failing: Numbers::new(alloc),
+        }
+    }
+
+    // The disk in memory.
+    fn into_disk(self, alloc: Global) -> Result<MemoryDisk, RowFault> {
+        match MemoryDisk::new(alloc, self.bytes, self.failing) {
+            Ok(disk) => Ok(disk),
+            Err(_) => Err(RowFault::NoMemory),
+        }
+    }
+}
+
+// Sets the bytes to those of the text.
+fn set_bytes(alloc: Global, texts: &Texts, text: &str, bytes: &mut Bytes) -> Result<(), RowFault> {
+    bytes.clear();
+    add_written_out(alloc, texts, text, bytes)
+}
+
+// Sets the bytes to those, but no more than this many.
+fn set_front(left: &[u8], text: &str, bytes: &mut Bytes) -> Result<(), RowFault> {
+    bytes.clear();
+    let count = match text {
+        "" => left.len(),
+        _ => (number_of(text)? as usize).min(left.len()),
+    };
+    bytes.extend(&left[..count])?;
     Ok(())
 }
 
@@ -92,6 +192,9 @@ impl Case {
             input: Bytes::new(alloc),
             failing_reads: Numbers::new(alloc),
             failing_writes: Numbers::new(alloc),
+            first: Area::new(alloc),
+            second: Area::new(alloc),
+            shows: Shows::Nothing,
             found: Bytes::new(alloc),
             wanted: Bytes::new(alloc),
             status: 0,
@@ -119,6 +222,47 @@ impl Case {
         }
     }
 
+    // Begins with the disks as the case before left them, of the first no more than this many bytes.
+    fn go_on(&mut self, left: &Left, text: &str) -> Result<(), RowFault> {
+        set_front(left.first.as_slice(), text, &mut self.first.bytes)?;
+        set_front(left.second.as_slice(), "", &mut self.second.bytes)
+    }
+
+    // Sets what is shown of the disks.
+    fn set_shows(&mut self, text: &str) -> Result<(), RowFault> {
+        match text {
+            "lengths" => {
+                self.shows = Shows::Lengths;
+                Ok(())
+            }
+            "bytes" => {
+                self.shows = Shows::Bytes;
+                Ok(())
+            }
+            _ => Err(RowFault::BadRow),
+        }
+    }
+
+    // Adds what a row of a disk gives, or of a call.
+    fn add_other(
+        &mut self,
+        alloc: Global,
+        left: &Left,
+        kind: &str,
+        text: &str,
+    ) -> Result<(), RowFault> {
+        match kind {
+            "a" => set_bytes(alloc, &self.texts, text, &mut self.first.bytes),
+            "b" => set_bytes(alloc, &self.texts, text, &mut self.second.bytes),
+            "calls.a" => set_numbers(text, &mut self.first.failing),
+            "calls.b" => set_numbers(text, &mut self.second.failing),
+            "again" => self.go_on(left, text),
+            "shows" => self.set_shows(text),
+            "" | "#" => Ok(()),
+            _ => self.add_found(alloc, kind, text),
+        }
+    }
+
     // Adds what a row of a call says.
     fn add_found(&mut self, alloc: Global, kind: &str, text: &str) -> Result<(), RowFault> {
         let mut written_out = Bytes::new(alloc);
@@ -129,7 +273,7 @@ impl Case {
     }
 
     /// Adds what a row gives or wants.
-    pub fn add_row(&mut self, alloc: Global, row: &str) -> Result<(), RowFault> {
+    pub fn add_row(&mut self, alloc: Global, left: &Left, row: &str) -> Result<(), RowFault> {
         let (kind, text) = row.split_once(' ').unwrap_or((row, ""));
         match kind {
             ">" => add_line(alloc, &self.texts, text, &mut self.input),
@@ -143,13 +287,16 @@ impl Case {
             "reads" => set_numbers(text, &mut self.failing_reads),
             "writes" => set_numbers(text, &mut self.failing_writes),
             "status" => self.set_status(text),
-            "" | "#" => Ok(()),
-            _ => self.add_found(alloc, kind, text),
+            _ => self.add_other(alloc, left, kind, text),
         }
     }
 
-    /// Runs the case. Bad secrets count as a bad row.
-    pub fn run<R: Threads + Wait + Sync + AllocGlobal>(self, rt: &R) -> Result<CaseEnd, RowFault> {
+    /// Runs the case, and keeps how it left its disks. Bad secrets count as a bad row.
+    pub fn run<R: Threads + Wait + Sync + AllocGlobal>(
+        self,
+        rt: &R,
+        left: &mut Left,
+    ) -> Result<CaseEnd, RowFault> {
         let alloc = rt.alloc();
         let Case {
             texts: _,
@@ -158,17 +305,27 @@ impl Case {
             input,
             failing_reads,
             failing_writes,
+            first,
+            second,
+            shows,
             mut found,
             wanted,
             status: wanted_status,
         } = self;
         let mut input = MemorySource::new(alloc, input, failing_reads);
         let mut output = MemorySink::new(alloc, failing_writes);
+        let a = first.into_disk(alloc)?;
+        let b = second.into_disk(alloc)?;
         let status = match Secrets::parse(alloc, secrets.as_slice()) {
-            Ok(secrets) => Ok(run(rt, alloc, &words, &secrets, &mut input, &mut output)),
+            Ok(secrets) => {
+                let ended = run(rt, alloc, &words, &secrets, &mut input, &mut output, a, b);
+                left.keep(ended)
+            }
             Err(_) => Err(RowFault::BadRow),
         };
-        match unless_refused(found.extend(output.held()), status) {
+        let written = found.extend(output.held());
+        let shown = left.show(alloc, shows, &mut found);
+        match unless_refused(written.and(shown), status) {
             Ok(status) => Ok(CaseEnd {
                 found,
                 status,

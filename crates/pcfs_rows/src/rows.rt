@@ -1,6 +1,6 @@
 //! A file of rows: what stands before its first case begins each of its cases.
 
-use crate::case::{Case, CaseEnd};
+use crate::case::{Case, CaseEnd, Left};
 use crate::short_form::RowFault;
 use bl_syntax::{Bytes, NoMemory};
 use std::alloc::Global;
@@ -70,11 +70,12 @@ fn add_fault(fault: RowFault, row: &str, report: &mut Bytes) -> Result<bool, NoM
 fn read_rows(
     alloc: Global,
     rows: &str,
+    left: &Left,
     case: &mut Case,
     report: &mut Bytes,
 ) -> Result<bool, NoMemory> {
     for row in rows.lines() {
-        match case.add_row(alloc, row) {
+        match case.add_row(alloc, left, row) {
             Ok(()) => {}
             Err(fault) => return add_fault(fault, row, report),
         }
@@ -87,11 +88,12 @@ fn read_case(
     alloc: Global,
     beginning: &str,
     rows: &str,
+    left: &Left,
     case: &mut Case,
     report: &mut Bytes,
 ) -> Result<bool, NoMemory> {
-    let begins = read_rows(alloc, beginning, case, report)?;
-    let goes_on = read_rows(alloc, rows, case, report)?;
+    let begins = read_rows(alloc, beginning, left, case, report)?;
+    let goes_on = read_rows(alloc, rows, left, case, report)?;
     Ok(begins && goes_on)
 }
 
@@ -106,9 +108,10 @@ fn run_case<R: Threads + Wait + Sync + AllocGlobal>(
     rt: &R,
     name: &str,
     case: Case,
+    left: &mut Left,
     report: &mut Bytes,
 ) -> Result<bool, NoMemory> {
-    match case.run(rt) {
+    match case.run(rt, left) {
         Ok(ended) => judge(rt.alloc(), name, &ended, report),
         Err(fault) => add_fault(fault, name, report),
     }
@@ -119,14 +122,15 @@ fn run_block<R: Threads + Wait + Sync + AllocGlobal>(
     rt: &R,
     beginning: &str,
     block: &str,
+    left: &mut Left,
     report: &mut Bytes,
 ) -> Result<bool, NoMemory> {
     let (name, rows) = block.split_once('\n').unwrap_or((block, ""));
     let mut case = Case::new(rt.alloc());
-    match read_case(rt.alloc(), beginning, rows, &mut case, report) {
+    match read_case(rt.alloc(), beginning, rows, left, &mut case, report) {
         Ok(is_read) => {
             if is_read {
-                run_case(rt, name, case, report)
+                run_case(rt, name, case, left, report)
             } else {
                 add_unread(name, report)
             }
@@ -145,9 +149,10 @@ pub fn run_rows<R: Threads + Wait + Sync + AllocGlobal>(
     add_report("", name, report)?;
     let mut blocks = text.split("\n= ");
     let beginning = blocks.next().unwrap_or("");
+    let mut left = Left::new(rt.alloc());
     let mut agree = true;
     for block in blocks {
-        agree &= run_block(rt, beginning, block, report)?;
+        agree &= run_block(rt, beginning, block, &mut left, report)?;
     }
     Ok(agree)
 }

@@ -17,22 +17,22 @@ use std::thread::{Promise, PromisedHandle, Scope, SpawnError, Threads};
 
 /// What a thread that attends promises of its token: it is the service's, and was attended.
 #[derive(Drop)]
-pub(crate) struct Attends<I, O, H> {
+pub(crate) struct Attendance<I, O, H> {
     pub(crate) service: Snapshot<H>,
     marker: PhantomData<(I, O)>,
 }
 
-impl<I: Source, O: Sink, H: Service<I, O>> Promise<H::Token> for Attends<I, O, H> {
+impl<I: Source, O: Sink, H: Service<I, O>> Promise<H::Token> for Attendance<I, O, H> {
     ghost kept_by = { λ p token. H.is_token p.service.value token × (H.attended token ≡ true) };
 }
 
 /// The threads that attend connections, by their keys.
-pub(crate) type Table<I, O, H, T> = Slab<PromisedHandle<T, Attends<I, O, H>>>;
+pub(crate) type Table<I, O, H, T> = Slab<PromisedHandle<T, Attendance<I, O, H>>>;
 
-fn promise<I, O, H>(service: &H) -> Attends<I, O, H>
+fn promise<I, O, H>(service: &H) -> Attendance<I, O, H>
     ensures { result.service.value ≡ service.now }
 {
-    Attends {
+    Attendance {
         service: Snapshot::of(service),
         marker: PhantomData,
     }

@@ -11,7 +11,7 @@ use Rattle.journal_core.proofs.RestsLemmas.{some_same}
 use Rattle.access_history.specs.declared.event.Event.{Event}
 use Rattle.access_history.specs.declared.request.StepRequest.{StepRequest}
 use Rattle.access_history.specs.declared.reply.StepReply.{StepReply}
-use Rattle.access_history.proofs.ListLemmas.{AllByRecursion-push}
+use Rattle.bl_syntax.proofs.GrantLemmas.{AllByRecursion-push}
 use Rattle.journal_records.specs.EventSpelling.{event_spelling, IsSpellableEvent}
 use Rattle.pcfs_store.specs.declared.reply.StoreReply.{StoreReply}
 use Rattle.pcfs_store.specs.declared.reply.StoreReply.TheVariants.{Step, Stopped}

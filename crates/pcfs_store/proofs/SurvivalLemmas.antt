@@ -12,7 +12,7 @@ use Rattle.journal_core.proofs.RestsLemmas.{some_same}
 use Rattle.access_history.specs.declared.event.Event.{Event}
 use Rattle.access_history.specs.declared.event.Event.TheVariants.{Registered, Issued, Acted}
 use Rattle.access_history.specs.Base.{BaseView}
-use Rattle.access_history.proofs.ListLemmas.{AllByRecursion-push}
+use Rattle.bl_syntax.proofs.GrantLemmas.{AllByRecursion-push}
 use Rattle.journal_records.specs.EventSpelling.{erase, event_spelling, IsSpellableEvent}
 use Rattle.journal_records.proofs.EventLemmas.{same_spelling}
 use Rattle.pcfs_store.specs.Image.{fresh_image, IsImageOf}

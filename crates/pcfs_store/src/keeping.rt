@@ -38,7 +38,7 @@ fn record_of(alloc: Global, event: &Event) -> Result<Framed, AreaFault>
     ensures full { result ≡ Err AreaFault.AreaFull → area_limit ≤ length (event_spelling event.now) }
 {
     let mut bytes = room_of(alloc)?;
-    if write_event(alloc, event, &mut bytes).is_err() {
+    if write_event(event, &mut bytes).is_err() {
         return Err(AreaFault::NoMemory);
     }
     if AREA_LIMIT + 4 <= bytes.len() as u64 {

@@ -1,7 +1,7 @@
 -- What a line asks for is allowed.
 use Rattle.std.proofs.Common.{ℕ, List, [], ◌∷◌}
 use Rattle.std.specs.List.Sorted.{IsStrictlyIncreasing}
-use Rattle.access_history.specs.Citing.{DoNumbersRise, AreCitable}
+use Rattle.bl_syntax.specs.Citable.{DoRise, AreCitable}
 use Rattle.line_words.proofs.CitedLemmas.{rising-fewer}
 use Rattle.line_forms.specs.declared.command.Command.{Command}
 use Rattle.line_forms.specs.declared.command.Command.TheVariants.{At, As, Register, Procap, Verify, Check, Do}
@@ -11,7 +11,7 @@ use Rattle.line_forms.proofs.LimitLemmas.{operation_of_line, caller_of_line, sta
 use Rattle.line_forms.proofs.ProcapCount.{procap_for_each_need}
 use Rattle.pcfs_top.specs.Interpreter.{IsAllowed}
 
-rise : (numbers : List ℕ) → IsStrictlyIncreasing numbers → DoNumbersRise numbers
+rise : (numbers : List ℕ) → IsStrictlyIncreasing numbers → DoRise numbers
 rise [] h = tt
 rise (first ∷ []) h = tt
 rise (first ∷ second ∷ others) h = let fewer = rising-fewer first second others h in (fewer.0, rise (second ∷ others) fewer.1)

@@ -8,15 +8,15 @@ use Rattle.access_history.specs.Numbered.{IsNumbered}
 use Rattle.line_words.specs.declared.procap_word.ProcapWord.{ProcapWord}
 use Rattle.line_words.specs.declared.procap_word.ProcapWord.TheVariants as words
 use Rattle.op_gate.specs.Issued.{IsProcapOf}
-use Rattle.pcfs_top.specs.declared.brought.Brought.{Brought}
-use Rattle.pcfs_top.specs.declared.brought.Brought.TheVariants as found
+use Rattle.pcfs_top.specs.declared.brought.BroughtProcap.{BroughtProcap}
+use Rattle.pcfs_top.specs.declared.brought.BroughtProcap.TheVariants as found
 use Rattle.pcfs_top.specs.Brought.{IsBroughtBy, AreProcapsAdded}
 use Rattle.access_history.specs.Replay.{replay}
 use Rattle.pcfs_top.specs.Procaps.{BringsProcap, held, issued, NamesIssue, AreBrought, IsFirstUnissued}
 use Rattle.pcfs_top.specs.ScriptRun.{Standing}
 
 -- a word brings its own procap
-pub brings_own : (key : List ℕ) (issues : List Issue) (word : ProcapWord) (p copied : Sealed) → word ≡ words.Held p → copied ≡ p → BringsProcap key issues word copied
+pub brings_own : (key : List ℕ) (issues : List Issue) (word : ProcapWord) (p copied : Sealed) → word ≡ words.Procap p → copied ≡ p → BringsProcap key issues word copied
 brings_own key issues word p copied is same =
     subst (λ (q : Sealed). BringsProcap key issues word q) (sym same) (subst (λ (w : ProcapWord). BringsProcap key issues w p) (sym is) (held p))
 
@@ -54,7 +54,7 @@ one_more key issues word others before mid after p None brings mid_is added =
 one_more key issues word others before mid after p (Some number) brings mid_is later = further key issues word others p number brings later
 
 -- the first word brings a procap
-pub AreAdded-more : (key : List ℕ) (issues : List Issue) (words : List ProcapWord) (word : ProcapWord) (others : List ProcapWord) (before mid after : List Sealed) (brought : Brought) (p : Sealed) (told : Option ℕ) → words ≡ word ∷ others →
+pub AreAdded-more : (key : List ℕ) (issues : List Issue) (words : List ProcapWord) (word : ProcapWord) (others : List ProcapWord) (before mid after : List Sealed) (brought : BroughtProcap) (p : Sealed) (told : Option ℕ) → words ≡ word ∷ others →
     brought ≡ found.Procap p → IsBroughtBy key issues word brought → mid ≡ before ++ p ∷ [] → AreProcapsAdded key issues others mid after told → AreProcapsAdded key issues words before after told
 AreAdded-more key issues words word others before mid after brought p told is found_is brings mid_is added =
     subst (λ (ws : List ProcapWord). AreProcapsAdded key issues ws before after told) (sym is)
@@ -67,7 +67,7 @@ here issues word others number is none = record {
 }
 
 -- the first word names an issue which is not there
-pub AreAdded-unissued : (key : List ℕ) (issues : List Issue) (words : List ProcapWord) (word : ProcapWord) (others : List ProcapWord) (before after : List Sealed) (brought : Brought) (number : ℕ) → words ≡ word ∷ others →
+pub AreAdded-unissued : (key : List ℕ) (issues : List Issue) (words : List ProcapWord) (word : ProcapWord) (others : List ProcapWord) (before after : List Sealed) (brought : BroughtProcap) (number : ℕ) → words ≡ word ∷ others →
     brought ≡ found.Unissued number → IsBroughtBy key issues word brought → AreProcapsAdded key issues words before after (Some number)
 AreAdded-unissued key issues words word others before after brought number is found_is brings =
     let none : IsBroughtBy key issues word (found.Unissued number) = subst (IsBroughtBy key issues word) found_is brings in

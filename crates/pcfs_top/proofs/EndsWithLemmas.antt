@@ -1,92 +1,235 @@
 -- The ends of a run.
-use Rattle.std.proofs.Common.{◌≡◌, ◌⊎◌, inl, inr, ℕ, ◌≤◌, ◌<◌, Bool, true, List, [], ◌∷◌, length, take, get_or, ap, sym, ◌∙◌, subst, arith, Option, Some, None, refl}
-use Rattle.std.specs.Prelude.{String, codes}
-use Rattle.std.specs.String.{string_bytes}
-use Rattle.std.specs.Str.{bytes_eq}
-use Rattle.std.proofs.lemmas.List.{take-append-drop}
-use Rattle.std.proofs.lemmas.Slice.Eq.{bytes_eq-Decides}
+use Rattle.std.proofs.Common.{◌≡◌, ◌⊎◌, inl, inr, ℕ, ◌≤◌, Bool, true, false, List, [], ◌∷◌, ◌++◌, length, take, drop, ap, sym, subst, ◌∙◌, arith, Option, Some, None, refl}
+use Rattle.std.specs.Prelude.{String, codes, IfSome, nat_lt, ◌==◌, if◌then◌else◌}
+use Rattle.std.specs.Int.{w64, from_be_bytes}
+use Rattle.std.specs.Option.{option_map}
 use Rattle.std.specs.declared.alloc.Global.{Global}
+use Rattle.std.proofs.lemmas.Int.{ints}
 use Rattle.pcfs_ports.specs.Faults.{HasRisen}
-use Rattle.pcfs_ports.specs.Told.{with_front, with_back, ReadsToEnd, TakesFirst, TakesSome, HoldsSome}
-use Rattle.line_text.specs.Lines.{lines_of}
+use Rattle.pcfs_ports.specs.Disk.{IsPinned}
+use Rattle.journal_core.specs.Area.{IsShut, Closed, area_bytes, generation_of}
+use Rattle.access_history.specs.declared.event.Event.{Event}
+use Rattle.access_history.specs.History.{authority_with}
+use Rattle.access_history.specs.Lawful.{IsLawful}
+use Rattle.access_history.specs.Replay.{fresh}
+use Rattle.policy_statement.specs.Ring.{KeyView}
 use Rattle.pcfs_secrets.specs.declared.secrets.Secrets.{Secrets}
-use Rattle.pcfs_top.specs.Ports.{Ports}
-use Rattle.pcfs_top.specs.Run.{IsScript, with_line_end, RunsOver, RunsPart, AreTaken, HasToWrite, EndsWith}
+use Rattle.pcfs_store.specs.Formats.{IsNewStore}
+use Rattle.pcfs_store.specs.Image.{fresh_image}
+use Rattle.pcfs_store.specs.StoredHistory.{payloads_of}
+use Rattle.pcfs_store.specs.Newest.{newer, newest, one_of}
+use Rattle.pcfs_store.specs.StoreView.{StoreView, first_disk, second_disk, IsStore, body_of}
+use Rattle.pcfs_store.specs.Ready.{IsReady}
+use Rattle.pcfs_store.specs.declared.format.FormatFault.{FormatFault}
+use Rattle.pcfs_store.specs.declared.format.FormatFault.TheVariants as formats
+use Rattle.pcfs_store.proofs.SurvivalLemmas.{current_survives}
+use Rattle.recover.specs.declared.fault.OpenFault.{OpenFault}
+use Rattle.recover.specs.declared.fault.OpenFault.TheVariants as opens
+use Rattle.recover.specs.Opening.{IsNotOpened}
+use Rattle.recover.specs.Opening as opening
+use Rattle.pcfs_top.specs.Asker.{Asker, first_asker}
+use Rattle.pcfs_top.specs.InterpreterView.{InterpreterView, standing_over}
+use Rattle.pcfs_top.specs.Ports.{Streams, Disks, Ports, IfTold, AreBytesKept}
+use Rattle.pcfs_top.specs.Run.{AreKnown, IsScript, IsStored, IsInit, HasNoArea, IsOpened, Returns, HasCause, EndsWith, MemoryEnds, IsTold, IsUntold, TellsUnopened, TellsUnmade, damaged_text}
 use Rattle.pcfs_top.specs.Run as run
-use Rattle.pcfs_top.specs.ScriptRun.{fresh_start}
-use Rattle.pcfs_top.proofs.OutboxLemmas.{with_back-nil}
-use Rattle.pcfs_top.proofs.ScriptLemmas.{RunsOver-none}
+use Rattle.pcfs_top.specs.ScriptEnds.{ScriptEnds, with_line_end}
+use Rattle.pcfs_top.specs.ScriptRun.{Standing, IsLawfulStanding, fresh_start, script_pass}
+use Rattle.pcfs_top.specs.Stored.{StoreGoesOn, AnswersInput}
+use Rattle.pcfs_top.proofs.StoredLemmas.{HasRisen-earlier, none_some}
 
--- ---- what was taken
+-- ---- where a script begins
 
--- some bytes that an input gave
-record AreSome (old new : Option (List ℕ)) : Type 0 where
-  bytes : List ℕ
-  taken : old ≡ with_front bytes new
+-- an operator's script begins lawfully over a lawful history
+lawful_start : {D : Type 0} (s : StoreView D) → IsLawful (authority_with s.key s.ring) s.base s.events → IsLawfulStanding (standing_over s None (first_asker script_pass))
+lawful_start s lawful = record { lawful = lawful; asker = record { moment = record { not_before = omega (arith, ints); not_after = omega (arith, ints) }; named = refl } }
 
-some_taken : (old new : Option (List ℕ)) → TakesSome old new → AreSome old new
-some_taken None new some = record { bytes = []; taken = ap (with_front []) (sym some.taken.rest) }
-some_taken (Some left) new some =
-    record { bytes = take some.count left; taken = ap Some (sym (take-append-drop some.count left)) ∙ ap (with_front (take some.count left)) (sym some.taken.rest) }
+abbrev secrets_of : List ℕ → List KeyView → Secrets
+secrets_of key ring = record { seal_key = key; ring = ring }
 
--- no line of what was taken was answered
-pub AreTaken-none : (before after : Ports) → TakesSome before.left after.left → AreTaken before after []
-AreTaken-none before after some = let t = some_taken before.left after.left some in record { rest = t.bytes; are_lines = refl; taken = t.taken }
+-- over a new store it begins as over one before its first event
+pub fresh_over : {D : Type 0} (secrets : Secrets) (s : StoreView D) → IsNewStore secrets.seal_key secrets.ring s → standing_over s None (first_asker script_pass) ≡ fresh_start secrets
+fresh_over secrets s new =
+    ap (λ (k : List ℕ). record (standing_over s None (first_asker script_pass)) { secrets = secrets_of k s.ring }) new.key_is
+    ∙ ap (λ (r : List KeyView). record (standing_over s None (first_asker script_pass)) { secrets = secrets_of secrets.seal_key r }) new.ring_is
+    ∙ ap (λ b. record (standing_over s None (first_asker script_pass)) { secrets = secrets; base = b }) new.base_is
+    ∙ ap (λ (es : List Event). record (standing_over s None (first_asker script_pass)) { secrets = secrets; base = fresh; events = es }) new.no_events
+    ∙ ap (λ (n : ℕ). record (standing_over s None (first_asker script_pass)) { secrets = secrets; base = fresh; events = []; used = n }) new.used_is
 
--- what was read is what the slice shows
-pub ReadsWhole-shown : (left left_after : Option (List ℕ)) (bytes shown : List ℕ) → shown ≡ bytes → ReadsToEnd left left_after bytes → ReadsToEnd left left_after shown
-ReadsWhole-shown left left_after bytes shown same read = subst (λ (b : List ℕ). ReadsToEnd left left_after b) (sym same) read
+-- ---- a last line
 
--- ---- the ends
+told_as : (words : List (String Global)) (secrets : Secrets) (at_rest : Type 0) (before after : Ports) (status : ℕ) (line : List ℕ) (result : ℕ) → HasCause secrets words at_rest before.disks after.disks status line → after.streams.left ≡ before.streams.left →
+    IsTold status line before.streams.held before.streams.write_faults result after.streams.held after.streams.write_faults → EndsWith secrets words at_rest before after result
+told_as words secrets at_rest before after status line result cause left (inl told) = subst (EndsWith secrets words at_rest before after) (sym told.0) (run.told status line cause left told.1)
+told_as words secrets at_rest before after status line result cause left (inr failed) = subst (EndsWith secrets words at_rest before after) (sym failed.0) (run.cut_short status line cause left failed.1 failed.2)
 
--- the input failed, or was too long, before a line was answered
-pub HasToWrite-read_fault : (secrets : Secrets) (words : List (String Global)) (before after : Ports) → IsScript words → HasRisen before.read_faults after.read_faults → TakesSome before.left after.left → HasToWrite secrets words before after 6 (with_line_end (codes "readfault"))
-HasToWrite-read_fault secrets words before after is risen some = run.read_fault [] [] is risen (AreTaken-none before after some) (RunsOver-none secrets)
+untold_as : (words : List (String Global)) (secrets : Secrets) (at_rest : Type 0) (before after : Ports) (result : ℕ) → (IsScript words → ⊥) → AreKnown words → AreBytesKept before.disks after.disks → after.streams.left ≡ before.streams.left →
+    IsUntold before.streams.held result after.streams.held → EndsWith secrets words at_rest before after result
+untold_as words secrets at_rest before after result other known kept left untold = subst (EndsWith secrets words at_rest before after) (sym untold.0) (run.out_of_memory other known kept left untold.1)
 
-pub HasToWrite-too_long : (secrets : Secrets) (words : List (String Global)) (before after : Ports) → IsScript words → TakesFirst 1073741824 before.left after.left → TakesSome before.left after.left → HasToWrite secrets words before after 13 (with_line_end (codes "toolong"))
-HasToWrite-too_long secrets words before after is takes some = run.too_long [] [] is takes (AreTaken-none before after some) (RunsOver-none secrets)
+-- the words are no command
+pub EndsWith-usage : (words : List (String Global)) (secrets : Secrets) (at_rest : Type 0) (before after : Ports) (result : ℕ) → (AreKnown words → ⊥) → after.disks ≡ before.disks → after.streams.left ≡ before.streams.left →
+    IsTold 1 (codes "usage") before.streams.held before.streams.write_faults result after.streams.held after.streams.write_faults → EndsWith secrets words at_rest before after result
+EndsWith-usage words secrets at_rest before after result unknown same left told = told_as words secrets at_rest before after 1 (codes "usage") result (run.usage unknown same) left told
 
--- a last line was written, or the output failed
-pub EndsWith-told : (secrets : Secrets) (words : List (String Global)) (before after : Ports) (line : List ℕ) (status result : ℕ) → HasToWrite secrets words before after status line →
-    ((result ≡ status) × (after.held ≡ with_back before.held line)) ⊎ ((result ≡ 7) × HasRisen before.write_faults after.write_faults × HoldsSome before.held after.held line) → EndsWith secrets words before after result
-EndsWith-told secrets words before after line status result to_write (inl told) = subst (EndsWith secrets words before after) (sym told.0) (run.written status line to_write told.1)
-EndsWith-told secrets words before after line status result to_write (inr failed) = subst (EndsWith secrets words before after) (sym failed.0) (run.cut_short status line failed.1 to_write failed.2)
+-- ---- words
 
--- memory ran out before a line was answered
-pub EndsWith-unread : (secrets : Secrets) (words : List (String Global)) (before after : Ports) → IsScript words → TakesSome before.left after.left → after.held ≡ before.held → EndsWith secrets words before after 9
-EndsWith-unread secrets words before after is some same =
-    run.out_of_memory [] is (run.while_reading [] (AreTaken-none before after some) (RunsOver-none secrets)) (record { count = 0; within = omega arith; held = same ∙ with_back-nil before.held })
+not_script : (words : List (String Global)) → IsStored words → IsScript words → ⊥
+not_script words stored script = let both = sym stored ∙ script in absurd cc
 
--- each line was answered
-pub EndsWith-done : (secrets : Secrets) (words : List (String Global)) (before after : Ports) (bytes : List ℕ) → IsScript words → ReadsToEnd before.left after.left bytes →
-    ((written : List ℕ) × RunsOver (fresh_start secrets) (lines_of bytes) written × (after.held ≡ with_back before.held written)) → EndsWith secrets words before after 0
-EndsWith-done secrets words before after bytes is read ran = run.written 0 ran.0 (run.done bytes ran.0 is read ran.1) ran.2
+not_init : (words : List (String Global)) → IsInit words → IsScript words → ⊥
+not_init words init script = let both = sym init ∙ script in absurd cc
 
--- the output failed in the midst of the replies
-pub EndsWith-cut : (secrets : Secrets) (words : List (String Global)) (before after : Ports) (bytes : List ℕ) → IsScript words → ReadsToEnd before.left after.left bytes →
-    ((written : List ℕ) × RunsPart (fresh_start secrets) bytes written × HoldsSome before.held after.held written) → HasRisen before.write_faults after.write_faults → EndsWith secrets words before after 7
-EndsWith-cut secrets words before after bytes is read ran risen = run.write_fault ran.0 is risen (run.all_read bytes read ran.1) ran.2
+-- ---- areas
 
--- memory ran out in the midst of the replies
-pub EndsWith-no_memory : (secrets : Secrets) (words : List (String Global)) (before after : Ports) (bytes : List ℕ) → IsScript words → ReadsToEnd before.left after.left bytes →
-    ((written : List ℕ) × RunsPart (fresh_start secrets) bytes written × HoldsSome before.held after.held written) → EndsWith secrets words before after 9
-EndsWith-no_memory secrets words before after bytes is read ran = run.out_of_memory ran.0 is (run.all_read bytes read ran.1) ran.2
+-- a generation, whole or not, is none only if the gate is shut
+some_generation : (short : Bool) (number : ℕ) → (if short then Some 0 else Some number) ≡ None → ⊥
+some_generation true number is = none_some 0 (sym is)
+some_generation false number is = none_some number (sym is)
 
--- ---- the words
+shut_of : (bytes : List ℕ) → generation_of bytes ≡ None → IsShut bytes
+shut_of bytes none is_open =
+    some_generation (nat_lt (length bytes) 16) (from_be_bytes w64 (take 8 (drop 8 bytes)))
+    (subst (λ (n : ℕ). (if n == 1 then (if nat_lt (length bytes) 16 then Some 0 else Some (from_be_bytes w64 (take 8 (drop 8 bytes)))) else None) ≡ None) is_open none)
 
-first_of_one : (x y : List ℕ) → x ∷ [] ≡ y ∷ [] → x ≡ y
-first_of_one x y e = cc
+none_of : (first second : Option ℕ) (x y : List ℕ) → option_map (one_of x y) (newer first second) ≡ None → (first ≡ None) × (second ≡ None)
+none_of None None x y is = (refl, refl)
+none_of None (Some n) x y is = none_some y (sym is)
+none_of (Some m) None x y is = none_some x (sym is)
+none_of (Some m) (Some n) x y is = none_some (one_of x y (nat_lt m n)) (sym is)
 
-only_word : (word : String Global) (same : Bool) → same ≡ bytes_eq (string_bytes word) (codes "script") → (same ≡ true → IsScript (word ∷ [])) × (IsScript (word ∷ []) → same ≡ true)
-only_word word same is =
-    let decides = bytes_eq-Decides (string_bytes word) (codes "script") in
-    (λ t. ap (λ (t : List ℕ). t ∷ []) (decides.0 (sym is ∙ t)), λ script. is ∙ decides.1 (first_of_one (string_bytes word) (codes "script") script))
+-- if no area counts, neither is open
+has_no_area : (x y : List ℕ) → newest x y ≡ None → HasNoArea x y
+has_no_area x y none = let both = none_of (generation_of x) (generation_of y) x y none in (shut_of x both.0, shut_of y both.1)
 
--- one word is `script` where its text is
-pub IsScript-word : (items slice : List (String Global)) (word : String Global) (text : List ℕ) (same : Bool) → slice ≡ items → 1 ≤ length slice → length slice < 2 → word ≡ get_or slice 0 word → text ≡ string_bytes word → same ≡ bytes_eq text (codes "script") →
-    (same ≡ true → IsScript items) × (IsScript items → same ≡ true)
-IsScript-word items [] word text same is some few at text_is tested = absurd (omega arith)
-IsScript-word items (x ∷ []) word text same is some few at text_is tested =
-    subst (λ (ws : List (String Global)). (same ≡ true → IsScript ws) × (IsScript ws → same ≡ true)) is
-    (only_word x same (tested ∙ ap (λ (t : List ℕ). bytes_eq t (codes "script")) (text_is ∙ ap string_bytes at)))
-IsScript-word items (x ∷ y ∷ more) word text same is some few at text_is tested = absurd (omega arith)
+told_some : (o : Option (List ℕ)) (P : List ℕ → Type 0) (bytes : List ℕ) → o ≡ Some bytes → P bytes → IfSome o P
+told_some o P bytes is holds = subst (λ (p : Option (List ℕ)). IfSome p P) (sym is) holds
+
+-- ---- disks
+
+module _ {D : Type 0} (clock : D → ℕ) (left_since : D → ℕ → List ℕ → Type 0) (image : D → Option (List ℕ)) (faults : D → ℕ) where
+  abbrev disks_of : D → D → Disks
+  disks_of a b = record { a = image a; b = image b; a_faults = faults a; b_faults = faults b }
+
+  abbrev AtRest : D → D → Type 0
+  AtRest a b = IsPinned clock left_since image a × IsPinned clock left_since image b
+
+  -- ---- a store that is made
+
+  module _ (words : List (String Global)) (secrets : Secrets) (a b : D) (is : IsInit words) where
+    on_first : (s : StoreView D) → s.second_active ≡ false → first_disk s ≡ s.active
+    on_first s first = ap (λ (w : Bool). one_of s.active s.other w) first
+
+    on_second : (s : StoreView D) → s.second_active ≡ false → second_disk s ≡ s.other
+    on_second s first = ap (λ (w : Bool). one_of s.other s.active w) first
+
+    fresh_body : (s : StoreView D) → IsNewStore secrets.seal_key secrets.ring s → body_of s ≡ area_bytes 1 fresh_image []
+    fresh_body s new = ap (λ (n : ℕ). area_bytes n fresh_image (payloads_of s.events)) new.generation_is ∙ ap (λ (es : List Event). area_bytes 1 fresh_image (payloads_of es)) new.no_events
+
+    has_area : (s : StoreView D) (a' : D) → IsNewStore secrets.seal_key secrets.ring s → a' ≡ first_disk s → IsReady clock left_since image s → IfSome (image a') (Closed (area_bytes 1 fresh_image []))
+    has_area s a' new a_is ready =
+        told_some (image a') (Closed (area_bytes 1 fresh_image [])) ready.rests.bytes (ap image (a_is ∙ on_first s new.on_first) ∙ ready.rests.told)
+        (subst (λ (body : List ℕ). Closed body ready.rests.bytes) (fresh_body s new) ready.rests.closed)
+
+    pub EndsWith-made : (before after : Streams) (result : ℕ) (s : StoreView D) (a' b' : D) → IsNewStore secrets.seal_key secrets.ring s →
+        ((first second : List ℕ) → image a ≡ Some first → image b ≡ Some second → IsReady clock left_since image s) → ((first second : List ℕ) → image a ≡ Some first → image b ≡ Some second → IsShut first × IsShut second) → image s.other ≡ image b →
+        a' ≡ first_disk s → b' ≡ second_disk s → after.left ≡ before.left → IsTold 0 (codes "ok") before.held before.write_faults result after.held after.write_faults →
+        EndsWith secrets words (AtRest a b) (record { streams = before; disks = disks_of a b }) (record { streams = after; disks = disks_of a' b' }) result
+    EndsWith-made before after result s a' b' new ready shut b_same a_is b_is left tells =
+        told_as words secrets (AtRest a b) (record { streams = before; disks = disks_of a b }) (record { streams = after; disks = disks_of a' b' }) 0 (codes "ok") result
+        (run.made is (λ x y is_x is_y. (shut x y is_x is_y, has_area s a' new a_is (ready x y is_x is_y))) (ap image (b_is ∙ on_second s new.on_first) ∙ b_same)) left tells
+
+    kept : (a' b' : D) → (image a' ≡ image a) × (image b' ≡ image b) → AreBytesKept (disks_of a b) (disks_of a' b')
+    kept a' b' same = record { a_stays = same.0; b_stays = same.1 }
+
+    pub EndsWith-unmade : (before after : Streams) (result : ℕ) (fault : FormatFault) (a' b' : D) →
+        (fault ≡ formats.AlreadyStore → (first second : List ℕ) → image a ≡ Some first → image b ≡ Some second → IsShut first × IsShut second → ⊥) → ((fault ≡ formats.Disk → ⊥) → (image a' ≡ image a) × (image b' ≡ image b)) →
+        (fault ≡ formats.Disk → HasRisen (faults a) (faults a') ⊎ HasRisen (faults b) (faults b')) → after.left ≡ before.left → TellsUnmade fault before.held before.write_faults result after.held after.write_faults →
+        EndsWith secrets words (AtRest a b) (record { streams = before; disks = disks_of a b }) (record { streams = after; disks = disks_of a' b' }) result
+    EndsWith-unmade before after result formats.AlreadyStore a' b' already same risen left tells =
+        told_as words secrets (AtRest a b) (record { streams = before; disks = disks_of a b }) (record { streams = after; disks = disks_of a' b' }) 10 (codes "exists") result
+        (run.exists is (λ x y is_x is_y. already refl x y is_x is_y) (kept a' b' (same (λ e. absurd cc)))) left tells
+    EndsWith-unmade before after result formats.Disk a' b' already same risen left tells =
+        told_as words secrets (AtRest a b) (record { streams = before; disks = disks_of a b }) (record { streams = after; disks = disks_of a' b' }) 5 (codes "stopped") result (run.not_made is (risen refl)) left tells
+    EndsWith-unmade before after result formats.NoMemory a' b' already same risen left tells =
+        untold_as words secrets (AtRest a b) (record { streams = before; disks = disks_of a b }) (record { streams = after; disks = disks_of a' b' }) result (not_init words is) (run.is_init is) (kept a' b' (same (λ e. absurd cc))) left tells
+
+    -- memory ran out at first
+    pub EndsWith-unbegun : (before after : Streams) → after.left ≡ before.left → after.held ≡ before.held → EndsWith secrets words (AtRest a b) (record { streams = before; disks = disks_of a b }) (record { streams = after; disks = disks_of a b }) 9
+    EndsWith-unbegun before after left held =
+        untold_as words secrets (AtRest a b) (record { streams = before; disks = disks_of a b }) (record { streams = after; disks = disks_of a b }) 9 (not_init words is) (run.is_init is) (record { a_stays = refl; b_stays = refl }) left (refl, held)
+
+  -- ---- a store that is opened
+
+  -- where the script begins
+  pub opened_start : (secrets : Secrets) (a b : D) (s : StoreView D) → opening.IsOpened clock left_since image faults a b secrets.seal_key secrets.ring s → IsLawfulStanding (standing_over s None (first_asker script_pass))
+  opened_start secrets a b s opened =
+      lawful_start s (subst (λ (k : List ℕ). IsLawful (authority_with k s.ring) s.base s.events) (sym opened.key_is)
+      (subst (λ (r : List KeyView). IsLawful (authority_with secrets.seal_key r) s.base s.events) (sym opened.ring_is) opened.lawful))
+
+  module _ (words : List (String Global)) (secrets : Secrets) (a b : D) (is : IsStored words) where
+    same_bytes : (fault : OpenFault) (a' b' : D) → (fault ≡ opens.Disk → ⊥) → IsNotOpened clock left_since image faults a b (authority_with secrets.seal_key secrets.ring) fault a' b' → AreBytesKept (disks_of a b) (disks_of a' b')
+    same_bytes fault a' b' not_disk n = record { a_stays = n.first_same not_disk; b_stays = n.second_same not_disk }
+
+    pub EndsWith-unopened : (before after : Streams) (result : ℕ) (fault : OpenFault) (a' b' : D) → IsNotOpened clock left_since image faults a b (authority_with secrets.seal_key secrets.ring) fault a' b' → after.left ≡ before.left → TellsUnopened fault before.held before.write_faults result after.held after.write_faults →
+        EndsWith secrets words (AtRest a b) (record { streams = before; disks = disks_of a b }) (record { streams = after; disks = disks_of a' b' }) result
+    EndsWith-unopened before after result opens.NoStore a' b' n left tells =
+        told_as words secrets (AtRest a b) (record { streams = before; disks = disks_of a b }) (record { streams = after; disks = disks_of a' b' }) 4 (codes "nostore") result
+        (run.no_store is (λ x y is_x is_y. has_no_area x y (n.cause x y is_x is_y)) (same_bytes opens.NoStore a' b' (λ e. absurd cc) n)) left tells
+    EndsWith-unopened before after result (opens.Damaged number damage) a' b' n left (inl tells) =
+        told_as words secrets (AtRest a b) (record { streams = before; disks = disks_of a b }) (record { streams = after; disks = disks_of a' b' }) 3 (damaged_text number damage) result
+        (run.damaged number damage is n.cause (same_bytes (opens.Damaged number damage) a' b' (λ e. absurd cc) n)) left tells
+    EndsWith-unopened before after result (opens.Damaged number damage) a' b' n left (inr tells) =
+        untold_as words secrets (AtRest a b) (record { streams = before; disks = disks_of a b }) (record { streams = after; disks = disks_of a' b' }) result (not_script words is) (run.is_stored is) (same_bytes (opens.Damaged number damage) a' b' (λ e. absurd cc) n) left tells
+    EndsWith-unopened before after result opens.Disk a' b' n left tells =
+        told_as words secrets (AtRest a b) (record { streams = before; disks = disks_of a b }) (record { streams = after; disks = disks_of a' b' }) 5 (codes "stopped") result
+        (run.not_opened is n.cause (λ rest. record { a_stays = n.first_handled.stays rest.0; b_stays = n.second_handled.stays rest.1 })) left tells
+    EndsWith-unopened before after result opens.NoMemory a' b' n left tells =
+        untold_as words secrets (AtRest a b) (record { streams = before; disks = disks_of a b }) (record { streams = after; disks = disks_of a' b' }) result (not_script words is) (run.is_stored is) (same_bytes opens.NoMemory a' b' (λ e. absurd cc) n) left tells
+
+    pub EndsWith-unread : (before after : Streams) → after.left ≡ before.left → after.held ≡ before.held → EndsWith secrets words (AtRest a b) (record { streams = before; disks = disks_of a b }) (record { streams = after; disks = disks_of a b }) 9
+    EndsWith-unread before after left held =
+        untold_as words secrets (AtRest a b) (record { streams = before; disks = disks_of a b }) (record { streams = after; disks = disks_of a b }) 9 (not_script words is) (run.is_stored is) (record { a_stays = refl; b_stays = refl }) left (refl, held)
+
+    is_opened : (s : StoreView D) → IsStore s → opening.IsOpened clock left_since image faults a b secrets.seal_key secrets.ring s → IsOpened secrets s.generation (disks_of a b) (standing_over s None (first_asker script_pass))
+    is_opened s store opened = record {
+      secrets_are = ap (λ (k : List ℕ). secrets_of k s.ring) opened.key_is ∙ ap (λ (r : List KeyView). secrets_of secrets.seal_key r) opened.ring_is;
+      asker_is = refl;
+      running = refl;
+      lawful = opened_start secrets a b s opened;
+      base_is = opened.base_is;
+      used_is = store.used_is;
+      found = opened.newest_history;
+    }
+
+    -- of one of two disks a count rose since the start
+    risen_since : (s s' : StoreView D) → opening.IsOpened clock left_since image faults a b secrets.seal_key secrets.ring s → HasRisen (faults (first_disk s)) (faults (first_disk s')) ⊎ HasRisen (faults (second_disk s)) (faults (second_disk s')) →
+        HasRisen (faults a) (faults (first_disk s')) ⊎ HasRisen (faults b) (faults (second_disk s'))
+    risen_since s s' opened (inl risen) = inl (HasRisen-earlier (faults a) (faults (first_disk s)) (faults (first_disk s')) opened.first_read.handled.never_falls risen)
+    risen_since s s' opened (inr risen) = inr (HasRisen-earlier (faults b) (faults (second_disk s)) (faults (second_disk s')) opened.second_read.handled.never_falls risen)
+
+    returns_of : (may_stay : (d : D) (bytes : List ℕ) → image d ≡ Some bytes → left_since d (clock d) bytes) (s s' : StoreView D) (met : Option Event) (asker : Asker) → IsStore s' → opening.IsOpened clock left_since image faults a b secrets.seal_key secrets.ring s →
+        StoreGoesOn clock left_since image faults s s' met → Returns s.generation (disks_of a b) (disks_of (first_disk s') (second_disk s')) (standing_over s None (first_asker script_pass)) (standing_over s' met asker)
+    returns_of may_stay s s' met asker store' opened goes = record {
+      whole = λ x y is_x is_y none x' y' is_x' is_y'. current_survives clock left_since image s' store' (goes.current (opened.current x y is_x is_y) none) x' y' is_x' is_y';
+      failed = λ event same. risen_since s s' opened (goes.failed event same);
+      survives = λ x y is_x is_y closed event same x' y' is_x' is_y'.
+          goes.halts (opened.ready x y is_x is_y closed) event same x' y' (may_stay (first_disk s') x' is_x') (may_stay (second_disk s') y' is_y');
+    }
+
+    pub EndsWith-stored : (may_stay : (d : D) (bytes : List ℕ) → image d ≡ Some bytes → left_since d (clock d) bytes) (before after : Streams) (result : ℕ) (s s' : StoreView D) (asker : Asker) (a' b' : D) → IsStore s → IsStore s' →
+        opening.IsOpened clock left_since image faults a b secrets.seal_key secrets.ring s → AnswersInput clock left_since image faults (record { store = s; asker = first_asker script_pass }) before result (record { store = s'; asker = asker }) after →
+        a' ≡ first_disk s' → b' ≡ second_disk s' → EndsWith secrets words (AtRest a b) (record { streams = before; disks = disks_of a b }) (record { streams = after; disks = disks_of a' b' }) result
+    EndsWith-stored may_stay before after result s s' asker a' b' store store' opened answers a_is b_is =
+        subst (λ (x : D). EndsWith secrets words (AtRest a b) (record { streams = before; disks = disks_of a b }) (record { streams = after; disks = disks_of x b' }) result) (sym a_is)
+        (subst (λ (y : D). EndsWith secrets words (AtRest a b) (record { streams = before; disks = disks_of a b }) (record { streams = after; disks = disks_of (first_disk s') y }) result) (sym b_is)
+        (run.stored result s.generation (standing_over s None (first_asker script_pass)) (standing_over s' answers.met asker) is (is_opened s store opened) (returns_of may_stay s s' answers.met asker store' opened answers.goes_on) answers.ends))
+
+-- ---- a script in memory
+
+pub MemoryEnds-ran : (secrets : Secrets) (before after : Streams) (start end : Standing) (status result : ℕ) → start ≡ fresh_start secrets → ScriptEnds start end before after status →
+    ((status ≡ 5) × (result ≡ 9)) ⊎ ((status ≡ 5 → ⊥) × (result ≡ status)) → MemoryEnds secrets before after result
+MemoryEnds-ran secrets before after start end status result same ends (inl is) =
+    subst (MemoryEnds secrets before after) (sym is.1)
+    (run.disk_failed end (subst (λ (n : ℕ). ScriptEnds (fresh_start secrets) end before after n) is.0 (subst (λ (s : Standing). ScriptEnds s end before after status) same ends)))
+MemoryEnds-ran secrets before after start end status result same ends (inr is) =
+    subst (MemoryEnds secrets before after) (sym is.1) (run.ended status end is.0 (subst (λ (s : Standing). ScriptEnds s end before after status) same ends))

@@ -17,7 +17,8 @@ use Rattle.access_history.specs.declared.event.Issue.{Issue}
 use Rattle.access_history.specs.declared.request.StepRequest.{StepRequest}
 use Rattle.access_history.specs.Authority.{sayings}
 use Rattle.access_history.specs.Base.{BaseView}
-use Rattle.access_history.specs.Citing.{StandsUnderNumber, AreCitable, AreFound}
+use Rattle.bl_syntax.specs.Citable.{AreCitable}
+use Rattle.access_history.specs.Citing.{StandsUnderNumber, AreFound}
 use Rattle.access_history.specs.WellFormed.{IsWellFormed}
 use Rattle.access_history.proofs.ListLemmas.{AllByRecursion-contains}
 use Rattle.access_history.proofs.NumberedLemmas.{Contains-numbered}

@@ -1,4 +1,5 @@
 pub mod AllowedLemmas
+pub mod AnsweredLemmas
 pub mod BroughtLemmas
 pub mod EndsWithLemmas
 pub mod ExactLemmas
@@ -9,5 +10,8 @@ pub mod NoMemoryLemmas
 pub mod OneAnswerLemmas
 pub mod OneOutcomeLemmas
 pub mod OutboxLemmas
+pub mod ScriptEndsLemmas
 pub mod ScriptLemmas
+pub mod StoredLemmas
 pub mod TotalLemmas
+pub mod WordsLemmas

@@ -1,7 +1,6 @@
 -- No answer to a line says that memory ran out.
 use Rattle.std.proofs.Common.{◌≡◌, ℕ, Bool, true, false, cond, List, [], ◌∷◌, get_or, Option, Some, None, Result, Ok, Err, refl, ap, subst, arith}
 use Rattle.std.specs.Prelude.{codes, ◌≢◌}
-use Rattle.std.specs.Str.{bytes_eq}
 use Rattle.bl_syntax.specs.Statement.{StatementView}
 use Rattle.bl_syntax.specs.declared.grant.Goal.{Goal}
 use Rattle.bl_tokens.specs.declared.faults.TextFault.{TextFault}
@@ -18,15 +17,11 @@ use Rattle.access_history.specs.declared.reply.StepReply.{StepReply}
 use Rattle.access_history.specs.declared.reply.StepReply.TheVariants as steps
 use Rattle.access_history.specs.Authority.{sayings}
 use Rattle.access_history.specs.Base.{BaseView}
-use Rattle.line_words.specs.Cutting.{first_cut}
 use Rattle.line_forms.specs.declared.command.Command.{Command}
 use Rattle.line_forms.specs.declared.fault.LineFault.{LineFault}
 use Rattle.line_forms.specs.declared.fault.LineFault.TheVariants as lines
-use Rattle.line_forms.specs.declared.forms.Form.{Form}
-use Rattle.line_forms.specs.declared.forms.Operation.{Operation}
-use Rattle.line_forms.specs.Forms.{form_named, operation_named}
-use Rattle.line_forms.specs.Heads.{Head, head_of, operation_head, by_form, by_operation}
-use Rattle.line_forms.specs.Lines.{IsLineFault, of_head, of_count, of_word, of_text}
+use Rattle.line_forms.specs.Lines.{IsLineFault}
+use Rattle.line_forms.proofs.FaultLemmas.{IsReported, reported}
 use Rattle.line_wire.specs.declared.reply.LineReply.{LineReply}
 use Rattle.line_wire.specs.FirstWord.{step_word, unproved_word, text_word, fault_word, reply_word}
 use Rattle.pcfs_top.specs.Asker.{Asker}
@@ -67,44 +62,6 @@ step_memory (steps.Absent number) is = other_letter (codes "absent") 97 refl (λ
 
 -- ---- faults of lines
 
--- a fault of words
-abbrev IsOfWords : LineFault → Type 0
-IsOfWords (lines.BadWord place) = Unit {0}
-IsOfWords lines.BadCount = Unit {0}
-IsOfWords (lines.BadText fault) = ⊥
-IsOfWords lines.NoMemory = ⊥
-
-abbrev MayFail : Result Head LineFault → Type 0
-MayFail (Ok head) = Unit {0}
-MayFail (Err fault) = IsOfWords fault
-
-either : (b : Bool) (x y : Result Head LineFault) → MayFail x → MayFail y → MayFail (cond b x y)
-either true x y first second = first
-either false x y first second = second
-
-by_form_fails : (behind : List ℕ) (form : Option Form) → MayFail (by_form behind form)
-by_form_fails behind None = tt
-by_form_fails behind (Some form) = tt
-
-by_operation_fails : (whole : ℕ) (line : List ℕ) (operation : Option Operation) → MayFail (by_operation whole line operation)
-by_operation_fails whole line None = tt
-by_operation_fails whole line (Some operation) = tt
-
-operation_fails : (whole : ℕ) (behind : List ℕ) → MayFail (operation_head whole behind)
-operation_fails whole [] = tt
-operation_fails whole (space ∷ line) = by_operation_fails whole line (operation_named (first_cut line).word)
-
-head_fails : (line : List ℕ) (head : Result Head LineFault) → head_of line ≡ head → MayFail head
-head_fails line head is =
-    subst MayFail is
-    (either (bytes_eq (first_cut line).word (codes "do")) _ _ (operation_fails _ (first_cut line).behind) (by_form_fails (first_cut line).behind (form_named (first_cut line).word)))
-
-words_memory : (fault : LineFault) → IsOfWords fault → fault_word fault ≡ codes "nomemory" → ⊥
-words_memory (lines.BadWord place) of is = not_bad is
-words_memory lines.BadCount of is = not_bad is
-words_memory (lines.BadText fault) of is = of
-words_memory lines.NoMemory of is = of
-
 text_memory : (fault : TextFault) → fault ≢ texts.NoMemory → text_word fault ≡ codes "nomemory" → ⊥
 text_memory (texts.Unexpected at) some is = not_bad is
 text_memory (texts.UnknownName at) some is = not_bad is
@@ -113,11 +70,14 @@ text_memory (texts.Sort at) some is = not_bad is
 text_memory (texts.TooLarge at) some is = not_bad is
 text_memory texts.NoMemory some is = some refl
 
+reported_memory : (fault : LineFault) → IsReported fault → fault_word fault ≡ codes "nomemory" → ⊥
+reported_memory (lines.BadWord place) some is = not_bad is
+reported_memory lines.BadCount some is = not_bad is
+reported_memory (lines.BadText fault) some is = text_memory fault some is
+reported_memory lines.NoMemory some is = some
+
 fault_memory : (line : List ℕ) (fault : LineFault) → IsLineFault line fault → fault_word fault ≡ codes "nomemory" → ⊥
-fault_memory line _ (of_head fault head) is = words_memory fault (head_fails line (Err fault) head) is
-fault_memory line _ (of_count form behind head wrong) is = not_bad is
-fault_memory line _ (of_word form behind place head counted bad) is = not_bad is
-fault_memory line _ (of_text form arguments rest fault words bad some) is = text_memory fault some is
+fault_memory line fault bad is = reported_memory fault (reported bad) is
 
 -- ---- answers
 

@@ -1,5 +1,5 @@
 -- Replies that are collected before they are written.
-use Rattle.std.proofs.Common.{◌≡◌, ℕ, ◌+◌, List, [], ◌++◌, length, take, Option, Some, None, refl, sym, ap, ◌∙◌, subst, arith, append-nil, append_assoc, length-append}
+use Rattle.std.proofs.Common.{◌≡◌, ℕ, ◌+◌, List, [], ◌++◌, length, take, Option, Some, None, Result, Ok, Err, OnErr, refl, sym, ap, ◌∙◌, subst, arith, append-nil, append_assoc, length-append}
 use Rattle.std.proofs.lemmas.List.{take-append-le}
 use Rattle.std.proofs.Math.Seq.{take-append-add}
 use Rattle.pcfs_ports.proofs.TakesLemmas.{with_back-with_back}
@@ -56,3 +56,8 @@ HoldsSome-more held new bytes more some = record {
 pub GoesOut-part : (held mid new : Option (List ℕ)) (bytes collected : List ℕ) → GoesOut held bytes mid collected → HoldsSome mid new collected → HoldsSome held new bytes
 GoesOut-part held mid new bytes collected first some =
     subst (HoldsSome held new) (append-nil bytes) (GoesOut-some held mid new bytes collected [] first (subst (HoldsSome mid new) (sym (append-nil collected)) some))
+
+-- what follows from what a fault says
+pub OnErr-weaker : {A E : Type 0} (r : Result A E) (P Q : Type 0) → (P → Q) → OnErr r P → OnErr r Q
+OnErr-weaker (Ok x) P Q more says = tt
+OnErr-weaker (Err e) P Q more says = more says

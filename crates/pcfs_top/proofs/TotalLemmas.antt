@@ -1,8 +1,9 @@
 -- Each line has an answer, and the lines of a script have an outcome.
-use Rattle.std.proofs.Common.{◌≡◌, ◌⊎◌, inl, inr, ℕ, List, [], ◌∷◌, ◌++◌, Option, None, Result, Ok, Err, refl, ap}
+use Rattle.std.proofs.Common.{◌≡◌, ◌⊎◌, inl, inr, ◌+◌, ◌-◌, ◌^◌, ◌≤◌, ◌<◌, ℕ, List, [], ◌∷◌, ◌++◌, Option, Some, None, length, Result, Ok, Err, refl, ap, arith}
 use Rattle.std.specs.Prelude.{◌≢◌}
+use Rattle.std.proofs.lemmas.Bool.{cases_lt}
+use Rattle.journal_core.specs.Area.{area_limit}
 use Rattle.std.specs.List.{AllByRecursion}
-use Rattle.std.specs.Option.{option_to_list}
 use Rattle.bl_syntax.specs.declared.grant.Goal.{Goal}
 use Rattle.bl_syntax.specs.FirstFailing.{IsFirstFailing}
 use Rattle.bl_syntax.specs.Statement.{StatementView, IsStatement}
@@ -37,15 +38,16 @@ use Rattle.line_forms.specs.Lines.{IsLine, IsLineFault}
 use Rattle.line_forms.proofs.TotalLemmas.{command_or_a_fault}
 use Rattle.line_wire.specs.declared.reply.LineReply.{LineReply}
 use Rattle.line_wire.specs.declared.reply.LineReply.TheVariants as replies
-use Rattle.line_wire.specs.declared.reply.LineReply.TheVariants.{NoMemory}
 use Rattle.pcfs_top.specs.Asker.{Asker, IsAsker, asker_after}
 use Rattle.pcfs_top.specs.Procaps.{BringsProcap, held, issued, NamesIssue, AreBrought, IsFirstUnissued}
 use Rattle.pcfs_top.specs.Proved.{IsUnproved, cites_none, proves_none, IsProved}
 use Rattle.pcfs_top.specs.LineAnswer.{authority_under, signature_under, Look, replied, requested, ComesTo, AnswersCommand, at_once, decided, AnswersLine, faulty, asks}
 use Rattle.pcfs_top.specs.LineAnswer as line_answer
-use Rattle.pcfs_top.specs.ScriptRun.{Standing, state_of_standing, standing_after, IsLawfulStanding, CanNumber, IsReplied, answered, ScriptRun, ended, one_more, HadMemory}
+use Rattle.pcfs_store.specs.StoredHistory.{IsFull}
+use Rattle.journal_records.specs.EventSpelling.{event_spelling}
+use Rattle.pcfs_top.specs.ScriptRun.{Standing, state_of_standing, standing_after, IsLawfulStanding, HasRoom, Becomes, kept, full, IsReplied, answered, ScriptRun, ended, one_more, IsUndisturbed, AreUndisturbed}
 use Rattle.pcfs_top.proofs.FormedLemmas.{IsWellFormed-line}
-use Rattle.pcfs_top.proofs.LawfulRunLemmas.{IsLawfulStanding-replied, CanNumber-replied}
+use Rattle.pcfs_top.proofs.LawfulRunLemmas.{IsLawfulStanding-replied}
 
 -- ---- the statements of numbers
 
@@ -98,11 +100,11 @@ named_of_item issues number (inl found) = inl (found.item, found.numbered)
 named_of_item issues number (inr none) = inr (λ names. none names.0 names.1)
 
 named_or_not : (issues : List Issue) (word : ProcapWord) → OrNot (NamesIssue issues word)
-named_or_not issues (words.Held p) = inl tt
+named_or_not issues (words.Procap p) = inl tt
 named_or_not issues (words.Issue number) = named_of_item issues number (item_or_none issues number)
 
 bring : (key : List ℕ) (issues : List Issue) (word : ProcapWord) → NamesIssue issues word → (p : Sealed) × BringsProcap key issues word p
-bring key issues (words.Held p) names = (p, held p)
+bring key issues (words.Procap p) names = (p, held p)
 bring key issues (words.Issue number) names = (procap_of key names.0.grant, issued number names.0 names.1)
 
 bring_all : (key : List ℕ) (issues : List Issue) (given : List ProcapWord) → AllByRecursion (NamesIssue issues) given → (procaps : List Sealed) × AreBrought key issues given procaps
@@ -117,7 +119,7 @@ abbrev IsToldOfWords : List ℕ → List Issue → List ProcapWord → Type 0
 IsToldOfWords key issues given = ((procaps : List Sealed) × AreBrought key issues given procaps) ⊎ ((number : ℕ) × IsFirstUnissued issues given number)
 
 unissued : (issues : List Issue) (given : List ProcapWord) (place : ℕ) (word : ProcapWord) → IsFirstFailing (NamesIssue issues) given place word → (number : ℕ) × IsFirstUnissued issues given number
-unissued issues given place (words.Held p) first = absurd (first.fails tt)
+unissued issues given place (words.Procap p) first = absurd (first.fails tt)
 unissued issues given place (words.Issue number) first = (number, record { place = place; first = first })
 
 by_words : (key : List ℕ) (issues : List Issue) (given : List ProcapWord) → AllByRecursion (NamesIssue issues) given ⊎ HasFailing (NamesIssue issues) given → IsToldOfWords key issues given
@@ -179,37 +181,73 @@ line_has_answer s line stands = answer_of_line s.secrets (state_of_standing s) s
 
 -- ---- a run
 
--- a reply at once is not that memory ran out
-unproved_memory : (statements : List StatementView) (goal : Goal) (numbers : List ℕ) (proof : ProofView) (reply : LineReply) → IsUnproved statements goal numbers proof reply → reply ≡ NoMemory → ⊥
-unproved_memory statements goal numbers proof _ (cites_none number absent) is = absurd cc
-unproved_memory statements goal numbers proof _ (proves_none cites fault found verdict_is) is = absurd cc
+-- a reply at once is not that memory ran out, or that a disk failed
+abbrev IsCalm : Look → Type 0
+IsCalm (replied reply) = IsUndisturbed reply
+IsCalm (requested request) = Unit {0}
 
-looked_memory : (secrets : Secrets) (state : BaseView) (asker : Asker) (command : Command) (look : Look) → ComesTo secrets state asker command look → look ≡ replied NoMemory → ⊥
-looked_memory secrets state asker _ _ (line_answer.sets_clock second) is = absurd cc
-looked_memory secrets state asker _ _ (line_answer.sets_caller who) is = absurd cc
-looked_memory secrets state asker _ _ (line_answer.registers signature statement) is = absurd cc
-looked_memory secrets state asker _ _ (line_answer.shows number) is = absurd cc
-looked_memory secrets state asker _ _ (line_answer.verifies_nothing goal numbers proof reply refused) is = unproved_memory (sayings state.statements) goal numbers proof reply refused cc
-looked_memory secrets state asker _ _ (line_answer.verifies goal numbers proof cites g proved) is = absurd cc
-looked_memory secrets state asker _ _ (line_answer.checks_nothing goal numbers proof reply refused) is = unproved_memory (sayings state.statements) goal numbers proof reply refused cc
-looked_memory secrets state asker _ _ (line_answer.checks goal numbers proof cites g proved) is = absurd cc
-looked_memory secrets state asker _ _ (line_answer.acts_under_none op given number none) is = absurd cc
-looked_memory secrets state asker _ _ (line_answer.acts op given procaps brought) is = absurd cc
+unproved_calm : (statements : List StatementView) (goal : Goal) (numbers : List ℕ) (proof : ProofView) (reply : LineReply) → IsUnproved statements goal numbers proof reply → IsUndisturbed reply
+unproved_calm statements goal numbers proof _ (cites_none number absent) = record { had_memory = λ is. absurd cc; not_stopped = λ is. absurd cc }
+unproved_calm statements goal numbers proof _ (proves_none cites fault found verdict_is) = record { had_memory = λ is. absurd cc; not_stopped = λ is. absurd cc }
 
-at_once_memory : (secrets : Secrets) (state : BaseView) (asker : Asker) (command : Command) (reply : LineReply) → ComesTo secrets state asker command (replied reply) → reply ≡ NoMemory → ⊥
-at_once_memory secrets state asker command reply comes is = looked_memory secrets state asker command (replied reply) comes (ap replied is)
+looked_calm : (secrets : Secrets) (state : BaseView) (asker : Asker) (command : Command) (look : Look) → ComesTo secrets state asker command look → IsCalm look
+looked_calm secrets state asker _ _ (line_answer.sets_clock second) = record { had_memory = λ is. absurd cc; not_stopped = λ is. absurd cc }
+looked_calm secrets state asker _ _ (line_answer.sets_caller who) = record { had_memory = λ is. absurd cc; not_stopped = λ is. absurd cc }
+looked_calm secrets state asker _ _ (line_answer.registers signature statement) = tt
+looked_calm secrets state asker _ _ (line_answer.shows number) = tt
+looked_calm secrets state asker _ _ (line_answer.verifies_nothing goal numbers proof reply refused) = unproved_calm (sayings state.statements) goal numbers proof reply refused
+looked_calm secrets state asker _ _ (line_answer.verifies goal numbers proof cites g proved) = tt
+looked_calm secrets state asker _ _ (line_answer.checks_nothing goal numbers proof reply refused) = unproved_calm (sayings state.statements) goal numbers proof reply refused
+looked_calm secrets state asker _ _ (line_answer.checks goal numbers proof cites g proved) = record { had_memory = λ is. absurd cc; not_stopped = λ is. absurd cc }
+looked_calm secrets state asker _ _ (line_answer.acts_under_none op given number none) = record { had_memory = λ is. absurd cc; not_stopped = λ is. absurd cc }
+looked_calm secrets state asker _ _ (line_answer.acts op given procaps brought) = tt
 
-some_memory : (s : Standing) (line : List ℕ) (reply : LineReply) (event : Option Event) (after : Asker) → AnswersLine s.secrets (state_of_standing s) s.asker line reply event after → reply ≢ NoMemory
-some_memory s line _ _ _ (faulty fault bad) is = absurd cc
-some_memory s line _ _ _ (asks command _ _ is_line (decided request reply event look answer)) is = absurd cc
-some_memory s line _ _ _ (asks command _ _ is_line (at_once reply look)) is = at_once_memory s.secrets (state_of_standing s) s.asker command reply look is
+at_once_calm : (secrets : Secrets) (state : BaseView) (asker : Asker) (command : Command) (reply : LineReply) → ComesTo secrets state asker command (replied reply) → IsUndisturbed reply
+at_once_calm secrets state asker command reply comes = looked_calm secrets state asker command (replied reply) comes
 
--- a run that does not run out of memory
-pub has_outcome : (start : Standing) (lines : List (List ℕ)) → IsLawfulStanding start → CanNumber start lines → (replies : List LineReply) × (added : List Event) × ScriptRun start lines replies added × HadMemory replies
-has_outcome start [] stands few = ([], [], ended start, tt)
-has_outcome start (line ∷ lines) stands few =
+-- no answer is that memory ran out, or that a disk failed
+calm_reply : (s : Standing) (line : List ℕ) (reply : LineReply) (event : Option Event) (after : Asker) → AnswersLine s.secrets (state_of_standing s) s.asker line reply event after → IsUndisturbed reply
+calm_reply s line _ _ _ (faulty fault bad) = record { had_memory = λ is. absurd cc; not_stopped = λ is. absurd cc }
+calm_reply s line _ _ _ (asks command _ _ is_line (decided request reply event look answer)) = record { had_memory = λ is. absurd cc; not_stopped = λ is. absurd cc }
+calm_reply s line _ _ _ (asks command _ _ is_line (at_once reply look)) = at_once_calm s.secrets (state_of_standing s) s.asker command reply look
+
+-- ---- what becomes of it
+
+-- something becomes of an answer, and no disk fails
+record GoesWell (s : Standing) (told : LineReply) (asker : Asker) (event : Option Event) : Type 0 where
+  reply : LineReply
+  after : Standing
+  becomes : Becomes s told asker event reply after
+  calm : IsUndisturbed reply
+  going : after.met ≡ None
+
+within : (s : Standing) (event : Event) → (area_limit < s.used + length (event_spelling event) + 6 → ⊥) → (2 ^ 48 - 1 ≤ (state_of_standing s).count → ⊥) → IsFull s.used (state_of_standing s).count event → ⊥
+within s event fits numbered (inl long) = fits long
+within s event fits numbered (inr many) = numbered many
+
+full_or_not : (s : Standing) (event : Event) → (area_limit < s.used + length (event_spelling event) + 6) ⊎ (s.used + length (event_spelling event) + 6 ≤ area_limit) → ((state_of_standing s).count < 2 ^ 48 - 1) ⊎ (2 ^ 48 - 1 ≤ (state_of_standing s).count) →
+    IsFull s.used (state_of_standing s).count event ⊎ HasRoom s (Some event)
+full_or_not s event (inl long) numbers = inl (inl long)
+full_or_not s event (inr short) (inr many) = inl (inr many)
+full_or_not s event (inr short) (inl few) = inr (within s event (λ long. absurd (omega (arith, long, short))) (λ many. absurd (omega (arith, few, many))))
+
+full_calm : IsUndisturbed replies.Full
+full_calm = record { had_memory = λ is. absurd cc; not_stopped = λ is. absurd cc }
+
+event_goes : (s : Standing) (told : LineReply) (asker : Asker) (event : Event) → s.met ≡ None → IsUndisturbed told → IsFull s.used (state_of_standing s).count event ⊎ HasRoom s (Some event) → GoesWell s told asker (Some event)
+event_goes s told asker event going calm (inl is_full) = record { reply = replies.Full; after = s; becomes = full event is_full; calm = full_calm; going = going }
+event_goes s told asker event going calm (inr room) = record { reply = told; after = standing_after s (Some event) asker; becomes = kept (Some event) room; calm = calm; going = going }
+
+goes_well : (s : Standing) (told : LineReply) (asker : Asker) (event : Option Event) → s.met ≡ None → IsUndisturbed told → GoesWell s told asker event
+goes_well s told asker None going calm = record { reply = told; after = standing_after s None asker; becomes = kept None tt; calm = calm; going = going }
+goes_well s told asker (Some event) going calm = event_goes s told asker event going calm (full_or_not s event (cases_lt area_limit (s.used + length (event_spelling event) + 6)) (cases_lt (state_of_standing s).count (2 ^ 48 - 1)))
+
+-- a run that does not run out of memory, and meets no fault of a disk
+pub has_outcome : (start : Standing) (lines : List (List ℕ)) → IsLawfulStanding start → start.met ≡ None → (told : List LineReply) × (end : Standing) × ScriptRun start lines told end × AreUndisturbed told
+has_outcome start [] stands going = ([], start, ended start, tt)
+has_outcome start (line ∷ lines) stands going =
     let first = line_has_answer start line stands in
-    let after = standing_after start first.1 first.2 in
-    let step : IsReplied start line first.0 first.1 after = answered first.0 first.1 first.2 first.3 in
-    let rest = has_outcome after lines (IsLawfulStanding-replied start after line lines first.0 first.1 stands few step) (CanNumber-replied start after line lines first.0 first.1 few step) in
-    (first.0 ∷ rest.0, option_to_list first.1 ++ rest.1, one_more start line lines first.0 rest.0 first.1 after rest.1 step rest.2, (some_memory start line first.0 first.1 first.2 first.3, rest.3))
+    let goes = goes_well start first.0 first.2 first.1 going (calm_reply start line first.0 first.1 first.2 first.3) in
+    let step : IsReplied line start goes.reply goes.after = answered first.0 first.1 first.2 goes.reply goes.after first.3 goes.becomes in
+    let rest = has_outcome goes.after lines (IsLawfulStanding-replied start goes.after line goes.reply stands step) goes.going in
+    (goes.reply ∷ rest.0, rest.1, one_more start line lines goes.reply rest.0 goes.after rest.1 going step rest.2, (goes.calm, rest.3))

@@ -5,12 +5,12 @@ use Rattle.access_history.specs.declared.event.Issue.{Issue}
 use Rattle.access_history.specs.Numbered.{IsNumbered}
 use Rattle.line_words.specs.declared.procap_word.ProcapWord.{ProcapWord}
 use Rattle.line_words.specs.declared.procap_word.ProcapWord.TheVariants as words
-use Rattle.pcfs_top.specs.declared.brought.Brought.{Brought}
-use Rattle.pcfs_top.specs.declared.brought.Brought.TheVariants.{Procap, Unissued}
+use Rattle.pcfs_top.specs.declared.brought.BroughtProcap.{BroughtProcap}
+use Rattle.pcfs_top.specs.declared.brought.BroughtProcap.TheVariants.{Procap, Unissued}
 use Rattle.pcfs_top.specs.Procaps.{BringsProcap, AreBrought, IsFirstUnissued}
 
 -- a word brings this procap, or names an issue which is not there
-abbrev pub IsBroughtBy : List ℕ → List Issue → ProcapWord → Brought → Type 0
+abbrev pub IsBroughtBy : List ℕ → List Issue → ProcapWord → BroughtProcap → Type 0
 IsBroughtBy key issues word (Procap p) = BringsProcap key issues word p
 IsBroughtBy key issues word (Unissued number) = (word ≡ words.Issue number) × ((issue : Issue) → IsNumbered issues number issue → ⊥)
 

@@ -9,30 +9,39 @@ use Rattle.access_history.specs.declared.event.Event.{Event}
 use Rattle.access_history.specs.declared.request.StepRequest.{StepRequest}
 use Rattle.access_history.specs.declared.reply.StepReply.{StepReply}
 use Rattle.access_history.specs.Answer.{Answers}
-use Rattle.access_history.specs.Citing.{AreCitable}
+use Rattle.bl_syntax.specs.Citable.{AreCitable}
 use Rattle.line_forms.specs.declared.command.Command.{Command}
 use Rattle.line_forms.specs.declared.command.Command.TheVariants.{At, As, Register, Procap, Verify, Check, Do}
 use Rattle.line_forms.specs.declared.fault.LineFault.{LineFault}
 use Rattle.line_forms.specs.declared.fault.LineFault.TheVariants as line_faults
 use Rattle.line_wire.specs.declared.reply.LineReply.{LineReply}
 use Rattle.line_wire.specs.declared.reply.LineReply.TheVariants as replies
+use Rattle.pcfs_store.specs.declared.reply.StoreReply.{StoreReply}
+use Rattle.pcfs_store.specs.declared.reply.StoreReply.TheVariants as stores
 use Rattle.pcfs_top.specs.Asker.{asker_after}
 use Rattle.pcfs_top.specs.LineAnswer.{authority_under, AnswersCommand}
-use Rattle.pcfs_top.specs.ScriptRun.{Standing, state_of_standing, standing_after}
+use Rattle.pcfs_top.specs.ScriptRun.{Standing, state_of_standing, Becomes}
 
--- the request is decided and this is the reply, and its event is kept if there is one
-pub record IsDecidedAs (before : Standing) (request : StepRequest) (reply : LineReply) (after : Standing) : Type 0 where
+-- the request is answered, and this becomes of the answer
+pub record IsDecidedAs (request : StepRequest) (before : Standing) (reply : LineReply) (after : Standing) : Type 0 where
   pub told : StepReply
   pub event : Option Event
   pub answer : Answers (authority_under before.secrets) (state_of_standing before) before.asker.pass before.asker.clock request told event
-  pub reply_is : reply ≡ replies.Step told
-  pub after_is : after ≡ standing_after before event before.asker
+  pub becomes : Becomes before (replies.Step told) before.asker event reply after
 
--- the command is answered, and its event is kept if there is one
-pub record IsFollowed (before : Standing) (command : Command) (reply : LineReply) (after : Standing) : Type 0 where
+-- the command is answered, and this becomes of the answer
+pub record IsFollowed (command : Command) (before : Standing) (reply : LineReply) (after : Standing) : Type 0 where
+  pub told : LineReply
   pub event : Option Event
-  pub answer : AnswersCommand before.secrets (state_of_standing before) before.asker command reply event
-  pub after_is : after ≡ standing_after before event (asker_after before.asker command)
+  pub answer : AnswersCommand before.secrets (state_of_standing before) before.asker command told event
+  pub becomes : Becomes before told (asker_after before.asker command) event reply after
+
+-- what is returned to a line for which the store says this; nothing is, if memory ran out
+abbrev pub IsToldAs : StoreReply → LineReply → Type 0
+IsToldAs (stores.Step reply) told = told ≡ replies.Step reply
+IsToldAs stores.Full told = told ≡ replies.Full
+IsToldAs stores.Stopped told = told ≡ replies.Stopped
+IsToldAs stores.NoMemory told = ⊥
 
 -- what is returned to a line that was not read: its fault, or that memory ran out
 abbrev pub unread_reply : LineFault → LineReply

@@ -1,5 +1,5 @@
 -- Laws of runs and lines: what runs keep is lawful, and lines and runs have one answer each.
-use Rattle.std.specs.Prelude.{◌≡◌, ◌<◌, ◌^◌, ℕ, List, ◌++◌, length, codes, Option}
+use Rattle.std.specs.Prelude.{◌≡◌, ℕ, List, ◌++◌, codes, Option, None}
 use Rattle.access_history.specs.declared.event.Event.{Event}
 use Rattle.access_history.specs.Base.{BaseView}
 use Rattle.access_history.specs.Lawful.{IsLawful}
@@ -9,12 +9,18 @@ use Rattle.line_wire.specs.FirstWord.{reply_word}
 use Rattle.pcfs_secrets.specs.declared.secrets.Secrets.{Secrets}
 use Rattle.pcfs_top.specs.Asker.{Asker}
 use Rattle.pcfs_top.specs.LineAnswer.{authority_under, AnswersLine}
-use Rattle.pcfs_top.specs.ScriptRun.{Standing, state_of_standing, IsLawfulStanding, CanNumber, ScriptRun, HadMemory, fresh_start}
+use Rattle.pcfs_top.specs.ScriptRun.{Standing, state_of_standing, IsLawfulStanding, ScriptRun, AreUndisturbed, fresh_start}
 
--- the events of a run from a lawful start are lawful
+-- a run from a lawful start ends under the same secrets and over the same base, with the events of its start and others after them, and its history is lawful
+pub record GoesLawfullyTo (start end : Standing) : Type 0 where
+  pub added : List Event
+  pub secrets_stay : end.secrets ≡ start.secrets
+  pub base_stays : end.base ≡ start.base
+  pub events_are : end.events ≡ start.events ++ added
+  pub stands : IsLawfulStanding end
+
 abbrev pub RunsAreLawful : Type 0
-RunsAreLawful = (start : Standing) (lines : List (List ℕ)) (replies : List LineReply) (added : List Event) → IsLawfulStanding start → CanNumber start lines → ScriptRun start lines replies added →
-    IsLawful (authority_under start.secrets) start.base (start.events ++ added)
+RunsAreLawful = (start end : Standing) (lines : List (List ℕ)) (replies : List LineReply) → IsLawfulStanding start → ScriptRun start lines replies end → GoesLawfullyTo start end
 
 -- over the state of a lawful history a line has one answer at most
 abbrev pub LinesHaveOneAnswer : Type 0
@@ -30,26 +36,26 @@ LinesHaveAnAnswer = (s : Standing) (line : List ℕ) → IsLawfulStanding s →
 abbrev pub AnswersAreNotOutOfMemory : Type 0
 AnswersAreNotOutOfMemory = (secrets : Secrets) (state : BaseView) (asker : Asker) (line : List ℕ) (reply : LineReply) (event : Option Event) (after : Asker) → AnswersLine secrets state asker line reply event after → reply_word reply ≡ codes "nomemory" → ⊥
 
--- two runs of the same lines from a lawful start that do not run out of memory have the same outcome
+-- two runs of the same lines from a lawful start that do not run out of memory and meet no fault of a disk have the same outcome
 abbrev pub RunsHaveOneOutcome : Type 0
-RunsHaveOneOutcome = (start : Standing) (lines : List (List ℕ)) (first second : List LineReply) (one other : List Event) → IsLawfulStanding start → CanNumber start lines →
-    ScriptRun start lines first one → HadMemory first → ScriptRun start lines second other → HadMemory second → (first ≡ second) × (one ≡ other)
+RunsHaveOneOutcome = (start end other : Standing) (lines : List (List ℕ)) (first second : List LineReply) → IsLawfulStanding start →
+    ScriptRun start lines first end → AreUndisturbed first → ScriptRun start lines second other → AreUndisturbed second → (first ≡ second) × (end ≡ other)
 
--- and there is such a run
+-- and there is such a run, unless a disk failed before
 abbrev pub RunsHaveAnOutcome : Type 0
-RunsHaveAnOutcome = (start : Standing) (lines : List (List ℕ)) → IsLawfulStanding start → CanNumber start lines →
-    (replies : List LineReply) × (added : List Event) × ScriptRun start lines replies added × HadMemory replies
+RunsHaveAnOutcome = (start : Standing) (lines : List (List ℕ)) → IsLawfulStanding start → start.met ≡ None →
+    (replies : List LineReply) × (end : Standing) × ScriptRun start lines replies end × AreUndisturbed replies
 
 -- a script over a store before its first event begins lawfully
 abbrev pub FreshStartsAreLawful : Type 0
 FreshStartsAreLawful = (secrets : Secrets) → IsLawfulStanding (fresh_start secrets)
 
--- the outcome of a run that does not run out of memory, and no other run has another
-pub record IsOutcome (start : Standing) (lines : List (List ℕ)) (replies : List LineReply) (added : List Event) : Type 0 where
-  pub run : ScriptRun start lines replies added
-  pub had_memory : HadMemory replies
-  pub only : (others : List LineReply) (events : List Event) → ScriptRun start lines others events → HadMemory others → (others ≡ replies) × (events ≡ added)
+-- the outcome of a run that does not run out of memory and meets no fault of a disk, and no other such run has another
+pub record IsOutcome (start : Standing) (lines : List (List ℕ)) (replies : List LineReply) (end : Standing) : Type 0 where
+  pub run : ScriptRun start lines replies end
+  pub undisturbed : AreUndisturbed replies
+  pub only : (others : List LineReply) (other : Standing) → ScriptRun start lines others other → AreUndisturbed others → (others ≡ replies) × (other ≡ end)
 
--- each input of a script over a store before its first event has exactly one outcome, unless memory runs out
+-- each input of a script over a store before its first event has exactly one outcome, unless memory runs out or a disk fails
 abbrev pub ScriptsHaveOneOutcome : Type 0
-ScriptsHaveOneOutcome = (secrets : Secrets) (input : List ℕ) → length input < 2 ^ 30 → (replies : List LineReply) × (added : List Event) × IsOutcome (fresh_start secrets) (lines_of input) replies added
+ScriptsHaveOneOutcome = (secrets : Secrets) (input : List ℕ) → (replies : List LineReply) × (end : Standing) × IsOutcome (fresh_start secrets) (lines_of input) replies end

@@ -10,7 +10,7 @@ use Rattle.line_words.specs.declared.procap_word.ProcapWord.TheVariants as words
 
 -- the procap that a word brings: its own, or the one of the issue that it names
 pub data BringsProcap (key : List ℕ) (issues : List Issue) : ProcapWord → Procap → Type 0 where
-  held : (p : Procap) → BringsProcap key issues (words.Held p) p
+  held : (p : Procap) → BringsProcap key issues (words.Procap p) p
   issued : (number : ℕ) (issue : Issue) → IsNumbered issues number issue → BringsProcap key issues (words.Issue number) (procap_of key issue.grant)
 
 -- each word brings its procap
@@ -22,7 +22,7 @@ AreBrought key issues (word ∷ words) (p ∷ procaps) = BringsProcap key issues
 
 -- if the word names an issue, it is there
 abbrev pub NamesIssue : List Issue → ProcapWord → Type 0
-NamesIssue issues (words.Held p) = Unit {0}
+NamesIssue issues (words.Procap p) = Unit {0}
 NamesIssue issues (words.Issue number) = (issue : Issue) × IsNumbered issues number issue
 
 -- it is the number of the first word that names an issue which is not there

@@ -1,72 +1,129 @@
--- How a run of the program ends: its status, what it took and what it wrote. If the input does not tell what it has, or the output what it holds, nothing is said of that
--- (this project's own).
-use Rattle.std.specs.Prelude.{◌≡◌, ℕ, List, [], ◌∷◌, ◌++◌, String, map, codes}
-use Rattle.std.specs.List.{flat_map}
+-- How a run of the program ends: its status, what it took, what it wrote, and what it leaves on its disks. If a port does not tell its bytes, nothing is said of them (this project's own).
+use Rattle.std.specs.Prelude.{◌≡◌, ◌⊎◌, ℕ, List, [], ◌∷◌, ◌++◌, String, map, codes, length, Option, Some, None, IfSome}
+use Rattle.std.specs.Fmt.{decimal}
 use Rattle.std.specs.String.{string_bytes}
 use Rattle.std.specs.declared.alloc.Global.{Global}
 use Rattle.pcfs_ports.specs.Faults.{HasRisen}
-use Rattle.pcfs_ports.specs.Told.{with_front, with_back, ReadsToEnd, TakesFirst, HoldsSome}
-use Rattle.line_text.specs.Lines.{lines_of}
+use Rattle.pcfs_ports.specs.Told.{with_back, HoldsSome}
+use Rattle.journal_core.specs.Area.{IsShut, Closed, area_bytes}
+use Rattle.access_history.specs.Replay.{fresh}
 use Rattle.access_history.specs.declared.event.Event.{Event}
-use Rattle.access_history.specs.Headline.{Headline}
-use Rattle.access_history.specs.Replay.{replay}
-use Rattle.line_wire.specs.declared.reply.LineReply.{LineReply}
-use Rattle.line_wire.specs.ReplyText.{output_of}
+use Rattle.op_gate.specs.declared.damage.Damage.{Damage}
+use Rattle.op_gate.specs.declared.damage.Damage.TheVariants.{Header, Shape, Unsigned, Unproved, NotAdmitted, MomentFalls, Duplicate}
+use Rattle.pcfs_store.specs.Image.{fresh_image}
+use Rattle.pcfs_store.specs.StoredHistory.{payloads_of}
+use Rattle.pcfs_store.specs.Newest.{SurvivesWhole}
+use Rattle.pcfs_store.specs.Ready.{SurvivesWithOrWithout}
+use Rattle.pcfs_store.specs.declared.format.FormatFault.{FormatFault}
+use Rattle.pcfs_store.specs.declared.format.FormatFault.TheVariants as formats
+use Rattle.recover.specs.declared.fault.OpenFault.{OpenFault}
+use Rattle.recover.specs.declared.fault.OpenFault.TheVariants as opens
+use Rattle.recover.specs.Opening.{IsNewestHistory, IsNewestDamaged, IsNewestClosed}
 use Rattle.pcfs_secrets.specs.declared.secrets.Secrets.{Secrets}
+use Rattle.pcfs_top.specs.Asker.{first_asker}
 use Rattle.pcfs_top.specs.LineAnswer.{authority_under}
-use Rattle.pcfs_top.specs.ScriptRun.{Standing, ScriptRun, fresh_start}
-use Rattle.pcfs_top.specs.Ports.{Ports}
+use Rattle.pcfs_top.specs.Ports.{Streams, Disks, Ports, IfTold, HasDiskFailed, AreBytesKept}
+use Rattle.pcfs_top.specs.ScriptEnds.{ScriptEnds, with_line_end}
+use Rattle.pcfs_top.specs.ScriptRun.{Standing, IsLawfulStanding, fresh_start, script_pass}
 
 -- the words are the one word `script`
 abbrev pub IsScript : List (String Global) → Type 0
 IsScript words = map string_bytes words ≡ codes "script" ∷ []
 
--- a line with its end
-abbrev pub with_line_end : List ℕ → List ℕ
-with_line_end line = line ++ 10 ∷ []
+-- the words are `script --stored`
+abbrev pub IsStored : List (String Global) → Type 0
+IsStored words = map string_bytes words ≡ codes "script" ∷ codes "--stored" ∷ []
 
--- a script was run over these lines from a start: the output has a line for each of its replies, and the headline holds of the history at the end
-pub record RunsOver (start : Standing) (lines : List (List ℕ)) (written : List ℕ) : Type 0 where
-  pub replies : List LineReply
-  pub added : List Event
-  pub run : ScriptRun start lines replies added
-  pub headline : Headline (authority_under start.secrets) start.base (start.events ++ added) (replay start.base (start.events ++ added)).world
-  pub written_is : written ≡ output_of replies
+-- the words are the one word `init`
+abbrev pub IsInit : List (String Global) → Type 0
+IsInit words = map string_bytes words ≡ codes "init" ∷ []
 
--- a script was run over the first lines of these bytes
-pub record RunsPart (start : Standing) (bytes written : List ℕ) : Type 0 where
-  pub front : List (List ℕ)
-  pub others : List (List ℕ)
-  pub parts : lines_of bytes ≡ front ++ others
-  pub run : RunsOver start front written
+-- the words ask for something
+pub data AreKnown (words : List (String Global)) : Type 0 where
+  is_script : IsScript words → AreKnown words
+  is_stored : IsStored words → AreKnown words
+  is_init : IsInit words → AreKnown words
 
--- these lines were taken of the input, each with its end, and then some rest
-pub record AreTaken (before after : Ports) (lines : List (List ℕ)) : Type 0 where
-  pub rest : List ℕ
-  pub are_lines : lines_of (flat_map with_line_end lines) ≡ lines
-  pub taken : before.left ≡ with_front (flat_map with_line_end lines ++ rest) after.left
+-- the number under which a damage is reported
+abbrev pub damage_number : Damage → ℕ
+damage_number Header = 1
+damage_number Shape = 2
+damage_number Unsigned = 3
+damage_number Unproved = 4
+damage_number NotAdmitted = 5
+damage_number MomentFalls = 6
+damage_number Duplicate = 7
 
--- the script was run over the first lines that were taken; or over the first lines of the whole input, of which the last may lack its end
-pub data IsUnderWay (secrets : Secrets) (before after : Ports) (written : List ℕ) : Type 0 where
-  while_reading : (lines : List (List ℕ)) → AreTaken before after lines → RunsOver (fresh_start secrets) lines written → IsUnderWay secrets before after written
-  all_read : (bytes : List ℕ) → ReadsToEnd before.left after.left bytes → RunsPart (fresh_start secrets) bytes written → IsUnderWay secrets before after written
+-- the line that reports the damage of a record
+abbrev pub damaged_text : ℕ → Damage → List ℕ
+damaged_text record_number damage = codes "damaged " ++ (decimal record_number ++ (codes " " ++ decimal (damage_number damage)))
 
--- what a run has to write if it ends with this status: the replies to all lines of the input; or a last line with the cause, which may come after the replies to the first lines that were taken
-pub data HasToWrite (secrets : Secrets) (words : List (String Global)) (before after : Ports) : ℕ → List ℕ → Type 0 where
-  done : (bytes written : List ℕ) → IsScript words → ReadsToEnd before.left after.left bytes → RunsOver (fresh_start secrets) (lines_of bytes) written →
-      HasToWrite secrets words before after 0 written
-  usage : (IsScript words → ⊥) → after.left ≡ before.left → HasToWrite secrets words before after 1 (with_line_end (codes "usage"))
-  read_fault : (lines : List (List ℕ)) (written : List ℕ) → IsScript words → HasRisen before.read_faults after.read_faults → AreTaken before after lines → RunsOver (fresh_start secrets) lines written →
-      HasToWrite secrets words before after 6 (written ++ with_line_end (codes "readfault"))
-  too_long : (lines : List (List ℕ)) (written : List ℕ) → IsScript words → TakesFirst 1073741824 before.left after.left → AreTaken before after lines → RunsOver (fresh_start secrets) lines written →
-      HasToWrite secrets words before after 13 (written ++ with_line_end (codes "toolong"))
+-- neither area is open
+abbrev pub HasNoArea : List ℕ → List ℕ → Type 0
+HasNoArea x y = IsShut x × IsShut y
 
--- the status that a run ends with, and its cause: all was written; or the output failed, and holds some first part of it or of the replies to the first lines; or memory ran out, and
--- the output holds some first part of those replies
-pub data EndsWith (secrets : Secrets) (words : List (String Global)) (before after : Ports) : ℕ → Type 0 where
-  written : (status : ℕ) (whole : List ℕ) → HasToWrite secrets words before after status whole → after.held ≡ with_back before.held whole → EndsWith secrets words before after status
-  cut_short : (status : ℕ) (whole : List ℕ) → HasRisen before.write_faults after.write_faults → HasToWrite secrets words before after status whole →
-      HoldsSome before.held after.held whole → EndsWith secrets words before after 7
-  write_fault : (whole : List ℕ) → IsScript words → HasRisen before.write_faults after.write_faults → IsUnderWay secrets before after whole → HoldsSome before.held after.held whole →
-      EndsWith secrets words before after 7
-  out_of_memory : (whole : List ℕ) → IsScript words → IsUnderWay secrets before after whole → HoldsSome before.held after.held whole → EndsWith secrets words before after 9
+-- a store was opened whose area has this generation, and a script begins over it: its history is that of the newest area, and lawful, and the area has so many bytes before its closed gate
+pub record IsOpened (secrets : Secrets) (generation : ℕ) (before : Disks) (start : Standing) : Type 0 where
+  pub secrets_are : start.secrets ≡ secrets
+  pub asker_is : start.asker ≡ first_asker script_pass
+  pub running : start.met ≡ None
+  pub lawful : IsLawfulStanding start
+  pub base_is : start.base ≡ fresh
+  pub used_is : start.used ≡ length (area_bytes generation fresh_image (payloads_of start.events))
+  pub found : IfTold before (IsNewestHistory (authority_under secrets) generation start.events)
+
+-- What comes back of the disks of a store that was opened, where a script ended. Unless a disk failed, the newest area stands for the history at the end. If one failed, its count rose; and if the newest area had its
+-- closed gate when the store was opened, the newest one that comes back stands for the history at the end, or for it with the one event that met the fault.
+pub record Returns (generation : ℕ) (before after : Disks) (start end : Standing) : Type 0 where
+  pub whole : IfTold before (λ x y. end.met ≡ None → IfTold after (SurvivesWhole end.base end.events))
+  pub failed : (met : Event) → end.met ≡ Some met → HasDiskFailed before after
+  pub survives : IfTold before (λ x y. IsNewestClosed generation start.events x y → (met : Event) → end.met ≡ Some met → IfTold after (SurvivesWithOrWithout end.base end.events met))
+
+-- how a script in memory ends: its own disks fail only if memory runs out
+pub data MemoryEnds (secrets : Secrets) (before after : Streams) : ℕ → Type 0 where
+  ended : (status : ℕ) (end : Standing) → (status ≡ 5 → ⊥) → ScriptEnds (fresh_start secrets) end before after status → MemoryEnds secrets before after status
+  disk_failed : (end : Standing) → ScriptEnds (fresh_start secrets) end before after 5 → MemoryEnds secrets before after 9
+
+-- what a run has to write if it ends with this status without an answer to a line: one line with the cause
+pub data HasCause (secrets : Secrets) (words : List (String Global)) (at_rest : Type 0) (before after : Disks) : ℕ → List ℕ → Type 0 where
+  usage : (AreKnown words → ⊥) → after ≡ before → HasCause secrets words at_rest before after 1 (codes "usage")
+  made : IsInit words → IfTold before (λ x y. HasNoArea x y × IfSome after.a (Closed (area_bytes 1 fresh_image []))) → after.b ≡ before.b → HasCause secrets words at_rest before after 0 (codes "ok")
+  exists : IsInit words → IfTold before (λ x y. HasNoArea x y → ⊥) → AreBytesKept before after → HasCause secrets words at_rest before after 10 (codes "exists")
+  not_made : IsInit words → HasDiskFailed before after → HasCause secrets words at_rest before after 5 (codes "stopped")
+  no_store : IsStored words → IfTold before HasNoArea → AreBytesKept before after → HasCause secrets words at_rest before after 4 (codes "nostore")
+  damaged : (number : ℕ) (damage : Damage) → IsStored words → IfTold before (IsNewestDamaged (authority_under secrets) number damage) → AreBytesKept before after → HasCause secrets words at_rest before after 3 (damaged_text number damage)
+  not_opened : IsStored words → HasDiskFailed before after → (at_rest → AreBytesKept before after) → HasCause secrets words at_rest before after 5 (codes "stopped")
+
+-- a last line was written, and the run ends with this status; or the output failed, and holds some first part of it. `held` and `faults` are what the output held and the count of its faults
+abbrev pub IsTold : ℕ → List ℕ → Option (List ℕ) → ℕ → ℕ → Option (List ℕ) → ℕ → Type 0
+IsTold status line held faults result held_after faults_after =
+    ((result ≡ status) × (held_after ≡ with_back held (with_line_end line))) ⊎ ((result ≡ 7) × HasRisen faults faults_after × HoldsSome held held_after (with_line_end line))
+
+-- memory ran out, and nothing was written
+abbrev pub IsUntold : Option (List ℕ) → ℕ → Option (List ℕ) → Type 0
+IsUntold held result held_after = (result ≡ 9) × (held_after ≡ held)
+
+-- what is told of why no store was opened
+abbrev pub TellsUnopened : OpenFault → Option (List ℕ) → ℕ → ℕ → Option (List ℕ) → ℕ → Type 0
+TellsUnopened opens.NoStore held faults result held_after faults_after = IsTold 4 (codes "nostore") held faults result held_after faults_after
+TellsUnopened (opens.Damaged number damage) held faults result held_after faults_after = IsTold 3 (damaged_text number damage) held faults result held_after faults_after ⊎ IsUntold held result held_after
+TellsUnopened opens.Disk held faults result held_after faults_after = IsTold 5 (codes "stopped") held faults result held_after faults_after
+TellsUnopened opens.NoMemory held faults result held_after faults_after = IsUntold held result held_after
+
+-- what is told of why no store was made
+abbrev pub TellsUnmade : FormatFault → Option (List ℕ) → ℕ → ℕ → Option (List ℕ) → ℕ → Type 0
+TellsUnmade formats.AlreadyStore held faults result held_after faults_after = IsTold 10 (codes "exists") held faults result held_after faults_after
+TellsUnmade formats.Disk held faults result held_after faults_after = IsTold 5 (codes "stopped") held faults result held_after faults_after
+TellsUnmade formats.NoMemory held faults result held_after faults_after = IsUntold held result held_after
+
+-- The status that a run ends with, and its cause. A script in memory ends as its lines say, and leaves the disks alone; its own disks are in memory, and fail only if memory runs out. A script over the areas
+-- begins where they stand. Any other run writes its line, or the output failed and holds some first part of it. Memory may run out before a store is made or opened, and then nothing changes.
+pub data EndsWith (secrets : Secrets) (words : List (String Global)) (at_rest : Type 0) (before after : Ports) : ℕ → Type 0 where
+  in_memory : (status : ℕ) → IsScript words → after.disks ≡ before.disks → MemoryEnds secrets before.streams after.streams status → EndsWith secrets words at_rest before after status
+  stored : (status generation : ℕ) (start end : Standing) → IsStored words → IsOpened secrets generation before.disks start → Returns generation before.disks after.disks start end → ScriptEnds start end before.streams after.streams status →
+      EndsWith secrets words at_rest before after status
+  told : (status : ℕ) (line : List ℕ) → HasCause secrets words at_rest before.disks after.disks status line → after.streams.left ≡ before.streams.left → after.streams.held ≡ with_back before.streams.held (with_line_end line) →
+      EndsWith secrets words at_rest before after status
+  cut_short : (status : ℕ) (line : List ℕ) → HasCause secrets words at_rest before.disks after.disks status line → after.streams.left ≡ before.streams.left → HasRisen before.streams.write_faults after.streams.write_faults →
+      HoldsSome before.streams.held after.streams.held (with_line_end line) → EndsWith secrets words at_rest before after 7
+  out_of_memory : (IsScript words → ⊥) → AreKnown words → AreBytesKept before.disks after.disks → after.streams.left ≡ before.streams.left → after.streams.held ≡ before.streams.held → EndsWith secrets words at_rest before after 9

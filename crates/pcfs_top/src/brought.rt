@@ -13,7 +13,7 @@ use std::alloc::Global;
 
 /// What a word brings.
 #[derive(Debug, Drop)]
-pub enum Brought {
+pub enum BroughtProcap {
     /// This procap.
     Procap(Procap),
     /// The number of an issue that is not there.
@@ -21,14 +21,14 @@ pub enum Brought {
 }
 
 // The procap of the word, or the one of the issue that it names.
-fn bring(alloc: Global, gate: &Gate, word: &ProcapWord) -> Result<Brought, NoMemory>
+fn bring(alloc: Global, gate: &Gate, word: &ProcapWord) -> Result<BroughtProcap, NoMemory>
     ensures { IfOk result (IsBroughtBy gate.now.key (replay gate.now.base gate.now.events).issues word.now) }
 {
     match word {
-        ProcapWord::Held(procap) => Ok(Brought::Procap(procap.copy(alloc)?)),
+        ProcapWord::Procap(procap) => Ok(BroughtProcap::Procap(procap.copy(alloc)?)),
         ProcapWord::Issue(number) => match gate.procap(alloc, *number)? {
-            Some(procap) => Ok(Brought::Procap(procap)),
-            None => Ok(Brought::Unissued(*number)),
+            Some(procap) => Ok(BroughtProcap::Procap(procap)),
+            None => Ok(BroughtProcap::Unissued(*number)),
         },
     }
 }
@@ -45,11 +45,11 @@ pub fn add_procaps(
     match words {
         [] => Ok(None),
         [first, others @ ..] => match bring(alloc, gate, first)? {
-            Brought::Procap(procap) => {
+            BroughtProcap::Procap(procap) => {
                 procaps.push(procap)?;
                 add_procaps(alloc, gate, others, procaps)
             }
-            Brought::Unissued(number) => Ok(Some(number)),
+            BroughtProcap::Unissued(number) => Ok(Some(number)),
         },
     }
 }

@@ -1,7 +1,7 @@
 //! The interpreter, which answers the lines of an operator's script.
 
-ghost use Rattle.std.specs.Prelude.{◌≡◌, ◌≢◌, ◌≤◌, ◌<◌, ◌-◌, ◌^◌, length, IfOk, OnErr};
-ghost use Rattle.pcfs_top.specs.Interpreter.{unread_reply};
+ghost use Rattle.std.specs.Prelude.{◌≡◌, ◌≢◌, ◌≤◌, ◌↔◌, None, length, IfOk, OnErr, IsSome, IsTrue};
+ghost use Rattle.pcfs_top.specs.Interpreter.{IsToldAs, unread_reply};
 
 use crate::brought::add_procaps;
 use crate::signing::signature_of;
@@ -11,8 +11,9 @@ use file_world::Op;
 use line_forms::{Command, LineFault, read_line};
 use line_wire::LineReply;
 use line_words::ProcapWords;
-use op_gate::{Citation, Decision, Gate};
-use pcfs_secrets::Secrets;
+use op_gate::Citation;
+use pcfs_ports::Disk;
+use pcfs_store::{Store, StoreReply};
 use proof_term::ProofTree;
 use proof_verifier::{CheckFault, verdict, verify};
 use std::alloc::Global;
@@ -21,31 +22,31 @@ use std::marker::Model;
 /// The events of an operator's script carry this number.
 const SCRIPT_PASS: u64 = 1;
 
-/// A gate, the number that its events carry, what the clock shows in whole seconds from 1970-01-01T00:00:00Z, who
+/// A store, the number that its events carry, what the clock shows in whole seconds from 1970-01-01T00:00:00Z, who
 /// calls, and whose procaps are shown: each if nobody is named.
 #[derive(Drop)]
-pub struct Interpreter {
-    gate: Gate,
+pub struct Interpreter<D: Disk> {
+    store: Store<D>,
     pass: u64,
     clock: i64,
     caller: Principal,
     sees: Option<Principal>,
 }
 
-impl Model for Interpreter {
-    ghost use Rattle.std.specs.Prelude.{◌≡◌, None, IsTrue};
+impl<D: Disk> Model for Interpreter<D> {
+    ghost use Rattle.std.specs.Prelude.{IsTrue};
     ghost use Rattle.bl_syntax.specs.Names.{is_principal_name};
     ghost use Rattle.bl_syntax.specs.TimeOrder.{IsMoment};
-    ghost use Rattle.pcfs_top.specs.ScriptRun.{Standing};
-    ghost use Rattle.pcfs_top.specs.StandingCode.{standing_code};
+    ghost use Rattle.pcfs_top.specs.InterpreterCode.{interpreter_code};
+    ghost use Rattle.pcfs_top.specs.InterpreterView.{InterpreterView};
 
-    ghost Value = { Standing };
+    ghost Value = { InterpreterView D };
 
-    ghost coded = { standing_code };
+    ghost coded = { interpreter_code D.code };
 
-    ghost view = { λ d. record { secrets = record { seal_key = d.gate.key; ring = d.gate.ring }; base = d.gate.base; events = d.gate.events; asker = record { pass = d.pass; clock = d.clock; caller = d.caller; sees = d.sees } } };
+    ghost view = { λ d. record { store = d.store; asker = record { pass = d.pass; clock = d.clock; caller = d.caller; sees = d.sees } } };
 
-    ghost invariant = { λ d. IsMoment d.clock × IsTrue (is_principal_name d.caller) × (d.gate.pending ≡ None) };
+    ghost invariant = { λ d. IsMoment d.clock × IsTrue (is_principal_name d.caller) };
 }
 
 // What is returned if a proof is refused. An error exactly if memory ran out, which is no fault of the proof.
@@ -55,6 +56,19 @@ fn unproved(fault: CheckFault) -> Result<LineReply, NoMemory>
     match fault {
         CheckFault::NoMemory => Err(NoMemory),
         _ => Ok(LineReply::Unproved(fault)),
+    }
+}
+
+// What is returned to a line for which the store says this.
+fn told_as(reply: StoreReply) -> Result<LineReply, NoMemory>
+    ensures ok { IfOk result (λ told. IsToldAs reply told) }
+    ensures err { OnErr result (reply ≡ StoreReply.NoMemory) }
+{
+    match reply {
+        StoreReply::Step(reply) => Ok(LineReply::Step(reply)),
+        StoreReply::Full => Ok(LineReply::Full),
+        StoreReply::Stopped => Ok(LineReply::Stopped),
+        StoreReply::NoMemory => Err(NoMemory),
     }
 }
 
@@ -68,47 +82,56 @@ fn unread(fault: LineFault) -> LineReply
     }
 }
 
-impl Interpreter {
-    ghost use Rattle.std.specs.Prelude.{Option};
-    ghost use Rattle.access_history.specs.declared.event.Event.{Event};
+impl<D: Disk> Interpreter<D> {
     ghost use Rattle.access_history.specs.WellFormed.{IsWellFormed};
-    ghost use Rattle.access_history.specs.Citing.{AreCitable};
+    ghost use Rattle.bl_syntax.specs.Citable.{AreCitable};
     ghost use Rattle.bl_syntax.specs.Statement.{IsStatement};
     ghost use Rattle.file_world.specs.Effect.{IsOperation};
     ghost use Rattle.file_world.specs.Needs.{slots, bytes_to_write};
     ghost use Rattle.line_forms.specs.declared.command.Command.TheVariants.{Register, Procap as ShowProcap, Verify, Check, Do};
-    ghost use Rattle.pcfs_top.specs.ScriptRun.{state_of_standing, IsReplied, fresh_start};
+    ghost use Rattle.pcfs_top.specs.Asker.{first_asker};
+    ghost use Rattle.pcfs_top.specs.ScriptRun.{IsLawfulStanding, IsReplied, script_pass};
+    ghost use Rattle.pcfs_top.specs.InterpreterView.{standing_of};
+    ghost use Rattle.pcfs_top.specs.Stored.{LeadsTo};
     ghost use Rattle.pcfs_top.specs.Interpreter.{IsDecidedAs, IsFollowed, IsAllowed};
 
-    /// An interpreter over a store before its first event, where an operator's script begins under these secrets.
-    pub fn fresh(alloc: Global, secrets: &Secrets) -> Result<Interpreter, NoMemory>
-        ensures { IfOk result (λ interpreter. interpreter ≡ fresh_start secrets.now) }
+    /// An interpreter over this store, where an operator's script begins.
+    pub fn over(store: Store<D>) -> Interpreter<D>
+        ensures { result ≡ record { store = store; asker = first_asker script_pass } }
     {
-        let ring = secrets.ring.copy(alloc)?;
-        Ok(Interpreter {
-            gate: Gate::fresh(alloc, secrets.seal_key.as_slice(), ring)?,
+        Interpreter {
+            store,
             pass: SCRIPT_PASS,
             clock: 0,
             caller: Principal::new(b"admin").unwrap(),
             sees: None,
-        })
+        }
     }
 
-    // Asks the gate, and keeps the event if there is one.
+    /// The store.
+    pub fn into_store(self) -> Store<D>
+        ensures { result ≡ self.store }
+    {
+        self.store
+    }
+
+    /// Whether a disk failed. Then no further line is to be answered.
+    pub fn is_stopped(&self) -> bool
+        ensures { IsTrue result ↔ IsSome self.now.store.stop }
+    {
+        self.store.is_stopped()
+    }
+
+    // Asks the store.
     fn ask(&mut self, alloc: Global, request: StepRequest) -> Result<LineReply, NoMemory>
-        requires counted { (state_of_standing self.old).count < 2 ^ 48 - 1 }
+        requires running { self.old.store.stop ≡ None }
+        requires lawful { IsLawfulStanding (standing_of self.old None) }
         requires well_formed { IsWellFormed request }
-        ensures ok { IfOk result (λ reply. IsDecidedAs self.old request reply self.new) }
+        ensures ok { IfOk result (λ reply. LeadsTo D.clock D.left_since D.image D.faults (IsDecidedAs request) self.old reply self.new) }
         ensures err { OnErr result (self.new ≡ self.old) }
     {
-        match self.gate.decide(alloc, self.pass, request, self.clock) {
-            Decision::Answer(reply) => Ok(LineReply::Step(reply)),
-            Decision::Keep(reply) => {
-                self.gate.commit();
-                Ok(LineReply::Step(reply))
-            }
-            Decision::NoMemory => Err(NoMemory),
-        }
+        let reply = self.store.step(alloc, self.pass, request, self.clock);
+        told_as(reply)
     }
 
     // Checks the proof of the goal from the statements of these numbers, and asks for an issue.
@@ -119,12 +142,13 @@ impl Interpreter {
         numbers: &Numbers,
         proof: ProofTree,
     ) -> Result<LineReply, NoMemory>
-        requires counted { (state_of_standing self.old).count < 2 ^ 48 - 1 }
+        requires running { self.old.store.stop ≡ None }
+        requires lawful { IsLawfulStanding (standing_of self.old None) }
         requires citable { AreCitable numbers.now }
-        ensures ok { IfOk result (λ reply. IsFollowed self.old (Verify goal numbers.now proof) reply self.new) }
+        ensures ok { IfOk result (λ reply. LeadsTo D.clock D.left_since D.image D.faults (IsFollowed (Verify goal numbers.now proof)) self.old reply self.new) }
         ensures err { OnErr result (self.new ≡ self.old) }
     {
-        match self.gate.cite(alloc, numbers.as_slice())? {
+        match self.store.gate().cite(alloc, numbers.as_slice())? {
             Citation::Absent(number) => Ok(LineReply::Step(StepReply::Absent(number as u64))),
             Citation::Cited(cites) => match verify(alloc, cites, goal, proof) {
                 Ok(checked) => self.ask(alloc, StepRequest::Issue(checked)),
@@ -142,9 +166,9 @@ impl Interpreter {
         proof: &ProofTree,
     ) -> Result<LineReply, NoMemory>
         requires { AreCitable numbers.now }
-        ensures { IfOk result (λ reply. IsFollowed self.now (Check goal.now numbers.now proof.now) reply self.now) }
+        ensures { IfOk result (λ reply. IsFollowed (Check goal.now numbers.now proof.now) (standing_of self.now None) reply (standing_of self.now None)) }
     {
-        match self.gate.cite(alloc, numbers.as_slice())? {
+        match self.store.gate().cite(alloc, numbers.as_slice())? {
             Citation::Absent(number) => Ok(LineReply::Step(StepReply::Absent(number as u64))),
             Citation::Cited(cites) => match verdict(alloc, &cites, goal, proof) {
                 Ok(grant) => Ok(LineReply::Checked(grant)),
@@ -160,19 +184,21 @@ impl Interpreter {
         signature: Option<Bytes>,
         statement: Statement,
     ) -> Result<LineReply, NoMemory>
-        requires counted { (state_of_standing self.old).count < 2 ^ 48 - 1 }
+        requires running { self.old.store.stop ≡ None }
+        requires lawful { IsLawfulStanding (standing_of self.old None) }
         requires statement { IsStatement statement }
-        ensures ok { IfOk result (λ reply. IsFollowed self.old (Register signature statement) reply self.new) }
+        ensures ok { IfOk result (λ reply. LeadsTo D.clock D.left_since D.image D.faults (IsFollowed (Register signature statement)) self.old reply self.new) }
         ensures err { OnErr result (self.new ≡ self.old) }
     {
-        let signature = signature_of(alloc, self.gate.ring(), &statement, signature)?;
+        let signature = signature_of(alloc, self.store.gate().ring(), &statement, signature)?;
         self.ask(alloc, StepRequest::Register(statement, signature))
     }
 
     // Shows the procap of the issue of this number.
     fn show(&mut self, alloc: Global, number: u64) -> Result<LineReply, NoMemory>
-        requires { (state_of_standing self.old).count < 2 ^ 48 - 1 }
-        ensures ok { IfOk result (λ reply. IsFollowed self.old (ShowProcap number) reply self.new) }
+        requires running { self.old.store.stop ≡ None }
+        requires lawful { IsLawfulStanding (standing_of self.old None) }
+        ensures ok { IfOk result (λ reply. LeadsTo D.clock D.left_since D.image D.faults (IsFollowed (ShowProcap number)) self.old reply self.new) }
         ensures err { OnErr result (self.new ≡ self.old) }
     {
         self.ask(alloc, StepRequest::ShowProcap(number, self.sees))
@@ -180,15 +206,21 @@ impl Interpreter {
 
     // Does the operation under the procaps that the words bring.
     fn act(&mut self, alloc: Global, op: Op, words: &ProcapWords) -> Result<LineReply, NoMemory>
-        requires counted { (state_of_standing self.old).count < 2 ^ 48 - 1 }
+        requires running { self.old.store.stop ≡ None }
+        requires lawful { IsLawfulStanding (standing_of self.old None) }
         requires operation { IsOperation op }
         requires one_each { length words.now ≡ slots op }
         requires few_bytes { bytes_to_write op ≤ 65536 }
-        ensures ok { IfOk result (λ reply. IsFollowed self.old (Do op words.now) reply self.new) }
+        ensures ok { IfOk result (λ reply. LeadsTo D.clock D.left_since D.image D.faults (IsFollowed (Do op words.now)) self.old reply self.new) }
         ensures err { OnErr result (self.new ≡ self.old) }
     {
         let mut procaps = Procaps::new(alloc);
-        if let Some(number) = add_procaps(alloc, &self.gate, words.as_slice(), &mut procaps)? {
+        if let Some(number) = add_procaps(
+            alloc,
+            self.store.gate(),
+            words.as_slice(),
+            &mut procaps,
+        )? {
             return Ok(LineReply::Step(StepReply::Absent(number)));
         }
         self.ask(alloc, StepRequest::Act(self.caller, op, procaps))
@@ -196,9 +228,10 @@ impl Interpreter {
 
     // Does what a line of a script asks for.
     fn follow(&mut self, alloc: Global, command: Command) -> Result<LineReply, NoMemory>
-        requires counted { (state_of_standing self.old).count < 2 ^ 48 - 1 }
+        requires running { self.old.store.stop ≡ None }
+        requires lawful { IsLawfulStanding (standing_of self.old None) }
         requires allowed { IsAllowed command }
-        ensures ok { IfOk result (λ reply. IsFollowed self.old command reply self.new) }
+        ensures ok { IfOk result (λ reply. LeadsTo D.clock D.left_since D.image D.faults (IsFollowed command) self.old reply self.new) }
         ensures err { OnErr result (self.new ≡ self.old) }
     {
         match command {
@@ -223,8 +256,9 @@ impl Interpreter {
     /// The reply to a line of a script, which is given without its end; out of memory, and then nothing changes, if
     /// there is none for it.
     pub fn reply_to(&mut self, alloc: Global, line: &[u8]) -> LineReply
-        requires { (state_of_standing self.old).count < 2 ^ 48 - 1 }
-        ensures { (event : Option Event) × IsReplied self.old line.now result event self.new }
+        requires running { self.old.store.stop ≡ None }
+        requires lawful { IsLawfulStanding (standing_of self.old None) }
+        ensures { LeadsTo D.clock D.left_since D.image D.faults (IsReplied line.now) self.old result self.new }
     {
         match read_line(alloc, line) {
             Ok(command) => match self.follow(alloc, command) {

@@ -1,6 +1,6 @@
 //! Replies on their way out: they are collected, and written in large pieces.
 
-ghost use Rattle.std.specs.Prelude.{◌≡◌, ◌≤◌, ◌++◌, ◌∷◌, [], OnOk, OnErr, IsErrOf};
+ghost use Rattle.std.specs.Prelude.{◌≡◌, ◌≢◌, ◌≤◌, ◌++◌, ◌∷◌, [], OnOk, OnErr, IfErr, IsErrOf};
 ghost use Rattle.pcfs_ports.specs.Faults.{HasRisen};
 ghost use Rattle.pcfs_ports.specs.Told.{with_back, HoldsSome};
 ghost use Rattle.line_wire.specs.ReplyText.{reply_text};
@@ -11,9 +11,6 @@ use bl_syntax::Bytes;
 use line_wire::{LineReply, write_reply};
 use pcfs_ports::{Failed, Sink, write_all};
 use std::alloc::Global;
-
-/// Replies are written once this many bytes or more were collected.
-const ENOUGH: usize = 65_536;
 
 /// Writes what was collected. After a fault some first part of it was written.
 pub fn flush<O: Sink>(collected: &mut Bytes, output: &mut O) -> Result<(), Failed>
@@ -29,13 +26,17 @@ pub fn flush<O: Sink>(collected: &mut Bytes, output: &mut O) -> Result<(), Faile
 }
 
 // Writes what was collected if it is enough.
-fn flush_if_enough<O: Sink>(collected: &mut Bytes, output: &mut O) -> Result<(), Failed>
+fn flush_if_enough<O: Sink>(
+    collected: &mut Bytes,
+    enough: usize,
+    output: &mut O,
+) -> Result<(), Failed>
     ensures ok { OnOk result (GoesOut (O.held output.old) collected.old (O.held output.new) collected.new) }
     ensures err { OnErr result (HoldsSome (O.held output.old) (O.held output.new) collected.old) }
     ensures risen { OnErr result (HasRisen (O.faults output.old) (O.faults output.new)) }
     ensures never_falls { O.faults output.old ≤ O.faults output.new }
 {
-    if ENOUGH <= collected.len() {
+    if enough <= collected.len() {
         return flush(collected, output);
     }
     Ok(())
@@ -43,6 +44,7 @@ fn flush_if_enough<O: Sink>(collected: &mut Bytes, output: &mut O) -> Result<(),
 
 // Writes what was collected, after memory ran out.
 fn give_up<O: Sink>(collected: &mut Bytes, output: &mut O) -> ScriptFault
+    ensures not_stopped { result ≢ ScriptFault.Stopped }
     ensures some { HoldsSome (O.held output.old) (O.held output.new) collected.old }
     ensures risen { (result ≡ ScriptFault.Write) → HasRisen (O.faults output.old) (O.faults output.new) }
     ensures never_falls { O.faults output.old ≤ O.faults output.new }
@@ -53,21 +55,23 @@ fn give_up<O: Sink>(collected: &mut Bytes, output: &mut O) -> ScriptFault
     }
 }
 
-/// Collects the line of a reply, and writes what was collected once it is enough. If memory runs out, what was
+/// Collects the line of a reply, and writes what was collected once it has `enough` bytes. If memory runs out, what was
 /// collected before is written.
 pub fn send<O: Sink>(
     alloc: Global,
     collected: &mut Bytes,
     reply: &LineReply,
+    enough: usize,
     output: &mut O,
 ) -> Result<(), ScriptFault>
     ensures ok { OnOk result (GoesOut (O.held output.old) (collected.old ++ (reply_text reply.now ++ 10 ∷ [])) (O.held output.new) collected.new) }
     ensures err { OnErr result (HoldsSome (O.held output.old) (O.held output.new) (collected.old ++ (reply_text reply.now ++ 10 ∷ []))) }
+    ensures not_stopped { IfErr result (λ fault. fault ≢ ScriptFault.Stopped) }
     ensures risen { IsErrOf result ScriptFault.Write → HasRisen (O.faults output.old) (O.faults output.new) }
     ensures never_falls { O.faults output.old ≤ O.faults output.new }
 {
     match write_reply(alloc, collected, reply) {
-        Ok(()) => Ok(flush_if_enough(collected, output)?),
+        Ok(()) => Ok(flush_if_enough(collected, enough, output)?),
         Err(_) => Err(give_up(collected, output)),
     }
 }

@@ -1,86 +1,260 @@
-//! A run of the program: its words, its input and its output, and the status that it ends with.
+//! A run of the program: its words, its input and its output and its disks, and the status that it ends with.
 
-ghost use Rattle.std.specs.Prelude.{◌≡◌, ◌↔◌, ◌⊎◌, IsTrue};
-ghost use Rattle.pcfs_ports.specs.Faults.{HasRisen};
-ghost use Rattle.pcfs_ports.specs.Told.{with_back, HoldsSome};
-ghost use Rattle.pcfs_top.specs.Run.{IsScript, EndsWith};
+ghost use Rattle.std.specs.Prelude.{◌≡◌, ◌⊎◌, ℕ, List, Option, String, IfOk};
+ghost use Rattle.std.specs.declared.alloc.Global.{Global};
+ghost use Rattle.pcfs_ports.specs.Disk.{IsPinned};
+ghost use Rattle.pcfs_store.specs.Formats.{IsNewStore};
+ghost use Rattle.pcfs_top.specs.ScriptEnds.{with_line_end};
+ghost use Rattle.pcfs_top.specs.Run.{IsStored, IsInit, MemoryEnds, EndsWith, TellsUnopened, TellsUnmade, damage_number, damaged_text};
 
-use crate::script::{ScriptFault, run_script};
-use pcfs_ports::{Sink, Source, TakeFault, read_to_end, write_all};
+use crate::answering::{DISK_FAULT, DONE, OUT_OF_MEMORY, run_over, tell};
+use crate::words::{Task, task_of};
+use bl_syntax::decimal::put_counted;
+use bl_syntax::{Bytes, NoMemory, Numbers};
+use op_gate::Damage;
+use pcfs_ports::{Disk, MemoryDisk, Sink, Source};
 use pcfs_secrets::Secrets;
+use pcfs_store::{FormatFault, Store, format_store};
+use recover::{OpenFault, open_store};
 use std::alloc::Global;
 use std::sync::Wait;
 use std::thread::Threads;
 
-/// Everything was done.
-const DONE: u8 = 0;
-
 /// The words ask for nothing that there is.
 const USAGE: u8 = 1;
 
-/// The input failed.
-const READ_FAULT: u8 = 6;
+/// The newest area is damaged.
+const DAMAGED: u8 = 3;
 
-/// The output failed, and may lack any of its end.
-const WRITE_FAULT: u8 = 7;
+/// Neither area is open.
+const NO_STORE: u8 = 4;
 
-/// Memory ran out.
-const OUT_OF_MEMORY: u8 = 9;
+/// An area is open.
+const ALREADY_STORE: u8 = 10;
 
-/// The input was too long.
-const TOO_LONG: u8 = 13;
+/// Replies of a script in memory are written once this many bytes or more were collected.
+const ENOUGH: usize = 65_536;
 
-// Whether the words are the one word `script`.
-fn is_script(words: &Vec<String>) -> bool
-    ensures { IsTrue result ↔ IsScript words.now.items }
+/// How a run ended: its status, and the disks as they came back.
+#[derive(Debug, Drop)]
+pub struct Ended<D> {
+    pub status: u8,
+    pub a: D,
+    pub b: D,
+}
+
+// A store before its first event on disks in memory.
+fn memory_store(alloc: Global, secrets: &Secrets) -> Result<Store<MemoryDisk>, NoMemory>
+    ensures { IfOk result (IsNewStore secrets.now.seal_key secrets.now.ring) }
 {
-    match words.as_slice() {
-        [word] => word.as_str() == "script",
-        _ => false,
+    let a = MemoryDisk::new(alloc, Bytes::new(alloc), Numbers::new(alloc))?;
+    let b = MemoryDisk::new(alloc, Bytes::new(alloc), Numbers::new(alloc))?;
+    let ring = secrets.ring.copy(alloc)?;
+    match format_store(alloc, a, b, secrets.seal_key.as_slice(), ring) {
+        Ok(store) => Ok(store),
+        Err(_) => Err(NoMemory),
     }
 }
 
-// Writes a last line, and returns the status, or that the output failed.
-fn tell<O: Sink>(output: &mut O, line: &[u8], status: u8) -> u8
-    ensures { ((result ≡ status) × (O.held output.new ≡ with_back (O.held output.old) line.now))
-        ⊎ ((result ≡ WRITE_FAULT) × HasRisen (O.faults output.old) (O.faults output.new) × HoldsSome (O.held output.old) (O.held output.new) line.now) }
+// The status of a script in memory: its disks fail only if memory runs out.
+fn memory_status(status: u8) -> u8
+    ensures { ((status ≡ 5) × (result ≡ 9)) ⊎ ((status ≡ 5 → ⊥) × (result ≡ status)) }
 {
-    match write_all(output, line) {
-        Ok(()) => status,
-        Err(_) => WRITE_FAULT,
+    if status == DISK_FAULT {
+        OUT_OF_MEMORY
+    } else {
+        status
     }
 }
 
-/// Runs the program: if its words are the one word `script`, the lines of the input are answered. Procaps are
-/// sealed under the key of the secrets, and statements are accepted whose signature their ring accepts.
+// Runs the script in the input over a store in memory.
+fn run_in_memory<I: Source, O: Sink>(
+    alloc: Global,
+    secrets: &Secrets,
+    input: &mut I,
+    output: &mut O,
+) -> u8
+    ensures { MemoryEnds secrets.now
+        (record { left = I.left input.old; read_faults = I.faults input.old; held = O.held output.old; write_faults = O.faults output.old })
+        (record { left = I.left input.new; read_faults = I.faults input.new; held = O.held output.new; write_faults = O.faults output.new }) result }
+{
+    match memory_store(alloc, secrets) {
+        Ok(store) => {
+            let (status, _store) = run_over(alloc, store, input, ENOUGH, output);
+            memory_status(status)
+        }
+        Err(_) => OUT_OF_MEMORY,
+    }
+}
+
+// The number under which a damage is reported.
+fn number_of(damage: Damage) -> u64
+    ensures { result ≡ damage_number damage }
+{
+    match damage {
+        Damage::Header => 1,
+        Damage::Shape => 2,
+        Damage::Unsigned => 3,
+        Damage::Unproved => 4,
+        Damage::NotAdmitted => 5,
+        Damage::MomentFalls => 6,
+        Damage::Duplicate => 7,
+    }
+}
+
+// The line that reports the damage of a record.
+fn damaged_line(alloc: Global, record_number: u64, damage: Damage) -> Result<Bytes, NoMemory>
+    ensures { IfOk result (λ line. line ≡ with_line_end (damaged_text record_number damage)) }
+{
+    let mut line = Bytes::new(alloc);
+    put_counted(&mut line, "damaged ", record_number)?;
+    put_counted(&mut line, " ", number_of(damage))?;
+    line.push(b'\n')?;
+    Ok(line)
+}
+
+// Writes the line that reports the damage of a record, and returns the status to end with.
+fn tell_damage<O: Sink>(alloc: Global, output: &mut O, record_number: u64, damage: Damage) -> u8
+    ensures { TellsUnopened (OpenFault.Damaged record_number damage) (O.held output.old) (O.faults output.old) result (O.held output.new) (O.faults output.new) }
+{
+    match damaged_line(alloc, record_number, damage) {
+        Ok(line) => tell(output, line.as_slice(), DAMAGED),
+        Err(_) => OUT_OF_MEMORY,
+    }
+}
+
+// Writes why no store was opened, and returns the status to end with.
+fn tell_unopened<O: Sink>(alloc: Global, output: &mut O, fault: OpenFault) -> u8
+    ensures { TellsUnopened fault (O.held output.old) (O.faults output.old) result (O.held output.new) (O.faults output.new) }
+{
+    match fault {
+        OpenFault::NoStore => tell(output, b"nostore\n", NO_STORE),
+        OpenFault::Damaged(number, damage) => tell_damage(alloc, output, number, damage),
+        OpenFault::Disk => tell(output, b"stopped\n", DISK_FAULT),
+        OpenFault::NoMemory => OUT_OF_MEMORY,
+    }
+}
+
+// Runs the script in the input over the store on the disks. Each reply is written before the next line is answered.
+fn run_stored<I: Source, O: Sink, D: Disk>(
+    alloc: Global,
+    secrets: &Secrets,
+    input: &mut I,
+    output: &mut O,
+    a: D,
+    b: D,
+) -> Ended<D>
+    ensures { (words : List (String Global)) → IsStored words → EndsWith secrets.now words (IsPinned D.clock D.left_since D.image a × IsPinned D.clock D.left_since D.image b)
+        (record { streams = record { left = I.left input.old; read_faults = I.faults input.old; held = O.held output.old; write_faults = O.faults output.old }; disks = record { a = D.image a; b = D.image b; a_faults = D.faults a; b_faults = D.faults b } })
+        (record { streams = record { left = I.left input.new; read_faults = I.faults input.new; held = O.held output.new; write_faults = O.faults output.new }; disks = record { a = D.image result.a; b = D.image result.b; a_faults = D.faults result.a; b_faults = D.faults result.b } }) result.status }
+{
+    let ring = match secrets.ring.copy(alloc) {
+        Ok(ring) => ring,
+        Err(_) => return Ended {
+            status: OUT_OF_MEMORY,
+            a,
+            b,
+        },
+    };
+    match open_store(alloc, a, b, secrets.seal_key.as_slice(), ring) {
+        Ok(store) => {
+            store.keeps();
+            let (status, store) = run_over(alloc, store, input, 1, output);
+            store.keeps();
+            let (a, b) = store.into_disks();
+            Ended { status, a, b }
+        }
+        Err((fault, a, b)) => Ended {
+            status: tell_unopened(alloc, output, fault),
+            a,
+            b,
+        },
+    }
+}
+
+// Writes why no store was made, and returns the status to end with.
+fn tell_unmade<O: Sink>(output: &mut O, fault: FormatFault) -> u8
+    ensures { TellsUnmade fault (O.held output.old) (O.faults output.old) result (O.held output.new) (O.faults output.new) }
+{
+    match fault {
+        FormatFault::AlreadyStore => tell(output, b"exists\n", ALREADY_STORE),
+        FormatFault::Disk => tell(output, b"stopped\n", DISK_FAULT),
+        FormatFault::NoMemory => OUT_OF_MEMORY,
+    }
+}
+
+// Makes a store before its first event on the first disk.
+fn init<O: Sink, D: Disk>(alloc: Global, secrets: &Secrets, output: &mut O, a: D, b: D) -> Ended<D>
+    ensures { (words : List (String Global)) (left : Option (List ℕ)) (read_faults : ℕ) → IsInit words → EndsWith secrets.now words (IsPinned D.clock D.left_since D.image a × IsPinned D.clock D.left_since D.image b)
+        (record { streams = record { left = left; read_faults = read_faults; held = O.held output.old; write_faults = O.faults output.old }; disks = record { a = D.image a; b = D.image b; a_faults = D.faults a; b_faults = D.faults b } })
+        (record { streams = record { left = left; read_faults = read_faults; held = O.held output.new; write_faults = O.faults output.new }; disks = record { a = D.image result.a; b = D.image result.b; a_faults = D.faults result.a; b_faults = D.faults result.b } }) result.status }
+{
+    let ring = match secrets.ring.copy(alloc) {
+        Ok(ring) => ring,
+        Err(_) => return Ended {
+            status: OUT_OF_MEMORY,
+            a,
+            b,
+        },
+    };
+    match format_store(alloc, a, b, secrets.seal_key.as_slice(), ring) {
+        Ok(store) => {
+            let (a, b) = store.into_disks();
+            Ended {
+                status: tell(output, b"ok\n", DONE),
+                a,
+                b,
+            }
+        }
+        Err((fault, a, b)) => Ended {
+            status: tell_unmade(output, fault),
+            a,
+            b,
+        },
+    }
+}
+
+/// Runs the program: with the word `script` the lines of the input are answered over a store in memory, with
+/// `script --stored` over the one on the disks; with `init` a store is made on the first disk. Procaps are sealed under
+/// the key of the secrets, and statements are accepted whose signature their ring accepts.
 ///
-/// Returns the status to end with: 0, all is done; 1, the words are others, and the last line is `usage`; 6, the
-/// input failed, and the last line is `readfault`; 7, the output failed, and may lack any of its end; 9, memory ran
-/// out, without a last line; 13, the input has 1 GiB or more, and the last line is `toolong`.
-pub fn run<R: Threads + Wait + Sync, I: Source, O: Sink>(
+/// Returns the disks and the status to end with: 0, all is done, and of `init` the last line is `ok`; 1, the words are
+/// others, and the last line is `usage`; 3, the newest area is damaged, and the last line is `damaged` with the number of
+/// the record and the cause; 4, neither area is open: `nostore`; 5, a disk failed: `stopped`; 6, the input failed:
+/// `readfault`; 7, the output failed, and may lack any of its end; 9, memory ran out, without a last line; 10, an area is
+/// open already: `exists`; 13, the input has 1 GiB or more: `toolong`.
+pub fn run<R: Threads + Wait + Sync, I: Source, O: Sink, D: Disk>(
     _rt: &R,
     alloc: Global,
     words: &Vec<String>,
     secrets: &Secrets,
     input: &mut I,
     output: &mut O,
-) -> u8
-    ensures { EndsWith secrets.now words.now.items
-        (record { left = I.left input.old; read_faults = I.faults input.old; held = O.held output.old; write_faults = O.faults output.old })
-        (record { left = I.left input.new; read_faults = I.faults input.new; held = O.held output.new; write_faults = O.faults output.new }) result }
+    a: D,
+    b: D,
+) -> Ended<D>
+    ensures { EndsWith secrets.now words.now.items (IsPinned D.clock D.left_since D.image a × IsPinned D.clock D.left_since D.image b)
+        (record {
+          streams = record { left = I.left input.old; read_faults = I.faults input.old; held = O.held output.old; write_faults = O.faults output.old };
+          disks = record { a = D.image a; b = D.image b; a_faults = D.faults a; b_faults = D.faults b };
+        })
+        (record {
+          streams = record { left = I.left input.new; read_faults = I.faults input.new; held = O.held output.new; write_faults = O.faults output.new };
+          disks = record { a = D.image result.a; b = D.image result.b; a_faults = D.faults result.a; b_faults = D.faults result.b };
+        }) result.status }
 {
-    if !is_script(words) {
-        return tell(output, b"usage\n", USAGE);
-    }
-    let bytes = match read_to_end(alloc, input) {
-        Ok(bytes) => bytes,
-        Err(TakeFault::Failed) => return tell(output, b"readfault\n", READ_FAULT),
-        Err(TakeFault::TooLong) => return tell(output, b"toolong\n", TOO_LONG),
-        Err(TakeFault::NoMemory) => return OUT_OF_MEMORY,
-    };
-    match run_script(alloc, secrets, bytes.as_slice(), output) {
-        Ok(()) => DONE,
-        Err(ScriptFault::Write) => WRITE_FAULT,
-        Err(ScriptFault::NoMemory) => OUT_OF_MEMORY,
+    match task_of(words) {
+        Some(Task::Script) => Ended {
+            status: run_in_memory(alloc, secrets, input, output),
+            a,
+            b,
+        },
+        Some(Task::Stored) => run_stored(alloc, secrets, input, output, a, b),
+        Some(Task::Init) => init(alloc, secrets, output, a, b),
+        None => Ended {
+            status: tell(output, b"usage\n", USAGE),
+            a,
+            b,
+        },
     }
 }

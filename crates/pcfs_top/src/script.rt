@@ -1,19 +1,18 @@
 //! The run of a script: each line of an input in order, with its reply written.
 
-ghost use Rattle.std.specs.Prelude.{◌≡◌, ◌≤◌, ◌<◌, ◌^◌, List, ℕ, length, OnOk, OnErr, IsErrOf};
+ghost use Rattle.std.specs.Prelude.{◌≡◌, ◌≤◌, None, IsErrOf};
 ghost use Rattle.pcfs_ports.specs.Faults.{HasRisen};
 ghost use Rattle.pcfs_ports.specs.Told.{with_back, HoldsSome};
-ghost use Rattle.line_text.specs.Lines.{lines_of};
-ghost use Rattle.pcfs_top.specs.ScriptRun.{IsLawfulStanding, CanNumber, fresh_start};
-ghost use Rattle.pcfs_top.specs.Run.{RunsOver, RunsPart};
+ghost use Rattle.pcfs_top.specs.InterpreterView.{standing_of};
+ghost use Rattle.pcfs_top.specs.ScriptRun.{IsLawfulStanding};
+ghost use Rattle.pcfs_top.specs.Stored.{AnswersAll};
 ghost use Rattle.pcfs_top.specs.declared.script.ScriptFault.TheVariants.{NoMemory as OutOfMemory, Write as WriteFailed};
 
 use crate::interpreter::Interpreter;
 use crate::outbox::{flush, send};
 use bl_syntax::{Bytes, NoMemory};
 use line_text::first_line;
-use pcfs_ports::{Failed, Sink};
-use pcfs_secrets::Secrets;
+use pcfs_ports::{Disk, Failed, Sink};
 use std::alloc::Global;
 
 /// Why a script was not run to its end.
@@ -21,8 +20,10 @@ use std::alloc::Global;
 pub enum ScriptFault {
     /// The output failed.
     Write,
-    /// There was no memory for the start, or for the text of a reply.
+    /// There was no memory for the text of a reply.
     NoMemory,
+    /// A disk failed. The last reply says so.
+    Stopped,
 }
 
 impl From<NoMemory> for ScriptFault {
@@ -41,17 +42,36 @@ impl From<Failed> for ScriptFault {
     }
 }
 
-// Answers each line of the input, from where the interpreter stands.
-fn answer_lines<O: Sink>(
+// Writes all replies that were collected, after a disk failed.
+fn stop<O: Sink>(collected: &mut Bytes, output: &mut O) -> ScriptFault
+    ensures out { (result ≡ ScriptFault.Stopped) → O.held output.new ≡ with_back (O.held output.old) collected.old }
+    ensures some { HoldsSome (O.held output.old) (O.held output.new) collected.old }
+    ensures risen { (result ≡ ScriptFault.Write) → HasRisen (O.faults output.old) (O.faults output.new) }
+    ensures not_memory { (result ≡ ScriptFault.NoMemory) → ⊥ }
+    ensures never_falls { O.faults output.old ≤ O.faults output.new }
+{
+    match flush(collected, output) {
+        Ok(()) => ScriptFault::Stopped,
+        Err(_) => ScriptFault::Write,
+    }
+}
+
+/// Answers each line of the input, from where the interpreter stands, and writes a line for each of them to the output:
+/// its reply, or `nomemory` if memory ran out for it, and then nothing changed. Replies are written once `enough` bytes of
+/// them were collected; all of them are out at the end, and after the last one if a disk failed.
+///
+/// `Stopped` comes only if a disk failed, and `Write` only if the output's count of faults rose. `NoMemory` comes if there
+/// was no memory for the text of a reply. After these two some first part of the replies was written.
+pub fn answer_lines<D: Disk, O: Sink>(
     alloc: Global,
-    interpreter: &mut Interpreter,
+    interpreter: &mut Interpreter<D>,
     input: &[u8],
+    enough: usize,
     output: &mut O,
 ) -> Result<(), ScriptFault>
-    requires lawful { IsLawfulStanding interpreter.old }
-    requires numbered { CanNumber interpreter.old (lines_of input.now) }
-    ensures ok { OnOk result ((written : List ℕ) × RunsOver interpreter.old (lines_of input.now) written × (O.held output.new ≡ with_back (O.held output.old) written)) }
-    ensures err { OnErr result ((written : List ℕ) × RunsPart interpreter.old input.now written × HoldsSome (O.held output.old) (O.held output.new) written) }
+    requires lawful { IsLawfulStanding (standing_of interpreter.old None) }
+    requires running { interpreter.old.store.stop ≡ None }
+    ensures answered { AnswersAll D.clock D.left_since D.image D.faults input.now interpreter.old (O.held output.old) result interpreter.new (O.held output.new) }
     ensures risen { IsErrOf result ScriptFault.Write → HasRisen (O.faults output.old) (O.faults output.new) }
     ensures never_falls { O.faults output.old ≤ O.faults output.new }
 {
@@ -59,32 +79,19 @@ fn answer_lines<O: Sink>(
     let mut rest = input;
     while let Some((line, others)) = first_line(rest) {
         let reply = interpreter.reply_to(alloc, line);
-        let sent = send(alloc, &mut collected, &reply, output);
+        let sent = send(alloc, &mut collected, &reply, enough, output);
         drop(reply);
-        sent?;
+        match sent {
+            Ok(()) => {}
+            Err(fault) => return Err(fault),
+        }
         rest = others;
+        if interpreter.is_stopped() {
+            return Err(stop(&mut collected, output));
+        }
     }
-    Ok(flush(&mut collected, output)?)
-}
-
-/// Runs the script of these lines over a store before its first event, under these secrets, and writes a line for each of them to the
-/// output: its reply, or `nomemory` if memory ran out for it, and then nothing changed. Replies are collected and
-/// written in large pieces; all of them are out at the end.
-///
-/// `Write` comes only if the output's count of faults rose. `NoMemory` comes if there was no memory for the
-/// start, or for the text of a reply. After a fault some first part of the replies was written.
-pub fn run_script<O: Sink>(
-    alloc: Global,
-    secrets: &Secrets,
-    input: &[u8],
-    output: &mut O,
-) -> Result<(), ScriptFault>
-    requires short { length input.now < 2 ^ 30 }
-    ensures ok { OnOk result ((written : List ℕ) × RunsOver (fresh_start secrets.now) (lines_of input.now) written × (O.held output.new ≡ with_back (O.held output.old) written)) }
-    ensures err { OnErr result ((written : List ℕ) × RunsPart (fresh_start secrets.now) input.now written × HoldsSome (O.held output.old) (O.held output.new) written) }
-    ensures risen { IsErrOf result ScriptFault.Write → HasRisen (O.faults output.old) (O.faults output.new) }
-    ensures never_falls { O.faults output.old ≤ O.faults output.new }
-{
-    let mut interpreter = Interpreter::fresh(alloc, secrets)?;
-    answer_lines(alloc, &mut interpreter, input, output)
+    match flush(&mut collected, output) {
+        Ok(()) => Ok(()),
+        Err(_) => Err(ScriptFault::Write),
+    }
 }

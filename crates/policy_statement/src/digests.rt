@@ -14,7 +14,7 @@ pub fn has_digest(rising: &[u64], digest: u64) -> bool
 }
 
 // Where the digest may stand.
-fn place_of(rising: &[u64], digest: u64) -> usize
+fn insertion_place(rising: &[u64], digest: u64) -> usize
     requires { IsNonDecreasing rising.now }
     ensures { IsPlace rising.now digest result }
 {
@@ -32,6 +32,6 @@ pub fn add_digest(rising: &mut Vec<u64>, digest: u64)
     ensures missing { (d : ℕ) → IsMissing rising.new.items d → IsMissing rising.old.items d × (digest ≢ d) }
     ensures spare { spare_of rising.new + 1 ≡ spare_of rising.old }
 {
-    let place = place_of(rising.as_slice(), digest);
+    let place = insertion_place(rising.as_slice(), digest);
     let _ = rising.insert(place, digest);
 }

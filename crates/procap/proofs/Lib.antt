@@ -4,4 +4,3 @@ pub mod ItemsLemmas
 pub mod PartLemmas
 pub mod ProcapLemmas
 pub mod ReadingLemmas
-pub mod WritingLemmas

@@ -14,7 +14,7 @@ use Rattle.procap.specs.GrantReading.{grant_at}
 use Rattle.procap.specs.Procap.{procap_spelling, IsSpellableProcap, tag_at, procap_at, at_end, whole_procap, ReadsWholeProcap}
 use Rattle.procap.proofs.ItemsLemmas.{test_memoryless}
 use Rattle.procap.proofs.GrantLemmas.{grant_codec}
-use Rattle.procap.proofs.ReadingLemmas.{hands_on, stops_with}
+use Rattle.bl_syntax.proofs.ReportsFaultLemmas.{hands_on, stops_with}
 
 abbrev pub sealed : GrantView → List ℕ → Procap
 sealed grant tag = record { grant = grant; tag = tag }

@@ -1,6 +1,6 @@
--- Reading conditions one after the other, and faults that are handed on.
-use Rattle.std.proofs.Common.{◌≡◌, ℕ, zero, suc, ◌<◌, ◌-◌, List, [], ◌∷◌, ◌++◌, length, Bool, true, false, Result, Ok, Err, refl, ap, ◌∙◌, arith}
-use Rattle.std.specs.Prelude.{Contains, is_err}
+-- Reading conditions one after the other, and what is read of a grant.
+use Rattle.std.proofs.Common.{◌≡◌, ℕ, zero, suc, ◌<◌, ◌-◌, List, [], ◌∷◌, ◌++◌, length, Bool, true, false, Ok, Err, refl, ap, ◌∙◌, arith}
+use Rattle.std.specs.Prelude.{Contains}
 use Rattle.bl_syntax.specs.declared.codec_fault.CodecFault.{CodecFault}
 use Rattle.bl_syntax.specs.declared.codec_fault.CodecFault.TheVariants as faults
 use Rattle.bl_syntax.specs.declared.terms.Constraint.{Constraint}
@@ -8,35 +8,12 @@ use Rattle.bl_syntax.specs.declared.terms.StatePred.{StatePred}
 use Rattle.bl_syntax.specs.declared.grant.Goal.{Goal}
 use Rattle.bl_syntax.specs.Grant.{GrantView, IsTimeCondition, IsStateCondition}
 use Rattle.bl_syntax.proofs.GrantLemmas.{granted}
+use Rattle.bl_syntax.proofs.ReportsFaultLemmas.{stops, hands_on}
 use Rattle.bl_syntax.specs.Reading.{◌>>=◌, Reading, place}
-use Rattle.bl_syntax.specs.Codec.{AreBytes, IsCodec, ReadsFront, ReportsFault}
+use Rattle.bl_syntax.specs.Codec.{AreBytes, ReportsFault}
 use Rattle.procap.specs.GrantReading.{time_condition_at, state_condition_at, may_follow_times, may_follow_states, items_at, count_at, conditions_at, head_at, grant_at}
 use Rattle.procap.proofs.ConditionLemmas.{time_may_follow, state_may_follow}
 use Rattle.procap.proofs.PartLemmas.{time_codec, state_codec}
-
--- a fault that is read
-pub stops : {Y : Type 0} (fault : CodecFault) (read : Result Y CodecFault) → read ≡ Err fault → ReportsFault fault read
-stops faults.NoMemory read e = tt
-stops faults.Short read e = e
-stops (faults.BadTag place) read e = e
-stops (faults.NotCanonical place) read e = e
-stops (faults.TooLarge place) read e = e
-
--- a fault of the first of two steps
-pub hands_on : {Y W : Type 0} (fault : CodecFault) (read : Result Y CodecFault) (next : Y → Result W CodecFault) → ReportsFault fault read → ReportsFault fault (read >>= next)
-hands_on faults.NoMemory read next e = tt
-hands_on faults.Short read next e = ap (λ r. r >>= next) e
-hands_on (faults.BadTag place) read next e = ap (λ r. r >>= next) e
-hands_on (faults.NotCanonical place) read next e = ap (λ r. r >>= next) e
-hands_on (faults.TooLarge place) read next e = ap (λ r. r >>= next) e
-
--- a fault that is not out of memory is the fault that is read
-pub stops_with : {Y : Type 0} (fault : CodecFault) (read : Result Y CodecFault) → ReportsFault fault read → (fault ≡ faults.NoMemory → ⊥) → read ≡ Err fault
-stops_with faults.NoMemory read e memory = absurd (memory refl)
-stops_with faults.Short read e memory = e
-stops_with (faults.BadTag place) read e memory = e
-stops_with (faults.NotCanonical place) read e memory = e
-stops_with (faults.TooLarge place) read e memory = e
 
 -- ---- one condition of so many
 
@@ -129,13 +106,3 @@ pub grant_is_read : (input : ℕ) (bytes rest behind end : List ℕ) (goal : Goa
     → states_at times input behind ≡ Ok (states, end) → grant_at input bytes ≡ Ok (granted goal times states, end)
 grant_is_read input bytes rest behind end goal times states e h k =
     behind_times input bytes rest behind goal times e h ∙ ap (λ (r : Reading (List StatePred)). r >>= λ all. Ok (granted goal times all.0, all.1)) k
-
--- ---- calls
-
--- a call at the front of the bytes that found nothing
-pub front_stops : {X A : Type 0} (view : X → A) (IsSpelled : A → Type 0) (spelling : A → List ℕ) (at : ℕ → List ℕ → Reading A) (bytes : List ℕ) (fault : CodecFault)
-    → IsCodec IsSpelled spelling at → AreBytes bytes → ReportsFault fault (at (length bytes) bytes) → ReadsFront view IsSpelled spelling bytes (Err fault)
-front_stops view IsSpelled spelling at bytes fault codec fits h = record {
-  found = tt;
-  refused = λ memory. (codec.refused (length bytes) bytes fits).0 (ap is_err (stops_with fault (at (length bytes) bytes) h memory));
-}

@@ -2,4 +2,3 @@ pub mod Genuine
 pub mod GrantReading
 pub mod GrantSpelling
 pub mod Procap
-pub mod Writing

@@ -12,6 +12,6 @@ mod sealing;
 mod writing;
 
 pub use procap::Procap;
-pub use reading::{read_grant, read_procap};
+pub use reading::{grant_at, procap_at, read_grant, read_procap};
 pub use sealing::{SealKey, genuine, seal};
 pub use writing::{write_grant, write_procap};

@@ -298,8 +298,9 @@ fn states_at<'a>(grant: &mut Grant, input: usize, bytes: &'a [u8]) -> Result<&'a
     }
 }
 
-/// A grant.
-fn grant_at(alloc: Global, input: usize, bytes: &[u8]) -> Result<(Grant, &[u8]), CodecFault>
+/// A grant at the front of `bytes`, the rest of an input of `input` bytes, and the bytes after it, or the first fault with
+/// its place in the input.
+pub fn grant_at(alloc: Global, input: usize, bytes: &[u8]) -> Result<(Grant, &[u8]), CodecFault>
     ensures { GivesReadingOrReports (λ x. (x.0, x.1.now)) result (grant_at input bytes.now) }
 {
     match head_at(input, bytes) {
@@ -338,8 +339,9 @@ pub fn read_grant(alloc: Global, bytes: &[u8]) -> Result<(Grant, usize), CodecFa
     }
 }
 
-/// A procap.
-fn procap_at(alloc: Global, input: usize, bytes: &[u8]) -> Result<(Procap, &[u8]), CodecFault>
+/// A procap at the front of `bytes`, the rest of an input of `input` bytes, and the bytes after it, or the first fault
+/// with its place in the input.
+pub fn procap_at(alloc: Global, input: usize, bytes: &[u8]) -> Result<(Procap, &[u8]), CodecFault>
     ensures { GivesReadingOrReports (λ x. (x.0, x.1.now)) result (procap_at input bytes.now) }
 {
     match grant_at(alloc, input, bytes) {

@@ -1,9 +1,6 @@
 -- The times of a proof by the number of premises at its root, and those of a proof that has a spelling.
 use Rattle.std.proofs.Common.{◌≡◌, subst, sym}
-use Rattle.bl_syntax.specs.declared.terms.Term.{Term}
-use Rattle.bl_syntax.specs.declared.terms.Term.TheVariants.{Prin, File, Perm, Time, Text, Ctime, Param, Bound}
-use Rattle.bl_syntax.specs.Terms.{HasTimeInRange}
-use Rattle.bl_syntax.specs.Spelling.{IsSpellable}
+use Rattle.bl_syntax.proofs.TermLemmas.{HasTimeInRange-from_spellable}
 use Rattle.proof_term.specs.declared.rule.Axiom.{Axiom}
 use Rattle.proof_term.specs.declared.rule.Axiom.TheVariants as axioms
 use Rattle.proof_term.specs.declared.rule.OnePremise.{OnePremise}
@@ -47,45 +44,58 @@ times_of_one r p d e h = one_parts r p (subst HasTimesInRange (sym e) h)
 pub times_of_two : (r : TwoPremises) (p q d : ProofView) → by_two r p q ≡ d → HasTimesInRange d → IsTwoInRange r × (HasTimesInRange p × HasTimesInRange q)
 times_of_two r p q d e h = two_parts r p q (subst HasTimesInRange (sym e) h)
 
--- a term that has a spelling has its time in range
-time_of : (t : Term) → IsSpellable t → HasTimeInRange t
-time_of (Prin name) h = tt
-time_of (File n) h = tt
-time_of (Perm permission) h = tt
-time_of (Time point) h = h
-time_of (Text text) h = tt
-time_of Ctime h = tt
-time_of (Param n) h = tt
-time_of (Bound n) h = tt
-
-times_axiom : (r : Axiom) → HasTimesInRange (by_axiom r)
+-- a rule whose own times are in range, over premises whose times are
+pub times_axiom : (r : Axiom) → HasTimesInRange (by_axiom r)
 times_axiom (axioms.Init h) = tt
 times_axiom axioms.ConsR = tt
 times_axiom axioms.InterR = tt
 times_axiom axioms.TrueR = tt
 times_axiom (axioms.FalseL h) = tt
 
-times_one : (r : OnePremise) (p : ProofView) → IsSpellableOne r → HasTimesInRange p → HasTimesInRange (by_one r p)
+pub times_one : (r : OnePremise) (p : ProofView) → IsOneInRange r → HasTimesInRange p → HasTimesInRange (by_one r p)
 times_one one.OrR1 p s h = h
 times_one one.OrR2 p s h = h
 times_one one.ImpR p s h = h
 times_one one.ForallR p s h = h
-times_one (one.ExistsR t) p s h = (time_of t s, h)
+times_one (one.ExistsR t) p s h = (s, h)
 times_one one.SaysR p s h = h
 times_one one.AtR p s h = h
 times_one (one.ConsL n) p s h = h
 times_one (one.InterL n) p s h = h
 times_one (one.AndL n) p s h = h
-times_one (one.ForallL n t) p s h = (time_of t s.1, h)
+times_one (one.ForallL n t) p s h = (s, h)
 times_one (one.ExistsL n) p s h = h
 times_one (one.SaysL n) p s h = h
 times_one (one.Claim n) p s h = h
 times_one (one.AtL n) p s h = h
 
-times_two : (r : TwoPremises) (p q : ProofView) → IsSpellableTwo r → HasTimesInRange p × HasTimesInRange q → HasTimesInRange (by_two r p q)
-times_two two.AndR p q s h = h
-times_two (two.OrL n) p q s h = h
-times_two (two.ImpL n t1 t2) p q s h = ((time_of t1 s.1.0, time_of t2 s.1.1), h)
+pub times_two : (r : TwoPremises) (p q : ProofView) → IsTwoInRange r → HasTimesInRange p → HasTimesInRange q → HasTimesInRange (by_two r p q)
+times_two two.AndR p q s h k = (h, k)
+times_two (two.OrL n) p q s h k = (h, k)
+times_two (two.ImpL n t1 t2) p q s h k = (s, (h, k))
+
+-- a rule that has a spelling has its own times in range
+one_in_range : (r : OnePremise) → IsSpellableOne r → IsOneInRange r
+one_in_range one.OrR1 s = tt
+one_in_range one.OrR2 s = tt
+one_in_range one.ImpR s = tt
+one_in_range one.ForallR s = tt
+one_in_range (one.ExistsR t) s = HasTimeInRange-from_spellable t s
+one_in_range one.SaysR s = tt
+one_in_range one.AtR s = tt
+one_in_range (one.ConsL n) s = tt
+one_in_range (one.InterL n) s = tt
+one_in_range (one.AndL n) s = tt
+one_in_range (one.ForallL n t) s = HasTimeInRange-from_spellable t s.1
+one_in_range (one.ExistsL n) s = tt
+one_in_range (one.SaysL n) s = tt
+one_in_range (one.Claim n) s = tt
+one_in_range (one.AtL n) s = tt
+
+two_in_range : (r : TwoPremises) → IsSpellableTwo r → IsTwoInRange r
+two_in_range two.AndR s = tt
+two_in_range (two.OrL n) s = tt
+two_in_range (two.ImpL n t1 t2) s = (HasTimeInRange-from_spellable t1 s.1.0, HasTimeInRange-from_spellable t2 s.1.1)
 
 abbrev Timed : ProofView → Type 0
 Timed d = NamesSpellable d → HasTimesInRange d
@@ -93,8 +103,8 @@ Timed d = NamesSpellable d → HasTimesInRange d
 names_times : (d : ProofView) → Timed d
 names_times d = by_premises Timed
     (λ r s. times_axiom r)
-    (λ r p h s. let parts = same (names_one r p) s in times_one r p parts.0 (h parts.1))
-    (λ r p q h k s. let parts = same (names_two r p q) s in times_two r p q parts.0 (h parts.1.0, k parts.1.1))
+    (λ r p h s. let parts = same (names_one r p) s in times_one r p (one_in_range r parts.0) (h parts.1))
+    (λ r p q h k s. let parts = same (names_two r p q) s in times_two r p q (two_in_range r parts.0) (h parts.1.0) (k parts.1.1))
     d
 
 pub IsKept-from_spellable : (d : ProofView) → IsSpellableProof d → IsKeptProof d

@@ -11,4 +11,3 @@ pub mod ProofSpelling
 pub mod RuleKinds
 pub mod RuleTimes
 pub mod Rules
-pub mod Writing

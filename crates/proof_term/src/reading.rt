@@ -161,6 +161,26 @@ fn termed_rule_at(input: usize, tag: u8, rest: &[u8]) -> Result<(Termed, &[u8]),
     }
 }
 
+/// Puts the rule with that tag that names terms into its place, so that no caller holds it twice.
+#[inline(never)]
+fn termed_rule_into<'a>(
+    input: usize,
+    tag: u8,
+    rest: &'a [u8],
+    rule: &mut Termed,
+) -> Result<&'a [u8], ProofFault>
+    requires { has_terms tag ≡ true }
+    ensures { (start : ℕ) → GivesProofReading (λ x. (termed_rule rule.new, x.now)) result (rule_at input start tag rest.now) }
+{
+    match termed_rule_at(input, tag, rest) {
+        Ok((read, behind)) => {
+            *rule = read;
+            Ok(behind)
+        }
+        Err(fault) => Err(fault),
+    }
+}
+
 /// The tag at the root of a proof of at most so many levels and nodes, and the bytes after it: the tag is tested
 /// first, then the nodes, then the levels.
 #[tactic(auto, unfolding(crate::specs::ProofReading::rule_within))]
@@ -278,8 +298,9 @@ fn termed_at(
     ensures { GivesProofReading (λ x. (proof_view x.0.value, (x.1, x.2.now))) result
         (behind_tag (λ left more. proof_at levels left input more) nodes input start tag rest.now) }
 {
-    match termed_rule_at(input, tag, rest) {
-        Ok((rule, behind)) => termed_premises_at(alloc, levels, nodes, input, &rule, behind),
+    let mut rule = Termed::ExistsR(Term::Ctime);
+    match termed_rule_into(input, tag, rest, &mut rule) {
+        Ok(behind) => termed_premises_at(alloc, levels, nodes, input, &rule, behind),
         Err(fault) => Err(fault),
     }
 }

@@ -1,11 +1,12 @@
 //! The writer of proofs.
+#![tactic(auto, using(bl_syntax::proofs::BeginsWithLemmas::writing))]
 
 ghost use Rattle.std.specs.Prelude.{◌≡◌, ◌++◌, ◌∷◌, OnOk, OnErr};
+ghost use Rattle.bl_syntax.specs.BeginsWith.{BeginsWith};
 ghost use Rattle.proof_term.specs.Proof.{proof_view};
 ghost use Rattle.proof_term.specs.Limits.{HasTimesInRange};
 ghost use Rattle.proof_term.specs.RuleTimes.{IsOneInRange, IsTwoInRange};
 ghost use Rattle.proof_term.specs.ProofSpelling.{hypothesis, axiom_spelling, one_spelling, two_spelling, proof_spelling, IsSpellableHypothesis, IsSpellableAxiom, IsSpellableOne, IsSpellableTwo, NamesSpellable, IsSpellableProof};
-ghost use Rattle.proof_term.specs.Writing.{Begins};
 
 use crate::proof::Proof;
 use crate::rule::{Axiom, OnePremise, Parts, TwoPremises};
@@ -32,7 +33,7 @@ fn write_node(p: &Proof, out: &mut Bytes) -> Result<(), NoMemory>
     requires { HasTimesInRange (proof_view p.now) }
     ensures ok { OnOk result (out.new ≡ out.old ++ proof_spelling (proof_view p.now)) }
     ensures names { OnOk result (NamesSpellable (proof_view p.now)) }
-    ensures err { OnErr result (Begins out.old out.new) }
+    ensures err { OnErr result (BeginsWith out.new out.old) }
 {
     match Parts::of(p) {
         Parts::Axiom(r) => write_axiom(&r, out),
@@ -48,11 +49,11 @@ fn write_node(p: &Proof, out: &mut Bytes) -> Result<(), NoMemory>
     }
 }
 
-#[tactic(auto, unfolding(crate::specs::ProofSpelling::axiom_spelling))]
+#[tactic(auto, using(bl_syntax::proofs::BeginsWithLemmas::writing), unfolding(crate::specs::ProofSpelling::axiom_spelling))]
 fn write_axiom(r: &Axiom, out: &mut Bytes) -> Result<(), NoMemory>
     ensures ok { OnOk result (out.new ≡ out.old ++ axiom_spelling r.now) }
     ensures names { OnOk result (IsSpellableAxiom r.now) }
-    ensures err { OnErr result (Begins out.old out.new) }
+    ensures err { OnErr result (BeginsWith out.new out.old) }
 {
     match r {
         Axiom::Init(h) => put_hypothesis(0x01, *h, out),
@@ -63,12 +64,12 @@ fn write_axiom(r: &Axiom, out: &mut Bytes) -> Result<(), NoMemory>
     }
 }
 
-#[tactic(auto, unfolding(crate::specs::ProofSpelling::one_spelling))]
+#[tactic(auto, using(bl_syntax::proofs::BeginsWithLemmas::writing), unfolding(crate::specs::ProofSpelling::one_spelling))]
 fn write_one(r: &OnePremise, out: &mut Bytes) -> Result<(), NoMemory>
     requires { IsOneInRange r.now }
     ensures ok { OnOk result (out.new ≡ out.old ++ one_spelling r.now) }
     ensures names { OnOk result (IsSpellableOne r.now) }
-    ensures err { OnErr result (Begins out.old out.new) }
+    ensures err { OnErr result (BeginsWith out.new out.old) }
 {
     match r {
         OnePremise::OrR1 => out.push(0x05),
@@ -95,12 +96,12 @@ fn write_one(r: &OnePremise, out: &mut Bytes) -> Result<(), NoMemory>
     }
 }
 
-#[tactic(auto, unfolding(crate::specs::ProofSpelling::two_spelling))]
+#[tactic(auto, using(bl_syntax::proofs::BeginsWithLemmas::writing), unfolding(crate::specs::ProofSpelling::two_spelling))]
 fn write_two(r: &TwoPremises, out: &mut Bytes) -> Result<(), NoMemory>
     requires { IsTwoInRange r.now }
     ensures ok { OnOk result (out.new ≡ out.old ++ two_spelling r.now) }
     ensures names { OnOk result (IsSpellableTwo r.now) }
-    ensures err { OnErr result (Begins out.old out.new) }
+    ensures err { OnErr result (BeginsWith out.new out.old) }
 {
     match r {
         TwoPremises::AndR => out.push(0x04),
@@ -117,7 +118,7 @@ fn write_two(r: &TwoPremises, out: &mut Bytes) -> Result<(), NoMemory>
 fn put_hypothesis(tag: u8, h: u16, out: &mut Bytes) -> Result<(), NoMemory>
     ensures ok { OnOk result (out.new ≡ out.old ++ tag ∷ hypothesis h) }
     ensures named { IsSpellableHypothesis h }
-    ensures err { OnErr result (Begins out.old out.new) }
+    ensures err { OnErr result (BeginsWith out.new out.old) }
 {
     out.push(tag)?;
     out.extend(&u16_bytes(h))

@@ -1,5 +1,5 @@
 -- The heads of proofs as they are written.
-use Rattle.std.proofs.Common.{◌≡◌, ℕ, zero, suc, ◌+◌, ◌-◌, ◌^◌, ◌<◌, ◌≤◌, Bool, true, false, List, [], ◌∷◌, ◌++◌, length, drop, refl, sym, ap, ◌∙◌, arith, IsTrue, Some, Result, Ok, Err, append_assoc}
+use Rattle.std.proofs.Common.{◌≡◌, ℕ, zero, suc, ◌+◌, ◌-◌, ◌^◌, ◌<◌, ◌≤◌, Bool, true, false, List, [], ◌∷◌, ◌++◌, length, drop, refl, ap, ◌∙◌, arith, IsTrue, Some, Result, Ok, Err, append_assoc}
 use Rattle.std.specs.Prelude.{if◌then◌else◌, ◌&&◌, nat_le, codes}
 use Rattle.std.specs.List.{list_all}
 use Rattle.std.specs.Fmt.{decimal}
@@ -40,6 +40,7 @@ use Rattle.proof_text.specs.RoundTrip.{IsClosedTerm, IsTimeTerm, IsHypothesisNum
 use Rattle.proof_text.specs.Printed.{cited_text, term_field, axiom_text, one_text, two_text}
 use Rattle.proof_text.proofs.LexLemmas.{Ends, At, made, hypothesis_written, rule_written, token_written, open_written, close_written, comma_written}
 use Rattle.proof_text.proofs.TermLemmas.{token_of, term_lexeme, term_unspaced}
+use Rattle.bl_text.proofs.PlaceLemmas.{drop_plus}
 
 -- ---- what stands after what was read
 
@@ -47,13 +48,8 @@ drop_nothing : (n : ℕ) → ◌≡◌ {A = List ℕ} (drop n []) []
 drop_nothing zero = refl
 drop_nothing (suc n) = refl
 
-drop_add : (m n : ℕ) (l : List ℕ) → drop (m + n) l ≡ drop n (drop m l)
-drop_add zero n l = let same : 0 + n ≡ n = omega arith in ap (λ k. drop k l) same
-drop_add (suc m) n [] = drop_nothing (suc m + n) ∙ sym (drop_nothing n)
-drop_add (suc m) n (x ∷ l) = let same : suc m + n ≡ suc (m + n) = omega arith in ap (λ k. drop k (x ∷ l)) same ∙ drop_add m n l
-
 pub at_behind : (text : List ℕ) (from : ℕ) (xs ys : List ℕ) → At text from (xs ++ ys) → At text (from + length xs) ys
-at_behind text from xs ys here = drop_add from (length xs) text ∙ ap (drop (length xs)) here ∙ drop-append_seam xs ys
+at_behind text from xs ys here = drop_plus from (length xs) text ∙ ap (drop (length xs)) here ∙ drop-append_seam xs ys
 
 pub at_next : (text : List ℕ) (from : ℕ) (x : ℕ) (ys : List ℕ) → At text from (x ∷ ys) → At text (from + 1) ys
 at_next text from x ys here = at_behind text from (x ∷ []) ys here
@@ -63,7 +59,7 @@ at_next text from x ys here = at_behind text from (x ∷ []) ys here
 term_token : (text : List ℕ) (from left : ℕ) (t : Term) (ys : List ℕ) → IsSpellable t → IsClosedTerm t → At text from (term_text 0 t ++ 44 ∷ ys)
     → token_from text from left ≡ made from left (sized_lexeme (token_of t) (length (term_text 0 t)))
 term_token text from left t ys spelled finish_head here =
-    token_written text from left (term_text 0 t ++ 44 ∷ ys) (sized_lexeme (token_of t) (length (term_text 0 t))) here (term_unspaced t (44 ∷ ys) spelled finish_head) (term_lexeme t ys spelled finish_head)
+    token_written text from left (term_text 0 t ++ 44 ∷ ys) (sized_lexeme (token_of t) (length (term_text 0 t))) here (term_unspaced t ys spelled finish_head) (term_lexeme t ys spelled finish_head)
 
 abbrev term_by : Cursor → Result (Term × ProofCursor) TextFault
 term_by token = term_of [] token >>= (λ t. Ok (t, cursor_after_token token))

@@ -13,11 +13,10 @@ use Rattle.bl_tokens.specs.Classes.{is_in}
 use Rattle.bl_tokens.specs.Numerals.{numeral_below}
 use Rattle.bl_tokens.specs.Tokens.{is_sign}
 use Rattle.bl_text.specs.Pieces.{◌>>=◌, term_of, require_sort}
-use Rattle.bl_text.specs.Met.{unexpected, unknown_name, too_large}
+use Rattle.bl_text.specs.Met.{unexpected, unknown_name}
 use Rattle.bl_text.specs.Texts.{is_end}
-use Rattle.bl_text.proofs.PieceLemmas.{term_errs, sorted_errs}
-use Rattle.bl_text.proofs.PieceTotalLemmas.{IsOfText, of_text, Answers, Any, chained, decided}
-use Rattle.bl_text.proofs.FirstTokensLemmas.{ErrsAt}
+use Rattle.bl_text.proofs.PieceLemmas.{too_large, term_errs, sorted_errs}
+use Rattle.bl_text.proofs.PieceTotalLemmas.{IsOfText, of_text, misread_of_text, Answers, Any, chained, decided, errs_answers}
 use Rattle.proof_term.specs.declared.rule.Rule.{Rule}
 use Rattle.proof_term.specs.declared.rule.Rule.TheVariants as rules
 use Rattle.proof_term.specs.declared.rule.Axiom.TheVariants as axioms
@@ -38,20 +37,16 @@ use Rattle.proof_text.specs.Texts.{at_end}
 answers_then : {A B : Type 0} (Q : B → Type 0) (r : Result A TextFault) (k : A → Result B TextFault) → Answers r Any → ((a : A) → Answers (k a) Q) → Answers (r >>= k) Q
 answers_then Q r k h more = chained IsOfText Any Q r k h (λ a _. more a)
 
-errs_answers : {A : Type 0} (at : ℕ) (r : Result A TextFault) → ErrsAt at r → Answers r Any
-errs_answers at (Ok a) h = tt
-errs_answers at (Err e) h = of_text h
-
 -- ---- places
 
 pub sign_answers : (text : List ℕ) (sign : Sign') (here : ProofCursor) → Answers (cursor_after_sign text sign here) Any
 unfolding cursor_after_sign
 sign_answers text sign here =
-    let token = token_at text here in decided IsOfText Any (is_sign sign token.token) (Ok (cursor_after_token token)) (Err (Unexpected token.at)) (λ is. tt) (λ other. of_text unexpected)
+    let token = token_at text here in decided IsOfText Any (is_sign sign token.token) (Ok (cursor_after_token token)) (Err (Unexpected token.at)) (λ is. tt) (λ other. misread_of_text unexpected)
 
 pub ended_answers : (text : List ℕ) (here : ProofCursor) → Answers (at_end text here) Any
 unfolding at_end
-ended_answers text here = let token = token_at text here in decided IsOfText Any (is_end token.token) (Ok tt) (Err (Unexpected token.at)) (λ is. tt) (λ other. of_text unexpected)
+ended_answers text here = let token = token_at text here in decided IsOfText Any (is_end token.token) (Ok tt) (Err (Unexpected token.at)) (λ is. tt) (λ other. misread_of_text unexpected)
 
 term_answers : (text : List ℕ) (here : ProofCursor) → Answers (term_at text here) Any
 unfolding term_at
@@ -64,7 +59,7 @@ time_answers text here =
     answers_then Any (term_of [] token) _ (errs_answers _ _ (term_errs [] token)) (λ t. answers_then Any (require_sort [] sorts.Time token.at t) _ (errs_answers _ _ (sorted_errs [] sorts.Time token.at t)) (λ _. tt))
 
 numbered_answers : (at size left : ℕ) (o : Option ℕ) → Answers (hypothesis_reading at size left o) Any
-numbered_answers at size left None = of_text unexpected
+numbered_answers at size left None = misread_of_text unexpected
 numbered_answers at size left (Some n) = tt
 
 hypothesis_answers : (text : List ℕ) (here : ProofCursor) → Answers (hypothesis_at text here) Any
@@ -73,7 +68,7 @@ hypothesis_answers text here =
     let digits = take_while (is_in classes.Digit) (drop (first_byte text here) text) in numbered_answers (first_byte text here) (length digits) here.left (numeral_below (2 ^ 16) digits)
 
 named_answers : (at size left : ℕ) (o : Option RuleName) → Answers (rule_reading at size left o) Any
-named_answers at size left None = of_text unknown_name
+named_answers at size left None = misread_of_text unknown_name
 named_answers at size left (Some name) = tt
 
 rule_answers : (text : List ℕ) (here : ProofCursor) → Answers (rule_at text here) Any
@@ -82,7 +77,7 @@ rule_answers text here =
     let at = first_byte text here in
     let bytes = drop at text in
     let word = take_while (is_in classes.Word) bytes in
-    decided IsOfText Any (is_word_start bytes) (rule_of_word at here.left word) (Err (Unexpected at)) (λ is. named_answers at (length word) here.left (rule_named word)) (λ none. of_text unexpected)
+    decided IsOfText Any (is_word_start bytes) (rule_of_word at here.left word) (Err (Unexpected at)) (λ is. named_answers at (length word) here.left (rule_named word)) (λ none. misread_of_text unexpected)
 
 some_level : (a : Bool) (levels : ℕ) → (a && nat_le 1 levels) ≡ true → 1 ≤ levels
 some_level true levels h = grind (arith, nat_tests)

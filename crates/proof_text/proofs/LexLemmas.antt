@@ -1,13 +1,11 @@
 -- The tokens of what is written: each ends where the sign after it begins.
-use Rattle.std.proofs.Common.{◌≡◌, ℕ, zero, suc, ◌+◌, ◌-◌, ◌^◌, ◌<◌, Bool, true, false, cond, List, [], ◌∷◌, ◌++◌, length, take, drop, get_or, refl, ap, ◌∙◌, arith, IsTrue, Some, None, Result, Ok, Err}
-use Rattle.std.specs.Prelude.{if◌then◌else◌, ◌&&◌, ◌==◌, nat_lt}
+use Rattle.std.proofs.Common.{◌≡◌, ℕ, suc, ◌+◌, ◌-◌, ◌^◌, ◌<◌, Bool, true, false, cond, List, [], ◌∷◌, ◌++◌, length, take, drop, refl, ap, ◌∙◌, arith, IsTrue, Some, Result, Ok, Err}
+use Rattle.std.specs.Prelude.{if◌then◌else◌, ◌==◌}
 use Rattle.std.specs.List.{prefix_len, take_while, list_all}
 use Rattle.std.specs.Fmt.{decimal}
-use Rattle.std.specs.Str.Parse.{digits_value}
-use Rattle.std.proofs.lemmas.Bool.{false≢true}
 use Rattle.std.proofs.lemmas.List.{length-drop, take_all}
 use Rattle.std.proofs.lemmas.Bool.Decides.{nat_tests}
-use Rattle.std.proofs.lemmas.Fmt.{decimal_digit, decimal_nonempty, first_decimal, digits_decimal, digits_value-decimal}
+use Rattle.std.proofs.lemmas.Fmt.{decimal_nonempty, digits_decimal}
 use Rattle.std.proofs.Math.Seq.{take-append_seam}
 use Rattle.bl_syntax.specs.Names.{is_digit}
 use Rattle.bl_tokens.specs.declared.classes.Class.TheVariants as classes
@@ -18,7 +16,6 @@ use Rattle.bl_tokens.specs.declared.tokens.Token.TheVariants as tokens
 use Rattle.bl_tokens.specs.declared.tokens.Lexeme.{Lexeme}
 use Rattle.bl_tokens.specs.declared.tokens.Cursor.{Cursor}
 use Rattle.bl_tokens.specs.Classes.{is_in}
-use Rattle.bl_tokens.specs.Numerals.{is_numeral, numeral_below}
 use Rattle.bl_tokens.specs.Tokens.{token_from, first_lexeme, sized_lexeme, sign_code, is_sign}
 use Rattle.bl_tokens.proofs.DateLemmas.{both_true}
 use Rattle.bl_tokens.proofs.NumeralLemmas.{is_numeral_model}
@@ -26,12 +23,9 @@ use Rattle.proof_text.specs.declared.names.RuleName.{RuleName}
 use Rattle.proof_text.specs.declared.cursor.ProofCursor.{ProofCursor}
 use Rattle.proof_text.specs.Rules.{rule_named}
 use Rattle.proof_text.specs.Cursor.{cursor_at, first_byte, cursor_after_token, cursor_after_sign, hypothesis_reading, hypothesis_in, hypothesis_at, rule_reading, is_word_start, rule_of_word, rule_in, rule_at}
+use Rattle.bl_text.proofs.WordLemmas.{numeral_found}
 
 -- ---- runs
-
-both : (a b : Bool) → a ≡ true → b ≡ true → (a && b) ≡ true
-both true b ha hb = hb
-both false b ha hb = absurd (false≢true ha)
 
 pub prefix_stops : (p : ℕ → Bool) (xs : List ℕ) (c : ℕ) (ys : List ℕ) → IsTrue (list_all p xs) → p c ≡ false → prefix_len p (xs ++ c ∷ ys) ≡ length xs
 prefix_stops p [] c ys all ends = ap (λ b. cond b (1 + prefix_len p ys) 0) ends
@@ -72,29 +66,6 @@ word_no_space x h = grind (arith, nat_tests)
 
 -- ---- numbers
 
-one_digit : is_numeral (decimal 0) ≡ true
-one_digit = ap is_numeral (decimal_digit 0 (omega arith))
-
-long_numeral : (ds : List ℕ) → 0 < length ds → 48 < get_or ds 0 0 → is_numeral ds ≡ true
-long_numeral ds some first = grind (arith, nat_tests)
-
-decimal_numeral : (n : ℕ) → n < 2 ^ 64 → is_numeral (decimal n) ≡ true
-decimal_numeral zero fits = one_digit
-decimal_numeral (suc n) fits = long_numeral (decimal (suc n)) (decimal_nonempty (suc n) fits) (first_decimal (suc n) (omega arith) fits)
-
-chosen : (b : Bool) (v n : ℕ) → b ≡ true → v ≡ n → (if b then Some v else None) ≡ Some n
-chosen true v n h same = ap Some same
-chosen false v n h same = absurd (false≢true h)
-
-below : (m n : ℕ) → m < n → nat_lt m n ≡ true
-below m n h = grind (arith, nat_tests)
-
-pub numeral_decimal : (limit n : ℕ) → n < 2 ^ 64 → n < limit → numeral_below limit (decimal n) ≡ Some n
-numeral_decimal limit n fits lt =
-    let value : digits_value 10 (decimal n) ≡ n = digits_value-decimal is_numeral_model n fits in
-    chosen (is_numeral (decimal n) && nat_lt (digits_value 10 (decimal n)) limit) (digits_value 10 (decimal n)) n
-    (both _ _ (decimal_numeral n fits) (ap (λ m. nat_lt m limit) value ∙ below n limit lt)) value
-
 pub digits_written : (n : ℕ) (ys : List ℕ) → n < 2 ^ 64 → Ends (is_in classes.Digit) ys → take_while (is_in classes.Digit) (decimal n ++ ys) ≡ decimal n
 digits_written n ys fits ends = run_ends (is_in classes.Digit) (decimal n) ys (digits_decimal is_numeral_model n fits) ends
 
@@ -117,7 +88,7 @@ hypothesis_written text from left h ys lt ends here =
     ap (λ at. hypothesis_in at left (take_while (is_in classes.Digit) (drop at text))) first
     ∙ ap (λ (bytes : List ℕ). hypothesis_in from left (take_while (is_in classes.Digit) bytes)) here
     ∙ ap (hypothesis_in from left) (digits_written h ys fits ends)
-    ∙ ap (hypothesis_reading from (length (decimal h)) left) (numeral_decimal (2 ^ 16) h fits lt)
+    ∙ ap (hypothesis_reading from (length (decimal h)) left) (numeral_found (2 ^ 16) h fits lt)
 
 begins : (x : ℕ) (xs ys : List ℕ) → is_word_start (x ∷ xs) ≡ true → is_word_start ((x ∷ xs) ++ ys) ≡ true
 begins x xs ys h = h

@@ -11,4 +11,4 @@ pub mod SameTokensLemmas
 pub mod TermLemmas
 pub mod TextLemmas
 pub mod ViableLemmas
-pub mod WrittenLemmas
+pub mod ExactLemmas

@@ -2,51 +2,19 @@
 use Rattle.std.proofs.Common.{◌≡◌, ℕ, ◌+◌, ◌-◌, ◌≤◌, List, length, refl, sym, subst, arith, Ok}
 use Rattle.bl_tokens.specs.declared.tokens.Sign.TheVariants as signs
 use Rattle.proof_term.specs.declared.rule.Axiom.{Axiom}
-use Rattle.proof_term.specs.declared.rule.Axiom.TheVariants as axioms
 use Rattle.proof_term.specs.declared.rule.OnePremise.{OnePremise}
-use Rattle.proof_term.specs.declared.rule.OnePremise.TheVariants as one
 use Rattle.proof_term.specs.declared.rule.TwoPremises.{TwoPremises}
-use Rattle.proof_term.specs.declared.rule.TwoPremises.TheVariants as two
 use Rattle.proof_term.specs.declared.rule.Rule.TheVariants as rules
 use Rattle.proof_term.specs.Proof.{ProofView}
 use Rattle.proof_term.specs.Rules.{by_axiom, by_one, by_two}
 use Rattle.proof_term.specs.RuleTimes.{IsOneInRange, IsTwoInRange}
-use Rattle.proof_term.specs.Limits.{HasTimesInRange}
+use Rattle.proof_term.proofs.TimeLemmas.{times_axiom, times_one, times_two}
 use Rattle.proof_term.proofs.ShapeLemmas.{size_axiom, size_one, size_two, depth_axiom, depth_one, depth_two}
 use Rattle.proof_text.specs.declared.cursor.ProofCursor.{ProofCursor}
 use Rattle.proof_text.specs.Cursor.{cursor_after_sign}
 use Rattle.proof_text.specs.Heads.{head}
 use Rattle.proof_text.specs.Proofs.{no_premise, one_premise, two_premises}
 use Rattle.proof_text.specs.Read.{ReadsProofText}
-
-times_axiom : (r : Axiom) → HasTimesInRange (by_axiom r)
-times_axiom (axioms.Init h) = tt
-times_axiom axioms.ConsR = tt
-times_axiom axioms.InterR = tt
-times_axiom axioms.TrueR = tt
-times_axiom (axioms.FalseL h) = tt
-
-times_one : (r : OnePremise) (p : ProofView) → IsOneInRange r → HasTimesInRange p → HasTimesInRange (by_one r p)
-times_one one.OrR1 p s h = h
-times_one one.OrR2 p s h = h
-times_one one.ImpR p s h = h
-times_one one.ForallR p s h = h
-times_one (one.ExistsR t) p s h = (s, h)
-times_one one.SaysR p s h = h
-times_one one.AtR p s h = h
-times_one (one.ConsL n) p s h = h
-times_one (one.InterL n) p s h = h
-times_one (one.AndL n) p s h = h
-times_one (one.ForallL n t) p s h = (s, h)
-times_one (one.ExistsL n) p s h = h
-times_one (one.SaysL n) p s h = h
-times_one (one.Claim n) p s h = h
-times_one (one.AtL n) p s h = h
-
-times_two : (r : TwoPremises) (p q : ProofView) → IsTwoInRange r → HasTimesInRange p → HasTimesInRange q → HasTimesInRange (by_two r p q)
-times_two two.AndR p q s h k = (h, k)
-times_two (two.OrL n) p q s h k = (h, k)
-times_two (two.ImpL n t1 t2) p q s h k = (s, (h, k))
 
 -- a rule was read and its fields, and so many levels are left below it
 pub record Enters (text : List ℕ) (levels : ℕ) (here first : ProofCursor) : Type 0 where

@@ -19,7 +19,7 @@ use Rattle.proof_term.proofs.ProofLemmas.{same}
 use Rattle.proof_term.proofs.ShapeLemmas.{folded_axiom, folded_one, folded_two, size_axiom, size_one, size_two, depth_axiom, depth_one, depth_two, by_premises}
 use Rattle.proof_text.specs.declared.cursor.ProofCursor.{ProofCursor}
 use Rattle.proof_text.specs.Cursor.{cursor_at}
-use Rattle.proof_text.specs.RoundTrip.{IsSayableAxiom, IsSayableOne, IsSayableTwo, NamesSayable, HasProofRoundTrip}
+use Rattle.proof_text.specs.RoundTrip.{IsSayableAxiom, IsSayableOne, IsSayableTwo, NamesSayable, IsPrintableProof}
 use Rattle.proof_text.specs.Printed.{axiom_text, one_text, two_text, proof_text}
 use Rattle.proof_text.specs.Proofs.{IsProof, no_premise, one_premise, two_premises}
 use Rattle.proof_text.specs.Texts.{at_end, IsProofText, whole_proof}
@@ -120,7 +120,7 @@ ended_written : (text : List ℕ) (from left : ℕ) → At text from [] → at_e
 unfolding at_end
 ended_written text from left here = ap end_by (token_written text from left [] (sized_lexeme tokens.End 0) here refl refl)
 
-pub text_is_read : (d : ProofView) → HasProofRoundTrip d → IsProofText (proof_text d) d
+pub text_is_read : (d : ProofView) → IsPrintableProof d → IsProofText (proof_text d) d
 text_is_read d says =
     let all : At (proof_text d) 0 (proof_text d ++ []) = sym (append-nil (proof_text d)) in
     let end = at_behind (proof_text d) 0 (proof_text d) [] all in

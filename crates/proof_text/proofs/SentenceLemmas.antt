@@ -44,6 +44,7 @@ use Rattle.proof_text.specs.Proofs.{IsProof, no_premise, one_premise, two_premis
 use Rattle.proof_text.specs.FirstFaults.{ProofHasFirstFault, in_head, in_premise, in_first, in_second}
 use Rattle.proof_text.specs.Texts.{at_end, IsProofText, whole_proof, ProofTextFault, in_proof}
 use Rattle.proof_text.specs.Sentences.{ProofWord, rule_name, number, token, Field, hypothesis, term, time, premise, fields, ProofSentence, a_hypothesis, a_term, a_time, bare, with_fields, further, AreWordsAt, nothing, rule_there, number_there, token_there, IsProofSentenceText}
+use Rattle.bl_text.proofs.IsStatementLemmas.{ok_same}
 
 -- ---- what stands there is read, however many rules are left
 
@@ -66,15 +67,12 @@ record TokenAt (text : List ℕ) (from to : ℕ) (t : Token) : Type 0 where
   same : (left : ℕ) → (token_from text from left).token ≡ t
   ends : (left : ℕ) → (token_from text from left).end ≡ to
 
-ok_is : {A : Type 0} {x y : A} → ◌≡◌ {A = Result A TextFault} (Ok x) (Ok y) → x ≡ y
-ok_is {A} {x} {y} h = cc
-
 never : {A B : Type 0} {e : TextFault} {x : A} → ◌≡◌ {A = Result A TextFault} (Err e) (Ok x) → B
 never {A} {B} {e} {x} h = absurd (let no : ◌≡◌ {A = Result A TextFault} (Err e) (Ok x) = h in cc)
 
 named_any : (at size left left' : ℕ) (o : Option RuleName) (rule : RuleName) (there : ProofCursor) → rule_reading at size left o ≡ Ok (rule, there) → rule_reading at size left' o ≡ Ok (rule, cursor_at there.from left')
 named_any at size left left' None rule there h = never h
-named_any at size left left' (Some name) rule there h = ap (λ (x : RuleName × ProofCursor). Ok (x.0, cursor_at x.1.from left')) (ok_is h)
+named_any at size left left' (Some name) rule there h = ap (λ (x : RuleName × ProofCursor). Ok (x.0, cursor_at x.1.from left')) (ok_same h)
 
 rule_any : (b : Bool) (at size left left' : ℕ) (o : Option RuleName) (rule : RuleName) (there : ProofCursor) → ◌≡◌ {A = Result (RuleName × ProofCursor) TextFault} (if b then rule_reading at size left o else Err (Unexpected at)) (Ok (rule, there))
     → ◌≡◌ {A = Result (RuleName × ProofCursor) TextFault} (if b then rule_reading at size left' o else Err (Unexpected at)) (Ok (rule, cursor_at there.from left'))
@@ -89,7 +87,7 @@ name_at text here there rule h left =
 
 numbered_any : (at size left left' : ℕ) (o : Option ℕ) (n : ℕ) (there : ProofCursor) → hypothesis_reading at size left o ≡ Ok (n, there) → hypothesis_reading at size left' o ≡ Ok (n, cursor_at there.from left')
 numbered_any at size left left' None n there h = never h
-numbered_any at size left left' (Some k) n there h = ap (λ (x : ℕ × ProofCursor). Ok (x.0, cursor_at x.1.from left')) (ok_is h)
+numbered_any at size left left' (Some k) n there h = ap (λ (x : ℕ × ProofCursor). Ok (x.0, cursor_at x.1.from left')) (ok_same h)
 
 number_at : (text : List ℕ) (here there : ProofCursor) (n : ℕ) → hypothesis_at text here ≡ Ok (n, there) → NumberAt text here.from there.from n
 unfolding hypothesis_at

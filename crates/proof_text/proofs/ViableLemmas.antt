@@ -7,7 +7,7 @@ use Rattle.bl_syntax.specs.declared.terms.Term.{Term}
 use Rattle.bl_syntax.specs.declared.terms.Term.TheVariants.{Ctime}
 use Rattle.bl_tokens.specs.declared.classes.Class.TheVariants as classes
 use Rattle.bl_tokens.specs.declared.faults.TextFault.{TextFault}
-use Rattle.bl_tokens.specs.declared.faults.TextFault.TheVariants.{Unexpected, UnknownName, TooLarge, NoMemory}
+use Rattle.bl_tokens.specs.declared.faults.TextFault.TheVariants.{Unexpected, TooLarge, NoMemory}
 use Rattle.bl_tokens.specs.declared.faults.TextFault.TheVariants as faults
 use Rattle.bl_tokens.specs.declared.tokens.Sign.{Sign as Sign'}
 use Rattle.bl_tokens.specs.declared.tokens.Sign.TheVariants as signs
@@ -44,6 +44,7 @@ use Rattle.proof_text.specs.FirstFaults.{ProofHasFirstFault, no_memory, in_head,
 use Rattle.proof_text.specs.Texts.{at_end, IsProofText, whole_proof, ProofTextFault, in_proof, behind_proof}
 use Rattle.proof_text.specs.SameTokens.{fault_place}
 use Rattle.proof_text.specs.Sentences.{ProofWord, rule_name, number, token, Field, hypothesis, term, time, premise, fields, ProofSentence, a_hypothesis, a_term, a_time, bare, with_fields, further, AreWordsAt, nothing, rule_there, number_there, token_there, IsNext, IsAfterViablePrefix, IsProofSentenceText}
+use Rattle.bl_text.proofs.PieceLemmas.{comma_sign, open_sign, close_sign}
 
 -- ---- words that stand in a text
 
@@ -71,21 +72,9 @@ abbrev defaults : Field → List Field → List ProofWord
 defaults f [] = default f ∷ []
 defaults f (g ∷ fs) = default f ∷ token (Sign signs.Comma) ∷ defaults g fs
 
-comma_is : IsSign signs.Comma (Sign signs.Comma)
-unfolding is_sign
-comma_is = refl
-
-open_is : IsSign signs.Open (Sign signs.Open)
-unfolding is_sign
-open_is = refl
-
-close_is : IsSign signs.Close (Sign signs.Close)
-unfolding is_sign
-close_is = refl
-
 defaults_are : (f : Field) (fs : List Field) → ProofSentence (f ∷ fs) (defaults f fs)
 defaults_are f [] = default_is f
-defaults_are f (g ∷ fs) = further f g fs (default f ∷ []) (defaults g fs) (Sign signs.Comma) (default_is f) comma_is (defaults_are g fs)
+defaults_are f (g ∷ fs) = further f g fs (default f ∷ []) (defaults g fs) (Sign signs.Comma) (default_is f) comma_sign (defaults_are g fs)
 
 -- ---- what was read and what stops
 
@@ -128,7 +117,7 @@ opened_viable o v = record {
   next = v.next;
   others = v.others ++ token (Sign signs.Close) ∷ [];
   sentence = subst (ProofSentence (premise ∷ [])) (ap (λ us. o.words ++ us) (append_assoc v.words v.others (token (Sign signs.Close) ∷ [])) ∙ sym (append_assoc o.words v.words (v.others ++ token (Sign signs.Close) ∷ [])))
-      (o.whole (v.words ++ v.others) (Sign signs.Close) close_is v.sentence);
+      (o.whole (v.words ++ v.others) (Sign signs.Close) close_sign v.sentence);
 }
 
 -- a fault at the comma after a field
@@ -139,7 +128,7 @@ comma_viable {text} {from} {mid} {f} {e} g fs s is = record {
   stands = s.stands;
   next = is;
   others = token (Sign signs.Comma) ∷ defaults g fs;
-  sentence = further f g fs s.words (defaults g fs) (Sign signs.Comma) s.sentence comma_is (defaults_are g fs);
+  sentence = further f g fs s.words (defaults g fs) (Sign signs.Comma) s.sentence comma_sign (defaults_are g fs);
 }
 
 -- a fault at the parenthesis after the last field
@@ -150,7 +139,7 @@ close_viable {last = last} o s is = record {
   stands = stands_then o.stands s.stands;
   next = is;
   others = token (Sign signs.Close) ∷ [];
-  sentence = subst (ProofSentence (premise ∷ [])) (sym (append_assoc o.words s.words (token (Sign signs.Close) ∷ []))) (o.whole s.words (Sign signs.Close) close_is s.sentence);
+  sentence = subst (ProofSentence (premise ∷ [])) (sym (append_assoc o.words s.words (token (Sign signs.Close) ∷ []))) (o.whole s.words (Sign signs.Close) close_sign s.sentence);
 }
 
 -- a fault in a field before others
@@ -161,7 +150,7 @@ first_viable {f = f} {g} {fs} v = record {
   stands = v.stands;
   next = v.next;
   others = v.others ++ token (Sign signs.Comma) ∷ defaults g fs;
-  sentence = subst (ProofSentence (f ∷ g ∷ fs)) (append_assoc v.words v.others (token (Sign signs.Comma) ∷ defaults g fs)) (further f g fs (v.words ++ v.others) (defaults g fs) (Sign signs.Comma) v.sentence comma_is (defaults_are g fs));
+  sentence = subst (ProofSentence (f ∷ g ∷ fs)) (append_assoc v.words v.others (token (Sign signs.Comma) ∷ defaults g fs)) (further f g fs (v.words ++ v.others) (defaults g fs) (Sign signs.Comma) v.sentence comma_sign (defaults_are g fs));
 }
 
 -- the parenthesis after the last field
@@ -362,7 +351,7 @@ name_viable {mid = mid} rule f fs same n is = record {
   stands = n.stands;
   next = is;
   others = token (Sign signs.Open) ∷ (defaults f fs ++ token (Sign signs.Close) ∷ []);
-  sentence = with_fields rule (defaults f fs) (Sign signs.Open) (Sign signs.Close) open_is (subst (λ gs. ProofSentence gs (defaults f fs)) (sym same) (defaults_are f fs)) close_is;
+  sentence = with_fields rule (defaults f fs) (Sign signs.Open) (Sign signs.Close) open_sign (subst (λ gs. ProofSentence gs (defaults f fs)) (sym same) (defaults_are f fs)) close_sign;
 }
 
 module _ (text : List ℕ) (from : ℕ) where

@@ -1,3 +1,4 @@
+pub mod Exact
 pub mod Heads
 pub mod Cursor
 pub mod RoundTrip

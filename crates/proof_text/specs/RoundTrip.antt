@@ -74,6 +74,6 @@ abbrev pub NamesSayable : ProofView → Type 0
 NamesSayable d = fold_proof IsSayableAxiom (λ r P. IsSayableOne r × P) (λ r P Q. IsSayableTwo r × (P × Q)) d
 
 -- a text can say the proof: it is within the limits, its terms have a spelling and are no variables, and those of an implication are times
-pub record HasProofRoundTrip (d : ProofView) : Type 0 where
+pub record IsPrintableProof (d : ProofView) : Type 0 where
   pub within_limits : IsProofWithinLimits d
   pub names : NamesSayable d

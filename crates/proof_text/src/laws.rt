@@ -1,13 +1,15 @@
 //! Laws of the texts of proofs. A law is the contract of an empty function, which nothing calls.
 
-ghost use Rattle.std.specs.Prelude.{◌≡◌, ◌≢◌, ◌⊎◌, ℕ, List, Some};
+ghost use Rattle.std.specs.Prelude.{◌≡◌, ◌≢◌, ◌⊎◌, ℕ, List};
 ghost use Rattle.bl_tokens.specs.declared.faults.TextFault.{TextFault};
 ghost use Rattle.bl_text.specs.Texts.{AreOneFault};
 ghost use Rattle.proof_term.specs.Proof.{ProofView};
-ghost use Rattle.proof_text.specs.RoundTrip.{HasProofRoundTrip};
+ghost use Rattle.proof_text.specs.RoundTrip.{IsPrintableProof};
 ghost use Rattle.proof_text.specs.Printed.{proof_text};
-ghost use Rattle.proof_text.specs.Sentences.{IsAfterViablePrefix, IsProofSentenceText};
-ghost use Rattle.proof_text.specs.SameTokens.{fault_place, SameUpTo};
+ghost use Rattle.proof_text.specs.Cursor.{cursor_at, first_byte};
+ghost use Rattle.proof_text.specs.Exact.{IsExactInProof};
+ghost use Rattle.proof_text.specs.Sentences.{IsProofSentenceText};
+ghost use Rattle.proof_text.specs.SameTokens.{SameUpTo};
 ghost use Rattle.proof_text.specs.Texts.{IsProofText, ProofTextFault};
 
 /// A text is one of one proof at most.
@@ -27,17 +29,18 @@ pub fn one_fault_of_a_proof()
         → AreOneFault e f }
 {}
 
-/// A fault depends on the tokens up to its own alone: a text that has the same next token from each
-/// byte on, up to the place of the fault, has it too.
-pub fn fault_of_a_proof_depends_on_its_prefix()
-    ensures { (text other : List ℕ) (e : TextFault) (at : ℕ) → ProofTextFault text e → fault_place e ≡ Some at
-        → SameUpTo text other at → ProofTextFault other e }
+/// The place of a fault is exact. The words before it can be completed to a sentence of the grammar,
+/// limits aside: so it is not told too late. A text that has the same next token from each byte on,
+/// up to that place, has the fault too: so it is not told too early.
+pub fn exact_fault_of_a_proof()
+    ensures { (text : List ℕ) (e : TextFault) → ProofTextFault text e → (e ≡ TextFault.NoMemory) ⊎ IsExactInProof text e }
 {}
 
-/// The words before the place of a fault can be completed to a sentence of the grammar, limits aside.
-/// So no fault is told too late.
-pub fn fault_of_a_proof_follows_a_viable_prefix()
-    ensures { (text : List ℕ) (e : TextFault) → ProofTextFault text e → (e ≡ TextFault.NoMemory) ⊎ IsAfterViablePrefix text e }
+/// Where a fault other than one of size is, no sentence of the grammar goes on: no text with the same
+/// tokens up to and with that one has the words of one.
+pub fn no_proof_goes_on()
+    ensures { (text : List ℕ) (e : TextFault) → ((at : ℕ) → e ≢ TextFault.TooLarge at) → (x : IsExactInProof text e)
+        → (other : List ℕ) → SameUpTo text other (first_byte text (cursor_at x.prefix.behind 0)) → IsProofSentenceText other → ⊥ }
 {}
 
 /// The words of a proof's text are a sentence of the grammar.
@@ -54,7 +57,7 @@ pub fn text_of_a_sentence()
 /// The text that a proof is written as is a text of it, where it is within the limits, its hypotheses have
 /// numbers below 65,536, its terms have a spelling and are no variables, and those of an implication are times.
 pub fn proof_round_trip()
-    ensures { (d : ProofView) → HasProofRoundTrip d → IsProofText (proof_text d) d }
+    ensures { (d : ProofView) → IsPrintableProof d → IsProofText (proof_text d) d }
 {}
 
 /// Each text is one of a proof or has a fault other than out of memory.

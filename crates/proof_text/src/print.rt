@@ -1,13 +1,14 @@
 //! The text that a proof is written as.
-#![tactic(auto, using(crate::proofs::WrittenLemmas::writing))]
+#![tactic(auto, using(bl_syntax::proofs::BeginsWithLemmas::writing))]
 
 ghost use Rattle.std.specs.Prelude.{◌≡◌, ◌++◌, OnOk, OnErr};
-ghost use Rattle.bl_text.specs.Written.{BeginsWith};
+ghost use Rattle.bl_syntax.specs.BeginsWith.{BeginsWith};
 ghost use Rattle.proof_term.specs.Proof.{proof_view};
 ghost use Rattle.proof_text.specs.Printed.{cited_text, term_field, axiom_text, one_text, two_text, proof_text};
 
+use bl_syntax::decimal::{put_counted, put_text};
 use bl_syntax::{Bytes, NoMemory, Term};
-use bl_text::{print_number, print_term};
+use bl_text::print_term;
 use proof_term::{Axiom, OnePremise, Parts, Proof, ProofTree, TwoPremises};
 
 /// Writes a proof, all of it or nothing. It calls itself as deep as the proof is.
@@ -32,14 +33,14 @@ fn write_proof(out: &mut Bytes, p: &Proof) -> Result<(), NoMemory>
         Parts::One(r, p) => {
             write_one(out, &r)?;
             write_proof(out, p)?;
-            write(out, ")")
+            put_text(out, ")")
         }
         Parts::Two(r, p, q) => {
             write_two(out, &r)?;
             write_proof(out, p)?;
-            write(out, ",")?;
+            put_text(out, ",")?;
             write_proof(out, q)?;
-            write(out, ")")
+            put_text(out, ")")
         }
     }
 }
@@ -50,9 +51,9 @@ fn write_axiom(out: &mut Bytes, r: &Axiom) -> Result<(), NoMemory>
 {
     match r {
         Axiom::Init(h) => write_cited(out, "init(", *h, ")"),
-        Axiom::ConsR => write(out, "consR"),
-        Axiom::InterR => write(out, "interR"),
-        Axiom::TrueR => write(out, "trueR"),
+        Axiom::ConsR => put_text(out, "consR"),
+        Axiom::InterR => put_text(out, "interR"),
+        Axiom::TrueR => put_text(out, "trueR"),
         Axiom::FalseL(h) => write_cited(out, "falseL(", *h, ")"),
     }
 }
@@ -62,16 +63,16 @@ fn write_one(out: &mut Bytes, r: &OnePremise) -> Result<(), NoMemory>
     ensures err { OnErr result (BeginsWith out.new out.old) }
 {
     match r {
-        OnePremise::OrR1 => write(out, "orR1("),
-        OnePremise::OrR2 => write(out, "orR2("),
-        OnePremise::ImpR => write(out, "impR("),
-        OnePremise::ForallR => write(out, "forallR("),
+        OnePremise::OrR1 => put_text(out, "orR1("),
+        OnePremise::OrR2 => put_text(out, "orR2("),
+        OnePremise::ImpR => put_text(out, "impR("),
+        OnePremise::ForallR => put_text(out, "forallR("),
         OnePremise::ExistsR(t) => {
-            write(out, "existsR(")?;
+            put_text(out, "existsR(")?;
             write_field(out, t)
         }
-        OnePremise::SaysR => write(out, "saysR("),
-        OnePremise::AtR => write(out, "atR("),
+        OnePremise::SaysR => put_text(out, "saysR("),
+        OnePremise::AtR => put_text(out, "atR("),
         OnePremise::ConsL(h) => write_cited(out, "consL(", *h, ","),
         OnePremise::InterL(h) => write_cited(out, "interL(", *h, ","),
         OnePremise::AndL(h) => write_cited(out, "andL(", *h, ","),
@@ -91,7 +92,7 @@ fn write_two(out: &mut Bytes, r: &TwoPremises) -> Result<(), NoMemory>
     ensures err { OnErr result (BeginsWith out.new out.old) }
 {
     match r {
-        TwoPremises::AndR => write(out, "andR("),
+        TwoPremises::AndR => put_text(out, "andR("),
         TwoPremises::OrL(h) => write_cited(out, "orL(", *h, ","),
         TwoPremises::ImpL(h, from, to) => {
             write_cited(out, "impL(", *h, ",")?;
@@ -106,9 +107,8 @@ fn write_cited(out: &mut Bytes, name: &str, h: u16, sign: &str) -> Result<(), No
     ensures ok { OnOk result (out.new ≡ out.old ++ cited_text name.now h sign.now) }
     ensures err { OnErr result (BeginsWith out.new out.old) }
 {
-    write(out, name)?;
-    print_number(u64::from(h), out)?;
-    write(out, sign)
+    put_counted(out, name, u64::from(h))?;
+    put_text(out, sign)
 }
 
 /// Writes a term before a further field.
@@ -117,12 +117,5 @@ fn write_field(out: &mut Bytes, t: &Term) -> Result<(), NoMemory>
     ensures err { OnErr result (BeginsWith out.new out.old) }
 {
     print_term(t, out)?;
-    write(out, ",")
-}
-
-fn write(out: &mut Bytes, text: &str) -> Result<(), NoMemory>
-    ensures ok { OnOk result (out.new ≡ out.old ++ text.now) }
-    ensures err { OnErr result (BeginsWith out.new out.old) }
-{
-    out.extend(text.as_bytes())
+    put_text(out, ",")
 }

@@ -9,5 +9,6 @@ pub mod SoundnessShapes
 pub mod SoundnessSteps
 pub mod SoundnessVerdict
 pub mod HypothesesLemmas
+pub mod InstanceLemmas
 pub mod TestLemmas
 pub mod WellFormedLemmas

@@ -1,17 +1,17 @@
 -- What the hypotheses of the program stand for.
 use Rattle.std.specs.Prelude.{ℕ, Bool, true, false, List, [], ◌∷◌, ◌++◌, Option, Some, map, option_and_then}
 use Rattle.std.specs.List.{slice_get}
-use Rattle.bl_syntax.specs.Formula.{formula_view}
 use Rattle.bl_rules.specs.Sequent.{Hypothesis, holds, claims}
 use Rattle.proof_verifier.specs.declared.hypotheses.HypothesisRef.{HypothesisRef}
 use Rattle.proof_verifier.specs.declared.hypotheses.HypothesisRef.TheVariants.{Truth, Claim}
 use Rattle.proof_verifier.specs.declared.hypotheses.Hypotheses.{Hypotheses}
 use Rattle.proof_verifier.specs.declared.hypotheses.Hypotheses.TheVariants as code
+use Rattle.proof_verifier.specs.Instances.{instance_view}
 use Rattle.proof_verifier.specs.Sequent.{unless_truth}
 
 abbrev pub hypothesis : HypothesisRef → Hypothesis
-hypothesis (Truth a u v) = holds (formula_view a.now) u.now v.now
-hypothesis (Claim k a u v) = claims k.now (formula_view a.now) u.now v.now
+hypothesis (Truth a u v) = holds (instance_view a) u.now v.now
+hypothesis (Claim k a u v) = claims k.now (instance_view a) u.now v.now
 
 -- the hypotheses by their numbers, without those that were struck out
 abbrev pub hypotheses_by_number : Hypotheses → List (Option Hypothesis)

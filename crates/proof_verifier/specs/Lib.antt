@@ -12,6 +12,7 @@ pub mod Run
 pub mod Sequent
 pub mod Shapes
 pub mod Hypotheses
+pub mod Instances
 pub mod Tests
 pub mod Verdict
 pub mod WellFormed

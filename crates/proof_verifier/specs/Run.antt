@@ -3,7 +3,6 @@ use Rattle.std.specs.Prelude.{◌≡◌, ◌≤◌, ◌+◌, ◌*◌, ◌⊎◌,
 use Rattle.bl_syntax.specs.declared.terms.Sort.{Sort}
 use Rattle.bl_syntax.specs.declared.terms.Term.{Term}
 use Rattle.bl_syntax.specs.declared.terms.Term.TheVariants.{Param}
-use Rattle.bl_syntax.specs.Formula.{formula_view}
 use Rattle.bl_syntax.specs.Statement.{StatementView}
 use Rattle.bl_syntax.specs.Grant.{GrantView}
 use Rattle.bl_rules.specs.Allowed.{claim_of}
@@ -15,6 +14,7 @@ use Rattle.proof_verifier.specs.declared.checker.Checker.{Checker}
 use Rattle.proof_verifier.specs.declared.position.Position.{Position}
 use Rattle.proof_verifier.specs.Sequent.{Sequent}
 use Rattle.proof_verifier.specs.Hypotheses.{hypotheses_by_number}
+use Rattle.proof_verifier.specs.Instances.{instance_view}
 use Rattle.proof_verifier.specs.Known.{fact_list}
 
 -- the sequent of a node
@@ -25,7 +25,7 @@ sequent checker place = record {
   facts = fact_list place.facts.now;
   hypotheses = hypotheses_by_number place.hypotheses.now;
   view = record { who = place.who.now; from = place.begins.now; to = place.ends.now };
-  goal = formula_view place.goal.now;
+  goal = instance_view place.goal;
   from = place.from.now;
   to = place.to.now;
 }

@@ -9,7 +9,8 @@ ghost use Rattle.proof_verifier.specs.Run.{sequent, HasProofRoom, GivesFollowed,
 
 use crate::fault::CheckFault;
 use crate::position::Position;
-use bl_syntax::{Constraint, Constraints, Grant, NoMemory, Sequence, Sort, Term};
+use bl_constraints::ConstraintStack;
+use bl_syntax::{Constraint, Grant, NoMemory, Sequence, Sort, Term};
 use proof_term::Proof;
 use std::alloc::Global;
 
@@ -18,7 +19,7 @@ use std::alloc::Global;
 #[derive(Drop)]
 pub struct Checker {
     pub sorts: Sequence<Sort>,
-    pub constraints: Constraints,
+    pub constraints: ConstraintStack,
     pub grant: Grant,
 }
 
@@ -35,12 +36,13 @@ impl Checker {
 
     /// Adds the constraint that the first time is not after the second.
     pub fn bound(&mut self, low: &Term, high: &Term) -> Result<(), NoMemory>
+        requires { length self.old.constraints < 512 }
         ensures { IfOk result (λ _. self.new ≡ record self.old { constraints = self.old.constraints ++ record { low = low.now; high = high.now } ∷ [] }) }
     {
-        self.constraints.extend(&[Constraint {
+        self.constraints.push(&Constraint {
             low: *low,
             high: *high,
-        }])
+        })
     }
 
     /// Follows a proof on its place, and returns the number of the node after it.

@@ -1,6 +1,6 @@
 //! What becomes of a rule's conditions.
 
-ghost use Rattle.std.specs.Prelude.{◌≡◌, ◌≤◌, length};
+ghost use Rattle.std.specs.Prelude.{◌≡◌};
 ghost use Rattle.bl_syntax.specs.Grant.{IsTimeCondition, IsStateCondition};
 ghost use Rattle.proof_verifier.specs.Conditions.{keep_time, keep_state, time_condition, state_condition};
 ghost use Rattle.proof_verifier.specs.Entailed.{is_entailed};
@@ -11,17 +11,16 @@ ghost use Rattle.proof_verifier.specs.Run.{GivesMet};
 use crate::checker::Checker;
 use crate::facts::FactList;
 use crate::fault::CheckFault;
-use bl_constraints::entails;
+use bl_constraints::ConstraintStack;
 use bl_syntax::{Constraint, StatePred, Term, is_state_condition, is_time_condition};
 use condition_set::{Collect, CollectFault};
 
 impl Checker {
     /// That the first time is not after the second: passed over, kept, or a fault of the node.
     pub fn time_condition(&mut self, low: &Term, high: &Term, node: usize) -> Result<(), CheckFault>
-        requires { length self.old.constraints ≤ 512 }
         ensures { GivesMet self.old self.new result (time_condition by_grant node self.old.constraints low.now high.now self.old.grant) }
     {
-        if is_entailed(self.constraints.as_slice(), low, high) {
+        if is_entailed(&self.constraints, low, high) {
             return Ok(());
         }
         let c = Constraint {
@@ -77,9 +76,8 @@ impl Checker {
 }
 
 /// Whether the constraints entail that the first term is not after the second.
-fn is_entailed(constraints: &[Constraint], u: &Term, v: &Term) -> bool
-    requires { length constraints.now ≤ 512 }
+fn is_entailed(constraints: &ConstraintStack, u: &Term, v: &Term) -> bool
     ensures { result ≡ is_entailed constraints.now u.now v.now }
 {
-    entails(constraints, u, v)
+    constraints.entails(u, v)
 }

@@ -6,15 +6,16 @@ ghost use Rattle.proof_verifier.specs.Shapes.{cited_hypothesis};
 ghost use Rattle.proof_verifier.specs.Hypotheses.{hypothesis, hypotheses_by_number, left_at, struck_if};
 
 use crate::fault::CheckFault;
-use bl_syntax::{Formula, Term};
+use crate::instance::Instance;
+use bl_syntax::Term;
 
 /// A hypothesis: a formula that holds on an interval, or a principal's claim of one.
 #[derive(Clone, Copy)]
 pub enum HypothesisRef<'a> {
     /// The formula, and its interval.
-    Truth(&'a Formula, &'a Term, &'a Term),
+    Truth(Instance<'a>, &'a Term, &'a Term),
     /// Who claims it, the formula, and its interval.
-    Claim(&'a Term, &'a Formula, &'a Term, &'a Term),
+    Claim(&'a Term, Instance<'a>, &'a Term, &'a Term),
 }
 
 /// The hypotheses at a node, the newest last.

@@ -2,6 +2,7 @@
 
 ghost use Rattle.std.specs.Prelude.{◌≡◌, ◌↔◌, ◌+◌, ◌⊎◌, ℕ, true, List, [], ◌∷◌, length, Contains, Ok, Err, codes};
 ghost use Rattle.std.specs.List.{AllByRecursion};
+ghost use Rattle.std.specs.Str.{bytes_eq};
 ghost use Rattle.bl_syntax.specs.declared.terms.Sort.{Sort};
 ghost use Rattle.bl_syntax.specs.declared.terms.StatePred.{StatePred};
 ghost use Rattle.bl_syntax.specs.declared.terms.Term.{Term};
@@ -76,11 +77,12 @@ pub fn each_test_decides()
     ensures kept_time { (constraints : List Constraint) (c : Constraint) → (has_constraint constraints c ≡ true) ↔ Contains constraints c }
     ensures kept_state { (predicates : List StatePred) (s : StatePred) → (has_state predicates s ≡ true) ↔ Contains predicates s }
     ensures terms { (terms others : List Term) → (are_same terms others ≡ true) ↔ (terms ≡ others) }
+    ensures names { (name other : List ℕ) → (bytes_eq name other ≡ true) ↔ (name ≡ other) }
     ensures full { (g : GrantView) → (is_full g ≡ true) ↔ (length g.times + length g.states ≡ 64) }
 {}
 
 /// The verdict is never out of memory.
-pub fn the_verdict_is_not_want_of_memory()
+pub fn the_verdict_is_never_out_of_memory()
     ensures { (statements : List StatementView) (goal : Goal) (proof : ProofView) → verdict statements goal proof ≡ Err NoMemory → ⊥ }
 {}
 

@@ -12,13 +12,11 @@ use crate::checker::Checker;
 use crate::facts::FactList;
 use crate::fault::CheckFault;
 use crate::hypotheses::{Hypotheses, HypothesisRef};
+use crate::instance::{Instance, TermList};
+use crate::parts::test_same;
 use crate::position::Position;
-use crate::shapes::{
-    as_both, as_constraint, as_either, as_exists, as_false, as_forall, as_implies, as_on, as_says,
-    as_state, test_same,
-};
 use crate::terms::{test_strength, test_term};
-use bl_syntax::{Sort, Term, instantiate};
+use bl_syntax::{Sort, Term};
 use proof_term::Proof;
 use std::alloc::Global;
 
@@ -31,7 +29,7 @@ impl Checker {
             (by_init by_grant h place.now.node (sequent self.old place.now) self.old.grant) }
     {
         let (a, from, to) = place.truth_at(h)?;
-        test_same(a, place.goal, place.node)?;
+        test_same(&a, &place.goal, place.node)?;
         self.time_condition(from, place.from, place.node)?;
         self.time_condition(place.to, to, place.node)?;
         Ok(place.node + 1)
@@ -52,9 +50,9 @@ impl Checker {
             (by_cons_l h (answer by_grant (proof_view p.now)) place.now.node (sequent self.old place.now) self.old.grant) }
     {
         let (a, _, _) = place.truth_at(h)?;
-        let c = as_constraint(a, place.node)?;
+        let (low, high) = a.as_constraint(place.node)?;
         let constraints = self.constraints.len();
-        self.bound(&c.low, &c.high)?;
+        self.bound(low, high)?;
         let premise = Position {
             node: place.node + 1,
             ..*place
@@ -79,7 +77,7 @@ impl Checker {
             (by_inter_l h (answer by_grant (proof_view p.now)) place.now.node (sequent self.old place.now) self.old.grant) }
     {
         let (a, _, _) = place.truth_at(h)?;
-        let fact = as_state(a, place.node)?;
+        let fact = a.as_state(place.node)?;
         let facts = FactList::More(place.facts, fact);
         let premise = Position {
             node: place.node + 1,
@@ -104,7 +102,7 @@ impl Checker {
             (by_and_l h (answer by_grant (proof_view p.now)) place.now.node (sequent self.old place.now) self.old.grant) }
     {
         let (ab, from, to) = place.truth_at(h)?;
-        let (a, b) = as_both(ab, place.node)?;
+        let (a, b) = ab.as_both(place.node)?;
         let first = Hypotheses::More(place.hypotheses, HypothesisRef::Truth(a, from, to));
         let hypotheses = Hypotheses::More(&first, HypothesisRef::Truth(b, from, to));
         let premise = Position {
@@ -132,7 +130,7 @@ impl Checker {
             (by_or_l h (answer by_grant (proof_view p.now)) (size (proof_view p.now)) (answer by_grant (proof_view q.now)) place.now.node (sequent self.old place.now) self.old.grant) }
     {
         let (ab, from, to) = place.truth_at(h)?;
-        let (a, b) = as_either(ab, place.node)?;
+        let (a, b) = ab.as_either(place.node)?;
         let with_first = Hypotheses::More(place.hypotheses, HypothesisRef::Truth(a, from, to));
         let first = Position {
             node: place.node + 1,
@@ -159,7 +157,7 @@ impl Checker {
             (by_false_l h place.now.node (sequent self.old place.now) self.old.grant) }
     {
         let (a, _, _) = place.truth_at(h)?;
-        as_false(a, place.node)?;
+        a.as_false(place.node)?;
         Ok(place.node + 1)
     }
 
@@ -181,7 +179,7 @@ impl Checker {
             (by_imp_l by_grant h t1.now t2.now (answer by_grant (proof_view p.now)) (size (proof_view p.now)) (answer by_grant (proof_view q.now)) place.now.node (sequent self.old place.now) self.old.grant) }
     {
         let (ab, from, to) = place.truth_at(h)?;
-        let (a, b) = as_implies(ab, place.node)?;
+        let (a, b) = ab.as_implies(place.node)?;
         test_term(t1, Sort::Time, self.sorts.as_slice(), place.node)?;
         test_term(t2, Sort::Time, self.sorts.as_slice(), place.node)?;
         self.time_condition(from, t1, place.node)?;
@@ -220,12 +218,16 @@ impl Checker {
             (by_forall_l h t.now (answer by_grant (proof_view p.now)) place.now.node (sequent self.old place.now) self.old.grant) }
     {
         let (every, from, to) = place.truth_at(h)?;
-        let (sort, a) = as_forall(every, place.node)?;
+        let (sort, a) = every.as_forall(place.node)?;
         test_term(t, sort, self.sorts.as_slice(), place.node)?;
-        let instance = instantiate(alloc, a, t)?;
+        let terms = TermList::More(a.terms, t);
+        let instance = Instance {
+            formula: a.formula,
+            terms: &terms,
+        };
         let hypotheses = Hypotheses::More(
             place.hypotheses,
-            HypothesisRef::Truth(&*instance, from, to),
+            HypothesisRef::Truth(instance, from, to),
         );
         let premise = Position {
             node: place.node + 1,
@@ -251,13 +253,17 @@ impl Checker {
             (by_exists_l h (answer by_grant (proof_view p.now)) place.now.node (sequent self.old place.now) self.old.grant) }
     {
         let (some, from, to) = place.truth_at(h)?;
-        let (sort, a) = as_exists(some, place.node)?;
+        let (sort, a) = some.as_exists(place.node)?;
         let sorts = self.sorts.len();
         let parameter = self.declare(sort)?;
-        let instance = instantiate(alloc, a, &parameter)?;
+        let terms = TermList::More(a.terms, &parameter);
+        let instance = Instance {
+            formula: a.formula,
+            terms: &terms,
+        };
         let hypotheses = Hypotheses::More(
             place.hypotheses,
-            HypothesisRef::Truth(&*instance, from, to),
+            HypothesisRef::Truth(instance, from, to),
         );
         let premise = Position {
             node: place.node + 1,
@@ -285,7 +291,7 @@ impl Checker {
             (by_says_l h (answer by_grant (proof_view p.now)) place.now.node (sequent self.old place.now) self.old.grant) }
     {
         let (said, from, to) = place.truth_at(h)?;
-        let (who, a) = as_says(said, place.node)?;
+        let (who, a) = said.as_says(place.node)?;
         let hypotheses = Hypotheses::More(place.hypotheses, HypothesisRef::Claim(who, a, from, to));
         let premise = Position {
             node: place.node + 1,
@@ -339,7 +345,7 @@ impl Checker {
             (by_at_l h (answer by_grant (proof_view p.now)) place.now.node (sequent self.old place.now) self.old.grant) }
     {
         let (placed, _, _) = place.truth_at(h)?;
-        let (a, from, to) = as_on(placed, place.node)?;
+        let (a, from, to) = placed.as_on(place.node)?;
         let hypotheses = Hypotheses::More(place.hypotheses, HypothesisRef::Truth(a, from, to));
         let premise = Position {
             node: place.node + 1,

@@ -11,13 +11,10 @@ ghost use Rattle.proof_verifier.specs.Run.{sequent, HasProofRoom, GivesFollowed}
 use crate::checker::Checker;
 use crate::fault::CheckFault;
 use crate::hypotheses::{Hypotheses, HypothesisRef};
+use crate::instance::{Instance, TermList};
 use crate::position::Position;
-use crate::shapes::{
-    as_both, as_constraint, as_either, as_exists, as_forall, as_implies, as_on, as_says, as_state,
-    as_true,
-};
 use crate::terms::test_term;
-use bl_syntax::{Sort, Term, instantiate};
+use bl_syntax::{Sort, Term};
 use proof_term::Proof;
 use std::alloc::Global;
 
@@ -29,8 +26,8 @@ impl Checker {
         ensures { GivesFollowed self.old self.new (place.now.node + size (cons_r)) result
             (by_cons_r by_grant place.now.node (sequent self.old place.now) self.old.grant) }
     {
-        let c = as_constraint(place.goal, place.node)?;
-        self.time_condition(&c.low, &c.high, place.node)?;
+        let (low, high) = place.goal.as_constraint(place.node)?;
+        self.time_condition(low, high, place.node)?;
         Ok(place.node + 1)
     }
 
@@ -41,8 +38,8 @@ impl Checker {
         ensures { GivesFollowed self.old self.new (place.now.node + size (inter_r)) result
             (by_inter_r by_grant place.now.node (sequent self.old place.now) self.old.grant) }
     {
-        let fact = as_state(place.goal, place.node)?;
-        self.state_condition(fact, place.facts, place.node)?;
+        let fact = place.goal.as_state(place.node)?;
+        self.state_condition(&fact.with_terms(), place.facts, place.node)?;
         Ok(place.node + 1)
     }
 
@@ -60,7 +57,7 @@ impl Checker {
         ensures { GivesFollowed self.old self.new (place.now.node + size (and_r (proof_view p.now) (proof_view q.now))) result
             (by_and_r (answer by_grant (proof_view p.now)) (size (proof_view p.now)) (answer by_grant (proof_view q.now)) place.now.node (sequent self.old place.now) self.old.grant) }
     {
-        let (a, b) = as_both(place.goal, place.node)?;
+        let (a, b) = place.goal.as_both(place.node)?;
         let first = Position {
             node: place.node + 1,
             goal: a,
@@ -88,7 +85,7 @@ impl Checker {
         ensures { GivesFollowed self.old self.new (place.now.node + size (or_r1 (proof_view p.now))) result
             (by_or_r1 (answer by_grant (proof_view p.now)) place.now.node (sequent self.old place.now) self.old.grant) }
     {
-        let (a, _) = as_either(place.goal, place.node)?;
+        let (a, _) = place.goal.as_either(place.node)?;
         let premise = Position {
             node: place.node + 1,
             goal: a,
@@ -110,7 +107,7 @@ impl Checker {
         ensures { GivesFollowed self.old self.new (place.now.node + size (or_r2 (proof_view p.now))) result
             (by_or_r2 (answer by_grant (proof_view p.now)) place.now.node (sequent self.old place.now) self.old.grant) }
     {
-        let (_, b) = as_either(place.goal, place.node)?;
+        let (_, b) = place.goal.as_either(place.node)?;
         let premise = Position {
             node: place.node + 1,
             goal: b,
@@ -126,7 +123,7 @@ impl Checker {
         ensures { GivesFollowed self.old self.new (place.now.node + size (true_r)) result
             (by_true_r place.now.node (sequent self.old place.now) self.old.grant) }
     {
-        as_true(place.goal, place.node)?;
+        place.goal.as_true(place.node)?;
         Ok(place.node + 1)
     }
 
@@ -143,7 +140,7 @@ impl Checker {
         ensures { GivesFollowed self.old self.new (place.now.node + size (imp_r (proof_view p.now))) result
             (by_imp_r (answer by_grant (proof_view p.now)) place.now.node (sequent self.old place.now) self.old.grant) }
     {
-        let (a, b) = as_implies(place.goal, place.node)?;
+        let (a, b) = place.goal.as_implies(place.node)?;
         let sorts = self.sorts.len();
         let constraints = self.constraints.len();
         let start = self.declare(Sort::Time)?;
@@ -179,13 +176,17 @@ impl Checker {
         ensures { GivesFollowed self.old self.new (place.now.node + size (forall_r (proof_view p.now))) result
             (by_forall_r (answer by_grant (proof_view p.now)) place.now.node (sequent self.old place.now) self.old.grant) }
     {
-        let (sort, a) = as_forall(place.goal, place.node)?;
+        let (sort, a) = place.goal.as_forall(place.node)?;
         let sorts = self.sorts.len();
         let parameter = self.declare(sort)?;
-        let instance = instantiate(alloc, a, &parameter)?;
+        let terms = TermList::More(a.terms, &parameter);
+        let instance = Instance {
+            formula: a.formula,
+            terms: &terms,
+        };
         let premise = Position {
             node: place.node + 1,
-            goal: &*instance,
+            goal: instance,
             ..*place
         };
         let node = self.follow(alloc, &premise, p)?;
@@ -207,12 +208,16 @@ impl Checker {
         ensures { GivesFollowed self.old self.new (place.now.node + size (exists_r t.now (proof_view p.now))) result
             (by_exists_r t.now (answer by_grant (proof_view p.now)) place.now.node (sequent self.old place.now) self.old.grant) }
     {
-        let (sort, a) = as_exists(place.goal, place.node)?;
+        let (sort, a) = place.goal.as_exists(place.node)?;
         test_term(t, sort, self.sorts.as_slice(), place.node)?;
-        let instance = instantiate(alloc, a, t)?;
+        let terms = TermList::More(a.terms, t);
+        let instance = Instance {
+            formula: a.formula,
+            terms: &terms,
+        };
         let premise = Position {
             node: place.node + 1,
-            goal: &*instance,
+            goal: instance,
             ..*place
         };
         self.follow(alloc, &premise, p)
@@ -231,7 +236,7 @@ impl Checker {
         ensures { GivesFollowed self.old self.new (place.now.node + size (says_r (proof_view p.now))) result
             (by_says_r (answer by_grant (proof_view p.now)) place.now.node (sequent self.old place.now) self.old.grant) }
     {
-        let (who, a) = as_says(place.goal, place.node)?;
+        let (who, a) = place.goal.as_says(place.node)?;
         let hypotheses = Hypotheses::Struck(place.hypotheses);
         let premise = Position {
             node: place.node + 1,
@@ -258,7 +263,7 @@ impl Checker {
         ensures { GivesFollowed self.old self.new (place.now.node + size (at_r (proof_view p.now))) result
             (by_at_r (answer by_grant (proof_view p.now)) place.now.node (sequent self.old place.now) self.old.grant) }
     {
-        let (a, from, to) = as_on(place.goal, place.node)?;
+        let (a, from, to) = place.goal.as_on(place.node)?;
         let premise = Position {
             node: place.node + 1,
             goal: a,

@@ -19,7 +19,9 @@ use crate::cites::Cite;
 use crate::facts::FactList;
 use crate::fault::CheckFault;
 use crate::hypotheses::{Hypotheses, HypothesisRef};
+use crate::instance::{Instance, TermList};
 use crate::position::Position;
+use bl_constraints::ConstraintStack;
 use bl_syntax::{Formula, Goal, Grant, NoMemory, Principal, Sequence, Term, Word};
 use condition_set::Collect;
 use proof_term::{Proof, ProofTree};
@@ -45,7 +47,11 @@ impl Checker {
                 let who = Term::Prin(*cite.statement.who());
                 let from = Term::Time(cite.statement.from());
                 let to = Term::Time(cite.statement.to());
-                let claim = HypothesisRef::Claim(&who, cite.statement.body(), &from, &to);
+                let body = Instance {
+                    formula: cite.statement.body(),
+                    terms: &TermList::None,
+                };
+                let claim = HypothesisRef::Claim(&who, body, &from, &to);
                 let hypotheses = Hypotheses::More(place.hypotheses, claim);
                 let further = Position {
                     hypotheses: &hypotheses,
@@ -92,6 +98,10 @@ fn follow_from_root(
 {
     let loc = Term::Prin(principal(b"loc"));
     let now = Term::Ctime;
+    let aim = Instance {
+        formula: &*wanted,
+        terms: &TermList::None,
+    };
     let place = Position {
         node: 0,
         hypotheses: &Hypotheses::None,
@@ -100,13 +110,13 @@ fn follow_from_root(
         who: &loc,
         begins: &now,
         ends: &now,
-        goal: wanted,
+        goal: aim,
         from: &now,
         to: &now,
     };
     let mut checker = Checker {
         sorts: Sequence::new(alloc),
-        constraints: Sequence::new(alloc),
+        constraints: ConstraintStack::new(alloc),
         grant: Grant::collect(alloc, *goal),
     };
     checker.follow_with(alloc, cites, &place, proof.root())?;

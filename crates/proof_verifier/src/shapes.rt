@@ -2,10 +2,21 @@
 
 ghost use Rattle.std.specs.Prelude.{◌≡◌, Ok, Err, MatchResult};
 ghost use Rattle.bl_syntax.specs.Formula.{formula_view};
-ghost use Rattle.proof_verifier.specs.Shapes.{as_same_atom, as_constraint, as_state, as_both, as_either, as_implies, as_true, as_false, as_forall, as_exists, as_says, as_on};
+ghost use Rattle.proof_verifier.specs.Shapes.{as_atom, as_constraint, as_state, as_both, as_either, as_implies, as_true, as_false, as_forall, as_exists, as_says, as_on};
 
 use crate::fault::CheckFault;
-use bl_syntax::{Constraint, Formula, Sort, StatePred, Term};
+use bl_syntax::{Constraint, Formula, Sort, StatePred, Term, Word};
+
+/// An atom: its name and its arguments.
+pub fn as_atom<'a>(f: &'a Formula, node: usize) -> Result<(&'a Word, &'a [Term]), CheckFault>
+    ensures { MatchResult result (λ parts. as_atom node (formula_view f.now) ≡ Ok (parts.0.now, parts.1.now))
+        (λ fault. as_atom node (formula_view f.now) ≡ Err fault) }
+{
+    match f {
+        Formula::Atom(name, terms) => Ok((name, terms.as_slice())),
+        _ => Err(CheckFault::WrongShape(node)),
+    }
+}
 
 /// A constraint.
 pub fn as_constraint<'a>(f: &'a Formula, node: usize) -> Result<&'a Constraint, CheckFault>
@@ -125,23 +136,6 @@ pub fn as_on<'a>(
 {
     match f {
         Formula::At(a, from, to) => Ok((&**a, from, to)),
-        _ => Err(CheckFault::WrongShape(node)),
-    }
-}
-
-/// The two formulas are one atom.
-pub fn test_same(a: &Formula, b: &Formula, node: usize) -> Result<(), CheckFault>
-    ensures { MatchResult result (λ _. as_same_atom node (formula_view a.now) (formula_view b.now) ≡ Ok tt)
-        (λ fault. as_same_atom node (formula_view a.now) (formula_view b.now) ≡ Err fault) }
-{
-    match (a, b) {
-        (Formula::Atom(name, terms), Formula::Atom(other_name, other_terms)) => {
-            if name.is_same(other_name) && terms.as_slice() == other_terms.as_slice() {
-                Ok(())
-            } else {
-                Err(CheckFault::WrongShape(node))
-            }
-        }
         _ => Err(CheckFault::WrongShape(node)),
     }
 }

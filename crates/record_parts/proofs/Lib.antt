@@ -5,4 +5,3 @@ pub mod PartsLemmas
 pub mod ProofLengthLemmas
 pub mod ReadingLemmas
 pub mod RecordLemmas
-pub mod TermFaultLemmas

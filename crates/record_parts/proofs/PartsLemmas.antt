@@ -1,4 +1,4 @@
--- Parts with a format of their own, and lists of parts: what is read is spelled so, and what is spelled so is read.
+-- Proofs with their length, and lists of parts: what is read is spelled so, and what is spelled so is read.
 use Rattle.std.proofs.Common.{◌≡◌, ℕ, zero, suc, ◌-◌, ◌^◌, ◌<◌, ◌≤◌, true, cond, eqb, List, [], ◌∷◌, ◌++◌, length, Result, Ok, Err, refl, sym, ap, subst, ◌∙◌, append_assoc, arith}
 use Rattle.std.specs.List.{flat_map, AllByRecursion}
 use Rattle.std.specs.Int.{w32, to_be_bytes}
@@ -17,42 +17,10 @@ use Rattle.proof_term.specs.ProofReading.{kept_proof_at}
 use Rattle.proof_term.proofs.CodecLemmas.{proofs_codec}
 use Rattle.procap.specs.GrantSpelling.{list_spelling}
 use Rattle.procap.proofs.ItemsLemmas.{test_memoryless}
-use Rattle.record_parts.specs.Parts.{reading_in, part_at, many_at, list_at, AreSpellable, as_part, sized_proof_spelling, sized_proof_at}
+use Rattle.record_parts.specs.Parts.{many_at, list_at, AreSpellable, as_part, sized_proof_spelling, sized_proof_at}
 use Rattle.record_parts.proofs.CodecLemmas.{done}
 use Rattle.record_parts.proofs.ProofLengthLemmas.{proof_is_short}
-use Rattle.record_parts.proofs.TermFaultLemmas.{kept_blameless}
-
--- ---- a part that is read as if the input began with it
-
-in_ok : {A : Type 0} (input : ℕ) (bytes : List ℕ) (r : Reading A) (x : A × List ℕ) → reading_in input bytes r ≡ Ok x → r ≡ Ok x
-in_ok input bytes (Ok y) x e = e
-in_ok input bytes (Err fault) x e = absurd cc
-
-in_memoryless : {A : Type 0} (input : ℕ) (bytes : List ℕ) (r : Reading A) → (r ≡ Err faults.NoMemory → ⊥) → reading_in input bytes r ≡ Err faults.NoMemory → ⊥
-in_memoryless input bytes (Ok x) h e = cc
-in_memoryless input bytes (Err faults.Short) h e = cc
-in_memoryless input bytes (Err (faults.BadTag within)) h e = cc
-in_memoryless input bytes (Err (faults.NotCanonical within)) h e = cc
-in_memoryless input bytes (Err (faults.TooLarge within)) h e = cc
-in_memoryless input bytes (Err faults.NoMemory) h e = h refl
-
-part_found : {A : Type 0} (IsSpelled : A → Type 0) (spelling : A → List ℕ) (at : ℕ → List ℕ → Reading A) → IsCodec IsSpelled spelling at
-    → (input : ℕ) (bytes rest : List ℕ) (x : A) → AreBytes bytes → part_at at input bytes ≡ Ok (x, rest) → IsSpelled x × (bytes ≡ spelling x ++ rest)
-unfolding part_at
-part_found IsSpelled spelling at c input bytes rest x fits e = c.found (length bytes) bytes rest x fits (in_ok input bytes (at (length bytes) bytes) (x, rest) e)
-
-part_again : {A : Type 0} (IsSpelled : A → Type 0) (spelling : A → List ℕ) (at : ℕ → List ℕ → Reading A) → IsCodec IsSpelled spelling at
-    → (input : ℕ) (x : A) (rest : List ℕ) → IsSpelled x → part_at at input (spelling x ++ rest) ≡ Ok (x, rest)
-unfolding part_at
-part_again IsSpelled spelling at c input x rest h = ap (reading_in input (spelling x ++ rest)) (c.again (length (spelling x ++ rest)) x rest h)
-
-part_memoryless : {A : Type 0} (at : ℕ → List ℕ → Reading A) → ((input : ℕ) (bytes : List ℕ) → at input bytes ≡ Err faults.NoMemory → ⊥) → (input : ℕ) (bytes : List ℕ) → part_at at input bytes ≡ Err faults.NoMemory → ⊥
-unfolding part_at
-part_memoryless at h input bytes e = in_memoryless input bytes (at (length bytes) bytes) (h (length bytes) bytes) e
-
-pub part_codec : {A : Type 0} (IsSpelled : A → Type 0) (spelling : A → List ℕ) (at : ℕ → List ℕ → Reading A) → IsCodec IsSpelled spelling at → IsCodec IsSpelled spelling (part_at at)
-part_codec IsSpelled spelling at c =
-    codec IsSpelled spelling (part_at at) (part_found IsSpelled spelling at c) (part_again IsSpelled spelling at c) (part_memoryless at c.memoryless)
+use Rattle.proof_term.proofs.MemoryLemmas.{kept_terms_memoryless}
 
 -- ---- lists
 
@@ -172,7 +140,7 @@ unfolding sized_proof_at
 sized_memoryless input bytes e =
     bind_memoryless (number_at w32 bytes) (λ len. as_part (kept_proof_at input len.1) >>= of_length (place input bytes) len.0 len.1) (number_memoryless w32 bytes)
     (λ len h. bind_memoryless (as_part (kept_proof_at input len.1)) (of_length (place input bytes) len.0 len.1)
-    (as_part_memoryless (kept_proof_at input len.1) (proofs_codec.memoryless input len.1) (kept_blameless input len.1))
+    (as_part_memoryless (kept_proof_at input len.1) (proofs_codec.memoryless input len.1) (kept_terms_memoryless input len.1))
     (λ proof k. test_memoryless (eqb (length len.1 - length proof.1) len.0) _ _ (λ m. cc) (λ m. cc) k) h) e
 
 pub sized_codec : IsCodec IsSpellableProof sized_proof_spelling sized_proof_at

@@ -21,14 +21,14 @@ use Rattle.procap.proofs.PartLemmas.{both_spelling, AreBoth, both_codec}
 use Rattle.procap.proofs.GrantLemmas.{grant_codec}
 use Rattle.procap.proofs.ProcapLemmas.{procap_codec}
 use Rattle.record_parts.specs.Fields.{u32_at, sized_bytes_spelling, sized_bytes_at, FitsFourBytes, moment_spelling, moment_field_at}
-use Rattle.record_parts.specs.Parts.{part_at, list_at, AreSpellable, sized_proof_spelling, sized_proof_at}
+use Rattle.record_parts.specs.Parts.{list_at, AreSpellable, sized_proof_spelling, sized_proof_at}
 use Rattle.record_parts.specs.OperationSpelling.{operation_spelling, IsSpellableOperation}
 use Rattle.record_parts.specs.OperationReading.{operation_at}
 use Rattle.record_parts.specs.RecordSpelling.{registered_spelling, IsRegistration, registration_spelling, cited_spelling, IsSpellableCited, issued_spelling, IsIssuing, issuing_spelling, acted_spelling, IsAction, action_spelling}
 use Rattle.record_parts.specs.RecordReading.{registered_at, proved_at, issued_at, admitted_at, done_at, acted_at}
 use Rattle.record_parts.proofs.CodecLemmas.{same_codec}
 use Rattle.record_parts.proofs.FieldsLemmas.{u32_codec, sized_bytes_codec, moment_codec}
-use Rattle.record_parts.proofs.PartsLemmas.{part_codec, list_codec, sized_codec}
+use Rattle.record_parts.proofs.PartsLemmas.{list_codec, sized_codec}
 use Rattle.record_parts.proofs.OperationLemmas.{operation_codec}
 
 -- ---- what was registered
@@ -50,7 +50,7 @@ proved_spelling = both_spelling sized_proof_spelling grant_spelling
 
 proved_codec : IsCodec IsProved proved_spelling proved_at
 unfolding both_at proved_at
-proved_codec = both_codec IsSpellableProof sized_proof_spelling sized_proof_at IsSpellableGrant grant_spelling (part_at grant_at) sized_codec (part_codec IsSpellableGrant grant_spelling grant_at grant_codec)
+proved_codec = both_codec IsSpellableProof sized_proof_spelling sized_proof_at IsSpellableGrant grant_spelling grant_at sized_codec grant_codec
 
 cited_codec : IsCodec (AreSpellable IsSpellableCited) (list_spelling cited_spelling) (λ input. list_at u32_at)
 cited_codec = list_codec IsSpellableCited cited_spelling (λ input. u32_at) u32_codec
@@ -73,12 +73,12 @@ IsAdmission = AreBoth (AreSpellable IsSpellableProcap) IsMoment
 abbrev admission_spelling : List Procap × ℤ → List ℕ
 admission_spelling = both_spelling (list_spelling procap_spelling) moment_spelling
 
-procaps_codec : IsCodec (AreSpellable IsSpellableProcap) (list_spelling procap_spelling) (λ input. list_at (part_at procap_at input))
-procaps_codec = list_codec IsSpellableProcap procap_spelling (part_at procap_at) (part_codec IsSpellableProcap procap_spelling procap_at procap_codec)
+procaps_codec : IsCodec (AreSpellable IsSpellableProcap) (list_spelling procap_spelling) (λ input. list_at (procap_at input))
+procaps_codec = list_codec IsSpellableProcap procap_spelling procap_at procap_codec
 
 admitted_codec : IsCodec IsAdmission admission_spelling admitted_at
 unfolding both_at admitted_at
-admitted_codec = both_codec (AreSpellable IsSpellableProcap) (list_spelling procap_spelling) (λ input. list_at (part_at procap_at input)) IsMoment moment_spelling moment_field_at procaps_codec moment_codec
+admitted_codec = both_codec (AreSpellable IsSpellableProcap) (list_spelling procap_spelling) (λ input. list_at (procap_at input)) IsMoment moment_spelling moment_field_at procaps_codec moment_codec
 
 done_codec : IsCodec (AreBoth IsSpellableOperation IsAdmission) (both_spelling operation_spelling admission_spelling) done_at
 unfolding both_at done_at

@@ -1,4 +1,4 @@
--- How parts with a format of their own stand in a record, and lists of such parts. A fault of a part has its place in the whole input.
+-- How a proof with its length stands in a record, and lists of parts.
 use Rattle.std.specs.Prelude.{ℕ, zero, suc, List, [], ◌∷◌, ◌++◌, ◌-◌, ◌==◌, ◌≤◌, length, if◌then◌else◌, Result, Ok, Err}
 use Rattle.std.specs.List.{AllByRecursion}
 use Rattle.std.specs.Int.{w32, to_be_bytes}
@@ -11,26 +11,6 @@ use Rattle.proof_term.specs.Proof.{ProofView}
 use Rattle.proof_term.specs.ProofSpelling.{proof_spelling}
 use Rattle.proof_term.specs.ProofReading.{kept_proof_at}
 use Rattle.record_parts.specs.Fields.{u32_at}
-
--- where a place in the rest of an input stands in the input: as many bytes are behind it
-abbrev pub place_in : ℕ → List ℕ → ℕ → ℕ
-place_in input bytes within = input - (length bytes - within)
-
--- a fault of the rest of an input as one of the input
-abbrev pub fault_in : ℕ → List ℕ → CodecFault → CodecFault
-fault_in input bytes Short = Short
-fault_in input bytes (BadTag within) = BadTag (place_in input bytes within)
-fault_in input bytes (NotCanonical within) = NotCanonical (place_in input bytes within)
-fault_in input bytes (TooLarge within) = TooLarge (place_in input bytes within)
-fault_in input bytes NoMemory = NoMemory
-
-abbrev pub reading_in : {A : Type 0} → ℕ → List ℕ → Reading A → Reading A
-reading_in input bytes (Ok x) = Ok x
-reading_in input bytes (Err fault) = Err (fault_in input bytes fault)
-
--- a part that is read as if the input began with it
-unfoldable pub part_at : {A : Type 0} → (ℕ → List ℕ → Reading A) → ℕ → List ℕ → Reading A
-part_at at input bytes = reading_in input bytes (at (length bytes) bytes)
 
 -- so many, one after the other
 unfoldable pub many_at : {A : Type 0} → (List ℕ → Reading A) → ℕ → List ℕ → Reading (List A)

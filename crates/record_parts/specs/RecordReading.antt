@@ -10,7 +10,7 @@ use Rattle.procap.specs.GrantReading.{grant_at}
 use Rattle.procap.specs.Procap.{procap_at}
 use Rattle.file_world.specs.declared.operation.Op.{Op}
 use Rattle.record_parts.specs.Fields.{u32_at, sized_bytes_at, moment_field_at}
-use Rattle.record_parts.specs.Parts.{part_at, list_at, sized_proof_at}
+use Rattle.record_parts.specs.Parts.{list_at, sized_proof_at}
 use Rattle.record_parts.specs.OperationReading.{operation_at}
 
 -- a statement, and its signature
@@ -24,7 +24,7 @@ registered_at input bytes = do
 unfoldable pub proved_at : ℕ → List ℕ → Reading (ProofView × GrantView)
 proved_at input bytes = do
   proof ← sized_proof_at input bytes
-  grant ← part_at grant_at input proof.1
+  grant ← grant_at input proof.1
   Ok ((proof.0, grant.0), grant.1)
 
 -- the numbers of the statements that a proof cites, the proof, and what it grants
@@ -37,7 +37,7 @@ issued_at input bytes = do
 -- under which procaps, and when
 unfoldable pub admitted_at : ℕ → List ℕ → Reading (List Procap × ℤ)
 admitted_at input bytes = do
-  procaps ← list_at (part_at procap_at input) bytes
+  procaps ← list_at (procap_at input) bytes
   moment ← moment_field_at input procaps.1
   Ok ((procaps.0, moment.0), moment.1)
 

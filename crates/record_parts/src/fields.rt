@@ -24,7 +24,7 @@ pub(crate) fn node_at(bytes: &[u8]) -> Result<(NodeId, &[u8]), CodecFault>
 }
 
 /// The bytes in memory of their own.
-fn owned(alloc: Global, bytes: &[u8]) -> Result<Bytes, NoMemory>
+fn copy_bytes(alloc: Global, bytes: &[u8]) -> Result<Bytes, NoMemory>
     ensures { IfOk result (λ owned. owned ≡ bytes.now) }
 {
     Ok(Sequence::from_vec(Vec::from_slice(alloc, bytes)?))
@@ -43,7 +43,7 @@ pub(crate) fn free_name_at(alloc: Global, bytes: &[u8]) -> Result<(Bytes, &[u8])
                 return Err(CodecFault::Short);
             }
             let (name, behind) = rest.split_at(len);
-            Ok((owned(alloc, name)?, behind))
+            Ok((copy_bytes(alloc, name)?, behind))
         }
     }
 }
@@ -61,7 +61,7 @@ pub(crate) fn sized_bytes_at(alloc: Global, bytes: &[u8]) -> Result<(Bytes, &[u8
                 return Err(CodecFault::Short);
             }
             let (plain, behind) = rest.split_at(len);
-            Ok((owned(alloc, plain)?, behind))
+            Ok((copy_bytes(alloc, plain)?, behind))
         }
     }
 }

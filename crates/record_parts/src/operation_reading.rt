@@ -13,7 +13,7 @@ use file_world::Op;
 use std::alloc::Global;
 
 /// A node, and a name.
-#[tactic(auto, using(bl_syntax::proofs::StopsWithLemmas::hands_on, bl_syntax::proofs::StopsWithLemmas::stops), unfolding(crate::specs::OperationReading::named_node_at))]
+#[tactic(auto, using(bl_syntax::proofs::ReportsFaultLemmas::hands_on, bl_syntax::proofs::ReportsFaultLemmas::stops), unfolding(crate::specs::OperationReading::named_node_at))]
 fn named_node_at(alloc: Global, bytes: &[u8]) -> Result<(NodeId, Bytes, &[u8]), CodecFault>
     ensures { GivesReadingOrReports (λ x. ((x.0, x.1), x.2.now)) result (named_node_at bytes.now) }
 {
@@ -41,7 +41,7 @@ fn range_at(bytes: &[u8]) -> Result<(u64, u64, &[u8]), CodecFault>
 }
 
 /// An offset, and bytes.
-#[tactic(auto, using(bl_syntax::proofs::StopsWithLemmas::hands_on, bl_syntax::proofs::StopsWithLemmas::stops), unfolding(crate::specs::OperationReading::piece_at))]
+#[tactic(auto, using(bl_syntax::proofs::ReportsFaultLemmas::hands_on, bl_syntax::proofs::ReportsFaultLemmas::stops), unfolding(crate::specs::OperationReading::piece_at))]
 fn piece_at(alloc: Global, bytes: &[u8]) -> Result<(u64, Bytes, &[u8]), CodecFault>
     ensures { GivesReadingOrReports (λ x. ((x.0, x.1), x.2.now)) result (piece_at bytes.now) }
 {
@@ -55,7 +55,7 @@ fn piece_at(alloc: Global, bytes: &[u8]) -> Result<(u64, Bytes, &[u8]), CodecFau
 }
 
 /// A name, and a node with a name.
-#[tactic(auto, using(bl_syntax::proofs::StopsWithLemmas::hands_on, bl_syntax::proofs::StopsWithLemmas::stops), unfolding(crate::specs::OperationReading::renamed_at))]
+#[tactic(auto, using(bl_syntax::proofs::ReportsFaultLemmas::hands_on, bl_syntax::proofs::ReportsFaultLemmas::stops), unfolding(crate::specs::OperationReading::renamed_at))]
 fn renamed_at(alloc: Global, bytes: &[u8]) -> Result<(Bytes, NodeId, Bytes, &[u8]), CodecFault>
     ensures { GivesReadingOrReports (λ x. ((x.0, (x.1, x.2)), x.3.now)) result (renamed_at bytes.now) }
 {
@@ -69,7 +69,7 @@ fn renamed_at(alloc: Global, bytes: &[u8]) -> Result<(Bytes, NodeId, Bytes, &[u8
 }
 
 /// A name, and a text.
-#[tactic(auto, using(bl_syntax::proofs::StopsWithLemmas::hands_on, bl_syntax::proofs::StopsWithLemmas::stops), unfolding(crate::specs::OperationReading::valued_at))]
+#[tactic(auto, using(bl_syntax::proofs::ReportsFaultLemmas::hands_on, bl_syntax::proofs::ReportsFaultLemmas::stops), unfolding(crate::specs::OperationReading::valued_at))]
 fn valued_at(alloc: Global, input: usize, bytes: &[u8]) -> Result<(Bytes, Text, &[u8]), CodecFault>
     ensures { GivesReadingOrReports (λ x. ((x.0, x.1), x.2.now)) result (valued_at input bytes.now) }
 {
@@ -97,7 +97,7 @@ fn read_words_at(bytes: &[u8]) -> Result<(NodeId, u64, u64, &[u8]), CodecFault>
 }
 
 /// The words of a writing.
-#[tactic(auto, using(bl_syntax::proofs::StopsWithLemmas::hands_on, bl_syntax::proofs::StopsWithLemmas::stops), unfolding(crate::specs::OperationReading::write_words_at))]
+#[tactic(auto, using(bl_syntax::proofs::ReportsFaultLemmas::hands_on, bl_syntax::proofs::ReportsFaultLemmas::stops), unfolding(crate::specs::OperationReading::write_words_at))]
 fn write_words_at(alloc: Global, bytes: &[u8]) -> Result<(NodeId, u64, Bytes, &[u8]), CodecFault>
     ensures { GivesReadingOrReports (λ x. ((x.0, (x.1, x.2)), x.3.now)) result (write_words_at bytes.now) }
 {
@@ -125,7 +125,7 @@ fn truncate_words_at(bytes: &[u8]) -> Result<(NodeId, u64, &[u8]), CodecFault>
 }
 
 /// The words of a renaming: a directory and a name in it, the new directory and the new name.
-#[tactic(auto, using(bl_syntax::proofs::StopsWithLemmas::hands_on, bl_syntax::proofs::StopsWithLemmas::stops), unfolding(crate::specs::OperationReading::rename_words_at))]
+#[tactic(auto, using(bl_syntax::proofs::ReportsFaultLemmas::hands_on, bl_syntax::proofs::ReportsFaultLemmas::stops), unfolding(crate::specs::OperationReading::rename_words_at))]
 fn rename_words_at(
     alloc: Global,
     bytes: &[u8],
@@ -142,7 +142,7 @@ fn rename_words_at(
 }
 
 /// The words of a change of an attribute.
-#[tactic(auto, using(bl_syntax::proofs::StopsWithLemmas::hands_on, bl_syntax::proofs::StopsWithLemmas::stops), unfolding(crate::specs::OperationReading::setattr_words_at))]
+#[tactic(auto, using(bl_syntax::proofs::ReportsFaultLemmas::hands_on, bl_syntax::proofs::ReportsFaultLemmas::stops), unfolding(crate::specs::OperationReading::setattr_words_at))]
 fn setattr_words_at(
     alloc: Global,
     input: usize,
@@ -174,7 +174,7 @@ fn chown_words_at(input: usize, bytes: &[u8]) -> Result<(NodeId, Principal, &[u8
 }
 
 /// The words of an operation on attributes and owners, whose code stands at `start`.
-#[tactic(auto, using(bl_syntax::proofs::StopsWithLemmas::hands_on, bl_syntax::proofs::StopsWithLemmas::stops), unfolding(crate::specs::OperationReading::attribute_words_at))]
+#[tactic(auto, using(bl_syntax::proofs::ReportsFaultLemmas::hands_on, bl_syntax::proofs::ReportsFaultLemmas::stops), unfolding(crate::specs::OperationReading::attribute_words_at))]
 fn attribute_words_at(
     alloc: Global,
     input: usize,
@@ -206,7 +206,7 @@ fn attribute_words_at(
 }
 
 /// The words of an operation on names in directories, or of one on attributes and owners, whose code stands at `start`.
-#[tactic(auto, using(bl_syntax::proofs::StopsWithLemmas::hands_on, bl_syntax::proofs::StopsWithLemmas::stops), unfolding(crate::specs::OperationReading::name_words_at))]
+#[tactic(auto, using(bl_syntax::proofs::ReportsFaultLemmas::hands_on, bl_syntax::proofs::ReportsFaultLemmas::stops), unfolding(crate::specs::OperationReading::name_words_at))]
 fn name_words_at(
     alloc: Global,
     input: usize,
@@ -244,7 +244,7 @@ fn name_words_at(
 }
 
 /// The words of an operation, whose code stands at `start`.
-#[tactic(auto, using(bl_syntax::proofs::StopsWithLemmas::hands_on, bl_syntax::proofs::StopsWithLemmas::stops), unfolding(crate::specs::OperationReading::words_at))]
+#[tactic(auto, using(bl_syntax::proofs::ReportsFaultLemmas::hands_on, bl_syntax::proofs::ReportsFaultLemmas::stops), unfolding(crate::specs::OperationReading::words_at))]
 fn words_at(
     alloc: Global,
     input: usize,

@@ -1,9 +1,9 @@
 //! Writing operations.
 
 ghost use Rattle.std.specs.Prelude.{◌≡◌, ◌∷◌, ◌++◌, OnOk, OnErr, IsTrue};
+ghost use Rattle.bl_syntax.specs.BeginsWith.{BeginsWith};
 ghost use Rattle.bl_syntax.specs.Names.{is_principal_name, is_text};
 ghost use Rattle.bl_syntax.specs.Spelling.{with_length};
-ghost use Rattle.procap.specs.Writing.{Begins};
 ghost use Rattle.record_parts.specs.Fields.{number_spelling, IsSpellableNumber, node_spelling, IsSpellableNode, FitsOneByte, sized_bytes_spelling, FitsFourBytes};
 ghost use Rattle.record_parts.specs.OperationSpelling.{operation_spelling, IsSpellableOperation, HasFittingWords};
 
@@ -27,12 +27,12 @@ pub fn write_operation(op: &Op, out: &mut Bytes) -> Result<(), NoMemory>
 }
 
 /// Adds the bytes of an operation, or a front of them.
-#[tactic(auto, using(procap::proofs::WritingLemmas::kept), unfolding(crate::specs::OperationSpelling::operation_spelling))]
+#[tactic(auto, using(bl_syntax::proofs::BeginsWithLemmas::writing), unfolding(crate::specs::OperationSpelling::operation_spelling))]
 fn add_operation(op: &Op, out: &mut Bytes) -> Result<(), NoMemory>
     requires { HasFittingWords op.now }
     ensures ok { OnOk result (out.new ≡ out.old ++ operation_spelling op.now) }
     ensures spelled { OnOk result (IsSpellableOperation op.now) }
-    ensures err { OnErr result (Begins out.old out.new) }
+    ensures err { OnErr result (BeginsWith out.new out.old) }
 {
     match op {
         Op::Read(file, offset, len) => add_read(*file, *offset, *len, out),
@@ -54,11 +54,11 @@ fn add_operation(op: &Op, out: &mut Bytes) -> Result<(), NoMemory>
 }
 
 /// Adds the bytes of a reading, or a front of them.
-#[tactic(auto, using(procap::proofs::WritingLemmas::kept))]
+#[tactic(auto, using(bl_syntax::proofs::BeginsWithLemmas::writing))]
 fn add_read(file: NodeId, offset: u64, len: u64, out: &mut Bytes) -> Result<(), NoMemory>
     ensures ok { OnOk result (out.new ≡ out.old ++ 1 ∷ (node_spelling file ++ (number_spelling offset ++ number_spelling len))) }
     ensures spelled { OnOk result (IsSpellableNode file × (IsSpellableNumber offset × IsSpellableNumber len)) }
-    ensures err { OnErr result (Begins out.old out.new) }
+    ensures err { OnErr result (BeginsWith out.new out.old) }
 {
     put_node(1, file, out)?;
     put_number(offset, out)?;
@@ -66,12 +66,12 @@ fn add_read(file: NodeId, offset: u64, len: u64, out: &mut Bytes) -> Result<(), 
 }
 
 /// Adds the bytes of a writing, or a front of them.
-#[tactic(auto, using(procap::proofs::WritingLemmas::kept))]
+#[tactic(auto, using(bl_syntax::proofs::BeginsWithLemmas::writing))]
 fn add_write(file: NodeId, offset: u64, piece: &Bytes, out: &mut Bytes) -> Result<(), NoMemory>
     requires { FitsFourBytes piece.now }
     ensures ok { OnOk result (out.new ≡ out.old ++ 2 ∷ (node_spelling file ++ (number_spelling offset ++ sized_bytes_spelling piece.now))) }
     ensures spelled { OnOk result (IsSpellableNode file × IsSpellableNumber offset) }
-    ensures err { OnErr result (Begins out.old out.new) }
+    ensures err { OnErr result (BeginsWith out.new out.old) }
 {
     put_node(2, file, out)?;
     put_number(offset, out)?;
@@ -79,18 +79,18 @@ fn add_write(file: NodeId, offset: u64, piece: &Bytes, out: &mut Bytes) -> Resul
 }
 
 /// Adds the bytes of a truncation, or a front of them.
-#[tactic(auto, using(procap::proofs::WritingLemmas::kept))]
+#[tactic(auto, using(bl_syntax::proofs::BeginsWithLemmas::writing))]
 fn add_truncate(file: NodeId, len: u64, out: &mut Bytes) -> Result<(), NoMemory>
     ensures ok { OnOk result (out.new ≡ out.old ++ 3 ∷ (node_spelling file ++ number_spelling len)) }
     ensures spelled { OnOk result (IsSpellableNode file × IsSpellableNumber len) }
-    ensures err { OnErr result (Begins out.old out.new) }
+    ensures err { OnErr result (BeginsWith out.new out.old) }
 {
     put_node(3, file, out)?;
     put_number(len, out)
 }
 
 /// Adds the bytes of a renaming, or a front of them.
-#[tactic(auto, using(procap::proofs::WritingLemmas::kept))]
+#[tactic(auto, using(bl_syntax::proofs::BeginsWithLemmas::writing))]
 fn add_rename(
     directory: NodeId,
     name: &Bytes,
@@ -102,7 +102,7 @@ fn add_rename(
     requires renamed { FitsOneByte renamed.now }
     ensures ok { OnOk result (out.new ≡ out.old ++ 9 ∷ (node_spelling directory ++ (with_length name.now ++ (node_spelling target ++ with_length renamed.now)))) }
     ensures spelled { OnOk result (IsSpellableNode directory × IsSpellableNode target) }
-    ensures err { OnErr result (Begins out.old out.new) }
+    ensures err { OnErr result (BeginsWith out.new out.old) }
 {
     add_named_node(9, directory, name, out)?;
     put_number(target.0, out)?;
@@ -110,35 +110,35 @@ fn add_rename(
 }
 
 /// Adds the bytes of a change of an attribute, or a front of them.
-#[tactic(auto, using(procap::proofs::WritingLemmas::kept))]
+#[tactic(auto, using(bl_syntax::proofs::BeginsWithLemmas::writing))]
 fn add_setattr(node: NodeId, name: &Bytes, value: &Text, out: &mut Bytes) -> Result<(), NoMemory>
     requires { FitsOneByte name.now }
     ensures ok { OnOk result (out.new ≡ out.old ++ 11 ∷ (node_spelling node ++ (with_length name.now ++ with_length value.now))) }
     ensures spelled { OnOk result (IsSpellableNode node × IsTrue (is_text value.now)) }
-    ensures err { OnErr result (Begins out.old out.new) }
+    ensures err { OnErr result (BeginsWith out.new out.old) }
 {
     add_named_node(11, node, name, out)?;
     write_text(value, out)
 }
 
 /// Adds the bytes of a change of an owner, or a front of them.
-#[tactic(auto, using(procap::proofs::WritingLemmas::kept))]
+#[tactic(auto, using(bl_syntax::proofs::BeginsWithLemmas::writing))]
 fn add_chown(node: NodeId, owner: &Principal, out: &mut Bytes) -> Result<(), NoMemory>
     ensures ok { OnOk result (out.new ≡ out.old ++ 13 ∷ (node_spelling node ++ with_length owner.now)) }
     ensures spelled { OnOk result (IsSpellableNode node × IsTrue (is_principal_name owner.now)) }
-    ensures err { OnErr result (Begins out.old out.new) }
+    ensures err { OnErr result (BeginsWith out.new out.old) }
 {
     put_node(13, node, out)?;
     write_name(owner, out)
 }
 
 /// Adds a byte, the number of a node and a name, or a front of them.
-#[tactic(auto, using(procap::proofs::WritingLemmas::kept))]
+#[tactic(auto, using(bl_syntax::proofs::BeginsWithLemmas::writing))]
 fn add_named_node(code: u8, node: NodeId, name: &Bytes, out: &mut Bytes) -> Result<(), NoMemory>
     requires { FitsOneByte name.now }
     ensures ok { OnOk result (out.new ≡ out.old ++ code ∷ (node_spelling node ++ with_length name.now)) }
     ensures spelled { IsSpellableNode node }
-    ensures err { OnErr result (Begins out.old out.new) }
+    ensures err { OnErr result (BeginsWith out.new out.old) }
 {
     put_node(code, node, out)?;
     put_free_name(name.as_slice(), out)

@@ -8,17 +8,17 @@ ghost use Rattle.record_parts.specs.RecordReading.{registered_at, proved_at, iss
 
 use crate::fields::{moment_field_at, sized_bytes_at};
 use crate::operation_reading::operation_at;
-use crate::parts::{grant_at, numbers_at, procaps_at, sized_proof_at};
+use crate::parts::{numbers_at, procaps_at, sized_proof_at};
 use bl_codec::statement_at;
 use bl_syntax::fields::name_at;
 use bl_syntax::{Bytes, CodecFault, Grant, Numbers, Principal, Sequence, Statement};
 use file_world::Op;
-use procap::Procap;
+use procap::{Procap, grant_at};
 use proof_term::ProofTree;
 use std::alloc::Global;
 
 /// A statement, and its signature.
-#[tactic(auto, using(bl_syntax::proofs::StopsWithLemmas::hands_on, bl_syntax::proofs::StopsWithLemmas::stops), unfolding(crate::specs::RecordReading::registered_at))]
+#[tactic(auto, using(bl_syntax::proofs::ReportsFaultLemmas::hands_on, bl_syntax::proofs::ReportsFaultLemmas::stops), unfolding(crate::specs::RecordReading::registered_at))]
 pub fn registered_at(
     alloc: Global,
     input: usize,
@@ -36,7 +36,7 @@ pub fn registered_at(
 }
 
 /// A proof with its length, and what it grants.
-#[tactic(auto, using(bl_syntax::proofs::StopsWithLemmas::hands_on, bl_syntax::proofs::StopsWithLemmas::stops), unfolding(crate::specs::RecordReading::proved_at))]
+#[tactic(auto, using(bl_syntax::proofs::ReportsFaultLemmas::hands_on, bl_syntax::proofs::ReportsFaultLemmas::stops), unfolding(crate::specs::RecordReading::proved_at))]
 fn proved_at(
     alloc: Global,
     input: usize,
@@ -54,7 +54,7 @@ fn proved_at(
 }
 
 /// The numbers of the statements that a proof cites, the proof, and what it grants.
-#[tactic(auto, using(bl_syntax::proofs::StopsWithLemmas::hands_on, bl_syntax::proofs::StopsWithLemmas::stops), unfolding(crate::specs::RecordReading::issued_at))]
+#[tactic(auto, using(bl_syntax::proofs::ReportsFaultLemmas::hands_on, bl_syntax::proofs::ReportsFaultLemmas::stops), unfolding(crate::specs::RecordReading::issued_at))]
 pub fn issued_at(
     alloc: Global,
     input: usize,
@@ -72,7 +72,7 @@ pub fn issued_at(
 }
 
 /// Under which procaps, and when.
-#[tactic(auto, using(bl_syntax::proofs::StopsWithLemmas::hands_on, bl_syntax::proofs::StopsWithLemmas::stops), unfolding(crate::specs::RecordReading::admitted_at))]
+#[tactic(auto, using(bl_syntax::proofs::ReportsFaultLemmas::hands_on, bl_syntax::proofs::ReportsFaultLemmas::stops), unfolding(crate::specs::RecordReading::admitted_at))]
 fn admitted_at(
     alloc: Global,
     input: usize,
@@ -90,7 +90,7 @@ fn admitted_at(
 }
 
 /// What was done, under which procaps, and when.
-#[tactic(auto, using(bl_syntax::proofs::StopsWithLemmas::hands_on, bl_syntax::proofs::StopsWithLemmas::stops), unfolding(crate::specs::RecordReading::done_at))]
+#[tactic(auto, using(bl_syntax::proofs::ReportsFaultLemmas::hands_on, bl_syntax::proofs::ReportsFaultLemmas::stops), unfolding(crate::specs::RecordReading::done_at))]
 fn done_at(
     alloc: Global,
     input: usize,
@@ -108,7 +108,7 @@ fn done_at(
 }
 
 /// Who did what, under which procaps, and when.
-#[tactic(auto, using(bl_syntax::proofs::StopsWithLemmas::hands_on, bl_syntax::proofs::StopsWithLemmas::stops), unfolding(crate::specs::RecordReading::acted_at))]
+#[tactic(auto, using(bl_syntax::proofs::ReportsFaultLemmas::hands_on, bl_syntax::proofs::ReportsFaultLemmas::stops), unfolding(crate::specs::RecordReading::acted_at))]
 pub fn acted_at(
     alloc: Global,
     input: usize,

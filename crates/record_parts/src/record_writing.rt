@@ -2,10 +2,10 @@
 
 ghost use Rattle.std.specs.Prelude.{◌≡◌, ◌≤◌, ◌++◌, OnOk, OnErr, length};
 ghost use Rattle.std.specs.List.{AllByRecursion};
+ghost use Rattle.bl_syntax.specs.BeginsWith.{BeginsWith};
 ghost use Rattle.bl_syntax.specs.TimeOrder.{IsMoment};
 ghost use Rattle.procap.specs.GrantSpelling.{list_spelling};
 ghost use Rattle.procap.specs.Procap.{procap_spelling, IsSpellableProcap};
-ghost use Rattle.procap.specs.Writing.{Begins};
 ghost use Rattle.record_parts.specs.Fields.{FitsFourBytes, moment_spelling};
 ghost use Rattle.record_parts.specs.OperationSpelling.{operation_spelling, IsSpellableOperation, HasFittingWords};
 ghost use Rattle.record_parts.specs.RecordSpelling.{registered_spelling, IsSpellableRegistered, issued_spelling, IsSpellableIssued, acted_spelling, IsSpellableActed};
@@ -18,7 +18,6 @@ use bl_syntax::{Bytes, Grant, NoMemory, Principal, Statement, write_name};
 use file_world::Op;
 use procap::{Procap, write_grant};
 use proof_term::ProofTree;
-use std::alloc::Global;
 
 /// Adds a statement, and its signature of fewer than 2^32 bytes.
 pub fn write_registered(
@@ -40,12 +39,12 @@ pub fn write_registered(
 }
 
 /// Adds a statement and its signature, or a front of them.
-#[tactic(auto, using(procap::proofs::WritingLemmas::kept), unfolding(crate::specs::RecordSpelling::registered_spelling))]
+#[tactic(auto, using(bl_syntax::proofs::BeginsWithLemmas::writing), unfolding(crate::specs::RecordSpelling::registered_spelling))]
 fn add_registered(statement: &Statement, signature: &[u8], out: &mut Bytes) -> Result<(), NoMemory>
     requires { FitsFourBytes signature.now }
     ensures ok { OnOk result (out.new ≡ out.old ++ registered_spelling statement.now signature.now) }
     ensures spelled { OnOk result (IsSpellableRegistered statement.now signature.now) }
-    ensures err { OnErr result (Begins out.old out.new) }
+    ensures err { OnErr result (BeginsWith out.new out.old) }
 {
     write_statement(statement, out)?;
     put_sized_bytes(signature, out)
@@ -53,7 +52,6 @@ fn add_registered(statement: &Statement, signature: &[u8], out: &mut Bytes) -> R
 
 /// Adds the numbers of the statements that a proof cites, at most 255, the proof, and what it grants.
 pub fn write_issued(
-    alloc: Global,
     cited: &[u32],
     proof: &ProofTree,
     grant: &Grant,
@@ -65,7 +63,7 @@ pub fn write_issued(
     ensures err { OnErr result (out.new ≡ out.old) }
 {
     let len = out.len();
-    let added = add_issued(alloc, cited, proof, grant, out);
+    let added = add_issued(cited, proof, grant, out);
     if added.is_err() {
         out.truncate(len);
     }
@@ -73,9 +71,8 @@ pub fn write_issued(
 }
 
 /// Adds cited numbers, a proof and a grant, or a front of them.
-#[tactic(auto, using(procap::proofs::WritingLemmas::kept), unfolding(crate::specs::RecordSpelling::issued_spelling))]
+#[tactic(auto, using(bl_syntax::proofs::BeginsWithLemmas::writing), unfolding(crate::specs::RecordSpelling::issued_spelling))]
 fn add_issued(
-    alloc: Global,
     cited: &[u32],
     proof: &ProofTree,
     grant: &Grant,
@@ -84,10 +81,10 @@ fn add_issued(
     requires { length cited.now ≤ 255 }
     ensures ok { OnOk result (out.new ≡ out.old ++ issued_spelling cited.now proof.now grant.now) }
     ensures spelled { OnOk result (IsSpellableIssued cited.now proof.now grant.now) }
-    ensures err { OnErr result (Begins out.old out.new) }
+    ensures err { OnErr result (BeginsWith out.new out.old) }
 {
     add_numbers(cited, out)?;
-    add_sized_proof(alloc, proof, out)?;
+    add_sized_proof(proof, out)?;
     write_grant(grant, out)
 }
 
@@ -116,7 +113,7 @@ pub fn write_acted(
 }
 
 /// Adds who did what, under which procaps, and when, or a front of it.
-#[tactic(auto, using(procap::proofs::WritingLemmas::kept), unfolding(crate::specs::RecordSpelling::acted_spelling))]
+#[tactic(auto, using(bl_syntax::proofs::BeginsWithLemmas::writing), unfolding(crate::specs::RecordSpelling::acted_spelling))]
 fn add_acted(
     caller: &Principal,
     op: &Op,
@@ -129,33 +126,33 @@ fn add_acted(
     requires moment { IsMoment moment }
     ensures ok { OnOk result (out.new ≡ out.old ++ acted_spelling caller.now op.now procaps.now moment) }
     ensures spelled { OnOk result (IsSpellableActed caller.now op.now procaps.now moment) }
-    ensures err { OnErr result (Begins out.old out.new) }
+    ensures err { OnErr result (BeginsWith out.new out.old) }
 {
     write_name(caller, out)?;
     add_done(op, procaps, moment, out)
 }
 
 /// Adds what was done, under which procaps, and when, or a front of it.
-#[tactic(auto, using(procap::proofs::WritingLemmas::kept))]
+#[tactic(auto, using(bl_syntax::proofs::BeginsWithLemmas::writing))]
 fn add_done(op: &Op, procaps: &[Procap], moment: i64, out: &mut Bytes) -> Result<(), NoMemory>
     requires words { HasFittingWords op.now }
     requires procaps { length procaps.now ≤ 255 }
     ensures ok { OnOk result (out.new ≡ out.old ++ (operation_spelling op.now ++ (list_spelling procap_spelling procaps.now ++ moment_spelling moment))) }
     ensures words { OnOk result (IsSpellableOperation op.now) }
     ensures procaps { OnOk result (AllByRecursion IsSpellableProcap procaps.now) }
-    ensures err { OnErr result (Begins out.old out.new) }
+    ensures err { OnErr result (BeginsWith out.new out.old) }
 {
     write_operation(op, out)?;
     add_admitted(procaps, moment, out)
 }
 
 /// Adds under which procaps something was done, and when, or a front of it.
-#[tactic(auto, using(procap::proofs::WritingLemmas::kept))]
+#[tactic(auto, using(bl_syntax::proofs::BeginsWithLemmas::writing))]
 fn add_admitted(procaps: &[Procap], moment: i64, out: &mut Bytes) -> Result<(), NoMemory>
     requires { length procaps.now ≤ 255 }
     ensures ok { OnOk result (out.new ≡ out.old ++ (list_spelling procap_spelling procaps.now ++ moment_spelling moment)) }
     ensures spelled { OnOk result (AllByRecursion IsSpellableProcap procaps.now) }
-    ensures err { OnErr result (Begins out.old out.new) }
+    ensures err { OnErr result (BeginsWith out.new out.old) }
 {
     add_procaps(procaps, out)?;
     put_moment(moment, out)

@@ -165,7 +165,7 @@ fn is_spelled(alloc: Global, told: &str, bytes: &[u8]) -> bool {
     match read_event(alloc, bytes) {
         Ok(event) => {
             is_told(alloc, &event, told)
-                && write_event(alloc, &event, &mut out).is_ok()
+                && write_event(&event, &mut out).is_ok()
                 && out.as_slice() == bytes
         }
         Err(_) => false,

@@ -10,7 +10,7 @@ use Rattle.access_history.specs.Base.{BaseView}
 use Rattle.access_history.specs.History.{HistoryView, authority_of, authority_with}
 use Rattle.access_history.specs.Lawful.{IsLawful}
 use Rattle.access_history.specs.Replay.{fresh, replay}
-use Rattle.access_history.proofs.ListLemmas.{AllByRecursion-push}
+use Rattle.bl_syntax.proofs.GrantLemmas.{AllByRecursion-push}
 use Rattle.bl_syntax.specs.declared.codec_fault.CodecFault.{CodecFault}
 use Rattle.bl_syntax.specs.declared.codec_fault.CodecFault.TheVariants as codec
 use Rattle.journal_records.specs.EventReading.{ReadsWholeEvent}

@@ -7,7 +7,7 @@ ghost use Rattle.tree_lock.specs.Closing.{TakesIn, IsClosed};
 
 use crate::parts::{Doorman, Pass, TreeLock};
 use crate::recorded::Recorded;
-use crate::rule::{LockTable, Looks, Makes, Retires, TICKETS};
+use crate::rule::{LockTable, LookStep, MakeStep, RetireStep, TICKETS};
 use atomic_table::{Refused, Table};
 use std::alloc::{AllocFailed, Global};
 use std::snapshot::Snapshot;
@@ -78,7 +78,7 @@ impl<V: Recorded> TreeLock<V> {
         ensures opened { IsPrefix door.old.opening door.old.seen }
         ensures door { door.new ≡ record door.old { made = door.old.made + 1; out = door.old.out + 1 } }
     {
-        let seat = self.table.shared.split_seat::<Makes>(&mut door.seat);
+        let seat = self.table.shared.split_seat::<MakeStep>(&mut door.seat);
         door.made += 1;
         door.out += 1;
         Pass {
@@ -95,8 +95,8 @@ impl<V: Recorded> TreeLock<V> {
     {
         self.table
             .shared
-            .join_seat::<Retires>(&mut door.seat, pass.into_seat());
-        self.table.shared.load::<Looks>(&mut door.seat, TICKETS);
+            .join_seat::<RetireStep>(&mut door.seat, pass.into_seat());
+        self.table.shared.load::<LookStep>(&mut door.seat, TICKETS);
         door.out -= 1;
     }
 
@@ -125,7 +125,7 @@ impl<V: Recorded> Doorman<V> {
     }
 
     /// How many passes were made.
-    pub fn made(&self) -> u64
+    pub fn pass_count(&self) -> u64
         ensures { result ≡ self.now.made }
     {
         self.made

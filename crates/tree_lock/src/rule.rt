@@ -47,9 +47,9 @@ pub type LockShared<V> = Shared<
 pub type LockSeat<V> = Seat<Option<V>, Knowledge<<V as Recorded>::Entry>>;
 
 /// The doorman makes a pass.
-pub struct Makes;
+pub struct MakeStep;
 
-impl<E> Split<Knowledge<E>> for Makes {
+impl<E> Split<Knowledge<E>> for MakeStep {
     ghost use Rattle.tree_lock.specs.Knowledge.{after_making, made_by};
 
     ghost left = { after_making };
@@ -58,9 +58,9 @@ impl<E> Split<Knowledge<E>> for Makes {
 }
 
 /// The doorman takes in a pass.
-pub struct Retires;
+pub struct RetireStep;
 
-impl<E> Join<Knowledge<E>> for Retires {
+impl<E> Join<Knowledge<E>> for RetireStep {
     ghost use Rattle.tree_lock.specs.Knowledge.{after_retiring, spent_view};
 
     ghost both = { after_retiring };
@@ -69,45 +69,45 @@ impl<E> Join<Knowledge<E>> for Retires {
 }
 
 /// The doorman sees the history.
-pub struct Looks;
+pub struct LookStep;
 
-impl<V, E> Play<Option<V>, Knowledge<E>> for Looks {
+impl<V, E> Play<Option<V>, Knowledge<E>> for LookStep {
     ghost use Rattle.tree_lock.specs.Steps.{look_step};
 
     ghost then = { look_step };
 }
 
 /// A pass draws a ticket.
-pub struct Draws;
+pub struct DrawStep;
 
-impl<V, E> Play<Option<V>, Knowledge<E>> for Draws {
+impl<V, E> Play<Option<V>, Knowledge<E>> for DrawStep {
     ghost use Rattle.tree_lock.specs.Steps.{draw_step};
 
     ghost then = { draw_step };
 }
 
 /// A pass waits for its turn, or takes the value.
-pub struct Waits;
+pub struct WaitStep;
 
-impl<V: Recorded> Play<Option<V>, Knowledge<V::Entry>> for Waits {
+impl<V: Recorded> Play<Option<V>, Knowledge<V::Entry>> for WaitStep {
     ghost use Rattle.tree_lock.specs.Steps.{wait_step};
 
     ghost then = { wait_step V.entries };
 }
 
 /// A pass ends its turn.
-pub struct Serves;
+pub struct ServeStep;
 
-impl<V: Recorded> Play<Option<V>, Knowledge<V::Entry>> for Serves {
+impl<V: Recorded> Play<Option<V>, Knowledge<V::Entry>> for ServeStep {
     ghost use Rattle.tree_lock.specs.Steps.{serve_step};
 
     ghost then = { serve_step V.entries };
 }
 
 /// A pass says that it sleeps, or calls one that does.
-pub struct Signals;
+pub struct SignalStep;
 
-impl<V, E> Play<Option<V>, Knowledge<E>> for Signals {
+impl<V, E> Play<Option<V>, Knowledge<E>> for SignalStep {
     ghost use Rattle.tree_lock.specs.Steps.{signal_step};
 
     ghost then = { signal_step };

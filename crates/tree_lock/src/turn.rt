@@ -8,7 +8,7 @@ ghost use Rattle.tree_lock.specs.Turned.{Turned};
 
 use crate::parts::{Pass, TreeLock};
 use crate::recorded::{Job, Recorded};
-use crate::rule::{Draws, LockSeat, LockShared, SERVED, Serves, TICKETS, Waits};
+use crate::rule::{DrawStep, LockSeat, LockShared, SERVED, ServeStep, TICKETS, WaitStep};
 use crate::waiting::{approach, call_next, rest};
 use std::sync::Wait;
 
@@ -50,7 +50,7 @@ fn draw<V: Recorded>(shared: &LockShared<V>, seat: &mut LockSeat<V>) -> u64
     ensures seat { IsWaiting shared.now.table_id seat.new result }
     ensures same { seat_view seat.new ≡ seat_view seat.old }
 {
-    shared.fetch_add::<Draws>(seat, TICKETS, 1)
+    shared.fetch_add::<DrawStep>(seat, TICKETS, 1)
 }
 
 // Waits until the ticket is served, and takes the value.
@@ -65,7 +65,7 @@ fn wait_turn<V: Recorded, R: Wait>(
 {
     let mut look_step: u32 = 0;
     for _ in rt.forever() {
-        let served = shared.load::<Waits>(seat, SERVED);
+        let served = shared.load::<WaitStep>(seat, SERVED);
         if served == ticket {
             return;
         }
@@ -101,5 +101,5 @@ fn serve<V: Recorded>(shared: &LockShared<V>, seat: &mut LockSeat<V>)
     ensures idle { IsIdle shared.now.table_id seat.new }
     ensures view { (value : V) → seat.old.me.1 ≡ (0, Some value) ∷ [] → seat.new.me.0 ≡ after_turn seat.old.me.0 (V.entries value) (of_number seat.old.me.0.number (V.entries value)) }
 {
-    shared.fetch_add::<Serves>(seat, SERVED, 1);
+    shared.fetch_add::<ServeStep>(seat, SERVED, 1);
 }

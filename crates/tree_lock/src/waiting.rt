@@ -7,7 +7,7 @@ ghost use Rattle.std.specs.Prelude.{◌≡◌};
 ghost use Rattle.tree_lock.specs.Seats.{IsLockTable, IsPassAt};
 
 use crate::recorded::Recorded;
-use crate::rule::{CALL, LockSeat, LockShared, SERVED, SLEEPERS, Signals, TICKETS};
+use crate::rule::{CALL, LockSeat, LockShared, SERVED, SLEEPERS, SignalStep, TICKETS};
 use std::hint::spin_loop;
 use std::sync::Wait;
 use std::thread;
@@ -45,15 +45,15 @@ fn sleep<V: Recorded, R: Wait>(rt: &R, shared: &LockShared<V>, seat: &mut LockSe
     requires { IsPassAt shared.now.table_id seat.old }
     ensures { (seat.new.table_id ≡ seat.old.table_id) × (seat.new.me ≡ seat.old.me) }
 {
-    shared.fetch_add::<Signals>(seat, SLEEPERS, 1);
+    shared.fetch_add::<SignalStep>(seat, SLEEPERS, 1);
     for _ in 0..CALLS {
         if !is_taken(shared) {
             break;
         }
         shared.park(rt, CALL, 0);
-        shared.store::<Signals>(seat, CALL, 0);
+        shared.store::<SignalStep>(seat, CALL, 0);
     }
-    shared.fetch_sub::<Signals>(seat, SLEEPERS, 1);
+    shared.fetch_sub::<SignalStep>(seat, SLEEPERS, 1);
 }
 
 // Whether somebody has a ticket.
@@ -69,7 +69,7 @@ pub fn call_next<V: Recorded>(shared: &LockShared<V>, seat: &mut LockSeat<V>)
     ensures { (seat.new.table_id ≡ seat.old.table_id) × (seat.new.me ≡ seat.old.me) }
 {
     if shared.peek(SLEEPERS) != 0 && shared.peek(CALL) == 0 {
-        shared.store::<Signals>(seat, CALL, 1);
+        shared.store::<SignalStep>(seat, CALL, 1);
         shared.wake_one(CALL);
     }
 }

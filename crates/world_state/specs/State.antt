@@ -9,9 +9,9 @@ use Rattle.file_world.specs.Effect.{Part, tree_part, meta_part, part_of, refusal
 use Rattle.file_world.specs.Halves.{meta_op_of}
 use Rattle.file_world.specs.World.{World, tree_of, marks_of}
 use Rattle.file_tree.specs.declared.ready.Ready.{Ready as TreeReady}
-use Rattle.file_tree.specs.State.{TreeView, IsReady as IsTreeReadyFor}
+use Rattle.file_tree.specs.State.{TreeView, IsReady}
 use Rattle.attr_state.specs.declared.ready.MetaReady.{MetaReady}
-use Rattle.attr_state.specs.State.{MetaView, IsMetaReady as IsMetaReadyFor}
+use Rattle.attr_state.specs.State.{MetaView, IsMetaReady}
 
 -- the changes for which memory was taken, in the tree and in owners and attributes
 pub record Readiness : Type 0 where
@@ -30,18 +30,18 @@ tree_state state = record { tree = tree_of state.world; ready = state.ready.tree
 abbrev pub meta_state : WorldState → MetaView
 meta_state state = record { marks = marks_of state.world; ready = state.ready.meta }
 
-abbrev pub IsTreeReady : TreeView → Part → Type 0
-IsTreeReady tree (tree_part op) = IsTreeReadyFor tree op
-IsTreeReady tree (meta_part op) = Unit {0}
+abbrev pub IsTreePartReady : TreeView → Part → Type 0
+IsTreePartReady tree (tree_part op) = IsReady tree op
+IsTreePartReady tree (meta_part op) = Unit {0}
 
-abbrev pub IsMetaReady : MetaView → Option MetaOp → Type 0
-IsMetaReady meta None = Unit {0}
-IsMetaReady meta (Some op) = IsMetaReadyFor meta op
+abbrev pub IsMetaPartReady : MetaView → Option MetaOp → Type 0
+IsMetaPartReady meta None = Unit {0}
+IsMetaPartReady meta (Some op) = IsMetaReady meta op
 
 -- each half is ready for what the caller's operation does to it
 pub record AreReady (caller : List ℕ) (tree : TreeView) (meta : MetaView) (part : Part) : Type 0 where
-  pub tree_ready : IsTreeReady tree part
-  pub meta_ready : IsMetaReady meta (meta_op_of caller tree.tree part)
+  pub tree_ready : IsTreePartReady tree part
+  pub meta_ready : IsMetaPartReady meta (meta_op_of caller tree.tree part)
 
 -- the world is ready for the caller's operation
 abbrev pub IsWorldReady : List ℕ → WorldState → Op → Type 0

@@ -2,7 +2,7 @@ use Rattle.std.proofs.Common.{sym, arith}
 use Rattle.bl_syntax.specs.FormulaReading.{formula_at}
 use Rattle.bl_codec.proofs.DepthLemmas.{formula_inside, formula_none}
 use Rattle.bl_codec.proofs.LeafLemmas.{leaf_is}
-use Rattle.bl_codec.proofs.ReportsFaultLemmas.{stops}
+use Rattle.bl_syntax.proofs.ReportsFaultLemmas.{stops}
 use Rattle.bl_codec.proofs.formula_reading.+formula.Goals as goal
 
 pub formula_at-returns-then-depth-eq0 : goal.formula_at-returns-then-depth-eq0

@@ -3,7 +3,7 @@ use Rattle.bl_syntax.specs.Formula.{formula_view}
 use Rattle.bl_syntax.specs.FormulaSpelling.{IsSpellableFormula, formula_spelling}
 use Rattle.bl_syntax.specs.FormulaReading.{whole_formula_at}
 use Rattle.bl_syntax.proofs.CodecLemmas.{front_ok}
-use Rattle.bl_codec.proofs.ReportsFaultLemmas.{front_stops}
+use Rattle.bl_syntax.proofs.ReportsFaultLemmas.{front_stops}
 use Rattle.bl_codec.proofs.FormulaCodec.{formula_codec}
 use Rattle.bl_codec.proofs.formula_reading.read_formula.Goals as goal
 

@@ -1,5 +1,5 @@
 use Rattle.bl_syntax.specs.FormulaReading.{terms_at}
-use Rattle.bl_codec.proofs.ReportsFaultLemmas.{stops}
+use Rattle.bl_syntax.proofs.ReportsFaultLemmas.{stops}
 use Rattle.bl_codec.proofs.TermsLemmas.{goes_on, ends, is_done}
 use Rattle.bl_codec.proofs.formula_reading.terms_at.Goals as goal
 

@@ -2,7 +2,7 @@ use Rattle.std.proofs.Common.{arith}
 use Rattle.bl_syntax.specs.FormulaSpelling.{IsSpellableStatement, statement_spelling}
 use Rattle.bl_syntax.specs.FormulaReading.{statement_at}
 use Rattle.bl_syntax.proofs.CodecLemmas.{front_ok}
-use Rattle.bl_codec.proofs.ReportsFaultLemmas.{front_stops}
+use Rattle.bl_syntax.proofs.ReportsFaultLemmas.{front_stops}
 use Rattle.bl_codec.proofs.StatementCodec.{statement_codec}
 use Rattle.bl_codec.proofs.statement.read_statement.Goals as goal
 

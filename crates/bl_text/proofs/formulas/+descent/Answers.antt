@@ -5,7 +5,7 @@ use Rattle.bl_syntax.specs.Formula.{formula_view}
 use Rattle.bl_tokens.specs.declared.faults.TextFault.TheVariants.{NoMemory}
 use Rattle.bl_tokens.specs.declared.tokens.Sign.TheVariants as signs
 use Rattle.bl_tokens.specs.Tokens.{is_sign}
-use Rattle.bl_text.specs.Grammar.{is_saying, is_call}
+use Rattle.bl_text.specs.Grammar.{is_saying}
 use Rattle.bl_text.specs.Grammar as g
 use Rattle.bl_text.specs.FirstFaults as s
 use Rattle.bl_text.proofs.ReadLemmas.{passed, stops_at, is_at, is_form, every_quantifies, some_quantifies, formula_ended, lt_true, lt_false, stops_at_interval}
@@ -59,10 +59,10 @@ implication-returns-then-not-is_sign-clause-read t c =
     record { is_text = g.one_disjunction _ _ _ _ _ c.requires.no_quantifier read.is_text; ended = formula_ended c.disjunction.new.here.token none read.ended; left = read.left; within = read.within }
 
 pub implication-returns-in-Err-clause-fault : goal.implication-returns-in-Err-clause-fault
-implication-returns-in-Err-clause-fault t c = passed c.refuse-in-Err.result c.in-Err.fault _ c.refuse-in-Err.ensures (s.at_implies _ _ _ c.disjunction.new.here (formula_view c.in_ok-a.a.value) _ c.requires.no_quantifier c.in_ok-a.ensures.read.is_text (let sign : is_sign signs.Implies c.disjunction.new.here.token ≡ true = search rules in sign) (sym c.in-Err.ensures.value))
+implication-returns-in-Err-clause-fault t c = s.at_implies _ _ _ c.disjunction.new.here (formula_view c.in_ok-a.a.value) _ c.requires.no_quantifier c.in_ok-a.ensures.read.is_text (let sign : is_sign signs.Implies c.disjunction.new.here.token ≡ true = search rules in sign) (sym c.in-Err.ensures.value)
 
 pub implication-returns-in-Err-formula_at-clause-fault : goal.implication-returns-in-Err-formula_at-clause-fault
-implication-returns-in-Err-formula_at-clause-fault t c = passed c.refuse.result c.in-Err-formula_at.fault _ c.refuse.ensures (s.in_conclusion _ _ _ c.disjunction.new.here (formula_view c.in_ok-a.a.value) _ c.requires.no_quantifier c.in_ok-a.ensures.read.is_text (let sign : is_sign signs.Implies c.disjunction.new.here.token ≡ true = search rules in sign) (sym c.in-Ok.ensures.value) (stops_at c.step_node.ensures.same c.in-Err-formula_at.ensures.fault))
+implication-returns-in-Err-formula_at-clause-fault t c = s.in_conclusion _ _ _ c.disjunction.new.here (formula_view c.in_ok-a.a.value) _ c.requires.no_quantifier c.in_ok-a.ensures.read.is_text (let sign : is_sign signs.Implies c.disjunction.new.here.token ≡ true = search rules in sign) (sym c.in-Ok.ensures.value) (stops_at c.step_node.ensures.same c.in-Err-formula_at.ensures.fault)
 
 pub implication-returns-in_err-implies_of-in-Ok-formula_at-clause-fault : goal.implication-returns-in_err-implies_of-in-Ok-formula_at-clause-fault
 implication-returns-in_err-implies_of-in-Ok-formula_at-clause-fault t c = passed c.from_residual-in_err-implies_of-in-Ok-formula_at.result NoMemory _ (search rules) (s.no_memory _ _ _ _)
@@ -88,10 +88,10 @@ disjunction-or-init t c =
     record { is_text = g.one_conjunction _ _ _ _ _ read.is_text; ended = read.ended; left = read.left; within = read.within }
 
 pub disjunction-returns-in-Err-clause-fault : goal.disjunction-returns-in-Err-clause-fault
-disjunction-returns-in-Err-clause-fault t c = passed c.refuse-in-Err.result c.in-Err.fault _ c.refuse-in-Err.ensures (s.at_or _ _ _ c.or.here (formula_view c.or.a.value) _ c.or.invariant.is_text (let sign : is_sign signs.Or c.or.here.token ≡ true = search rules in sign) (sym c.in-Err.ensures.value))
+disjunction-returns-in-Err-clause-fault t c = s.at_or _ _ _ c.or.here (formula_view c.or.a.value) _ c.or.invariant.is_text (let sign : is_sign signs.Or c.or.here.token ≡ true = search rules in sign) (sym c.in-Err.ensures.value)
 
 pub disjunction-returns-in-Err-conjunction-clause-fault : goal.disjunction-returns-in-Err-conjunction-clause-fault
-disjunction-returns-in-Err-conjunction-clause-fault t c = passed c.refuse.result c.in-Err-conjunction.fault _ c.refuse.ensures (s.in_disjunct _ _ _ c.or.here (formula_view c.or.a.value) _ c.or.invariant.is_text (let sign : is_sign signs.Or c.or.here.token ≡ true = search rules in sign) (sym c.in-Ok.ensures.value) (stops_at c.step_node.ensures.same c.in-Err-conjunction.ensures.fault))
+disjunction-returns-in-Err-conjunction-clause-fault t c = s.in_disjunct _ _ _ c.or.here (formula_view c.or.a.value) _ c.or.invariant.is_text (let sign : is_sign signs.Or c.or.here.token ≡ true = search rules in sign) (sym c.in-Ok.ensures.value) (stops_at c.step_node.ensures.same c.in-Err-conjunction.ensures.fault)
 
 pub disjunction-returns-in_err-a-in-Ok-conjunction-clause-fault : goal.disjunction-returns-in_err-a-in-Ok-conjunction-clause-fault
 disjunction-returns-in_err-a-in-Ok-conjunction-clause-fault t c = passed c.from_residual-in_err-a-in-Ok-conjunction.result NoMemory _ (search rules) (s.no_memory _ _ _ _)
@@ -117,10 +117,10 @@ conjunction-and-init t c =
     record { is_text = g.one_unary _ _ _ _ _ read.is_text; ended = read.ended; left = read.left; within = read.within }
 
 pub conjunction-returns-in-Err-clause-fault : goal.conjunction-returns-in-Err-clause-fault
-conjunction-returns-in-Err-clause-fault t c = passed c.refuse-in-Err.result c.in-Err.fault _ c.refuse-in-Err.ensures (s.at_and _ _ _ c.and.here (formula_view c.and.a.value) _ c.and.invariant.is_text (let sign : is_sign signs.And c.and.here.token ≡ true = search rules in sign) (sym c.in-Err.ensures.value))
+conjunction-returns-in-Err-clause-fault t c = s.at_and _ _ _ c.and.here (formula_view c.and.a.value) _ c.and.invariant.is_text (let sign : is_sign signs.And c.and.here.token ≡ true = search rules in sign) (sym c.in-Err.ensures.value)
 
 pub conjunction-returns-in-Err-unary-clause-fault : goal.conjunction-returns-in-Err-unary-clause-fault
-conjunction-returns-in-Err-unary-clause-fault t c = passed c.refuse.result c.in-Err-unary.fault _ c.refuse.ensures (s.in_conjunct _ _ _ c.and.here (formula_view c.and.a.value) _ c.and.invariant.is_text (let sign : is_sign signs.And c.and.here.token ≡ true = search rules in sign) (sym c.in-Ok.ensures.value) (stops_at c.step_node.ensures.same c.in-Err-unary.ensures.fault))
+conjunction-returns-in-Err-unary-clause-fault t c = s.in_conjunct _ _ _ c.and.here (formula_view c.and.a.value) _ c.and.invariant.is_text (let sign : is_sign signs.And c.and.here.token ≡ true = search rules in sign) (sym c.in-Ok.ensures.value) (stops_at c.step_node.ensures.same c.in-Err-unary.ensures.fault)
 
 pub conjunction-returns-in_err-a-in-Ok-unary-clause-fault : goal.conjunction-returns-in_err-a-in-Ok-unary-clause-fault
 conjunction-returns-in_err-a-in-Ok-unary-clause-fault t c = passed c.from_residual-in_err-a-in-Ok-unary.result NoMemory _ (search rules) (s.no_memory _ _ _ _)
@@ -137,15 +137,25 @@ conjunction-and-preserved t c =
       within = read.within;
     }
 
-pub unary-returns-else-is_saying-clause-read : goal.unary-returns-else-is_saying-clause-read
-unary-returns-else-is_saying-clause-read t c =
+pub unary-returns-then-is_sign-clause-read : goal.unary-returns-then-is_sign-clause-read
+unary-returns-then-is_sign-clause-read t c =
     let none : is_saying c.args.text.now c.args.here.now ≡ false = search rules in
-    IfOk-weaker c.postfix.result _ _ (λ f h. record { is_text = g.one_postfix _ _ _ _ _ none h.is_text; ended = h.ended; left = h.left; within = h.within }) c.postfix.ensures.read
+    IfOk-weaker c.grouped.result _ _ (λ f h. record { is_text = g.one_postfix _ _ _ _ _ none h.is_text; ended = h.ended; left = h.left; within = h.within }) c.grouped.ensures.read
 
-pub unary-returns-else-is_saying-clause-fault : goal.unary-returns-else-is_saying-clause-fault
-unary-returns-else-is_saying-clause-fault t c =
+pub unary-returns-then-is_sign-clause-fault : goal.unary-returns-then-is_sign-clause-fault
+unary-returns-then-is_sign-clause-fault t c =
     let none : is_saying c.args.text.now c.args.here.now ≡ false = search rules in
-    IfErr-weaker c.postfix.result _ _ (λ e h. s.in_postfix _ _ _ _ none h) c.postfix.ensures.fault
+    IfErr-weaker c.grouped.result _ _ (λ e h. s.in_postfix _ _ _ _ none h) c.grouped.ensures.fault
+
+pub unary-returns-else-is_sign-clause-read : goal.unary-returns-else-is_sign-clause-read
+unary-returns-else-is_sign-clause-read t c =
+    let none : is_saying c.args.text.now c.args.here.now ≡ false = search rules in
+    IfOk-weaker c.postfix.result _ _ (λ f h. let read = h c.args.depth in record { is_text = g.one_postfix _ _ _ _ _ none read.is_text; ended = read.ended; left = read.left; within = read.within }) c.postfix.ensures.read
+
+pub unary-returns-else-is_sign-clause-fault : goal.unary-returns-else-is_sign-clause-fault
+unary-returns-else-is_sign-clause-fault t c =
+    let none : is_saying c.args.text.now c.args.here.now ≡ false = search rules in
+    IfErr-weaker c.postfix.result _ _ (λ e h. s.in_postfix _ _ _ _ none (h c.args.depth)) c.postfix.ensures.fault
 
 pub says_formula-returns-in_err-who-clause-fault : goal.says_formula-returns-in_err-who-clause-fault
 says_formula-returns-in_err-who-clause-fault t c = passed c.from_residual.result c.in_err-who.field-0.0 _ (search rules) (s.in_speaker _ _ _ _ c.requires.saying c.in_err-who.ensures.value)
@@ -166,19 +176,19 @@ says_formula-returns-clause-read t c =
       within = read.within;
     }
 
-pub postfix-returns-in_err-first-clause-fault : goal.postfix-returns-in_err-first-clause-fault
-postfix-returns-in_err-first-clause-fault t c = passed c.from_residual.result c.in_err-first.field-0.0 _ (search rules) (s.in_primary _ _ _ _ c.in_err-first.ensures.fault)
+pub grouped-returns-in_err-first-clause-fault : goal.grouped-returns-in_err-first-clause-fault
+grouped-returns-in_err-first-clause-fault t c = passed c.from_residual.result c.in_err-first.field-0.0 _ (search rules) (s.in_primary _ _ _ _ c.in_err-first.ensures.fault)
 
-pub postfix-at-init : goal.postfix-at-init
-postfix-at-init t c =
+pub grouped-at-init : goal.grouped-at-init
+grouped-at-init t c =
     let read = c.in_ok-first.ensures.read in
     record { is_text = g.one_primary _ _ _ _ _ read.is_text; ended = refl; left = read.left; within = read.within }
 
-pub postfix-returns-in_err-a-clause-fault : goal.postfix-returns-in_err-a-clause-fault
-postfix-returns-in_err-a-clause-fault t c = passed c.from_residual-in_err-a.result c.in_err-a.field-0.0 _ (search rules) (stops_at_interval c.at.invariant.is_text (let sign : is_sign signs.At c.at.here.token ≡ true = search rules in sign) c.in_err-a.ensures.fault)
+pub grouped-returns-in_err-a-clause-fault : goal.grouped-returns-in_err-a-clause-fault
+grouped-returns-in_err-a-clause-fault t c = passed c.from_residual-in_err-a.result c.in_err-a.field-0.0 _ (search rules) (stops_at_interval c.at.invariant.is_text (let sign : is_sign signs.At c.at.here.token ≡ true = search rules in sign) c.in_err-a.ensures.fault)
 
-pub postfix-at-preserved : goal.postfix-at-preserved
-postfix-at-preserved t c =
+pub grouped-at-preserved : goal.grouped-at-preserved
+grouped-at-preserved t c =
     let l = c.at in
     let read = c.in_ok-a.ensures.read in
     let sign : is_sign signs.At l.here.token ≡ true = search rules in
@@ -189,18 +199,6 @@ postfix-at-preserved t c =
       within = read.within;
     }
 
-pub primary-returns-then-is_call-clause-read : goal.primary-returns-then-is_call-clause-read
-primary-returns-then-is_call-clause-read t c = IfOk-weaker c.call_here.result _ _ (λ f h. h c.args.depth) c.call_here.ensures.read
-
-pub primary-returns-then-is_call-clause-fault : goal.primary-returns-then-is_call-clause-fault
-primary-returns-then-is_call-clause-fault t c = IfErr-weaker c.call_here.result _ _ (λ e h. h c.args.depth) c.call_here.ensures.fault
-
-pub primary-returns-else-is_call-clause-read : goal.primary-returns-else-is_call-clause-read
-primary-returns-else-is_call-clause-read t c = IfOk-weaker c.simple_here.result _ _ (λ f h. h c.args.depth) c.simple_here.ensures.read
-
-pub primary-returns-else-is_call-clause-fault : goal.primary-returns-else-is_call-clause-fault
-primary-returns-else-is_call-clause-fault t c = IfErr-weaker c.simple_here.result _ _ (λ e h. h c.args.depth) c.simple_here.ensures.fault
-
 pub group-returns-then-depth-ge512-clause-fault : goal.group-returns-then-depth-ge512-clause-fault
 group-returns-then-depth-ge512-clause-fault t c = s.too_deep _ _ _ c.requires.open (lt_false c.args.depth 512 (omega arith))
 
@@ -208,7 +206,7 @@ pub group-returns-in_err-a-clause-fault : goal.group-returns-in_err-a-clause-fau
 group-returns-in_err-a-clause-fault t c = passed c.from_residual.result c.in_err-a.field-0.0 _ (search rules) (s.in_group _ _ _ _ c.requires.open (lt_true c.args.depth 512 (omega arith)) (stops_at c.step_into.ensures.same c.in_err-a.ensures.fault))
 
 pub group-returns-in-Err-clause-fault : goal.group-returns-in-Err-clause-fault
-group-returns-in-Err-clause-fault t c = passed c.refuse.result c.in-Err.fault _ c.refuse.ensures (s.not_closed _ _ _ _ (formula_view c.in_ok-a.a.value) _ c.requires.open (lt_true c.args.depth 512 (omega arith)) (is_at c.step_into.ensures.same c.in_ok-a.ensures.read.is_text) c.in_ok-a.ensures.read.ended c.in-Err.ensures.value)
+group-returns-in-Err-clause-fault t c = s.not_closed _ _ _ _ (formula_view c.in_ok-a.a.value) _ c.requires.open (lt_true c.args.depth 512 (omega arith)) (is_at c.step_into.ensures.same c.in_ok-a.ensures.read.is_text) c.in_ok-a.ensures.read.ended c.in-Err.ensures.value
 
 pub group-returns-in-Ok-clause-read : goal.group-returns-in-Ok-clause-read
 group-returns-in-Ok-clause-read t c =

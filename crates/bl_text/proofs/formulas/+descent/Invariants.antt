@@ -31,11 +31,8 @@ decreases-unary l = l.here.now.left * 4104 + (512 - l.depth) * 8 + 3
 abbrev pub decreases-says_formula : goal.decreases-says_formula
 decreases-says_formula l = l.here.now.left * 4104 + (512 - l.depth) * 8 + 2
 
-abbrev pub decreases-postfix : goal.decreases-postfix
-decreases-postfix l = l.here.now.left * 4104 + (512 - l.depth) * 8 + 2
-
-abbrev pub decreases-primary : goal.decreases-primary
-decreases-primary l = l.here.now.left * 4104 + (512 - l.depth) * 8 + 1
+abbrev pub decreases-grouped : goal.decreases-grouped
+decreases-grouped l = l.here.now.left * 4104 + (512 - l.depth) * 8 + 2
 
 abbrev pub decreases-group : goal.decreases-group
 decreases-group l = l.here.now.left * 4104 + (512 - l.depth) * 8 + 0
@@ -65,13 +62,13 @@ abbrev pub decreases-conjunction-and : goal.decreases-conjunction-and
 decreases-conjunction-and l = l.here.left
 
 -- what was read so far is a text of the formula
-abbrev pub invariant-postfix-at : goal.invariant-postfix-at
-invariant-postfix-at l = record {
+abbrev pub invariant-grouped-at : goal.invariant-grouped-at
+invariant-grouped-at l = record {
   is_text : Is l.text l.in_statement postfix (variables l.scope) l.depth l.fn.here l.here (formula_view l.a.value);
   ended : is_continued_by grammar.primary l.here.token ≡ false;
   left : l.here.left + 1 ≤ l.fn.here.left;
   within : l.here.end ≤ length l.text;
 }
 
-abbrev pub decreases-postfix-at : goal.decreases-postfix-at
-decreases-postfix-at l = l.here.left
+abbrev pub decreases-grouped-at : goal.decreases-grouped-at
+decreases-grouped-at l = l.here.left

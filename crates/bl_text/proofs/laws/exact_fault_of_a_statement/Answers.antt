@@ -1,5 +1,5 @@
--- What was read up to a fault can be completed, and the fault depends on it and the next token.
-use Rattle.bl_text.proofs.ViableTexts.{exact_statement}
+-- What was read up to a fault can be completed, and decides the fault.
+use Rattle.bl_text.proofs.ExactTexts.{exact_statement}
 use Rattle.bl_text.proofs.laws.exact_fault_of_a_statement.Goals as goal
 
 pub returns : goal.returns

@@ -1,5 +1,5 @@
 -- What was read is a sentence.
-use Rattle.bl_text.proofs.StatementSentences.{saying_spelled}
+use Rattle.bl_text.proofs.TextSentences.{saying_spelled}
 use Rattle.bl_text.proofs.laws.sentence_of_a_statement.Goals as goal
 
 pub returns : goal.returns

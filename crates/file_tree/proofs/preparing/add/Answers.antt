@@ -2,7 +2,7 @@
 use Rattle.std.proofs.Common.{ℕ, List, ◌∙◌, ap}
 use Rattle.file_world.specs.Tree.{Node}
 use Rattle.file_tree.specs.declared.node.KeptNode.{KeptNode as Kept}
-use Rattle.file_tree.specs.Index.{place_of}
+use Rattle.file_tree.specs.Index.{spot_place}
 use Rattle.file_tree.proofs.IndexLemmas.{insert-last}
 use Rattle.file_tree.proofs.preparing.add.Goals as goal
 
@@ -12,6 +12,6 @@ returns-in-Ok-clause-ok c =
     record {
       kept = kept;
       last = c.in-Ok.ensures.entries ∙ insert-last c.args.nodes.now.entries c.args.next kept c.insert-put.ensures.was_ordered c.requires;
-      shows = (let f : List ℕ → Node = λ contents. record { kind = c.args.kind; place = place_of c.args.spot.now; contents = contents } in ap f c.new.ensures.items);
+      shows = (let f : List ℕ → Node = λ contents. record { kind = c.args.kind; place = spot_place c.args.spot.now; contents = contents } in ap f c.new.ensures.items);
       no_names = c.new-2.ensures.empty;
     }

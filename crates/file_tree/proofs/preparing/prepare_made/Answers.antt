@@ -2,7 +2,7 @@ use Rattle.std.proofs.Common.{◌≡◌, ℕ, List, None, Some, ap, ◌∙◌}
 use Rattle.file_world.specs.TreeEffect.{child_of}
 use Rattle.file_tree.specs.declared.ready.Spot.{Spot}
 use Rattle.file_tree.specs.declared.ready.Ready.TheVariants.{Made}
-use Rattle.file_tree.specs.Index.{rows_of, place_of}
+use Rattle.file_tree.specs.Index.{rows_of, spot_place}
 use Rattle.file_world.proofs.EffectLemmas.{directory_from}
 use Rattle.file_tree.proofs.KeptLemmas.{some_kept, below_after_put, Prepares-made, Stays-released}
 use Rattle.file_tree.proofs.preparing.prepare_made.Goals as goal
@@ -15,7 +15,7 @@ enter-requires c =
 pub add-requires : goal.add-requires
 add-requires c =
     let spot : Spot = record { directory = c.args.directory; name = c.new.result } in
-    below_after_put c.args.nodes.now.entries c.enter.new.nodes.entries c.args.next (place_of spot) (Some 0) c.requires.kept c.in_ok-enter.ensures.ok
+    below_after_put c.args.nodes.now.entries c.enter.new.nodes.entries c.args.next (spot_place spot) (Some 0) c.requires.kept c.in_ok-enter.ensures.ok
 
 pub returns-in-Ok-clause-ok : goal.returns-in-Ok-clause-ok
 returns-in-Ok-clause-ok c =

@@ -1,7 +1,7 @@
 -- The directory is the node after the reference without the name; where there is no node, nothing is kept.
 use Rattle.std.proofs.Common.{◌≡◌, Some, None, refl, sym}
 use Rattle.file_tree.specs.declared.node.KeptNode.{KeptNode as Kept}
-use Rattle.file_tree.specs.Index.{kept_at, place_of}
+use Rattle.file_tree.specs.Index.{kept_at, spot_place}
 use Rattle.file_tree.proofs.IndexLemmas.{SetsValue-from_map, ChangesName-removed, Puts-from_set}
 use Rattle.file_tree.proofs.preparing.release.Goals as goal
 
@@ -11,4 +11,4 @@ returns-in-Some c =
     let now : Kept = record node { names = c.remove.new.self } in
     let there : kept_at c.args.nodes.now.entries c.args.spot.now.directory ≡ Some node = sym c.in-Some.ensures.value in
     let sets = SetsValue-from_map c.args.nodes.now (c.get_mut.follows.lender now) c.args.spot.now.directory node now there (c.get_mut.follows.holds now) in
-    Puts-from_set _ _ (place_of c.args.spot.now) None node now there sets (ChangesName-removed node now c.args.spot.now.name c.remove.ensures.updates refl)
+    Puts-from_set _ _ (spot_place c.args.spot.now) None node now there sets (ChangesName-removed node now c.args.spot.now.name c.remove.ensures.updates refl)

@@ -1,12 +1,12 @@
 -- A word begins with an `@`, or holds a procap.
 use Rattle.std.proofs.Common.{subst, MatchOption}
 use Rattle.procap.specs.declared.procap.Procap.{Procap}
-use Rattle.line_words.specs.Procaps.{IsHeld, held}
+use Rattle.line_words.specs.Procaps.{IsProcapHex, by_spelling}
 use Rattle.line_words.proofs.ProcapLemmas.{number_of_word, not_given, IsProcapWord-number}
 use Rattle.line_words.proofs.procap_word.procap_word.Goals as goal
 
-pub returns-in-Some-number : goal.returns-in-Some-number
-returns-in-Some-number c = IsProcapWord-number c.args.word.now c.in-Some.digits.now c.in-Some-number.number c.from.result c.in-Some.ensures c.in-Some-number.ensures.found c.from.ensures
+pub returns-in-Some-long_number : goal.returns-in-Some-long_number
+returns-in-Some-long_number c = IsProcapWord-number c.args.word.now c.in-Some.digits.now c.in-Some-long_number.number c.in-Some.ensures c.in-Some-long_number.ensures.found
 
 pub returns-in-None : goal.returns-in-None
 returns-in-None c given h =
@@ -15,8 +15,8 @@ returns-in-None c given h =
 
 pub returns-in-Some-2 : goal.returns-in-Some-2
 returns-in-Some-2 c =
-    held c.args.word.now c.in-Some-2.p (subst (λ r. MatchOption r ((p : Procap) → IsHeld c.args.word.now p → ⊥) (IsHeld c.args.word.now)) c.in-Some-2.is c.in_ok-p.ensures)
+    by_spelling c.args.word.now c.in-Some-2.p (subst (λ r. MatchOption r ((p : Procap) → IsProcapHex c.args.word.now p → ⊥) (IsProcapHex c.args.word.now)) c.in-Some-2.is c.in_ok-p.ensures)
 
 pub returns-in-None-2 : goal.returns-in-None-2
 returns-in-None-2 c given h =
-    not_given h c.in_default.ensures (subst (λ r. MatchOption r ((p : Procap) → IsHeld c.args.word.now p → ⊥) (IsHeld c.args.word.now)) c.in-None-2.is c.in_ok-p.ensures)
+    not_given h c.in_default.ensures (subst (λ r. MatchOption r ((p : Procap) → IsProcapHex c.args.word.now p → ⊥) (IsProcapHex c.args.word.now)) c.in-None-2.is c.in_ok-p.ensures)

@@ -1,8 +1,8 @@
 use Rattle.std.proofs.Common.{ℕ, List, [], ◌∷◌, length, ◌<◌, refl, arith}
-use Rattle.access_history.specs.Citing.{DoNumbersRise}
+use Rattle.bl_syntax.specs.Citable.{DoRise}
 use Rattle.op_gate.proofs.admit.+do_rise.Goals as goal
 
-short_rises : (numbers : List ℕ) → length numbers < 2 → DoNumbersRise numbers
+short_rises : (numbers : List ℕ) → length numbers < 2 → DoRise numbers
 short_rises [] h = tt
 short_rises (first ∷ []) h = tt
 short_rises (first ∷ second ∷ others) h = absurd (omega (arith, h))

@@ -22,4 +22,4 @@ returns-in-Err c = λ clock.
     let h = c.args.history.now in
     let may : MayRegister (is_accepted h.ring c.args.statement.who (statement_message c.args.statement) c.args.signature) (state_of h).statements c.args.statement (Err c.in-Err.fault) = MayRegister-shown h.ring c.ring.result.now (state_of h).statements c.registry-registry.result.now.entries c.args.statement c.args.signature c.as_slice.result.now (Err c.in-Err.fault)
     c.ring.ensures c.as_slice.ensures c.registry-registry.ensures c.in-Err.ensures in
-    rejected_decided h c.args.pass clock c.args.statement c.args.signature c.in-Err.fault c.rejected.result may c.rejected.ensures
+    rejected_decided h c.args.pass clock c.args.statement c.args.signature c.in-Err.fault c.rejection.result may c.rejection.ensures

@@ -1,7 +1,8 @@
 use Rattle.std.proofs.Common.{◌≡◌, [], ◌∷◌, ◌++◌, true, false, ap, arith}
 use Rattle.bl_syntax.specs.Grant.{GrantView}
 use Rattle.procap.specs.GrantReading.{state_condition_at, may_follow_states}
-use Rattle.procap.proofs.ReadingLemmas.{stops, items_none, items_fault, items_refused, items_more, state_is_kept}
+use Rattle.bl_syntax.proofs.ReportsFaultLemmas.{stops}
+use Rattle.procap.proofs.ReadingLemmas.{items_none, items_fault, items_refused, items_more, state_is_kept}
 use Rattle.procap.proofs.reading.+add_states_at.Goals as goal
 
 pub returns-then-count-eq0-clause-read : goal.returns-then-count-eq0-clause-read

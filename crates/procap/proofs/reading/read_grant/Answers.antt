@@ -3,7 +3,7 @@ use Rattle.procap.specs.GrantSpelling.{grant_spelling, IsSpellableGrant}
 use Rattle.procap.specs.GrantReading.{grant_at}
 use Rattle.bl_syntax.proofs.CodecLemmas.{front_ok}
 use Rattle.procap.proofs.GrantLemmas.{grant_codec}
-use Rattle.procap.proofs.ReadingLemmas.{front_stops}
+use Rattle.bl_syntax.proofs.ReportsFaultLemmas.{front_stops}
 use Rattle.procap.proofs.reading.read_grant.Goals as goal
 
 pub returns-in-Err-clause-front : goal.returns-in-Err-clause-front

@@ -1,6 +1,7 @@
 use Rattle.std.proofs.Common.{◌≡◌, []}
 use Rattle.procap.specs.GrantReading.{time_condition_at, may_follow_times}
-use Rattle.procap.proofs.ReadingLemmas.{stops, conditions_fault, conditions_more}
+use Rattle.bl_syntax.proofs.ReportsFaultLemmas.{stops}
+use Rattle.procap.proofs.ReadingLemmas.{conditions_fault, conditions_more}
 use Rattle.procap.proofs.reading.times_at.Goals as goal
 
 pub returns-in-Err-clause-read : goal.returns-in-Err-clause-read

@@ -16,7 +16,7 @@ plain_at-returns-in-Err t c = Fails-behind (λ left more. proof_at c.args.levels
 
 pub termed_at-returns-in-Ok : goal.termed_at-returns-in-Ok
 termed_at-returns-in-Ok t c =
-    let is = behind-ok (λ left more. proof_at c.args.levels left c.args.input more) c.args.nodes c.args.input c.args.start c.args.tag c.args.rest.now c.in-Ok.behind.now (termed_rule c.in-Ok.rule) (c.in-Ok.ensures c.args.start) in
+    let is = behind-ok (λ left more. proof_at c.args.levels left c.args.input more) c.args.nodes c.args.input c.args.start c.args.tag c.args.rest.now c.in-Ok.behind.now (termed_rule c.termed_rule_into.new.rule) (c.in-Ok.ensures c.args.start) in
     subst (λ (r : ProofReading). GivesProofReading (λ x. (proof_view x.0.value, (x.1, x.2.now))) c.termed_premises_at.result r) (sym is) c.termed_premises_at.ensures
 
 pub termed_at-returns-in-Err : goal.termed_at-returns-in-Err

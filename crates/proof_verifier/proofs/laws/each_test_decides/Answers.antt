@@ -1,5 +1,6 @@
 use Rattle.proof_verifier.proofs.TestLemmas.{Decides-names_ctime, Decides-names_no_parameter, Decides-has_constraint, Decides-has_state, Decides-is_as_strong, Decides-of_sort, Decides-are_same, Decides-is_full}
 use Rattle.std.specs.Prelude.{[]}
+use Rattle.std.proofs.lemmas.Slice.Eq.{bytes_eq-Decides}
 use Rattle.bl_syntax.specs.Terms.{sort_of}
 use Rattle.proof_verifier.proofs.laws.each_test_decides.Goals as goal
 
@@ -12,5 +13,6 @@ returns c = record {
   kept_time = Decides-has_constraint;
   kept_state = Decides-has_state;
   terms = Decides-are_same;
+  names = bytes_eq-Decides;
   full = Decides-is_full;
 }

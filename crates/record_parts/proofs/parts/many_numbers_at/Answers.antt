@@ -1,4 +1,4 @@
-use Rattle.bl_syntax.proofs.StopsWithLemmas.{stops}
+use Rattle.bl_syntax.proofs.ReportsFaultLemmas.{stops}
 use Rattle.record_parts.specs.Fields.{u32_at}
 use Rattle.record_parts.specs.Parts.{many_at}
 use Rattle.record_parts.proofs.ReadingLemmas.{goes_on, ends, is_done}

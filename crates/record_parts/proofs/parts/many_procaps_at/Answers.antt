@@ -1,15 +1,15 @@
 use Rattle.procap.specs.Procap.{procap_at}
-use Rattle.record_parts.specs.Parts.{part_at, many_at}
+use Rattle.record_parts.specs.Parts.{many_at}
 use Rattle.record_parts.proofs.ReadingLemmas.{goes_on, ends, is_done}
 use Rattle.record_parts.proofs.parts.many_procaps_at.Goals as goal
 
 pub returns-in-Err : goal.returns-in-Err
 returns-in-Err c =
-    ends c.in-Err.fault (part_at procap_at c.args.input) c.loop.procaps c.args.count c.loop.counter c.loop.rest.now (many_at (part_at procap_at c.args.input) c.args.count c.args.bytes.now) c.loop-test.true c.in-Err.ensures c.loop.invariant
+    ends c.in-Err.fault (procap_at c.args.input) c.loop.procaps c.args.count c.loop.counter c.loop.rest.now (many_at (procap_at c.args.input) c.args.count c.args.bytes.now) c.loop-test.true c.in-Err.ensures c.loop.invariant
 
 pub loop-preserved : goal.loop-preserved
 loop-preserved c =
-    rw c.in_ok-push-in-Ok.ensures.ok (goes_on (part_at procap_at c.args.input) c.loop.procaps c.args.count c.loop.counter c.loop.rest.now c.in-Ok.procap c.in-Ok.behind.now (many_at (part_at procap_at c.args.input) c.args.count c.args.bytes.now) c.loop-test.true c.in-Ok.ensures c.loop.invariant)
+    rw c.in_ok-push-in-Ok.ensures.ok (goes_on (procap_at c.args.input) c.loop.procaps c.args.count c.loop.counter c.loop.rest.now c.in-Ok.procap c.in-Ok.behind.now (many_at (procap_at c.args.input) c.args.count c.args.bytes.now) c.loop-test.true c.in-Ok.ensures c.loop.invariant)
 
 pub returns : goal.returns
-returns c = is_done (part_at procap_at c.args.input) c.loop.procaps c.args.count c.loop.counter c.loop.rest.now (many_at (part_at procap_at c.args.input) c.args.count c.args.bytes.now) c.loop-test.false c.loop.invariant
+returns c = is_done (procap_at c.args.input) c.loop.procaps c.args.count c.loop.counter c.loop.rest.now (many_at (procap_at c.args.input) c.args.count c.args.bytes.now) c.loop-test.false c.loop.invariant

@@ -9,10 +9,10 @@ apply_event-event-requires-clause-ready c = ready_shown c.self.inside _ c.args.e
 pub apply_event-event-requires-clause-in_range : goal.apply_event-event-requires-clause-in_range
 apply_event-event-requires-clause-in_range c = HasMoment-follows _ _ c.args.event c.requires.lawful
 
-pub add_entry-requires-clause-place : goal.add_entry-requires-clause-place
-add_entry-requires-clause-place c = place_shown c.self.inside _ c.args.event c.args.entry c.self.invariant c.self.view_is c.requires.entry c.requires.lawful
+pub add_to_state-requires-clause-place : goal.add_to_state-requires-clause-place
+add_to_state-requires-clause-place c = place_shown c.self.inside _ c.args.event c.args.addition c.self.invariant c.self.view_is c.requires.addition c.requires.lawful
 
 pub invariant_of-self : goal.invariant_of-self
 invariant_of-self c =
-    IsKeeping-kept c.self.inside _ _ c.args.event c.apply_event-event.result c.args.entry c.self.invariant c.self.view_is c.requires.lawful c.requires.counted c.requires.entry c.apply_event-event.ensures.event refl refl refl
-    c.apply_event-event.ensures.world c.apply_event-event.ensures.moment c.add_entry.ensures.statements c.add_entry.ensures.issues (pushed _ _ _ _ _ c.push.ensures.items c.unwrap.ensures) refl
+    IsKeeping-kept c.self.inside _ _ c.args.event c.apply_event-event.result c.args.addition c.self.invariant c.self.view_is c.requires.lawful c.requires.counted c.requires.addition c.apply_event-event.ensures.event refl refl refl
+    c.apply_event-event.ensures.world c.apply_event-event.ensures.moment c.add_to_state.ensures.statements c.add_to_state.ensures.issues (pushed _ _ _ _ _ c.push.ensures.items c.unwrap.ensures) refl

@@ -18,3 +18,11 @@ returns-in-Target-clause-outside c none before after h =
 pub returns-in-Procap-clause-outside : goal.returns-in-Procap-clause-outside
 returns-in-Procap-clause-outside c =
     subst (λ kind. IfOk c.add_procap.result (λ fits. fits ≡ false → IsOutside kind c.args.word.now)) (sym c.in-Procap.is) c.add_procap.ensures.outside
+
+pub returns-in-SignatureHex-clause-outside : goal.returns-in-SignatureHex-clause-outside
+returns-in-SignatureHex-clause-outside c =
+    subst (λ kind. IfOk c.set_signature.result (λ fits. fits ≡ false → IsOutside kind c.args.word.now)) (sym c.in-SignatureHex.is) c.set_signature.ensures.outside
+
+pub returns-in-ProcapHex-clause-outside : goal.returns-in-ProcapHex-clause-outside
+returns-in-ProcapHex-clause-outside c =
+    subst (λ kind. IfOk c.add_written_procap.result (λ fits. fits ≡ false → IsOutside kind c.args.word.now)) (sym c.in-ProcapHex.is) c.add_written_procap.ensures.outside

@@ -1,6 +1,0 @@
--- What a call that could not add everything has kept.
-use Rattle.std.specs.Prelude.{◌≡◌, ℕ, List, length, take}
-
--- the new list begins with the old one
-abbrev pub Keeps : List ℕ → List ℕ → Type 0
-Keeps old new = take (length old) new ≡ old

@@ -1,0 +1,6 @@
+use Rattle.std.proofs.Common.{refl, arith}
+use Rattle.bl_constraints.proofs.PlaceLemmas.{adding_none, adding_more, added_all}
+use Rattle.bl_constraints.proofs.places.Places.add_all.Goals as goal
+
+pub returns : goal.returns
+returns c = added_all c.args.self.now.words c.args.other.now.words c.loop-word.self.words c.loop-word.word c.loop-word.invariant (omega arith) (omega arith) (omega arith)

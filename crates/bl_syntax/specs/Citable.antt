@@ -1,0 +1,14 @@
+-- The numbers of statements that may be cited together. The limits are this project's own.
+use Rattle.std.specs.Prelude.{◌<◌, ◌≤◌, ℕ, List, [], ◌∷◌, length}
+
+-- each number is below the next
+abbrev pub DoRise : List ℕ → Type 0
+DoRise [] = Unit {0}
+DoRise (first ∷ []) = Unit {0}
+DoRise (first ∷ second ∷ others) = (first < second) × DoRise (second ∷ others)
+
+-- 1 to 64 numbers, strictly rising
+pub record AreCitable (numbers : List ℕ) : Type 0 where
+  pub some : 0 < length numbers
+  pub few : length numbers ≤ 64
+  pub rising : DoRise numbers

@@ -1,0 +1,4 @@
+pub mod FeedingLemmas
+pub mod FramingLemmas
+pub mod PlaceLemmas
+pub mod ScanningLemmas

@@ -1,0 +1,51 @@
+-- A store while a script goes on (this project's own).
+use Rattle.std.specs.Prelude.{◌≡◌, ◌⊎◌, ℕ, ◌≤◌, List, Option, Some, None, Result}
+use Rattle.pcfs_ports.specs.Faults.{HasRisen}
+use Rattle.access_history.specs.declared.event.Event.{Event}
+use Rattle.line_wire.specs.declared.reply.LineReply.{LineReply}
+use Rattle.pcfs_store.specs.StoreView.{StoreView, first_disk, second_disk}
+use Rattle.pcfs_store.specs.Ready.{IsReady, IsCurrent, StopsNow, SurvivesWithOrWithout}
+use Rattle.pcfs_top.specs.InterpreterView.{InterpreterView, standing_of}
+use Rattle.pcfs_top.specs.Ports.{Streams}
+use Rattle.pcfs_top.specs.ScriptEnds.{HasAnswered, ScriptEnds}
+use Rattle.pcfs_top.specs.ScriptRun.{Standing}
+use Rattle.pcfs_top.specs.declared.script.ScriptFault.{ScriptFault}
+
+-- a store stopped exactly if a disk failed for an event
+abbrev pub IsStopFor : Option ℕ → Option Event → Type 0
+IsStopFor None None = Unit {0}
+IsStopFor None (Some event) = ⊥
+IsStopFor (Some pass) None = ⊥
+IsStopFor (Some pass) (Some event) = Unit {0}
+
+-- Below, of a disk d `clock d` is the present moment, `left_since d t bytes` says that a crash at some moment since t may have left these bytes, `image d` is what a read gives, if d tells it, and `faults d`
+-- counts its faults.
+module _ {D : Type 0} (clock : D → ℕ) (left_since : D → ℕ → List ℕ → Type 0) (image : D → Option (List ℕ)) (faults : D → ℕ) where
+  -- From one moment of a store to a later one, at which a disk has failed for this event, if one has. While none has, a store that was ready is ready, and what a read gives stands for its history. If one has, a
+  -- count rose; and of a store that was ready a crash leaves the history, or with it the event.
+  pub record StoreGoesOn (old new : StoreView D) (met : Option Event) : Type 0 where
+    pub stop_for : IsStopFor new.stop met
+    pub ready : IsReady clock left_since image old → met ≡ None → IsReady clock left_since image new
+    pub halts : IsReady clock left_since image old → (event : Event) → met ≡ Some event → StopsNow clock left_since image new (SurvivesWithOrWithout new.base new.events event)
+    pub current : IsCurrent clock left_since image old → met ≡ None → IsCurrent clock left_since image new
+    pub first_never_falls : faults (first_disk old) ≤ faults (first_disk new)
+    pub second_never_falls : faults (second_disk old) ≤ faults (second_disk new)
+    pub failed : (event : Event) → met ≡ Some event → HasRisen (faults (first_disk old)) (faults (first_disk new)) ⊎ HasRisen (faults (second_disk old)) (faults (second_disk new))
+
+  -- a call of an interpreter leads to a reply, as R says of where it stood and of where it stands then, and its store goes on
+  pub record LeadsTo (R : Standing → LineReply → Standing → Type 0) (old : InterpreterView D) (reply : LineReply) (new : InterpreterView D) : Type 0 where
+    pub met : Option Event
+    pub holds : R (standing_of old None) reply (standing_of new met)
+    pub goes_on : StoreGoesOn old.store new.store met
+
+  -- the lines of these bytes are answered by an interpreter, and its store goes on
+  pub record AnswersAll (bytes : List ℕ) (old : InterpreterView D) (held : Option (List ℕ)) (result : Result (Unit {0}) ScriptFault) (new : InterpreterView D) (held_after : Option (List ℕ)) : Type 0 where
+    pub met : Option Event
+    pub answered : HasAnswered (standing_of old None) bytes held result (standing_of new met) held_after
+    pub goes_on : StoreGoesOn old.store new.store met
+
+  -- the script in the input is answered by an interpreter and ends with this status, and its store goes on
+  pub record AnswersInput (old : InterpreterView D) (before : Streams) (status : ℕ) (new : InterpreterView D) (after : Streams) : Type 0 where
+    pub met : Option Event
+    pub ends : ScriptEnds (standing_of old None) (standing_of new met) before after status
+    pub goes_on : StoreGoesOn old.store new.store met

@@ -1,5 +1,0 @@
-use Rattle.proof_verifier.proofs.MemoryLemmas.{verdict-memoryless}
-use Rattle.proof_verifier.proofs.laws.the_verdict_is_not_want_of_memory.Goals as goal
-
-pub returns : goal.returns
-returns c = verdict-memoryless
