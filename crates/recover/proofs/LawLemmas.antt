@@ -1,16 +1,16 @@
 -- An area has at most one first damage, and none if it stands for a lawful history.
-use Rattle.std.proofs.Common.{◌≡◌, ◌≢◌, ◌≤◌, ◌<◌, ◌+◌, ◌⊎◌, ℕ, suc, List, [], ◌∷◌, ◌++◌, length, get_or, map, refl, sym, ap, subst, ◌∙◌, arith, inl, inr, ⊎_elim, length-append}
+use Rattle.std.proofs.Common.{◌≡◌, ◌≢◌, ◌≤◌, ◌<◌, ◌+◌, ◌⊎◌, ℕ, suc, List, [], ◌∷◌, ◌++◌, length, take, drop, get_or, map, refl, sym, ap, subst, ◌∙◌, arith, inl, inr, ⊎_elim, append_assoc, length-append, length-take, take-append-drop, Some, None}
 use Rattle.std.specs.List.{AllByRecursion}
 use Rattle.std.proofs.lemmas.List.{map-append, length-map, append-nil}
 use Rattle.journal_core.specs.Area.{area_bytes, IsFront, IsArea, IsShut, HasNoBase}
-use Rattle.journal_core.proofs.ReadingLemmas.{one_front, front_has_base, area_front, opens}
+use Rattle.journal_core.proofs.ReadingLemmas.{one_area, one_front, front_has_base, area_front, opens}
 use Rattle.access_history.specs.declared.event.Event.{Event}
 use Rattle.access_history.specs.declared.event.Event.TheVariants.{Registered, Issued, Acted}
 use Rattle.access_history.specs.Authority.{Authority}
 use Rattle.access_history.specs.Base.{BaseView}
 use Rattle.access_history.specs.Lawful.{AreLawful, no_event, one_more, IsLawful, MayFollow}
 use Rattle.access_history.specs.Replay.{fresh, replay, next_state}
-use Rattle.access_history.proofs.ReplayLemmas.{count-replay}
+use Rattle.access_history.proofs.ReplayLemmas.{count-replay, replay-more}
 use Rattle.journal_records.specs.EventSpelling.{event_spelling, erase, IsSpellableEvent, IsReadEvent}
 use Rattle.journal_records.proofs.EventLemmas.{apart, same_spelling}
 use Rattle.op_gate.specs.declared.damage.Damage.{Damage}
@@ -18,7 +18,9 @@ use Rattle.op_gate.specs.declared.damage.Damage.TheVariants.{Shape}
 use Rattle.op_gate.specs.Damage.{IsDamagedBy, MayComeNext}
 use Rattle.op_gate.proofs.AdmitLemmas.{damaged_not_next, first_damages}
 use Rattle.pcfs_store.specs.Image.{fresh_image}
-use Rattle.pcfs_store.specs.StoredHistory.{payloads_of, AreSpellable, StandsFor}
+use Rattle.pcfs_store.specs.Newest.{newest, Survives, SurvivesClosed}
+use Rattle.pcfs_store.specs.StoredHistory.{payloads_of, AreSpellable, Resumes, StandsFor}
+use Rattle.recover.specs.Opening.{IsNewestClosed, IsNewestDamaged, IsNewestHistory}
 use Rattle.recover.specs.AreaDamage.{AreRead, IsDamagedPayload, no_event as spells_no_event, of_event, IsDamagedAt, AreLawfulPayloads, IsDamagedArea, no_base, no_image, no_payload, no_record}
 
 -- ---- events without their passes
@@ -257,3 +259,83 @@ lawful_area authority bytes generation events _ _ stands lawful (no_record g ps 
     subst (λ (h : ℕ). get_or bytes (length (area_bytes h stands.image (payloads_of events))) 0 ≡ 1) same.0
     (subst (λ (i : List ℕ). get_or bytes (length (area_bytes g i (payloads_of events))) 0 ≡ 1) same.1
     (subst (λ (rs : List (List ℕ)). get_or bytes (length (area_bytes g fresh_image rs)) 0 ≡ 1) same.2 is_open)))
+
+-- ---- what a crash leaves
+
+following_front : (authority : Authority) (state : BaseView) (events others : List Event) → AreFollowing authority state (events ++ others) → AreFollowing authority state events
+unfolding AreFollowing
+following_front authority state [] others all = tt
+following_front authority state (event ∷ events) others all = (all.0, following_front authority (next_state state event) events others all.1)
+
+followed : (authority : Authority) (base : BaseView) (before events : List Event) → AreLawful authority base before → AreFollowing authority (replay base before) events → AreLawful authority base (before ++ events)
+unfolding AreFollowing
+followed authority base before [] lawful all = subst (AreLawful authority base) (sym (append-nil before)) lawful
+followed authority base before (event ∷ events) lawful all =
+    subst (AreLawful authority base) (append_assoc before (event ∷ []) events)
+    (followed authority base (before ++ event ∷ []) events (one_more before event lawful all.0) (subst (λ (s : BaseView). AreFollowing authority s events) (sym (replay-more base before event)) all.1))
+
+-- the first events of a lawful history are lawful, also without their passes
+first_lawful : (authority : Authority) (events : List Event) (kept : ℕ) → IsLawful authority fresh events → IsLawful authority fresh (map erase (take kept events))
+first_lawful authority events kept lawful =
+    let front : AreFollowing authority fresh (take kept events) =
+    following_front authority fresh (take kept events) (drop kept events) (subst (AreFollowing authority fresh) (sym (take-append-drop kept events)) (following authority fresh events lawful.each)) in
+    record {
+      lawful_base = lawful.lawful_base;
+      counted = omega (arith, lawful.counted, length-map (take kept events) erase, length-take kept events);
+      each = erased_lawful authority fresh (take kept events) (followed authority fresh [] (take kept events) no_event front);
+    }
+
+reads_erased : (events : List Event) → AreSpellable (map erase events) → AllByRecursion IsReadEvent (map erase events)
+reads_erased [] spelled = tt
+reads_erased (event ∷ events) spelled = (record { spelled = spelled.0; erased = erase_twice event }, reads_erased events spelled.1)
+
+-- nothing is skipped: only the state before the first event has an image
+none_skipped : (events found : List Event) (base : BaseView) (kept : ℕ) (r : Resumes base found fresh events kept) → base ≡ fresh → found ≡ map erase (take kept events)
+none_skipped events found base kept r is_fresh =
+    let counts : fresh.count ≡ fresh.count + length (take r.skipped events) = ap (λ (s : BaseView). s.count) (sym is_fresh ∙ r.base_is) ∙ count-replay fresh (take r.skipped events) in
+    let none : r.skipped ≡ 0 = omega (arith, counts, length-take r.skipped events, r.skipped_few, r.kept_few) in
+    r.events_are ∙ ap (λ (n : ℕ). map erase (drop n (take kept events))) none
+
+some_bytes : (first second : List ℕ) → Some first ≡ Some second → first ≡ second
+some_bytes first second same = cc
+
+module _ (authority : Authority) (events : List Event) (kept : ℕ) (x y : List ℕ) (lawful : IsLawful authority fresh events) (left : SurvivesClosed fresh events kept x y) where
+  abbrev survivor : Survives fresh events kept x y
+  survivor = left.survives
+
+  found_are : survivor.found ≡ map erase (take kept events)
+  found_are = none_skipped events survivor.found survivor.found_base kept survivor.resumes survivor.stands.is_image.is_fresh
+
+  stands_fresh : StandsFor survivor.bytes survivor.generation fresh survivor.found
+  stands_fresh = subst (λ (b : BaseView). StandsFor survivor.bytes survivor.generation b survivor.found) survivor.stands.is_image.is_fresh survivor.stands
+
+  found_lawful : IsLawful authority fresh survivor.found
+  found_lawful = subst (IsLawful authority fresh) (sym found_are) (first_lawful authority events kept lawful)
+
+  pub survivor_counts : newest x y ≡ None → ⊥
+  survivor_counts none = let other : Some survivor.bytes ≡ None = sym survivor.counts ∙ none in absurd cc
+
+  pub survivor_lawful : (number : ℕ) (damage : Damage) → IsNewestDamaged authority number damage x y → ⊥
+  survivor_lawful number damage is =
+      lawful_area authority survivor.bytes survivor.generation survivor.found number damage stands_fresh found_lawful
+      (subst (λ (b : List ℕ). IsDamagedArea authority b number damage) (some_bytes is.bytes survivor.bytes (sym is.counts ∙ survivor.counts)) is.damaged)
+
+  found_read : AllByRecursion IsReadEvent survivor.found
+  found_read = subst (AllByRecursion IsReadEvent) (sym found_are) (reads_erased (take kept events) (subst AreSpellable found_are survivor.stands.spelled))
+
+  pub survivor_opened : (generation : ℕ) (found : List Event) → IsNewestHistory authority generation found x y → (found ≡ map erase (take kept events)) × IsNewestClosed generation found x y
+  survivor_opened generation found is =
+      let bytes : is.bytes ≡ survivor.bytes = some_bytes is.bytes survivor.bytes (sym is.counts ∙ survivor.counts) in
+      let area : IsArea survivor.bytes generation is.stands.image (payloads_of found) = subst (λ (b : List ℕ). IsArea b generation is.stands.image (payloads_of found)) bytes is.stands.is_area in
+      let same = one_area survivor.bytes survivor.generation generation survivor.stands.image is.stands.image (payloads_of survivor.found) (payloads_of found) survivor.stands.is_area area in
+      let events_are : survivor.found ≡ found = one_list survivor.found found found_read is.each same.2 in
+      (
+        sym events_are ∙ found_are,
+        record {
+          bytes = survivor.bytes;
+          counts = survivor.counts;
+          gate = subst (λ (g : ℕ). length (area_bytes g fresh_image (payloads_of found)) < length survivor.bytes) same.0
+              (subst (λ (i : List ℕ). length (area_bytes survivor.generation i (payloads_of found)) < length survivor.bytes) survivor.stands.is_image.image_is
+              (subst (λ (ps : List (List ℕ)). length (area_bytes survivor.generation survivor.stands.image ps) < length survivor.bytes) same.2 left.gate));
+        },
+      )

@@ -1,5 +1,5 @@
 -- Laws of damage: an area has at most one first damage, and none if it stands for a lawful history.
-use Rattle.std.specs.Prelude.{◌≡◌, ℕ, List}
+use Rattle.std.specs.Prelude.{◌≡◌, ℕ, List, None, map, take}
 use Rattle.std.specs.List.{AllByRecursion}
 use Rattle.access_history.specs.declared.event.Event.{Event}
 use Rattle.access_history.specs.Authority.{Authority}
@@ -7,8 +7,11 @@ use Rattle.access_history.specs.Lawful.{IsLawful}
 use Rattle.access_history.specs.Replay.{fresh}
 use Rattle.journal_core.specs.Area.{IsShut}
 use Rattle.op_gate.specs.declared.damage.Damage.{Damage}
+use Rattle.journal_records.specs.EventSpelling.{erase}
+use Rattle.pcfs_store.specs.Newest.{newest, SurvivesClosed}
 use Rattle.pcfs_store.specs.StoredHistory.{StandsFor}
 use Rattle.recover.specs.AreaDamage.{IsDamagedArea}
+use Rattle.recover.specs.Opening.{IsNewestClosed, IsNewestDamaged, IsNewestHistory}
 
 -- an area has at most one first damage
 abbrev pub DamagesAreDetermined : Type 0
@@ -21,3 +24,13 @@ LawfulAreNotDamaged = (authority : Authority) (bytes : List ℕ) (generation : �
 -- a damaged area is open
 abbrev pub DamagedAreOpen : Type 0
 DamagedAreOpen = (authority : Authority) (bytes : List ℕ) (number : ℕ) (damage : Damage) → IsDamagedArea authority bytes number damage → IsShut bytes → ⊥
+
+-- What is left of a lawful history, with its closed gate, is opened: an area counts and is not damaged, and whatever history it holds has the events that are left, without their passes, and its closed gate.
+pub record IsOpenedAgain (authority : Authority) (events : List Event) (first second : List ℕ) : Type 0 where
+  pub counts : newest first second ≡ None → ⊥
+  pub whole : (number : ℕ) (damage : Damage) → IsNewestDamaged authority number damage first second → ⊥
+  pub same : (generation : ℕ) (found : List Event) → IsNewestHistory authority generation found first second → (found ≡ map erase events) × IsNewestClosed generation found first second
+
+-- what survives of a lawful history, with its closed gate, is opened
+abbrev pub SurvivorsAreOpened : Type 0
+SurvivorsAreOpened = (authority : Authority) (events : List Event) (kept : ℕ) (first second : List ℕ) → IsLawful authority fresh events → SurvivesClosed fresh events kept first second → IsOpenedAgain authority (take kept events) first second

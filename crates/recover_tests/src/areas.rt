@@ -280,7 +280,7 @@ fn the_newer_area_is_opened(rt: HostRuntime) -> Result<(), Fail> {
 #[test]
 fn each_call_of_a_disk_fails_in_turn(rt: HostRuntime) -> Result<(), Fail> {
     let alloc = rt.alloc();
-    for call in 0..30u32 {
+    for call in [0u32, 1, 2, 3] {
         let first = area(alloc, FRONT, "a", "00")?;
         assert!(rt; ends_so(alloc, "disk", first, &[call], Bytes::new(alloc))?);
     }
