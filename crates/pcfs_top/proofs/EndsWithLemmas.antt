@@ -14,7 +14,7 @@ use Rattle.access_history.specs.Lawful.{IsLawful}
 use Rattle.access_history.specs.Replay.{fresh}
 use Rattle.policy_statement.specs.Ring.{KeyView}
 use Rattle.pcfs_secrets.specs.declared.secrets.Secrets.{Secrets}
-use Rattle.pcfs_store.specs.Formats.{IsNewStore}
+use Rattle.pcfs_store.specs.Formats.{IsNewStore, IsNoneOrFresh, PairsLeft}
 use Rattle.pcfs_store.specs.Image.{fresh_image}
 use Rattle.pcfs_store.specs.StoredHistory.{payloads_of}
 use Rattle.pcfs_store.specs.Newest.{newer, newest, one_of}
@@ -30,7 +30,7 @@ use Rattle.recover.specs.Opening as opening
 use Rattle.pcfs_top.specs.Asker.{Asker, first_asker}
 use Rattle.pcfs_top.specs.InterpreterView.{InterpreterView, standing_over}
 use Rattle.pcfs_top.specs.Ports.{Streams, Disks, Ports, IfTold, AreBytesKept}
-use Rattle.pcfs_top.specs.Run.{AreKnown, IsScript, IsStored, IsInit, HasNoArea, IsOpened, Returns, HasCause, EndsWith, MemoryEnds, IsTold, IsUntold, TellsUnopened, TellsUnmade, damaged_text}
+use Rattle.pcfs_top.specs.Run.{AreKnown, IsScript, IsStored, IsInit, HasNoArea, IsNotLost, IsOpened, Returns, HasCause, EndsWith, MemoryEnds, IsTold, IsUntold, TellsUnopened, TellsUnmade, damaged_text}
 use Rattle.pcfs_top.specs.Run as run
 use Rattle.pcfs_top.specs.ScriptEnds.{ScriptEnds, with_line_end}
 use Rattle.pcfs_top.specs.ScriptRun.{Standing, IsLawfulStanding, fresh_start, script_pass}
@@ -113,6 +113,11 @@ module _ {D : Type 0} (clock : D → ℕ) (left_since : D → ℕ → List ℕ �
   abbrev AtRest : D → D → Type 0
   AtRest a b = IsPinned clock left_since image a × IsPinned clock left_since image b
 
+  -- the laws of a disk
+  pub record DiskLaws : Type 0 where
+    pub may_stay : (d : D) (bytes : List ℕ) → image d ≡ Some bytes → left_since d (clock d) bytes
+    pub earlier : (d : D) (t u : ℕ) (bytes : List ℕ) → t ≤ u → left_since d u bytes → left_since d t bytes
+
   -- ---- a store that is made
 
   module _ (words : List (String Global)) (secrets : Secrets) (a b : D) (is : IsInit words) where
@@ -141,16 +146,30 @@ module _ {D : Type 0} (clock : D → ℕ) (left_since : D → ℕ → List ℕ �
     kept : (a' b' : D) → (image a' ≡ image a) × (image b' ≡ image b) → AreBytesKept (disks_of a b) (disks_of a' b')
     kept a' b' same = record { a_stays = same.0; b_stays = same.1 }
 
+    -- what is left of the disks after a fault
+    pub not_lost : (laws : DiskLaws) (a' b' : D) → ((first second : List ℕ) → image a ≡ Some first → image b ≡ Some second → (IsShut first × IsShut second → ⊥) → IsPinned clock left_since image a → IsPinned clock left_since image b → (image a' ≡ image a) × (image b' ≡ image b)) →
+        (IsPinned clock left_since image b → image b' ≡ image b) → clock a ≤ clock a' → clock b ≤ clock b' →
+        ((first second : List ℕ) → image a ≡ Some first → image b ≡ Some second → IsPinned clock left_since image a → IsPinned clock left_since image b → IsShut first → IsShut second → PairsLeft clock left_since IsNoneOrFresh a b a' b') →
+        AtRest a b → IsNotLost (disks_of a b) (disks_of a' b')
+    not_lost laws a' b' open_kept b_kept a_later b_later any_moment rest = record {
+      b_stays = b_kept rest.1;
+      open_stays = λ x y is_x is_y open. kept a' b' (open_kept x y is_x is_y open rest.0 rest.1);
+      none_or_new = λ x y is_x is_y shut x' y' is_x' is_y'.
+          any_moment x y is_x is_y rest.0 rest.1 shut.0 shut.1 x' y'
+          (laws.earlier a' (clock a) (clock a') x' a_later (laws.may_stay a' x' is_x')) (laws.earlier b' (clock b) (clock b') y' b_later (laws.may_stay b' y' is_y'));
+    }
+
     pub EndsWith-unmade : (before after : Streams) (result : ℕ) (fault : FormatFault) (a' b' : D) →
         (fault ≡ formats.AlreadyStore → (first second : List ℕ) → image a ≡ Some first → image b ≡ Some second → IsShut first × IsShut second → ⊥) → ((fault ≡ formats.Disk → ⊥) → (image a' ≡ image a) × (image b' ≡ image b)) →
-        (fault ≡ formats.Disk → HasRisen (faults a) (faults a') ⊎ HasRisen (faults b) (faults b')) → after.left ≡ before.left → TellsUnmade fault before.held before.write_faults result after.held after.write_faults →
+        (fault ≡ formats.Disk → HasRisen (faults a) (faults a') ⊎ HasRisen (faults b) (faults b')) → (AtRest a b → IsNotLost (disks_of a b) (disks_of a' b')) → after.left ≡ before.left →
+        TellsUnmade fault before.held before.write_faults result after.held after.write_faults →
         EndsWith secrets words (AtRest a b) (record { streams = before; disks = disks_of a b }) (record { streams = after; disks = disks_of a' b' }) result
-    EndsWith-unmade before after result formats.AlreadyStore a' b' already same risen left tells =
+    EndsWith-unmade before after result formats.AlreadyStore a' b' already same risen lost left tells =
         told_as words secrets (AtRest a b) (record { streams = before; disks = disks_of a b }) (record { streams = after; disks = disks_of a' b' }) 10 (codes "exists") result
         (run.exists is (λ x y is_x is_y. already refl x y is_x is_y) (kept a' b' (same (λ e. absurd cc)))) left tells
-    EndsWith-unmade before after result formats.Disk a' b' already same risen left tells =
-        told_as words secrets (AtRest a b) (record { streams = before; disks = disks_of a b }) (record { streams = after; disks = disks_of a' b' }) 5 (codes "stopped") result (run.not_made is (risen refl)) left tells
-    EndsWith-unmade before after result formats.NoMemory a' b' already same risen left tells =
+    EndsWith-unmade before after result formats.Disk a' b' already same risen lost left tells =
+        told_as words secrets (AtRest a b) (record { streams = before; disks = disks_of a b }) (record { streams = after; disks = disks_of a' b' }) 5 (codes "stopped") result (run.not_made is (risen refl) lost) left tells
+    EndsWith-unmade before after result formats.NoMemory a' b' already same risen lost left tells =
         untold_as words secrets (AtRest a b) (record { streams = before; disks = disks_of a b }) (record { streams = after; disks = disks_of a' b' }) result (not_init words is) (run.is_init is) (kept a' b' (same (λ e. absurd cc))) left tells
 
     -- memory ran out at first

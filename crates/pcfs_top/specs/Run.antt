@@ -12,6 +12,7 @@ use Rattle.op_gate.specs.declared.damage.Damage.{Damage}
 use Rattle.op_gate.specs.declared.damage.Damage.TheVariants.{Header, Shape, Unsigned, Unproved, NotAdmitted, MomentFalls, Duplicate}
 use Rattle.pcfs_store.specs.Image.{fresh_image}
 use Rattle.pcfs_store.specs.StoredHistory.{payloads_of}
+use Rattle.pcfs_store.specs.Formats.{IsNoneOrFresh}
 use Rattle.pcfs_store.specs.Newest.{SurvivesWhole}
 use Rattle.pcfs_store.specs.Ready.{SurvivesWithOrWithout}
 use Rattle.pcfs_store.specs.declared.format.FormatFault.{FormatFault}
@@ -84,12 +85,18 @@ pub data MemoryEnds (secrets : Secrets) (before after : Streams) : ℕ → Type 
   ended : (status : ℕ) (end : Standing) → (status ≡ 5 → ⊥) → ScriptEnds (fresh_start secrets) end before after status → MemoryEnds secrets before after status
   disk_failed : (end : Standing) → ScriptEnds (fresh_start secrets) end before after 5 → MemoryEnds secrets before after 9
 
+-- What is left where the making of a store met the fault of a disk: if an area was open, all bytes are as they were; if none was, none is, or the new one. The second disk is as it was.
+pub record IsNotLost (before after : Disks) : Type 0 where
+  pub b_stays : after.b ≡ before.b
+  pub open_stays : IfTold before (λ x y. (HasNoArea x y → ⊥) → AreBytesKept before after)
+  pub none_or_new : IfTold before (λ x y. HasNoArea x y → IfTold after IsNoneOrFresh)
+
 -- what a run has to write if it ends with this status without an answer to a line: one line with the cause
 pub data HasCause (secrets : Secrets) (words : List (String Global)) (at_rest : Type 0) (before after : Disks) : ℕ → List ℕ → Type 0 where
   usage : (AreKnown words → ⊥) → after ≡ before → HasCause secrets words at_rest before after 1 (codes "usage")
   made : IsInit words → IfTold before (λ x y. HasNoArea x y × IfSome after.a (Closed (area_bytes 1 fresh_image []))) → after.b ≡ before.b → HasCause secrets words at_rest before after 0 (codes "ok")
   exists : IsInit words → IfTold before (λ x y. HasNoArea x y → ⊥) → AreBytesKept before after → HasCause secrets words at_rest before after 10 (codes "exists")
-  not_made : IsInit words → HasDiskFailed before after → HasCause secrets words at_rest before after 5 (codes "stopped")
+  not_made : IsInit words → HasDiskFailed before after → (at_rest → IsNotLost before after) → HasCause secrets words at_rest before after 5 (codes "stopped")
   no_store : IsStored words → IfTold before HasNoArea → AreBytesKept before after → HasCause secrets words at_rest before after 4 (codes "nostore")
   damaged : (number : ℕ) (damage : Damage) → IsStored words → IfTold before (IsNewestDamaged (authority_under secrets) number damage) → AreBytesKept before after → HasCause secrets words at_rest before after 3 (damaged_text number damage)
   not_opened : IsStored words → HasDiskFailed before after → (at_rest → AreBytesKept before after) → HasCause secrets words at_rest before after 5 (codes "stopped")
