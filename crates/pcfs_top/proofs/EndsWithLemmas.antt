@@ -219,7 +219,7 @@ module _ {D : Type 0} (clock : D → ℕ) (left_since : D → ℕ → List ℕ �
 
     -- what is left of the disks after a fault
     pub not_lost : (laws : DiskLaws) (a' b' : D) → ((first second : List ℕ) → image a ≡ Some first → image b ≡ Some second → (IsShut first × IsShut second → ⊥) → IsPinned clock left_since image a → IsPinned clock left_since image b → (image a' ≡ image a) × (image b' ≡ image b)) →
-        (IsPinned clock left_since image b → image b' ≡ image b) → clock a ≤ clock a' → clock b ≤ clock b' →
+        (IsPinned clock left_since image b → image b' ≡ image b) → ((first : List ℕ) → image a ≡ Some first → IsPinned clock left_since image a → clock a ≤ clock a') → clock b ≤ clock b' →
         ((first second : List ℕ) → image a ≡ Some first → image b ≡ Some second → IsPinned clock left_since image a → IsPinned clock left_since image b → IsShut first → IsShut second → PairsLeft clock left_since IsNoneOrFresh a b a' b') →
         AtRest a b → IsNotLost (disks_of a b) (disks_of a' b')
     not_lost laws a' b' open_kept b_kept a_later b_later any_moment rest = record {
@@ -227,7 +227,7 @@ module _ {D : Type 0} (clock : D → ℕ) (left_since : D → ℕ → List ℕ �
       open_stays = λ x y is_x is_y is_open. kept a' b' (open_kept x y is_x is_y is_open rest.0 rest.1);
       none_or_new = λ x y is_x is_y shut x' y' is_x' is_y'.
           any_moment x y is_x is_y rest.0 rest.1 shut.0 shut.1 x' y'
-          (laws.earlier a' (clock a) (clock a') x' a_later (laws.may_stay a' x' is_x')) (laws.earlier b' (clock b) (clock b') y' b_later (laws.may_stay b' y' is_y'));
+          (laws.earlier a' (clock a) (clock a') x' (a_later x is_x rest.0) (laws.may_stay a' x' is_x')) (laws.earlier b' (clock b) (clock b') y' b_later (laws.may_stay b' y' is_y'));
     }
 
     pub EndsWith-unmade : (before after : Streams) (result : ℕ) (fault : FormatFault) (a' b' : D) →
