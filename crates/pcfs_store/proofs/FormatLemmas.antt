@@ -1,9 +1,9 @@
 -- What the making of a store leaves.
-use Rattle.std.proofs.Common.{◌≡◌, ℕ, List, [], ◌∷◌, ◌++◌, length, get_or, Some, None, Bool, true, false, refl, sym, ◌∙◌, ap, subst, inl, inr, ⊎_elim, arith}
+use Rattle.std.proofs.Common.{◌≡◌, ℕ, List, [], ◌∷◌, ◌++◌, length, get_or, Some, None, Bool, true, false, refl, sym, ◌∙◌, ap, subst, inl, inr, ⊎_elim, arith, ◌≤◌}
 use Rattle.std.specs.Prelude.{Option, is_some, nat_lt, ◌==◌, ◌||◌, if◌then◌else◌}
 use Rattle.std.specs.Option.{option_map}
 use Rattle.std.specs.Int.{w64, from_be_bytes}
-use Rattle.std.specs.Prelude.{take, drop, Result, Ok, Err, IfOk, MatchResult}
+use Rattle.std.specs.Prelude.{take, drop, Result, Ok, Err, IfOk, IfErr, MatchResult}
 use Rattle.std.proofs.lemmas.Bool.{ne_eqb}
 use Rattle.pcfs_ports.specs.Disk.{written, IsPinned, Idles, LeavesOnly}
 use Rattle.journal_core.specs.Area.{area_bytes, IsShut, generation_of}
@@ -22,7 +22,7 @@ use Rattle.pcfs_store.specs.StoreView.{StoreView, body_of}
 use Rattle.pcfs_store.specs.Inside.{store_of}
 use Rattle.pcfs_store.specs.Ready.{IsBehind, IsReady}
 use Rattle.pcfs_store.specs.Formats.{IsNewStore, IsNoneOrFresh, PairsLeft}
-use Rattle.pcfs_store.proofs.SurvivalLemmas.{IsTellable, survives_beside}
+use Rattle.pcfs_store.proofs.SurvivalLemmas.{IsTellable, survives_closed}
 
 -- an area that is shut has no generation, and one that has none is shut
 pub none_shut : (bytes : List ℕ) → IsShut bytes → generation_of bytes ≡ None
@@ -68,7 +68,7 @@ none_or_fresh old first second shut behind left =
     (λ is_old. inl (none (subst IsShut (sym is_old) shut)))
     (λ other. ⊎_elim
     (λ is_shut. inl (none is_shut))
-    (λ is_new. inr (survives_beside false first second 1 fresh [] fresh_tellable is_new.stands (subst (IsBehind false 1) (sym (none_shut second behind)) tt)))
+    (λ is_new. inr (survives_closed false first second 1 fresh [] fresh_tellable is_new (subst (IsBehind false 1) (sym (none_shut second behind)) tt)))
     other)
     left
   where
@@ -145,3 +145,50 @@ module _ {D : Type 0} (clock : D → ℕ) (left_since : D → ℕ → List ℕ �
       IfOk made (λ s. (first second : List ℕ) → image a ≡ Some first → image b ≡ Some second → IsShut first × IsShut second)
   format_shut a b (Ok s) shut = shut
   format_shut a b (Err e) shut = tt
+
+  -- ---- what is only read
+
+  none_from : (told : Option (List ℕ)) → is_some told ≡ false → told ≡ None
+  none_from None e = refl
+  none_from (Some bytes) e = absurd cc
+
+  -- a disk that idles after nothing was pending has its bytes
+  pub idle_kept : ((disk : D) (t u : ℕ) (bytes : List ℕ) → t ≤ u → left_since disk u bytes → left_since disk t bytes) → ((disk : D) (bytes : List ℕ) → image disk ≡ Some bytes → left_since disk (clock disk) bytes) →
+      (old new : D) → is_some (image new) ≡ is_some (image old) → IsPinned clock left_since image old → Idles clock left_since old new → image new ≡ image old
+  idle_kept earlier may_stay old new told pinned idles = by (image new) refl
+    where
+      by : (now : Option (List ℕ)) → image new ≡ now → image new ≡ image old
+      by None is = is ∙ sym (none_from (image old) (sym told ∙ ap is_some is))
+      by (Some bytes) is = is ∙ sym (pinned bytes (idles.no_more (clock old) bytes (omega arith) (earlier new (clock old) (clock new) bytes idles.later (may_stay new bytes is))))
+
+  module _ {F : Type 0} (b mid_b : D) (idles_b : Idles clock left_since b mid_b) where
+    pub format_b_time : (made : Result (StoreView D) (F × D × D)) → MatchResult made (λ s. s.other ≡ mid_b) (λ e. e.2 ≡ mid_b) → MatchResult made (λ s. Idles clock left_since b s.other) (λ e. Idles clock left_since b e.2)
+    format_b_time (Ok s) is_b = subst (λ (d : D). Idles clock left_since b d) (sym is_b) idles_b
+    format_b_time (Err e) is_b = subst (λ (d : D). Idles clock left_since b d) (sym is_b) idles_b
+
+    pub format_b_later : (made : Result (StoreView D) (F × D × D)) → MatchResult made (λ s. s.other ≡ mid_b) (λ e. e.2 ≡ mid_b) → MatchResult made (λ s. clock b ≤ clock s.other) (λ e. clock b ≤ clock e.2)
+    format_b_later (Ok s) is_b = subst (λ (d : D). clock b ≤ clock d) (sym is_b) idles_b.later
+    format_b_later (Err e) is_b = subst (λ (d : D). clock b ≤ clock d) (sym is_b) idles_b.later
+
+    pub format_b_kept : (made : Result (StoreView D) (F × D × D)) → (IsPinned clock left_since image b → image mid_b ≡ image b) → MatchResult made (λ s. s.other ≡ mid_b) (λ e. e.2 ≡ mid_b) →
+        IfErr made (λ e. IsPinned clock left_since image b → image e.2 ≡ image b)
+    format_b_kept (Ok s) kept is_b = tt
+    format_b_kept (Err e) kept is_b = λ pinned. ap image is_b ∙ kept pinned
+
+  module _ {F : Type 0} (a b mid_a : D) (shut : (first second : List ℕ) → image a ≡ Some first → image b ≡ Some second → IsShut first × IsShut second) where
+    pub format_a_time : (made : Result (StoreView D) (F × D × D)) →
+        IfErr made (λ e. (first second : List ℕ) → image a ≡ Some first → image b ≡ Some second → (IsShut first × IsShut second → ⊥) → Idles clock left_since a e.1)
+    format_a_time (Ok s) = tt
+    format_a_time (Err e) = λ first second told_a told_b is_open. absurd (is_open (shut first second told_a told_b))
+
+    pub format_kept : (made : Result (StoreView D) (F × D × D)) →
+        IfErr made (λ e. (first second : List ℕ) → image a ≡ Some first → image b ≡ Some second → (IsShut first × IsShut second → ⊥) → IsPinned clock left_since image a → IsPinned clock left_since image b →
+        (image e.1 ≡ image a) × (image e.2 ≡ image b))
+    format_kept (Ok s) = tt
+    format_kept (Err e) = λ first second told_a told_b is_open _ _. absurd (is_open (shut first second told_a told_b))
+
+  pub format_a_later : {F : Type 0} (a mid_a : D) (made : Result (StoreView D) (F × D × D)) (first : List ℕ) → clock a ≤ clock mid_a →
+      MatchResult made (λ s. LeavesOnly clock left_since mid_a s.active (IsOldOrShutOrNew first (area_bytes 1 fresh_image []))) (λ e. LeavesOnly clock left_since mid_a e.1 (IsOldOrShutOrNew first (area_bytes 1 fresh_image []))) →
+      MatchResult made (λ s. clock a ≤ clock s.active) (λ e. clock a ≤ clock e.1)
+  format_a_later a mid_a (Ok s) first later leaves = omega (arith, later, leaves.later)
+  format_a_later a mid_a (Err e) first later leaves = omega (arith, later, leaves.later)

@@ -3,7 +3,7 @@ use Rattle.std.proofs.Common.{◌≡◌, ◌≢◌, ℕ, ◌+◌, ◌<◌, ◌�
 use Rattle.std.specs.Prelude.{Option, is_some, ℤ}
 use Rattle.pcfs_ports.specs.Faults.{HasRisen}
 use Rattle.pcfs_ports.specs.Disk.{LeavesOnly}
-use Rattle.journal_core.specs.Area.{area_limit, area_bytes, record_bytes, StandsForBody, generation_of}
+use Rattle.journal_core.specs.Area.{area_limit, area_bytes, record_bytes, StandsForBody, generation_of, Closed}
 use Rattle.journal_core.specs.AreaView.{AreaView}
 use Rattle.journal_core.specs.Rest.{Rests, IsWithOrWithout}
 use Rattle.journal_core.proofs.RecordLemmas.{record_length}
@@ -22,7 +22,7 @@ use Rattle.pcfs_store.specs.StoreView.{StoreView, first_disk, second_disk, body_
 use Rattle.pcfs_store.specs.Ready.{IsBehind, IsReady, IsCurrent, StopsLeave, StopsNow, SurvivesWithOrWithout, Keeps, ready, halted}
 use Rattle.pcfs_store.specs.Steps.{IsFullFor, with_event, Steps, kept, failed, LeavesStep}
 use Rattle.pcfs_store.specs.Keeping.{Writes, HasWritten}
-use Rattle.pcfs_store.proofs.SurvivalLemmas.{IsTellable, tellable_store, tellable_push, survives_beside, area_push, left_pairs, ready_survives_now, if_some}
+use Rattle.pcfs_store.proofs.SurvivalLemmas.{IsTellable, tellable_store, tellable_push, survives_closed, area_push, left_pairs, ready_survives_now, if_some}
 
 none_some : (o : Option ℕ) (pass : ℕ) → o ≡ None → o ≡ Some pass → ⊥
 none_some o pass none some = cc
@@ -126,9 +126,9 @@ module _ {D : Type 0} (clock : D → ℕ) (left_since : D → ℕ → List ℕ �
         let behind : IsBehind old.second_active old.generation (generation_of o) =
         subst (λ (bytes : List ℕ). IsBehind old.second_active old.generation (generation_of bytes)) (some_same is_ready.other_bytes o (sym is_ready.other_told ∙ is_ready.other_pinned o left_o)) is_ready.behind in
         ⊎_elim
-        (λ without. inl (survives_beside old.second_active a o old.generation old.base old.events (tellable_store old store) without.stands behind))
-        (λ with_it. inr (survives_beside old.second_active a o old.generation old.base (old.events ++ event ∷ []) push_tellable
-        (subst (λ (body : List ℕ). StandsForBody body a) (sym push_is) with_it.stands) behind))
+        (λ without. inl (survives_closed old.second_active a o old.generation old.base old.events (tellable_store old store) without behind))
+        (λ with_it. inr (survives_closed old.second_active a o old.generation old.base (old.events ++ event ∷ []) push_tellable
+        (subst (λ (body : List ℕ). Closed body a) (sym push_is) with_it) behind))
         ((goes_on is_ready).each a left_a))
         x y left_x left_y
 

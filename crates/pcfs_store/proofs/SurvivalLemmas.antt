@@ -5,7 +5,7 @@ use Rattle.std.specs.Option.{option_map}
 use Rattle.std.specs.Int.{w64, from_be_bytes}
 use Rattle.std.proofs.lemmas.Bool.{le-ltb, lt-ltb}
 use Rattle.std.proofs.lemmas.List.{take_all}
-use Rattle.journal_core.specs.Area.{area_limit, area_bytes, base_bytes, record_bytes, records, Begins, StandsForBody, IsGeneration, IsArea, generation_of}
+use Rattle.journal_core.specs.Area.{area_limit, area_bytes, base_bytes, record_bytes, records, Begins, StandsForBody, IsGeneration, IsArea, generation_of, Closed}
 use Rattle.journal_core.proofs.RecordLemmas.{base_generation, base_within, records_push}
 use Rattle.journal_core.proofs.ReadingLemmas.{base_begins, opens}
 use Rattle.journal_core.proofs.RestsLemmas.{some_same}
@@ -17,7 +17,7 @@ use Rattle.journal_records.specs.EventSpelling.{erase, event_spelling, IsSpellab
 use Rattle.journal_records.proofs.EventLemmas.{same_spelling}
 use Rattle.pcfs_store.specs.Image.{fresh_image, IsImageOf}
 use Rattle.pcfs_store.specs.StoredHistory.{payloads_of, AreSpellable, StandsFor, Resumes}
-use Rattle.pcfs_store.specs.Newest.{newer, one_of, newest, SurvivesWhole}
+use Rattle.pcfs_store.specs.Newest.{newer, one_of, newest, SurvivesClosed, SurvivesWhole, SurvivesWholeClosed}
 use Rattle.pcfs_store.specs.StoreView.{StoreView, first_disk, second_disk, body_of, IsStore}
 use Rattle.pcfs_store.specs.Ready.{IsBehind, IsReady, IsCurrent, StopsNow}
 
@@ -140,6 +140,16 @@ survives_beside second active other generation base events told stands behind =
     (newest_active second active other generation (generation_begins active generation fresh_image (payloads_of events) told.generated told.fits stands.front) behind)
     (record { image = fresh_image; is_image = told.is_image; spelled = told.spelled; is_area = record { generated = told.generated; fits = told.fits; stands = stands } })
 
+-- the same of bytes that are closed
+pub survives_closed : (second : Bool) (active other : List ℕ) (generation : ℕ) (base : BaseView) (events : List Event) → IsTellable generation base events →
+    Closed (area_bytes generation fresh_image (payloads_of events)) active → IsBehind second generation (generation_of other) →
+    SurvivesWholeClosed base events (one_of active other second) (one_of other active second)
+unfolding survives_beside survives_stands stands_erased
+survives_closed second active other generation base events told closed behind = record {
+  survives = survives_beside second active other generation base events told closed.stands behind;
+  gate = subst (λ (payloads : List (List ℕ)). length (area_bytes generation fresh_image payloads) < length active) (sym (payloads_erased events)) closed.gate;
+}
+
 -- ---- stores
 
 pub at_some : (told : Option (List ℕ)) (P : List ℕ → Type 0) (bytes : List ℕ) → told ≡ Some bytes → IfSome told P → P bytes
@@ -182,10 +192,34 @@ module _ {D : Type 0} where
         x y is_x is_y
 
     -- a crash now leaves the history of a ready store
-    pub ready_survives_now : IsStore s → IsReady clock left_since image s → StopsNow clock left_since image s (SurvivesWhole s.base s.events)
+    pub ready_survives_now : IsStore s → IsReady clock left_since image s → StopsNow clock left_since image s (SurvivesWholeClosed s.base s.events)
     ready_survives_now store ready x y left_x left_y =
-        left_pairs clock left_since s.second_active s.active s.active s.other (SurvivesWhole s.base s.events)
-        (λ a o left_a left_o. survives_beside s.second_active a o s.generation s.base s.events (tellable_store s store)
-        (subst (StandsForBody (body_of s)) (some_same ready.rests.bytes a (sym ready.rests.told ∙ ready.rests.pinned a left_a)) ready.rests.closed.stands)
+        left_pairs clock left_since s.second_active s.active s.active s.other (SurvivesWholeClosed s.base s.events)
+        (λ a o left_a left_o. survives_closed s.second_active a o s.generation s.base s.events (tellable_store s store)
+        (subst (Closed (body_of s)) (some_same ready.rests.bytes a (sym ready.rests.told ∙ ready.rests.pinned a left_a)) ready.rests.closed)
         (subst (λ (bytes : List ℕ). IsBehind s.second_active s.generation (generation_of bytes)) (some_same ready.other_bytes o (sym ready.other_told ∙ ready.other_pinned o left_o)) ready.behind))
         x y left_x left_y
+
+    -- what a read of the disks of a ready store gives has its history, and the closed gate
+    pub ready_survives : IsStore s → IsReady clock left_since image s → (x y : List ℕ) → image (first_disk s) ≡ Some x → image (second_disk s) ≡ Some y → SurvivesWholeClosed s.base s.events x y
+    ready_survives store ready x y is_x is_y =
+        told_pairs image s.second_active s.active s.other (SurvivesWholeClosed s.base s.events)
+        (λ a o is_a is_o. survives_closed s.second_active a o s.generation s.base s.events (tellable_store s store)
+        (subst (Closed (body_of s)) (some_same ready.rests.bytes a (sym ready.rests.told ∙ is_a)) ready.rests.closed)
+        (subst (λ (bytes : List ℕ). IsBehind s.second_active s.generation (generation_of bytes)) (some_same ready.other_bytes o (sym ready.other_told ∙ is_o)) ready.behind))
+        x y is_x is_y
+
+    -- the newest area that a read of the disks of a current store gives stands for its history, under its generation
+    pub current_stands : IsStore s → IsCurrent clock left_since image s → (x y : List ℕ) → image (first_disk s) ≡ Some x → image (second_disk s) ≡ Some y →
+        (bytes : List ℕ) × (newest x y ≡ Some bytes) × StandsFor bytes s.generation s.base s.events
+    current_stands store current x y is_x is_y =
+        told_pairs image s.second_active s.active s.other (λ u v. (bytes : List ℕ) × (newest u v ≡ Some bytes) × StandsFor bytes s.generation s.base s.events)
+        (λ a o is_a is_o.
+        let told = tellable_store s store in
+        let stands = at_some (image s.active) (StandsForBody (body_of s)) a is_a current.active in (
+          a,
+          newest_active s.second_active a o s.generation (generation_begins a s.generation fresh_image (payloads_of s.events) told.generated told.fits stands.front)
+              (at_some (image s.other) (λ bytes. IsBehind s.second_active s.generation (generation_of bytes)) o is_o current.other),
+          record { image = fresh_image; is_image = told.is_image; spelled = told.spelled; is_area = record { generated = told.generated; fits = told.fits; stands = stands } },
+        ))
+        x y is_x is_y

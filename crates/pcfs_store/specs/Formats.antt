@@ -2,7 +2,7 @@
 use Rattle.std.specs.Prelude.{◌≡◌, ◌⊎◌, ℕ, List, [], None, false}
 use Rattle.policy_statement.specs.Ring.{KeyView}
 use Rattle.access_history.specs.Replay.{fresh}
-use Rattle.pcfs_store.specs.Newest.{newest, SurvivesWhole}
+use Rattle.pcfs_store.specs.Newest.{newest, SurvivesWholeClosed}
 use Rattle.pcfs_store.specs.StoreView.{StoreView}
 
 -- a store under this key and this ring before its first event, whose area is on the first disk and has the generation 1
@@ -18,7 +18,7 @@ pub record IsNewStore {D : Type 0} (key : List ℕ) (ring : List KeyView) (s : S
 
 -- neither area is open, or the newest one is that of a store before its first event
 abbrev pub IsNoneOrFresh : List ℕ → List ℕ → Type 0
-IsNoneOrFresh first second = (newest first second ≡ None) ⊎ SurvivesWhole fresh [] first second
+IsNoneOrFresh first second = (newest first second ≡ None) ⊎ SurvivesWholeClosed fresh [] first second
 
 -- A crash at any moment of the one disk and at any of the other, while they went from a and b to new ones, leaves only pairs with P.
 module _ {D : Type 0} (clock : D → ℕ) (left_since : D → ℕ → List ℕ → Type 0) where

@@ -6,7 +6,7 @@ use Rattle.access_history.specs.declared.reply.StepReply.{StepReply}
 use Rattle.access_history.specs.Lawful.{IsLawful}
 use Rattle.pcfs_store.specs.declared.reply.StoreReply.{StoreReply}
 use Rattle.pcfs_store.specs.declared.reply.StoreReply.TheVariants.{Full, NoMemory}
-use Rattle.pcfs_store.specs.Newest.{SurvivesWhole}
+use Rattle.pcfs_store.specs.Newest.{SurvivesWhole, SurvivesWholeClosed}
 use Rattle.pcfs_store.specs.StoreView.{StoreView, AnswersIn, authority_of_store, IsStore, first_disk, second_disk}
 use Rattle.pcfs_store.specs.Entries.{root_of, entries_of, events_among, used_by}
 use Rattle.pcfs_store.specs.Ready.{IsReady, IsCurrent, StopsNow}
@@ -37,4 +37,4 @@ abbrev pub ReadyIsCurrent : (D : Type 0) → (D → ℕ) → (D → ℕ → List
 ReadyIsCurrent D clock left_since image = (s : StoreView D) → IsReady clock left_since image s → IsCurrent clock left_since image s
 
 abbrev pub ReadySurvives : (D : Type 0) → (D → ℕ) → (D → ℕ → List ℕ → Type 0) → (D → Option (List ℕ)) → Type 0
-ReadySurvives D clock left_since image = (s : StoreView D) → IsStore s → IsReady clock left_since image s → StopsNow clock left_since image s (SurvivesWhole s.base s.events)
+ReadySurvives D clock left_since image = (s : StoreView D) → IsStore s → IsReady clock left_since image s → StopsNow clock left_since image s (SurvivesWholeClosed s.base s.events)

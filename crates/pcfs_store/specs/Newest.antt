@@ -1,10 +1,10 @@
 -- Which of two areas counts, and what its bytes have to say. This project's own.
-use Rattle.std.specs.Prelude.{◌≡◌, ℕ, List, Option, Some, None, Bool, true, false, nat_lt, length}
+use Rattle.std.specs.Prelude.{◌≡◌, ℕ, List, Option, Some, None, Bool, true, false, nat_lt, length, ◌<◌}
 use Rattle.std.specs.Option.{option_map}
-use Rattle.journal_core.specs.Area.{generation_of}
+use Rattle.journal_core.specs.Area.{area_bytes, generation_of}
 use Rattle.access_history.specs.declared.event.Event.{Event}
 use Rattle.access_history.specs.Base.{BaseView}
-use Rattle.pcfs_store.specs.StoredHistory.{StandsFor, Resumes}
+use Rattle.pcfs_store.specs.StoredHistory.{payloads_of, StandsFor, Resumes}
 
 -- Whether the second of two areas counts, by their generations: the open one with the greater generation, the first if they are equal; none if neither is open.
 abbrev pub newer : Option ℕ → Option ℕ → Option Bool
@@ -32,6 +32,15 @@ pub record Survives (base : BaseView) (events : List Event) (kept : ℕ) (first 
   pub stands : StandsFor bytes generation found_base found
   pub resumes : Resumes found_base found base events kept
 
+-- The same, and a closed gate follows the area, so that what is opened is ready for the next record.
+pub record SurvivesClosed (base : BaseView) (events : List Event) (kept : ℕ) (first second : List ℕ) : Type 0 where
+  pub survives : Survives base events kept first second
+  pub gate : length (area_bytes survives.generation survives.stands.image (payloads_of survives.found)) < length survives.bytes
+
 -- the whole history survives
 abbrev pub SurvivesWhole : BaseView → List Event → List ℕ → List ℕ → Type 0
 SurvivesWhole base events first second = Survives base events (length events) first second
+
+-- the same, in an area with its closed gate
+abbrev pub SurvivesWholeClosed : BaseView → List Event → List ℕ → List ℕ → Type 0
+SurvivesWholeClosed base events first second = SurvivesClosed base events (length events) first second

@@ -5,7 +5,7 @@ use Rattle.journal_core.specs.Area.{StandsForBody, generation_of}
 use Rattle.journal_core.specs.Rest.{Rests}
 use Rattle.access_history.specs.declared.event.Event.{Event}
 use Rattle.access_history.specs.Base.{BaseView}
-use Rattle.pcfs_store.specs.Newest.{SurvivesWhole}
+use Rattle.pcfs_store.specs.Newest.{SurvivesWholeClosed}
 use Rattle.pcfs_store.specs.StoreView.{StoreView, first_disk, second_disk, body_of}
 
 -- what a generation that is equal lacks to count: the first area counts then
@@ -18,9 +18,9 @@ abbrev pub IsBehind : Bool → ℕ → Option ℕ → Type 0
 IsBehind second_active generation None = Unit {0}
 IsBehind second_active generation (Some found) = found + tie second_active ≤ generation
 
--- the history survives, or with it one event that met a fault
+-- the history survives, or with it one event that met a fault, in an area with its closed gate
 abbrev pub SurvivesWithOrWithout : BaseView → List Event → Event → List ℕ → List ℕ → Type 0
-SurvivesWithOrWithout base events met first second = SurvivesWhole base events first second ⊎ SurvivesWhole base (events ++ met ∷ []) first second
+SurvivesWithOrWithout base events met first second = SurvivesWholeClosed base events first second ⊎ SurvivesWholeClosed base (events ++ met ∷ []) first second
 
 -- Below, `clock d` is the present moment of a disk d, `left_since d t bytes` says that a crash at some moment since t may have left these bytes, and `image d` is what a read gives, if d tells it.
 module _ {D : Type 0} (clock : D → ℕ) (left_since : D → ℕ → List ℕ → Type 0) (image : D → Option (List ℕ)) where

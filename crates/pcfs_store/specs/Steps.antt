@@ -8,7 +8,7 @@ use Rattle.journal_records.specs.EventSpelling.{event_spelling}
 use Rattle.pcfs_store.specs.declared.reply.StoreReply.{StoreReply}
 use Rattle.pcfs_store.specs.declared.reply.StoreReply.TheVariants.{Step, Full, Stopped, NoMemory}
 use Rattle.pcfs_store.specs.StoredHistory.{IsFull}
-use Rattle.pcfs_store.specs.Newest.{SurvivesWhole}
+use Rattle.pcfs_store.specs.Newest.{SurvivesWholeClosed}
 use Rattle.pcfs_store.specs.StoreView.{StoreView, state_of_store, AnswersIn}
 
 -- the event does not fit
@@ -39,8 +39,8 @@ pub data Steps {D : Type 0} (faults : D → ℕ) (old : StoreView D) (pass : ℕ
   -- memory ran out
   without_memory : old.stop ≡ None → Steps faults old pass clock request NoMemory old
 
--- what a crash within a step may leave: the history as it was, or with the event that the answer keeps
+-- what a crash within a step may leave: the history as it was, or with the event that the answer keeps; and the closed gate after it
 abbrev pub LeavesStep : {D : Type 0} → StoreView D → ℕ → ℤ → StepRequest → List ℕ → List ℕ → Type 0
 LeavesStep old pass clock request first second =
-    SurvivesWhole old.base old.events first second
-    ⊎ ((reply : StepReply) × (event : Event) × AnswersIn old pass clock request reply (Some event) × SurvivesWhole old.base (old.events ++ event ∷ []) first second)
+    SurvivesWholeClosed old.base old.events first second
+    ⊎ ((reply : StepReply) × (event : Event) × AnswersIn old pass clock request reply (Some event) × SurvivesWholeClosed old.base (old.events ++ event ∷ []) first second)

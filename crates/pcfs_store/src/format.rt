@@ -158,6 +158,20 @@ pub fn format_store<D: Disk>(
     ensures a_never_falls { MatchResult result (λ s. D.faults a ≤ D.faults s.active) (λ e. D.faults a ≤ D.faults e.1) }
     ensures b_never_falls { MatchResult result (λ s. D.faults b ≤ D.faults s.other) (λ e. D.faults b ≤ D.faults e.2) }
 
+    // The second disk is only read, and so is the first if either area was open: a fault then loses nothing.
+    ensures b_time { MatchResult result (λ s. Idles D.clock D.left_since b s.other) (λ e. Idles D.clock D.left_since b e.2) }
+    ensures a_time { IfErr result (λ e. (first second : List ℕ) → D.image a ≡ Some first → D.image b ≡ Some second →
+        (IsShut first × IsShut second → ⊥) → Idles D.clock D.left_since a e.1) }
+    ensures kept { IfErr result (λ e. (first second : List ℕ) → D.image a ≡ Some first → D.image b ≡ Some second →
+        (IsShut first × IsShut second → ⊥) → IsPinned D.clock D.left_since D.image a → IsPinned D.clock D.left_since D.image b →
+        (D.image e.1 ≡ D.image a) × (D.image e.2 ≡ D.image b)) }
+    ensures b_kept { IfErr result (λ e. IsPinned D.clock D.left_since D.image b → D.image e.2 ≡ D.image b) }
+
+    // Time goes on.
+    ensures a_later { (first : List ℕ) → D.image a ≡ Some first → IsPinned D.clock D.left_since D.image a →
+        MatchResult result (λ s. D.clock a ≤ D.clock s.active) (λ e. D.clock a ≤ D.clock e.1) }
+    ensures b_later { MatchResult result (λ s. D.clock b ≤ D.clock s.other) (λ e. D.clock b ≤ D.clock e.2) }
+
     // A crash at any moment leaves no open area, or the one of the new store.
     ensures any_moment { (first second : List ℕ) → D.image a ≡ Some first → D.image b ≡ Some second →
         IsPinned D.clock D.left_since D.image a → IsPinned D.clock D.left_since D.image b → IsShut first → IsShut second →

@@ -126,9 +126,9 @@ impl<D: Disk> Store<D> {
     /// Answers the request at the moment that the clock shows, in whole seconds from 1970-01-01T00:00:00Z. What the answer
     /// keeps carries the number `pass`; it is on the disk before this returns.
     ///
-    /// `Full` comes exactly if the answer's event does not fit, `Stopped` if a disk failed in this step or an earlier one.
-    /// After these and `NoMemory` the history is as it was, and all memory is taken before the first write. A store that is
-    /// stopped touches no disk.
+    /// `Full` comes exactly if the answer's event does not fit. `Stopped` comes if a disk failed in an earlier step, and then
+    /// no disk is touched; or if it fails in this one, and only if its count of faults rose. After these and `NoMemory` the
+    /// history is as it was, and after `Full` and `NoMemory` so are the disks.
     pub fn step(&mut self, alloc: Global, pass: u64, request: StepRequest, clock: i64) -> StoreReply
         requires in_range { IsMoment clock }
         requires well_formed { IsWellFormed request }

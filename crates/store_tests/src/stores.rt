@@ -1,8 +1,10 @@
 //! Stores, as they are made and stepped.
 
+ghost use Rattle.std.specs.Prelude.{IfSome};
+ghost use Rattle.access_history.specs.WellFormed.{IsWellFormed};
+
 use access_history::{StepReply, StepRequest};
 use bl_syntax::{Bytes, Formula, Numbers, Principal, Statement, TimePoint};
-use journal_core::Area;
 use pcfs_ports::MemoryDisk;
 use pcfs_store::{FormatFault, Store, StoreReply, format_store, newer};
 use policy_statement::{Keyring, statement_message};
@@ -39,7 +41,9 @@ fn made(alloc: Global, first: &[u8], failing: &[u32]) -> Result<Store<MemoryDisk
 }
 
 // The request to register that `admin` says true until then.
-fn request_until(alloc: Global, until: i64) -> Option<StepRequest> {
+fn request_until(alloc: Global, until: i64) -> Option<StepRequest>
+    ensures { IfSome result IsWellFormed }
+{
     let admin = Principal::new(b"admin")?;
     let statement = Statement::new(admin, Formula::True, TimePoint::At(0), TimePoint::At(until))?;
     let message = statement_message(alloc, &statement).ok()?;
