@@ -1,5 +1,5 @@
 -- The ends of a run.
-use Rattle.std.proofs.Common.{◌≡◌, ◌⊎◌, inl, inr, ℕ, ◌≤◌, Bool, true, false, List, [], ◌∷◌, ◌++◌, length, take, drop, ap, sym, subst, ◌∙◌, arith, Option, Some, None, refl}
+use Rattle.std.proofs.Common.{◌≡◌, ◌⊎◌, inl, inr, ℕ, ◌≤◌, ◌<◌, ◌+◌, le-ltb, lt-ltb, Bool, true, false, List, [], ◌∷◌, ◌++◌, length, take, drop, ap, sym, subst, ◌∙◌, arith, Option, Some, None, refl}
 use Rattle.std.specs.Prelude.{String, codes, IfSome, nat_lt, ◌==◌, if◌then◌else◌}
 use Rattle.std.specs.Int.{w64, from_be_bytes}
 use Rattle.std.specs.Option.{option_map}
@@ -7,30 +7,30 @@ use Rattle.std.specs.declared.alloc.Global.{Global}
 use Rattle.std.proofs.lemmas.Int.{ints}
 use Rattle.pcfs_ports.specs.Faults.{HasRisen}
 use Rattle.pcfs_ports.specs.Disk.{IsPinned}
-use Rattle.journal_core.specs.Area.{IsShut, Closed, area_bytes, generation_of}
+use Rattle.journal_core.specs.Area.{IsShut, Closed, StandsForBody, area_bytes, generation_of}
 use Rattle.access_history.specs.declared.event.Event.{Event}
 use Rattle.access_history.specs.History.{authority_with}
 use Rattle.access_history.specs.Lawful.{IsLawful}
 use Rattle.access_history.specs.Replay.{fresh}
 use Rattle.policy_statement.specs.Ring.{KeyView}
 use Rattle.pcfs_secrets.specs.declared.secrets.Secrets.{Secrets}
-use Rattle.pcfs_store.specs.Formats.{IsNewStore}
+use Rattle.pcfs_store.specs.Formats.{IsNewStore, IsNoneOrFresh, PairsLeft}
 use Rattle.pcfs_store.specs.Image.{fresh_image}
 use Rattle.pcfs_store.specs.StoredHistory.{payloads_of}
 use Rattle.pcfs_store.specs.Newest.{newer, newest, one_of}
 use Rattle.pcfs_store.specs.StoreView.{StoreView, first_disk, second_disk, IsStore, body_of}
-use Rattle.pcfs_store.specs.Ready.{IsReady}
+use Rattle.pcfs_store.specs.Ready.{IsReady, IsCurrent, IsBehind}
 use Rattle.pcfs_store.specs.declared.format.FormatFault.{FormatFault}
 use Rattle.pcfs_store.specs.declared.format.FormatFault.TheVariants as formats
-use Rattle.pcfs_store.proofs.SurvivalLemmas.{current_survives}
+use Rattle.pcfs_store.proofs.SurvivalLemmas.{at_some, told_pairs, tellable_store, generation_begins, newest_active, ready_current}
 use Rattle.recover.specs.declared.fault.OpenFault.{OpenFault}
 use Rattle.recover.specs.declared.fault.OpenFault.TheVariants as opens
-use Rattle.recover.specs.Opening.{IsNotOpened}
+use Rattle.recover.specs.Opening.{IsNotOpened, IsNewestClosed}
 use Rattle.recover.specs.Opening as opening
 use Rattle.pcfs_top.specs.Asker.{Asker, first_asker}
 use Rattle.pcfs_top.specs.InterpreterView.{InterpreterView, standing_over}
-use Rattle.pcfs_top.specs.Ports.{Streams, Disks, Ports, IfTold, AreBytesKept}
-use Rattle.pcfs_top.specs.Run.{AreKnown, IsScript, IsStored, IsInit, HasNoArea, IsOpened, Returns, HasCause, EndsWith, MemoryEnds, IsTold, IsUntold, TellsUnopened, TellsUnmade, damaged_text}
+use Rattle.pcfs_top.specs.Ports.{Streams, Disks, Ports, Rests, IfTold, AreBytesKept}
+use Rattle.pcfs_top.specs.Run.{AreKnown, IsScript, IsStored, IsInit, HasNoArea, IsNotLost, IsOpened, IsNewestOf, Returns, HasCause, EndsWith, MemoryEnds, IsTold, IsUntold, TellsUnopened, TellsUnmade, damaged_text}
 use Rattle.pcfs_top.specs.Run as run
 use Rattle.pcfs_top.specs.ScriptEnds.{ScriptEnds, with_line_end}
 use Rattle.pcfs_top.specs.ScriptRun.{Standing, IsLawfulStanding, fresh_start, script_pass}
@@ -57,19 +57,19 @@ fresh_over secrets s new =
 
 -- ---- a last line
 
-told_as : (words : List (String Global)) (secrets : Secrets) (at_rest : Type 0) (before after : Ports) (status : ℕ) (line : List ℕ) (result : ℕ) → HasCause secrets words at_rest before.disks after.disks status line → after.streams.left ≡ before.streams.left →
-    IsTold status line before.streams.held before.streams.write_faults result after.streams.held after.streams.write_faults → EndsWith secrets words at_rest before after result
-told_as words secrets at_rest before after status line result cause left (inl told) = subst (EndsWith secrets words at_rest before after) (sym told.0) (run.told status line cause left told.1)
-told_as words secrets at_rest before after status line result cause left (inr failed) = subst (EndsWith secrets words at_rest before after) (sym failed.0) (run.cut_short status line cause left failed.1 failed.2)
+told_as : (words : List (String Global)) (secrets : Secrets) (rests : Rests) (before after : Ports) (status : ℕ) (line : List ℕ) (result : ℕ) → HasCause secrets words rests before.disks after.disks status line → after.streams.left ≡ before.streams.left →
+    IsTold status line before.streams.held before.streams.write_faults result after.streams.held after.streams.write_faults → EndsWith secrets words rests before after result
+told_as words secrets rests before after status line result cause left (inl told) = subst (EndsWith secrets words rests before after) (sym told.0) (run.told status line cause left told.1)
+told_as words secrets rests before after status line result cause left (inr failed) = subst (EndsWith secrets words rests before after) (sym failed.0) (run.cut_short status line cause left failed.1 failed.2)
 
-untold_as : (words : List (String Global)) (secrets : Secrets) (at_rest : Type 0) (before after : Ports) (result : ℕ) → (IsScript words → ⊥) → AreKnown words → AreBytesKept before.disks after.disks → after.streams.left ≡ before.streams.left →
-    IsUntold before.streams.held result after.streams.held → EndsWith secrets words at_rest before after result
-untold_as words secrets at_rest before after result other known kept left untold = subst (EndsWith secrets words at_rest before after) (sym untold.0) (run.out_of_memory other known kept left untold.1)
+untold_as : (words : List (String Global)) (secrets : Secrets) (rests : Rests) (before after : Ports) (result : ℕ) → (IsScript words → ⊥) → AreKnown words → AreBytesKept before.disks after.disks → after.streams.left ≡ before.streams.left →
+    IsUntold before.streams.held result after.streams.held → EndsWith secrets words rests before after result
+untold_as words secrets rests before after result other known kept left untold = subst (EndsWith secrets words rests before after) (sym untold.0) (run.out_of_memory other known kept left untold.1)
 
 -- the words are no command
-pub EndsWith-usage : (words : List (String Global)) (secrets : Secrets) (at_rest : Type 0) (before after : Ports) (result : ℕ) → (AreKnown words → ⊥) → after.disks ≡ before.disks → after.streams.left ≡ before.streams.left →
-    IsTold 1 (codes "usage") before.streams.held before.streams.write_faults result after.streams.held after.streams.write_faults → EndsWith secrets words at_rest before after result
-EndsWith-usage words secrets at_rest before after result unknown same left told = told_as words secrets at_rest before after 1 (codes "usage") result (run.usage unknown same) left told
+pub EndsWith-usage : (words : List (String Global)) (secrets : Secrets) (rests : Rests) (before after : Ports) (result : ℕ) → (AreKnown words → ⊥) → after.disks ≡ before.disks → after.streams.left ≡ before.streams.left →
+    IsTold 1 (codes "usage") before.streams.held before.streams.write_faults result after.streams.held after.streams.write_faults → EndsWith secrets words rests before after result
+EndsWith-usage words secrets rests before after result unknown same left told = told_as words secrets rests before after 1 (codes "usage") result (run.usage unknown same) left told
 
 -- ---- words
 
@@ -113,6 +113,82 @@ module _ {D : Type 0} (clock : D → ℕ) (left_since : D → ℕ → List ℕ �
   abbrev AtRest : D → D → Type 0
   AtRest a b = IsPinned clock left_since image a × IsPinned clock left_since image b
 
+  abbrev rests_of : D → D → D → D → Rests
+  rests_of a b a' b' = record { before = AtRest a b; after = AtRest a' b' }
+
+  -- the laws of a disk
+  pub record DiskLaws : Type 0 where
+    pub may_stay : (d : D) (bytes : List ℕ) → image d ≡ Some bytes → left_since d (clock d) bytes
+    pub earlier : (d : D) (t u : ℕ) (bytes : List ℕ) → t ≤ u → left_since d u bytes → left_since d t bytes
+
+  -- ---- stores that are ready, and those that are current
+
+  both_pinned : (second : Bool) (active other : D) → IsPinned clock left_since image active → IsPinned clock left_since image other → AtRest (one_of active other second) (one_of other active second)
+  both_pinned false active other one two = (one, two)
+  both_pinned true active other one two = (two, one)
+
+  pinned_at : (s : StoreView D) (a' b' : D) → a' ≡ first_disk s → b' ≡ second_disk s → IsReady clock left_since image s → AtRest a' b'
+  pinned_at s a' b' a_is b_is ready =
+      let both = both_pinned s.second_active s.active s.other ready.rests.pinned ready.other_pinned in
+      (subst (IsPinned clock left_since image) (sym a_is) both.0, subst (IsPinned clock left_since image) (sym b_is) both.1)
+
+  -- which area counts
+  counts_first : (generation : ℕ) (other : Option ℕ) → IsBehind false generation other → newer (Some generation) other ≡ Some false
+  counts_first generation None behind = refl
+  counts_first generation (Some found) behind = ap Some (le-ltb generation found (omega (arith, behind)))
+
+  counts_second : (generation : ℕ) (other : Option ℕ) → IsBehind true generation other → newer other (Some generation) ≡ Some true
+  counts_second generation None behind = refl
+  counts_second generation (Some found) behind = ap Some (lt-ltb found generation (omega (arith, behind)))
+
+  counts_at : (second : Bool) (active other : List ℕ) (generation : ℕ) → generation_of active ≡ Some generation → IsBehind second generation (generation_of other) →
+      newer (generation_of (one_of active other second)) (generation_of (one_of other active second)) ≡ Some second
+  counts_at false active other generation is behind = ap (λ (o : Option ℕ). newer o (generation_of other)) is ∙ counts_first generation (generation_of other) behind
+  counts_at true active other generation is behind = ap (λ (o : Option ℕ). newer (generation_of other) o) is ∙ counts_second generation (generation_of other) behind
+
+  -- what a read gives of the areas of a current store
+  module _ (s : StoreView D) (store : IsStore s) (current : IsCurrent clock left_since image s) where
+    body_at : (active : List ℕ) → image s.active ≡ Some active → StandsForBody (body_of s) active
+    body_at active told = at_some (image s.active) (StandsForBody (body_of s)) active told current.active
+
+    behind_at : (other : List ℕ) → image s.other ≡ Some other → IsBehind s.second_active s.generation (generation_of other)
+    behind_at other told = at_some (image s.other) (λ bytes. IsBehind s.second_active s.generation (generation_of bytes)) other told current.other
+
+    generation_at : (active : List ℕ) → image s.active ≡ Some active → generation_of active ≡ Some s.generation
+    generation_at active told =
+        let t = tellable_store s store in generation_begins active s.generation fresh_image (payloads_of s.events) t.generated t.fits (body_at active told).front
+
+    newest_of : (x y : List ℕ) → image (first_disk s) ≡ Some x → image (second_disk s) ≡ Some y → IsNewestOf s.generation s.base s.events x y
+    newest_of = told_pairs image s.second_active s.active s.other (IsNewestOf s.generation s.base s.events) (λ a o is_a is_o.
+        let t = tellable_store s store in
+        record {
+          bytes = a;
+          counts = newest_active s.second_active a o s.generation (generation_at a is_a) (behind_at o is_o);
+          stands = record { image = fresh_image; is_image = t.is_image; spelled = t.spelled; is_area = record { generated = t.generated; fits = t.fits; stands = body_at a is_a } };
+        })
+
+    counts_now : (x y : List ℕ) → image (first_disk s) ≡ Some x → image (second_disk s) ≡ Some y → newer (generation_of x) (generation_of y) ≡ Some s.second_active
+    counts_now = told_pairs image s.second_active s.active s.other (λ x y. newer (generation_of x) (generation_of y) ≡ Some s.second_active)
+        (λ a o is_a is_o. counts_at s.second_active a o s.generation (generation_at a is_a) (behind_at o is_o))
+
+  same_some : (x y : List ℕ) → Some x ≡ Some y → x ≡ y
+  same_some x y is = cc
+
+  closed_of : (s : StoreView D) → IsStore s → IsReady clock left_since image s → (x y : List ℕ) → image (first_disk s) ≡ Some x → image (second_disk s) ≡ Some y → IsNewestClosed s.generation s.events x y
+  closed_of s store ready = told_pairs image s.second_active s.active s.other (IsNewestClosed s.generation s.events) (λ a o is_a is_o.
+      let current = ready_current clock left_since image s ready in
+      record {
+        bytes = a;
+        counts = newest_active s.second_active a o s.generation (generation_at s store current a is_a) (behind_at s store current o is_o);
+        gate = subst (λ (bytes : List ℕ). length (body_of s) < length bytes) (same_some ready.rests.bytes a (sym ready.rests.told ∙ is_a)) ready.rests.closed.gate;
+      })
+
+  -- the disk that does not count
+  other_same : (second : Bool) (active active' other : D) (x y : Option (List ℕ)) → image (one_of active other second) ≡ x → image (one_of other active second) ≡ y →
+      one_of (image (one_of other active' second)) (image (one_of active' other second)) second ≡ one_of y x second
+  other_same false active active' other x y is_x is_y = is_y
+  other_same true active active' other x y is_x is_y = is_x
+
   -- ---- a store that is made
 
   module _ (words : List (String Global)) (secrets : Secrets) (a b : D) (is : IsInit words) where
@@ -133,30 +209,44 @@ module _ {D : Type 0} (clock : D → ℕ) (left_since : D → ℕ → List ℕ �
     pub EndsWith-made : (before after : Streams) (result : ℕ) (s : StoreView D) (a' b' : D) → IsNewStore secrets.seal_key secrets.ring s →
         ((first second : List ℕ) → image a ≡ Some first → image b ≡ Some second → IsReady clock left_since image s) → ((first second : List ℕ) → image a ≡ Some first → image b ≡ Some second → IsShut first × IsShut second) → image s.other ≡ image b →
         a' ≡ first_disk s → b' ≡ second_disk s → after.left ≡ before.left → IsTold 0 (codes "ok") before.held before.write_faults result after.held after.write_faults →
-        EndsWith secrets words (AtRest a b) (record { streams = before; disks = disks_of a b }) (record { streams = after; disks = disks_of a' b' }) result
+        EndsWith secrets words (rests_of a b a' b') (record { streams = before; disks = disks_of a b }) (record { streams = after; disks = disks_of a' b' }) result
     EndsWith-made before after result s a' b' new ready shut b_same a_is b_is left tells =
-        told_as words secrets (AtRest a b) (record { streams = before; disks = disks_of a b }) (record { streams = after; disks = disks_of a' b' }) 0 (codes "ok") result
-        (run.made is (λ x y is_x is_y. (shut x y is_x is_y, has_area s a' new a_is (ready x y is_x is_y))) (ap image (b_is ∙ on_second s new.on_first) ∙ b_same)) left tells
+        told_as words secrets (rests_of a b a' b') (record { streams = before; disks = disks_of a b }) (record { streams = after; disks = disks_of a' b' }) 0 (codes "ok") result
+        (run.made is (λ x y is_x is_y. (shut x y is_x is_y, (pinned_at s a' b' a_is b_is (ready x y is_x is_y), has_area s a' new a_is (ready x y is_x is_y)))) (ap image (b_is ∙ on_second s new.on_first) ∙ b_same)) left tells
 
     kept : (a' b' : D) → (image a' ≡ image a) × (image b' ≡ image b) → AreBytesKept (disks_of a b) (disks_of a' b')
     kept a' b' same = record { a_stays = same.0; b_stays = same.1 }
 
+    -- what is left of the disks after a fault
+    pub not_lost : (laws : DiskLaws) (a' b' : D) → ((first second : List ℕ) → image a ≡ Some first → image b ≡ Some second → (IsShut first × IsShut second → ⊥) → IsPinned clock left_since image a → IsPinned clock left_since image b → (image a' ≡ image a) × (image b' ≡ image b)) →
+        (IsPinned clock left_since image b → image b' ≡ image b) → ((first : List ℕ) → image a ≡ Some first → IsPinned clock left_since image a → clock a ≤ clock a') → clock b ≤ clock b' →
+        ((first second : List ℕ) → image a ≡ Some first → image b ≡ Some second → IsPinned clock left_since image a → IsPinned clock left_since image b → IsShut first → IsShut second → PairsLeft clock left_since IsNoneOrFresh a b a' b') →
+        AtRest a b → IsNotLost (disks_of a b) (disks_of a' b')
+    not_lost laws a' b' open_kept b_kept a_later b_later any_moment rest = record {
+      b_stays = b_kept rest.1;
+      open_stays = λ x y is_x is_y is_open. kept a' b' (open_kept x y is_x is_y is_open rest.0 rest.1);
+      none_or_new = λ x y is_x is_y shut x' y' is_x' is_y'.
+          any_moment x y is_x is_y rest.0 rest.1 shut.0 shut.1 x' y'
+          (laws.earlier a' (clock a) (clock a') x' (a_later x is_x rest.0) (laws.may_stay a' x' is_x')) (laws.earlier b' (clock b) (clock b') y' b_later (laws.may_stay b' y' is_y'));
+    }
+
     pub EndsWith-unmade : (before after : Streams) (result : ℕ) (fault : FormatFault) (a' b' : D) →
         (fault ≡ formats.AlreadyStore → (first second : List ℕ) → image a ≡ Some first → image b ≡ Some second → IsShut first × IsShut second → ⊥) → ((fault ≡ formats.Disk → ⊥) → (image a' ≡ image a) × (image b' ≡ image b)) →
-        (fault ≡ formats.Disk → HasRisen (faults a) (faults a') ⊎ HasRisen (faults b) (faults b')) → after.left ≡ before.left → TellsUnmade fault before.held before.write_faults result after.held after.write_faults →
-        EndsWith secrets words (AtRest a b) (record { streams = before; disks = disks_of a b }) (record { streams = after; disks = disks_of a' b' }) result
-    EndsWith-unmade before after result formats.AlreadyStore a' b' already same risen left tells =
-        told_as words secrets (AtRest a b) (record { streams = before; disks = disks_of a b }) (record { streams = after; disks = disks_of a' b' }) 10 (codes "exists") result
+        (fault ≡ formats.Disk → HasRisen (faults a) (faults a') ⊎ HasRisen (faults b) (faults b')) → (AtRest a b → IsNotLost (disks_of a b) (disks_of a' b')) → after.left ≡ before.left →
+        TellsUnmade fault before.held before.write_faults result after.held after.write_faults →
+        EndsWith secrets words (rests_of a b a' b') (record { streams = before; disks = disks_of a b }) (record { streams = after; disks = disks_of a' b' }) result
+    EndsWith-unmade before after result formats.AlreadyStore a' b' already same risen lost left tells =
+        told_as words secrets (rests_of a b a' b') (record { streams = before; disks = disks_of a b }) (record { streams = after; disks = disks_of a' b' }) 10 (codes "exists") result
         (run.exists is (λ x y is_x is_y. already refl x y is_x is_y) (kept a' b' (same (λ e. absurd cc)))) left tells
-    EndsWith-unmade before after result formats.Disk a' b' already same risen left tells =
-        told_as words secrets (AtRest a b) (record { streams = before; disks = disks_of a b }) (record { streams = after; disks = disks_of a' b' }) 5 (codes "stopped") result (run.not_made is (risen refl)) left tells
-    EndsWith-unmade before after result formats.NoMemory a' b' already same risen left tells =
-        untold_as words secrets (AtRest a b) (record { streams = before; disks = disks_of a b }) (record { streams = after; disks = disks_of a' b' }) result (not_init words is) (run.is_init is) (kept a' b' (same (λ e. absurd cc))) left tells
+    EndsWith-unmade before after result formats.Disk a' b' already same risen lost left tells =
+        told_as words secrets (rests_of a b a' b') (record { streams = before; disks = disks_of a b }) (record { streams = after; disks = disks_of a' b' }) 5 (codes "stopped") result (run.not_made is (risen refl) lost) left tells
+    EndsWith-unmade before after result formats.NoMemory a' b' already same risen lost left tells =
+        untold_as words secrets (rests_of a b a' b') (record { streams = before; disks = disks_of a b }) (record { streams = after; disks = disks_of a' b' }) result (not_init words is) (run.is_init is) (kept a' b' (same (λ e. absurd cc))) left tells
 
     -- memory ran out at first
-    pub EndsWith-unbegun : (before after : Streams) → after.left ≡ before.left → after.held ≡ before.held → EndsWith secrets words (AtRest a b) (record { streams = before; disks = disks_of a b }) (record { streams = after; disks = disks_of a b }) 9
+    pub EndsWith-unbegun : (before after : Streams) → after.left ≡ before.left → after.held ≡ before.held → EndsWith secrets words (rests_of a b a b) (record { streams = before; disks = disks_of a b }) (record { streams = after; disks = disks_of a b }) 9
     EndsWith-unbegun before after left held =
-        untold_as words secrets (AtRest a b) (record { streams = before; disks = disks_of a b }) (record { streams = after; disks = disks_of a b }) 9 (not_init words is) (run.is_init is) (record { a_stays = refl; b_stays = refl }) left (refl, held)
+        untold_as words secrets (rests_of a b a b) (record { streams = before; disks = disks_of a b }) (record { streams = after; disks = disks_of a b }) 9 (not_init words is) (run.is_init is) (record { a_stays = refl; b_stays = refl }) left (refl, held)
 
   -- ---- a store that is opened
 
@@ -171,24 +261,24 @@ module _ {D : Type 0} (clock : D → ℕ) (left_since : D → ℕ → List ℕ �
     same_bytes fault a' b' not_disk n = record { a_stays = n.first_same not_disk; b_stays = n.second_same not_disk }
 
     pub EndsWith-unopened : (before after : Streams) (result : ℕ) (fault : OpenFault) (a' b' : D) → IsNotOpened clock left_since image faults a b (authority_with secrets.seal_key secrets.ring) fault a' b' → after.left ≡ before.left → TellsUnopened fault before.held before.write_faults result after.held after.write_faults →
-        EndsWith secrets words (AtRest a b) (record { streams = before; disks = disks_of a b }) (record { streams = after; disks = disks_of a' b' }) result
+        EndsWith secrets words (rests_of a b a' b') (record { streams = before; disks = disks_of a b }) (record { streams = after; disks = disks_of a' b' }) result
     EndsWith-unopened before after result opens.NoStore a' b' n left tells =
-        told_as words secrets (AtRest a b) (record { streams = before; disks = disks_of a b }) (record { streams = after; disks = disks_of a' b' }) 4 (codes "nostore") result
+        told_as words secrets (rests_of a b a' b') (record { streams = before; disks = disks_of a b }) (record { streams = after; disks = disks_of a' b' }) 4 (codes "nostore") result
         (run.no_store is (λ x y is_x is_y. has_no_area x y (n.cause x y is_x is_y)) (same_bytes opens.NoStore a' b' (λ e. absurd cc) n)) left tells
     EndsWith-unopened before after result (opens.Damaged number damage) a' b' n left (inl tells) =
-        told_as words secrets (AtRest a b) (record { streams = before; disks = disks_of a b }) (record { streams = after; disks = disks_of a' b' }) 3 (damaged_text number damage) result
+        told_as words secrets (rests_of a b a' b') (record { streams = before; disks = disks_of a b }) (record { streams = after; disks = disks_of a' b' }) 3 (damaged_text number damage) result
         (run.damaged number damage is n.cause (same_bytes (opens.Damaged number damage) a' b' (λ e. absurd cc) n)) left tells
     EndsWith-unopened before after result (opens.Damaged number damage) a' b' n left (inr tells) =
-        untold_as words secrets (AtRest a b) (record { streams = before; disks = disks_of a b }) (record { streams = after; disks = disks_of a' b' }) result (not_script words is) (run.is_stored is) (same_bytes (opens.Damaged number damage) a' b' (λ e. absurd cc) n) left tells
+        untold_as words secrets (rests_of a b a' b') (record { streams = before; disks = disks_of a b }) (record { streams = after; disks = disks_of a' b' }) result (not_script words is) (run.is_stored is) (same_bytes (opens.Damaged number damage) a' b' (λ e. absurd cc) n) left tells
     EndsWith-unopened before after result opens.Disk a' b' n left tells =
-        told_as words secrets (AtRest a b) (record { streams = before; disks = disks_of a b }) (record { streams = after; disks = disks_of a' b' }) 5 (codes "stopped") result
+        told_as words secrets (rests_of a b a' b') (record { streams = before; disks = disks_of a b }) (record { streams = after; disks = disks_of a' b' }) 5 (codes "stopped") result
         (run.not_opened is n.cause (λ rest. record { a_stays = n.first_handled.stays rest.0; b_stays = n.second_handled.stays rest.1 })) left tells
     EndsWith-unopened before after result opens.NoMemory a' b' n left tells =
-        untold_as words secrets (AtRest a b) (record { streams = before; disks = disks_of a b }) (record { streams = after; disks = disks_of a' b' }) result (not_script words is) (run.is_stored is) (same_bytes opens.NoMemory a' b' (λ e. absurd cc) n) left tells
+        untold_as words secrets (rests_of a b a' b') (record { streams = before; disks = disks_of a b }) (record { streams = after; disks = disks_of a' b' }) result (not_script words is) (run.is_stored is) (same_bytes opens.NoMemory a' b' (λ e. absurd cc) n) left tells
 
-    pub EndsWith-unread : (before after : Streams) → after.left ≡ before.left → after.held ≡ before.held → EndsWith secrets words (AtRest a b) (record { streams = before; disks = disks_of a b }) (record { streams = after; disks = disks_of a b }) 9
+    pub EndsWith-unread : (before after : Streams) → after.left ≡ before.left → after.held ≡ before.held → EndsWith secrets words (rests_of a b a b) (record { streams = before; disks = disks_of a b }) (record { streams = after; disks = disks_of a b }) 9
     EndsWith-unread before after left held =
-        untold_as words secrets (AtRest a b) (record { streams = before; disks = disks_of a b }) (record { streams = after; disks = disks_of a b }) 9 (not_script words is) (run.is_stored is) (record { a_stays = refl; b_stays = refl }) left (refl, held)
+        untold_as words secrets (rests_of a b a b) (record { streams = before; disks = disks_of a b }) (record { streams = after; disks = disks_of a b }) 9 (not_script words is) (run.is_stored is) (record { a_stays = refl; b_stays = refl }) left (refl, held)
 
     is_opened : (s : StoreView D) → IsStore s → opening.IsOpened clock left_since image faults a b secrets.seal_key secrets.ring s → IsOpened secrets s.generation (disks_of a b) (standing_over s None (first_asker script_pass))
     is_opened s store opened = record {
@@ -207,22 +297,40 @@ module _ {D : Type 0} (clock : D → ℕ) (left_since : D → ℕ → List ℕ �
     risen_since s s' opened (inl risen) = inl (HasRisen-earlier (faults a) (faults (first_disk s)) (faults (first_disk s')) opened.first_read.handled.never_falls risen)
     risen_since s s' opened (inr risen) = inr (HasRisen-earlier (faults b) (faults (second_disk s)) (faults (second_disk s')) opened.second_read.handled.never_falls risen)
 
-    returns_of : (may_stay : (d : D) (bytes : List ℕ) → image d ≡ Some bytes → left_since d (clock d) bytes) (s s' : StoreView D) (met : Option Event) (asker : Asker) → IsStore s' → opening.IsOpened clock left_since image faults a b secrets.seal_key secrets.ring s →
-        StoreGoesOn clock left_since image faults s s' met → Returns s.generation (disks_of a b) (disks_of (first_disk s') (second_disk s')) (standing_over s None (first_asker script_pass)) (standing_over s' met asker)
-    returns_of may_stay s s' met asker store' opened goes = record {
-      whole = λ x y is_x is_y none x' y' is_x' is_y'. current_survives clock left_since image s' store' (goes.current (opened.current x y is_x is_y) none) x' y' is_x' is_y';
+    other_is : (s s' : StoreView D) (met : Option Event) → opening.IsOpened clock left_since image faults a b secrets.seal_key secrets.ring s → StoreGoesOn clock left_since image faults s s' met →
+        one_of (image (second_disk s')) (image (first_disk s')) s.second_active ≡ one_of (image b) (image a) s.second_active
+    other_is s s' met opened goes =
+        ap (λ (o : D). one_of (image (one_of o s'.active s'.second_active)) (image (one_of s'.active o s'.second_active)) s.second_active) goes.other_stays
+        ∙ ap (λ (w : Bool). one_of (image (one_of s.other s'.active w)) (image (one_of s'.active s.other w)) s.second_active) goes.place_stays
+        ∙ other_same s.second_active s.active s'.active s.other (image a) (image b) opened.first_read.same opened.second_read.same
+
+    same_place : (x y : Bool) → Some x ≡ Some y → x ≡ y
+    same_place x y is = cc
+
+    returns_of : (may_stay : (d : D) (bytes : List ℕ) → image d ≡ Some bytes → left_since d (clock d) bytes) (s s' : StoreView D) (met : Option Event) (asker : Asker) → IsStore s → IsStore s' → opening.IsOpened clock left_since image faults a b secrets.seal_key secrets.ring s →
+        StoreGoesOn clock left_since image faults s s' met → Returns (rests_of a b (first_disk s') (second_disk s')) s.generation (disks_of a b) (disks_of (first_disk s') (second_disk s')) (standing_over s None (first_asker script_pass)) (standing_over s' met asker)
+    returns_of may_stay s s' met asker store store' opened goes = record {
+      whole = λ x y is_x is_y none x' y' is_x' is_y'.
+          subst (λ (n : ℕ). IsNewestOf n s'.base s'.events x' y') goes.generation_stays (newest_of s' store' (goes.current (opened.current x y is_x is_y) none) x' y' is_x' is_y');
+      closed = λ x y is_x is_y closed none.
+          let ready = goes.ready (opened.ready x y is_x is_y closed) none in
+          (pinned_at s' (first_disk s') (second_disk s') refl refl ready,
+           λ x' y' is_x' is_y'. subst (λ (n : ℕ). IsNewestClosed n s'.events x' y') goes.generation_stays (closed_of s' store' ready x' y' is_x' is_y'));
       failed = λ event same. risen_since s s' opened (goes.failed event same);
       survives = λ x y is_x is_y closed event same x' y' is_x' is_y'.
           goes.halts (opened.ready x y is_x is_y closed) event same x' y' (may_stay (first_disk s') x' is_x') (may_stay (second_disk s') y' is_y');
+      other_stays = λ x y is_x is_y second counts.
+          let now = counts_now s store (opened.current x y is_x is_y) x y (opened.first_read.same ∙ is_x) (opened.second_read.same ∙ is_y) in
+          subst (λ (w : Bool). one_of (image (second_disk s')) (image (first_disk s')) w ≡ one_of (image b) (image a) w) (same_place s.second_active second (sym now ∙ counts)) (other_is s s' met opened goes);
     }
 
     pub EndsWith-stored : (may_stay : (d : D) (bytes : List ℕ) → image d ≡ Some bytes → left_since d (clock d) bytes) (before after : Streams) (result : ℕ) (s s' : StoreView D) (asker : Asker) (a' b' : D) → IsStore s → IsStore s' →
         opening.IsOpened clock left_since image faults a b secrets.seal_key secrets.ring s → AnswersInput clock left_since image faults (record { store = s; asker = first_asker script_pass }) before result (record { store = s'; asker = asker }) after →
-        a' ≡ first_disk s' → b' ≡ second_disk s' → EndsWith secrets words (AtRest a b) (record { streams = before; disks = disks_of a b }) (record { streams = after; disks = disks_of a' b' }) result
+        a' ≡ first_disk s' → b' ≡ second_disk s' → EndsWith secrets words (rests_of a b a' b') (record { streams = before; disks = disks_of a b }) (record { streams = after; disks = disks_of a' b' }) result
     EndsWith-stored may_stay before after result s s' asker a' b' store store' opened answers a_is b_is =
-        subst (λ (x : D). EndsWith secrets words (AtRest a b) (record { streams = before; disks = disks_of a b }) (record { streams = after; disks = disks_of x b' }) result) (sym a_is)
-        (subst (λ (y : D). EndsWith secrets words (AtRest a b) (record { streams = before; disks = disks_of a b }) (record { streams = after; disks = disks_of (first_disk s') y }) result) (sym b_is)
-        (run.stored result s.generation (standing_over s None (first_asker script_pass)) (standing_over s' answers.met asker) is (is_opened s store opened) (returns_of may_stay s s' answers.met asker store' opened answers.goes_on) answers.ends))
+        subst (λ (x : D). EndsWith secrets words (rests_of a b x b') (record { streams = before; disks = disks_of a b }) (record { streams = after; disks = disks_of x b' }) result) (sym a_is)
+        (subst (λ (y : D). EndsWith secrets words (rests_of a b (first_disk s') y) (record { streams = before; disks = disks_of a b }) (record { streams = after; disks = disks_of (first_disk s') y }) result) (sym b_is)
+        (run.stored result s.generation (standing_over s None (first_asker script_pass)) (standing_over s' answers.met asker) is (is_opened s store opened) (returns_of may_stay s s' answers.met asker store store' opened answers.goes_on) answers.ends))
 
 -- ---- a script in memory
 

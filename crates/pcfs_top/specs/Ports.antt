@@ -32,3 +32,8 @@ HasDiskFailed before after = HasRisen before.a_faults after.a_faults ⊎ HasRise
 pub record AreBytesKept (before after : Disks) : Type 0 where
   pub a_stays : after.a ≡ before.a
   pub b_stays : after.b ≡ before.b
+
+-- whether nothing is pending on the disks, before and after
+pub record Rests : Type 1 where
+  pub before : Type 0
+  pub after : Type 0

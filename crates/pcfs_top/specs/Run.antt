@@ -1,18 +1,20 @@
 -- How a run of the program ends: its status, what it took, what it wrote, and what it leaves on its disks. If a port does not tell its bytes, nothing is said of them (this project's own).
-use Rattle.std.specs.Prelude.{◌≡◌, ◌⊎◌, ℕ, List, [], ◌∷◌, ◌++◌, String, map, codes, length, Option, Some, None, IfSome}
+use Rattle.std.specs.Prelude.{◌≡◌, ◌⊎◌, ℕ, List, [], ◌∷◌, ◌++◌, String, map, codes, length, Bool, Option, Some, None, IfSome}
 use Rattle.std.specs.Fmt.{decimal}
 use Rattle.std.specs.String.{string_bytes}
 use Rattle.std.specs.declared.alloc.Global.{Global}
 use Rattle.pcfs_ports.specs.Faults.{HasRisen}
 use Rattle.pcfs_ports.specs.Told.{with_back, HoldsSome}
-use Rattle.journal_core.specs.Area.{IsShut, Closed, area_bytes}
+use Rattle.journal_core.specs.Area.{IsShut, Closed, area_bytes, generation_of}
+use Rattle.access_history.specs.Base.{BaseView}
 use Rattle.access_history.specs.Replay.{fresh}
 use Rattle.access_history.specs.declared.event.Event.{Event}
 use Rattle.op_gate.specs.declared.damage.Damage.{Damage}
 use Rattle.op_gate.specs.declared.damage.Damage.TheVariants.{Header, Shape, Unsigned, Unproved, NotAdmitted, MomentFalls, Duplicate}
 use Rattle.pcfs_store.specs.Image.{fresh_image}
-use Rattle.pcfs_store.specs.StoredHistory.{payloads_of}
-use Rattle.pcfs_store.specs.Newest.{SurvivesWhole}
+use Rattle.pcfs_store.specs.StoredHistory.{payloads_of, StandsFor}
+use Rattle.pcfs_store.specs.Formats.{IsNoneOrFresh}
+use Rattle.pcfs_store.specs.Newest.{newer, newest, one_of}
 use Rattle.pcfs_store.specs.Ready.{SurvivesWithOrWithout}
 use Rattle.pcfs_store.specs.declared.format.FormatFault.{FormatFault}
 use Rattle.pcfs_store.specs.declared.format.FormatFault.TheVariants as formats
@@ -22,7 +24,7 @@ use Rattle.recover.specs.Opening.{IsNewestHistory, IsNewestDamaged, IsNewestClos
 use Rattle.pcfs_secrets.specs.declared.secrets.Secrets.{Secrets}
 use Rattle.pcfs_top.specs.Asker.{first_asker}
 use Rattle.pcfs_top.specs.LineAnswer.{authority_under}
-use Rattle.pcfs_top.specs.Ports.{Streams, Disks, Ports, IfTold, HasDiskFailed, AreBytesKept}
+use Rattle.pcfs_top.specs.Ports.{Streams, Disks, Ports, Rests, IfTold, HasDiskFailed, AreBytesKept}
 use Rattle.pcfs_top.specs.ScriptEnds.{ScriptEnds, with_line_end}
 use Rattle.pcfs_top.specs.ScriptRun.{Standing, IsLawfulStanding, fresh_start, script_pass}
 
@@ -72,27 +74,42 @@ pub record IsOpened (secrets : Secrets) (generation : ℕ) (before : Disks) (sta
   pub used_is : start.used ≡ length (area_bytes generation fresh_image (payloads_of start.events))
   pub found : IfTold before (IsNewestHistory (authority_under secrets) generation start.events)
 
--- What comes back of the disks of a store that was opened, where a script ended. Unless a disk failed, the newest area stands for the history at the end. If one failed, its count rose; and if the newest area had its
--- closed gate when the store was opened, the newest one that comes back stands for the history at the end, or for it with the one event that met the fault.
-pub record Returns (generation : ℕ) (before after : Disks) (start end : Standing) : Type 0 where
-  pub whole : IfTold before (λ x y. end.met ≡ None → IfTold after (SurvivesWhole end.base end.events))
+-- the newest area of these two has this generation, and its bytes stand for the history; passes are in no bytes
+pub record IsNewestOf (generation : ℕ) (base : BaseView) (events : List Event) (x y : List ℕ) : Type 0 where
+  pub bytes : List ℕ
+  pub counts : newest x y ≡ Some bytes
+  pub stands : StandsFor bytes generation base events
+
+-- What comes back of the disks of a store that was opened, where a script ended. Unless a disk failed, the newest area has the generation of the opened one, and stands for the history at the end; and if the opened one
+-- had its closed gate, it has too, and nothing is pending. If one failed, its count rose; and if the opened area had its closed gate, the newest one that comes back stands for the history at the end, or for it with
+-- the one event that met the fault. The area that did not count is as it was.
+pub record Returns (rests : Rests) (generation : ℕ) (before after : Disks) (start end : Standing) : Type 0 where
+  pub whole : IfTold before (λ x y. end.met ≡ None → IfTold after (IsNewestOf generation end.base end.events))
+  pub closed : IfTold before (λ x y. IsNewestClosed generation start.events x y → end.met ≡ None → rests.after × IfTold after (IsNewestClosed generation end.events))
   pub failed : (met : Event) → end.met ≡ Some met → HasDiskFailed before after
   pub survives : IfTold before (λ x y. IsNewestClosed generation start.events x y → (met : Event) → end.met ≡ Some met → IfTold after (SurvivesWithOrWithout end.base end.events met))
+  pub other_stays : IfTold before (λ x y. (second : Bool) → newer (generation_of x) (generation_of y) ≡ Some second → one_of after.b after.a second ≡ one_of before.b before.a second)
 
 -- how a script in memory ends: its own disks fail only if memory runs out
 pub data MemoryEnds (secrets : Secrets) (before after : Streams) : ℕ → Type 0 where
   ended : (status : ℕ) (end : Standing) → (status ≡ 5 → ⊥) → ScriptEnds (fresh_start secrets) end before after status → MemoryEnds secrets before after status
   disk_failed : (end : Standing) → ScriptEnds (fresh_start secrets) end before after 5 → MemoryEnds secrets before after 9
 
+-- What is left where the making of a store met the fault of a disk: if an area was open, all bytes are as they were; if none was, none is, or the new one. The second disk is as it was.
+pub record IsNotLost (before after : Disks) : Type 0 where
+  pub b_stays : after.b ≡ before.b
+  pub open_stays : IfTold before (λ x y. (HasNoArea x y → ⊥) → AreBytesKept before after)
+  pub none_or_new : IfTold before (λ x y. HasNoArea x y → IfTold after IsNoneOrFresh)
+
 -- what a run has to write if it ends with this status without an answer to a line: one line with the cause
-pub data HasCause (secrets : Secrets) (words : List (String Global)) (at_rest : Type 0) (before after : Disks) : ℕ → List ℕ → Type 0 where
-  usage : (AreKnown words → ⊥) → after ≡ before → HasCause secrets words at_rest before after 1 (codes "usage")
-  made : IsInit words → IfTold before (λ x y. HasNoArea x y × IfSome after.a (Closed (area_bytes 1 fresh_image []))) → after.b ≡ before.b → HasCause secrets words at_rest before after 0 (codes "ok")
-  exists : IsInit words → IfTold before (λ x y. HasNoArea x y → ⊥) → AreBytesKept before after → HasCause secrets words at_rest before after 10 (codes "exists")
-  not_made : IsInit words → HasDiskFailed before after → HasCause secrets words at_rest before after 5 (codes "stopped")
-  no_store : IsStored words → IfTold before HasNoArea → AreBytesKept before after → HasCause secrets words at_rest before after 4 (codes "nostore")
-  damaged : (number : ℕ) (damage : Damage) → IsStored words → IfTold before (IsNewestDamaged (authority_under secrets) number damage) → AreBytesKept before after → HasCause secrets words at_rest before after 3 (damaged_text number damage)
-  not_opened : IsStored words → HasDiskFailed before after → (at_rest → AreBytesKept before after) → HasCause secrets words at_rest before after 5 (codes "stopped")
+pub data HasCause (secrets : Secrets) (words : List (String Global)) (rests : Rests) (before after : Disks) : ℕ → List ℕ → Type 0 where
+  usage : (AreKnown words → ⊥) → after ≡ before → HasCause secrets words rests before after 1 (codes "usage")
+  made : IsInit words → IfTold before (λ x y. HasNoArea x y × (rests.after × IfSome after.a (Closed (area_bytes 1 fresh_image [])))) → after.b ≡ before.b → HasCause secrets words rests before after 0 (codes "ok")
+  exists : IsInit words → IfTold before (λ x y. HasNoArea x y → ⊥) → AreBytesKept before after → HasCause secrets words rests before after 10 (codes "exists")
+  not_made : IsInit words → HasDiskFailed before after → (rests.before → IsNotLost before after) → HasCause secrets words rests before after 5 (codes "stopped")
+  no_store : IsStored words → IfTold before HasNoArea → AreBytesKept before after → HasCause secrets words rests before after 4 (codes "nostore")
+  damaged : (number : ℕ) (damage : Damage) → IsStored words → IfTold before (IsNewestDamaged (authority_under secrets) number damage) → AreBytesKept before after → HasCause secrets words rests before after 3 (damaged_text number damage)
+  not_opened : IsStored words → HasDiskFailed before after → (rests.before → AreBytesKept before after) → HasCause secrets words rests before after 5 (codes "stopped")
 
 -- a last line was written, and the run ends with this status; or the output failed, and holds some first part of it. `held` and `faults` are what the output held and the count of its faults
 abbrev pub IsTold : ℕ → List ℕ → Option (List ℕ) → ℕ → ℕ → Option (List ℕ) → ℕ → Type 0
@@ -118,12 +135,12 @@ TellsUnmade formats.NoMemory held faults result held_after faults_after = IsUnto
 
 -- The status that a run ends with, and its cause. A script in memory ends as its lines say, and leaves the disks alone; its own disks are in memory, and fail only if memory runs out. A script over the areas
 -- begins where they stand. Any other run writes its line, or the output failed and holds some first part of it. Memory may run out before a store is made or opened, and then nothing changes.
-pub data EndsWith (secrets : Secrets) (words : List (String Global)) (at_rest : Type 0) (before after : Ports) : ℕ → Type 0 where
-  in_memory : (status : ℕ) → IsScript words → after.disks ≡ before.disks → MemoryEnds secrets before.streams after.streams status → EndsWith secrets words at_rest before after status
-  stored : (status generation : ℕ) (start end : Standing) → IsStored words → IsOpened secrets generation before.disks start → Returns generation before.disks after.disks start end → ScriptEnds start end before.streams after.streams status →
-      EndsWith secrets words at_rest before after status
-  told : (status : ℕ) (line : List ℕ) → HasCause secrets words at_rest before.disks after.disks status line → after.streams.left ≡ before.streams.left → after.streams.held ≡ with_back before.streams.held (with_line_end line) →
-      EndsWith secrets words at_rest before after status
-  cut_short : (status : ℕ) (line : List ℕ) → HasCause secrets words at_rest before.disks after.disks status line → after.streams.left ≡ before.streams.left → HasRisen before.streams.write_faults after.streams.write_faults →
-      HoldsSome before.streams.held after.streams.held (with_line_end line) → EndsWith secrets words at_rest before after 7
-  out_of_memory : (IsScript words → ⊥) → AreKnown words → AreBytesKept before.disks after.disks → after.streams.left ≡ before.streams.left → after.streams.held ≡ before.streams.held → EndsWith secrets words at_rest before after 9
+pub data EndsWith (secrets : Secrets) (words : List (String Global)) (rests : Rests) (before after : Ports) : ℕ → Type 0 where
+  in_memory : (status : ℕ) → IsScript words → after.disks ≡ before.disks → MemoryEnds secrets before.streams after.streams status → EndsWith secrets words rests before after status
+  stored : (status generation : ℕ) (start end : Standing) → IsStored words → IsOpened secrets generation before.disks start → Returns rests generation before.disks after.disks start end → ScriptEnds start end before.streams after.streams status →
+      EndsWith secrets words rests before after status
+  told : (status : ℕ) (line : List ℕ) → HasCause secrets words rests before.disks after.disks status line → after.streams.left ≡ before.streams.left → after.streams.held ≡ with_back before.streams.held (with_line_end line) →
+      EndsWith secrets words rests before after status
+  cut_short : (status : ℕ) (line : List ℕ) → HasCause secrets words rests before.disks after.disks status line → after.streams.left ≡ before.streams.left → HasRisen before.streams.write_faults after.streams.write_faults →
+      HoldsSome before.streams.held after.streams.held (with_line_end line) → EndsWith secrets words rests before after 7
+  out_of_memory : (IsScript words → ⊥) → AreKnown words → AreBytesKept before.disks after.disks → after.streams.left ≡ before.streams.left → after.streams.held ≡ before.streams.held → EndsWith secrets words rests before after 9

@@ -1,7 +1,7 @@
 -- A store is made, or not.
 use Rattle.std.proofs.Common.{refl, subst, ap, sym, ◌∙◌}
 use Rattle.pcfs_store.specs.Formats.{IsNewStore}
-use Rattle.pcfs_top.proofs.EndsWithLemmas.{EndsWith-made, EndsWith-unmade, EndsWith-unbegun}
+use Rattle.pcfs_top.proofs.EndsWithLemmas.{DiskLaws, EndsWith-made, EndsWith-unmade, EndsWith-unbegun, not_lost}
 use Rattle.pcfs_top.proofs.run.init.Goals as goal
 
 pub returns-in-Err : goal.returns-in-Err
@@ -14,4 +14,7 @@ returns-in-Ok-format_store g c words left read_faults is =
 
 pub returns-in-Err-format_store : goal.returns-in-Err-format_store
 returns-in-Err-format_store g c words left read_faults is =
-    EndsWith-unmade g.D.Disk.clock g.D.Disk.left_since g.D.Disk.image g.D.Disk.faults words c.args.secrets.now c.args.a c.args.b is _ _ _ c.in-Err-format_store.fault _ _ c.in-Err-format_store.ensures.already c.in-Err-format_store.ensures.same c.in-Err-format_store.ensures.risen refl c.tell_unmade.ensures
+    let laws : DiskLaws g.D.Disk.clock g.D.Disk.left_since g.D.Disk.image g.D.Disk.faults = record { may_stay = λ d bytes told. g.met.D.Disk.image_may_stay d bytes told; earlier = λ d t u bytes le was. g.met.D.Disk.since_earlier d t u bytes le was } in
+    let e = c.in-Err-format_store.ensures in
+    EndsWith-unmade g.D.Disk.clock g.D.Disk.left_since g.D.Disk.image g.D.Disk.faults words c.args.secrets.now c.args.a c.args.b is (record { left = left; read_faults = read_faults; held = _; write_faults = _ }) (record { left = left; read_faults = read_faults; held = _; write_faults = _ }) _ c.in-Err-format_store.fault c.in-Err-format_store.a c.in-Err-format_store.b
+    e.already e.same e.risen (not_lost g.D.Disk.clock g.D.Disk.left_since g.D.Disk.image g.D.Disk.faults words c.args.secrets.now c.args.a c.args.b is laws c.in-Err-format_store.a c.in-Err-format_store.b e.kept e.b_kept e.a_later e.b_later e.any_moment) refl c.tell_unmade.ensures
