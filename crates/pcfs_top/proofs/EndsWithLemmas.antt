@@ -313,9 +313,10 @@ module _ {D : Type 0} (clock : D → ℕ) (left_since : D → ℕ → List ℕ �
       whole = λ x y is_x is_y none x' y' is_x' is_y'.
           subst (λ (n : ℕ). IsNewestOf n s'.base s'.events x' y') goes.generation_stays (newest_of s' store' (goes.current (opened.current x y is_x is_y) none) x' y' is_x' is_y');
       closed = λ x y is_x is_y closed none.
-          let ready = goes.ready (opened.ready x y is_x is_y closed) none in
-          (pinned_at s' (first_disk s') (second_disk s') refl refl ready,
-           λ x' y' is_x' is_y'. subst (λ (n : ℕ). IsNewestClosed n s'.events x' y') goes.generation_stays (closed_of s' store' ready x' y' is_x' is_y'));
+          let ready = goes.ready (opened.ready x y is_x is_y closed) none in (
+            pinned_at s' (first_disk s') (second_disk s') refl refl ready,
+            λ x' y' is_x' is_y'. subst (λ (n : ℕ). IsNewestClosed n s'.events x' y') goes.generation_stays (closed_of s' store' ready x' y' is_x' is_y'),
+          );
       failed = λ event same. risen_since s s' opened (goes.failed event same);
       survives = λ x y is_x is_y closed event same x' y' is_x' is_y'.
           goes.halts (opened.ready x y is_x is_y closed) event same x' y' (may_stay (first_disk s') x' is_x') (may_stay (second_disk s') y' is_y');

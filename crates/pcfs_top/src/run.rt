@@ -184,13 +184,7 @@ fn tell_unmade<O: Sink>(output: &mut O, fault: FormatFault) -> u8
 }
 
 // Makes a store before its first event on the first disk.
-fn init<O: Sink, D: Disk>(
-    alloc: Global,
-    secrets: &Secrets,
-    output: &mut O,
-    a: D,
-    b: D,
-) -> Ended<D>
+fn init<O: Sink, D: Disk>(alloc: Global, secrets: &Secrets, output: &mut O, a: D, b: D) -> Ended<D>
     ensures { (words : List (String Global)) (left : Option (List ℕ)) (read_faults : ℕ) → IsInit words → EndsWith secrets.now words (record { before = IsPinned D.clock D.left_since D.image a × IsPinned D.clock D.left_since D.image b; after = IsPinned D.clock D.left_since D.image result.a × IsPinned D.clock D.left_since D.image result.b })
         (record { streams = record { left = left; read_faults = read_faults; held = O.held output.old; write_faults = O.faults output.old }; disks = record { a = D.image a; b = D.image b; a_faults = D.faults a; b_faults = D.faults b } })
         (record { streams = record { left = left; read_faults = read_faults; held = O.held output.new; write_faults = O.faults output.new }; disks = record { a = D.image result.a; b = D.image result.b; a_faults = D.faults result.a; b_faults = D.faults result.b } }) result.status }
@@ -240,10 +234,14 @@ pub fn run<R: Threads + Wait + Sync, I: Source, O: Sink, D: Disk>(
     b: D,
 ) -> Ended<D>
     ensures { EndsWith secrets.now words.now.items (record { before = IsPinned D.clock D.left_since D.image a × IsPinned D.clock D.left_since D.image b; after = IsPinned D.clock D.left_since D.image result.a × IsPinned D.clock D.left_since D.image result.b })
-        (record { streams = record { left = I.left input.old; read_faults = I.faults input.old; held = O.held output.old; write_faults = O.faults output.old };
-            disks = record { a = D.image a; b = D.image b; a_faults = D.faults a; b_faults = D.faults b } })
-        (record { streams = record { left = I.left input.new; read_faults = I.faults input.new; held = O.held output.new; write_faults = O.faults output.new };
-            disks = record { a = D.image result.a; b = D.image result.b; a_faults = D.faults result.a; b_faults = D.faults result.b } }) result.status }
+        (record {
+          streams = record { left = I.left input.old; read_faults = I.faults input.old; held = O.held output.old; write_faults = O.faults output.old };
+          disks = record { a = D.image a; b = D.image b; a_faults = D.faults a; b_faults = D.faults b };
+        })
+        (record {
+          streams = record { left = I.left input.new; read_faults = I.faults input.new; held = O.held output.new; write_faults = O.faults output.new };
+          disks = record { a = D.image result.a; b = D.image result.b; a_faults = D.faults result.a; b_faults = D.faults result.b };
+        }) result.status }
 {
     match task_of(words) {
         Some(Task::Script) => Ended {

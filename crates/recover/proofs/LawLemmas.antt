@@ -328,8 +328,7 @@ module _ (authority : Authority) (events : List Event) (kept : ℕ) (x y : List 
       let bytes : is.bytes ≡ survivor.bytes = some_bytes is.bytes survivor.bytes (sym is.counts ∙ survivor.counts) in
       let area : IsArea survivor.bytes generation is.stands.image (payloads_of found) = subst (λ (b : List ℕ). IsArea b generation is.stands.image (payloads_of found)) bytes is.stands.is_area in
       let same = one_area survivor.bytes survivor.generation generation survivor.stands.image is.stands.image (payloads_of survivor.found) (payloads_of found) survivor.stands.is_area area in
-      let events_are : survivor.found ≡ found = one_list survivor.found found found_read is.each same.2 in
-      (
+      let events_are : survivor.found ≡ found = one_list survivor.found found found_read is.each same.2 in (
         sym events_are ∙ found_are,
         record {
           bytes = survivor.bytes;
