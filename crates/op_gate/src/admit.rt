@@ -13,7 +13,7 @@ use crate::act::decide_act;
 use crate::brings::{bytes_to_write, is_formed, slots};
 use crate::cite::{Citation, cite};
 use crate::damage::{AdmitFault, Damage};
-use crate::decide::{issue_parts, issued, registered};
+use crate::decide::{issue_parts, pend_issue, registered};
 use crate::planned::{Pending, Planned};
 use access_history::{Event, History, Procaps};
 use bl_syntax::{Bytes, Constraint, Grant, Numbers, Principal, StatePred, Statement, is_moment};
