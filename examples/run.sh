@@ -37,6 +37,35 @@ else
     differ=$((differ + 1))
 fi
 
+# with a folder in the place of a disk, or a file that may not be opened, the program stops, and nothing is lost
+stops() {
+    "$program" "$@" < "$here/stored/read.pcfs" > replies && return 1
+    [ $? -eq 5 ] && cmp -s replies <(echo stopped)
+}
+refused=0
+for disk in pcfs.a pcfs.b; do
+    mkdir kept
+    mv $disk kept/ 2> /dev/null || true
+    mkdir $disk
+    stops init && stops script --stored || refused=1
+    rmdir $disk
+    mv kept/* . 2> /dev/null || true
+    rmdir kept
+    if [ "$(id -u)" -ne 0 ] && [ -f $disk ]; then
+        chmod 0 $disk
+        stops init && stops script --stored || refused=1
+        chmod 600 $disk
+    fi
+done
+printf 'at 160\nas alice\ndo read #2 0 10 @3\n' | "$program" script --stored > replies || refused=1
+if [ "$refused" -eq 0 ] && [ "$(tail -1 replies)" = "ok bytes 6869" ]; then
+    echo "agrees disks that cannot be opened"
+    agree=$((agree + 1))
+else
+    echo "differs disks that cannot be opened"
+    differ=$((differ + 1))
+fi
+
 # what the client signs is registered
 while read -r statement; do
     python3 "$here/pcfs_client.py" statement pcfs.secrets "$statement"
