@@ -1,7 +1,7 @@
 #!/usr/bin/env bash
 # Runs each example by the built program, in a folder with the secrets of the examples beside it, and compares the replies
-# with those that are kept; then random scripts, whose replies are compared with those of the model. Exits 1 if some
-# differ.
+# with those that are kept; so too three scripts over one store; then random scripts, whose replies are compared with
+# those of the model. Exits 1 if some differ.
 # usage: examples/run.sh [PROGRAM], by default crates/pcfs/out/pcfs
 set -euo pipefail
 here=$(cd "$(dirname "$0")" && pwd)
@@ -23,6 +23,48 @@ for script in "$here"/*.pcfs; do
         differ=$((differ + 1))
     fi
 done
+
+# a file is made, written and read by three programs over one store
+"$program" init > replies || true
+for script in first-file stored/write stored/read; do
+    "$program" script --stored < "$here/$script.pcfs" >> replies || true
+done
+if cmp -s replies <(echo ok; cat "$here/first-file.replies" "$here/stored/write.replies" "$here/stored/read.replies"); then
+    echo "agrees stored"
+    agree=$((agree + 1))
+else
+    echo "differs stored"
+    differ=$((differ + 1))
+fi
+
+# with a folder in the place of a disk, or a file that may not be opened, the program stops, and nothing is lost
+stops() {
+    "$program" "$@" < "$here/stored/read.pcfs" > replies && return 1
+    [ $? -eq 5 ] && cmp -s replies <(echo stopped)
+}
+refused=0
+for disk in pcfs.a pcfs.b; do
+    mkdir kept
+    mv $disk kept/ 2> /dev/null || true
+    mkdir $disk
+    stops init && stops script --stored || refused=1
+    rmdir $disk
+    mv kept/* . 2> /dev/null || true
+    rmdir kept
+    if [ "$(id -u)" -ne 0 ] && [ -f $disk ]; then
+        chmod 0 $disk
+        stops init && stops script --stored || refused=1
+        chmod 600 $disk
+    fi
+done
+printf 'at 160\nas alice\ndo read #2 0 10 @3\n' | "$program" script --stored > replies || refused=1
+if [ "$refused" -eq 0 ] && [ "$(tail -1 replies)" = "ok bytes 6869" ]; then
+    echo "agrees disks that cannot be opened"
+    agree=$((agree + 1))
+else
+    echo "differs disks that cannot be opened"
+    differ=$((differ + 1))
+fi
 
 # what the client signs is registered
 while read -r statement; do

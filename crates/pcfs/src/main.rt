@@ -3,9 +3,9 @@
 //! `pcfs init` makes.
 //!
 //! It ends with the status that `pcfs_top::run::run` answers, or with 19, where the secrets file is bad or cannot be
-//! read. Where there is no memory for its words or its secrets,
-//! that is 9. Words that are not UTF-8 count as none. The secrets stand in the file `pcfs.secrets` of the current folder;
-//! where there is no such file, the key of the seal is empty and nobody has a key to sign with.
+//! read. Where there is no memory for its words or its secrets, that is 9. Words that are not UTF-8 count as none. The
+//! secrets stand in the file `pcfs.secrets` of the current folder; where there is no such file, the key of the seal is
+//! empty and nobody has a key to sign with.
 #![tactic(auto)]
 
 use bl_syntax::Bytes;
