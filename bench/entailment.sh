@@ -280,9 +280,20 @@ fi
 
 for _ in 1 2 3 4 5; do
     python3 - "$work/crates/bench_entailment/out/bench_entailment" >> "$work/ours" << 'PYTHON'
-import resource, subprocess, sys
-line = subprocess.run([sys.argv[1]], capture_output=True, check=True).stdout.decode().strip()
-print(line, resource.getrusage(resource.RUSAGE_CHILDREN).ru_maxrss)
+import fcntl, os, subprocess, sys
+# A full pipe holds the program at its last line, so that its own peak can be read: getrusage counts Python's before exec.
+read, write = os.pipe()
+fcntl.fcntl(write, fcntl.F_SETPIPE_SZ, 4096)
+os.write(write, bytes(4096))
+process = subprocess.Popen([sys.argv[1]], stdin=subprocess.DEVNULL, stdout=write)
+os.close(write)
+status = {}
+while status.get('State', 'R')[0] not in 'SZ':
+    status = dict(line.split(':\t', 1) for line in open(f'/proc/{process.pid}/status').read().splitlines() if ':\t' in line)
+line = b''
+while piece := os.read(read, 4096):
+    line += piece
+print(line[4096:].decode().strip(), status['VmHWM'].split()[0])
 PYTHON
     [ -z "$peer" ] || "$peer" >> "$work/theirs"
 done

@@ -216,9 +216,20 @@ PYTHON
 (cd "$work/crates/bench_verifier" && rt run < /dev/null > "$work/out" 2> "$work/rt.log") || { tail -n 20 "$work/rt.log" "$work/out"; exit 2; }
 for number in 0 1 2 3 4 5; do
     python3 - "$work/crates/bench_verifier/out/bench_verifier" "$work/input.$number" >> "$work/rows" << 'PYTHON'
-import resource, subprocess, sys
-line = subprocess.run([sys.argv[1]], stdin=open(sys.argv[2], 'rb'), capture_output=True, check=True).stdout.decode().strip()
-print(resource.getrusage(resource.RUSAGE_CHILDREN).ru_maxrss, line)
+import fcntl, os, subprocess, sys
+# A full pipe holds the program at its last line, so that its own peak can be read: getrusage counts Python's before exec.
+read, write = os.pipe()
+fcntl.fcntl(write, fcntl.F_SETPIPE_SZ, 4096)
+os.write(write, bytes(4096))
+process = subprocess.Popen([sys.argv[1]], stdin=open(sys.argv[2], 'rb'), stdout=write)
+os.close(write)
+status = {}
+while status.get('State', 'R')[0] not in 'SZ':
+    status = dict(line.split(':\t', 1) for line in open(f'/proc/{process.pid}/status').read().splitlines() if ':\t' in line)
+line = b''
+while piece := os.read(read, 4096):
+    line += piece
+print(status['VmHWM'].split()[0], line[4096:].decode().strip())
 PYTHON
 done
 python3 - "$work/rows" << 'PYTHON'
