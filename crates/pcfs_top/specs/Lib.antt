@@ -1,6 +1,6 @@
 pub mod Admin
 pub mod Asker
-pub mod BroughtProcap
+pub mod Brought
 pub mod Interpreter
 pub mod InterpreterCode
 pub mod InterpreterView
