@@ -16,7 +16,7 @@ fi
 cd "$work"
 printf 'seal 0102\nkey admin 01\n' > pcfs.secrets
 python3 - "$program" << 'PYTHON'
-import os, sqlite3, subprocess, sys, time
+import os, shutil, sqlite3, subprocess, sys, tempfile, time
 
 program, COUNT, MANY = sys.argv[1], 4000, 100000
 POLICY = ["at 100", "register - admin says may(alice,#1,write) from 0 to 200", "verify alice #1 write 1 saysR(claim(0,init(1)))", "as alice"]
@@ -101,10 +101,19 @@ for name, taken in (("two syncs", bare_time), ("pcfs", stored_time), ("SQLite", 
     print(f"{name}: {COUNT / taken:.0f} events a second, {taken / COUNT * 1e6:.0f} us each")
 print(f"pcfs takes {stored_time / bare_time:.3f} of two syncs, {stored_time / sqlite_time:.2f} of SQLite")
 clear()
-run(["init"], [])
-run(["script", "--stored"], POLICY + WRITE)
-# the area is made once in memory's speed: on a file system in memory if there is one
-run(["script", "--stored"], ["at 100", "as alice"] + [f"do write #2 {i % 1000} 00 @2" for i in range(MANY)])
+# the area of many events is made on a file system in memory, if there is one, and opened here
+slow = os.getcwd()
+fast = tempfile.mkdtemp(dir="/dev/shm" if os.access("/dev/shm", os.W_OK) else slow)
+try:
+    shutil.copy("pcfs.secrets", fast)
+    os.chdir(fast)
+    run(["init"], [])
+    run(["script", "--stored"], POLICY + WRITE)
+    run(["script", "--stored"], ["at 100", "as alice"] + [f"do write #2 {i % 1000} 00 @2" for i in range(MANY)])
+    shutil.copy("pcfs.a", slow)
+    os.chdir(slow)
+finally:
+    shutil.rmtree(fast)
 size = os.path.getsize("pcfs.a")
 taken = least(opened)
 print(f"opening of {MANY} events, {size} bytes: {taken:.2f} s, {MANY / taken:.0f} events a second")
