@@ -19,17 +19,12 @@ import os, resource, subprocess, sys
 work, what, *programs = sys.argv[1:]
 
 
-def rep(text, n):
-    return text * n
-
-
 # Formulas of at most 512 nodes, as deep as each connective lets them be, and what registering them answers.
 def binders(word, n, round_it, inner):
     return "".join(f"{round_it}{word} X{i}:principal. " for i in range(n)) + inner + (")" * n if round_it else "")
 
 
 TRUE = "true"
-TIMES = [0, 1]
 shapes = {
     "forall 511": binders("forall", 511, "", TRUE),
     "exists 511": binders("exists", 511, "", TRUE),
@@ -78,21 +73,16 @@ def chain(rule, n, first, last, rest=""):
     return "".join(rule(first + i) for i in range(n)) + last + (rest + ")") * n
 
 
-def proof_of(rules, end):
-    return "saysR(claim(0,claim(1," + rules + end
-
-
-# (each has statement 1 = MAY as hypothesis 0 and then 2, and statement 2 as 1 and then 3)
+# Each cites MAY, hypothesis 0 and as a truth 2, and a statement of its own, 1 and as a truth 3.
 proofs = {
     "forallL 196": (statement["forall 511"], "saysR(claim(0,claim(1," + chain(lambda h: f"forallL({h},alice,", 196, 3, "init(2)") + ")))"),
     "existsL 196": (statement["exists 511"], "saysR(claim(0,claim(1," + chain(lambda h: f"existsL({h},", 196, 3, "init(2)") + ")))"),
     "impL 196, second premise": (statement["=> 255 to the right"], "saysR(claim(0,claim(1," + chain(lambda h: f"impL({h},ctime,ctime,trueR,", 196, 3, "init(2)") + ")))"),
     "atL 170": (statement["@ 170"], "saysR(claim(0,claim(1," + chain(lambda h: f"atL({h},", 170, 3, "init(2)") + ")))"),
-    "andL 196": (statement["& 255 to the right"], "saysR(claim(0,claim(1," + "".join(f"andL({3 if i == 0 else 3 + 2 * i}," for i in range(196)) + "init(2)" + ")" * 196 + ")))"),
+    "andL 196": (statement["& 255 to the right"], "saysR(claim(0,claim(1," + "".join(f"andL({3 + 2 * i}," for i in range(196)) + "init(2)" + ")" * 196 + ")))"),
     "claim 197": (statement["forall 511"], "saysR(claim(0," + "claim(1," * 197 + "init(2)" + ")" * 197 + "))"),
     "claim 197, not the goal": (statement["forall 511"], "saysR(claim(0," + "claim(1," * 197 + "init(3)" + ")" * 197 + "))"),
 }
-proofs = {name: it for name, it in proofs.items() if it}
 
 
 def right(n, goal, rule, leaf):
@@ -131,8 +121,7 @@ for name, (line, proof) in proofs.items():
         lines += ["as alice", "procap 1", "do create #1 a @1"]
         replies += ["ok", "ok procap", ""]
     cases.append((f"verify, procap, do: {name}", lines, replies))
-for name in ("depth 201", "depth 200 and a bad token"):
-    proof, reply = too_deep[name]
+for name, (proof, reply) in too_deep.items():
     cases.append((f"check: {name}", [MAY, f"{CHECK} 1 {proof}"], ["ok statement 1", reply]))
     cases.append((f"verify: {name}", [MAY, f"{VERIFY} 1 {proof}"], ["ok statement 1", reply]))
 
