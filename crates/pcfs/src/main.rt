@@ -93,23 +93,29 @@ fn refuse<R: Print>(rt: &R, lacking: Lacking) -> u8 {
     }
 }
 
-// Runs the words over the standard streams and the two files, and returns the status to end with.
-fn serve(rt: &HostRuntime) -> u8 {
-    let words = match words_of(rt) {
+fn main(rt: HostRuntime) -> ExitCode {
+    // A standard stream that was closed leaves its descriptor to the next file that is opened, and in that of a disk
+    // replies would be written. So these hold the descriptors; of a folder each read and each write fails.
+    let _first = fs::open(&rt, "/");
+    let _second = fs::open(&rt, "/");
+    let _third = fs::open(&rt, "/");
+    let words = match words_of(&rt) {
         Ok(words) => words,
-        Err(fault) if fault.kind() == ErrorKind::OutOfMemory => return OUT_OF_MEMORY,
+        Err(fault) if fault.kind() == ErrorKind::OutOfMemory => return ExitCode::from(
+            OUT_OF_MEMORY,
+        ),
         Err(_) => Vec::new(rt.alloc()),
     };
-    let secrets = match secrets_of(rt) {
+    let secrets = match secrets_of(&rt) {
         Ok(secrets) => secrets,
-        Err(lacking) => return refuse(rt, lacking),
+        Err(lacking) => return ExitCode::from(refuse(&rt, lacking)),
     };
     let mut input = StdSource::new(rt.reader());
-    let mut output = StdSink::new(io::writer(rt));
-    let a = FileDisk::new(rt, FIRST_FILE);
-    let b = FileDisk::new(rt, SECOND_FILE);
+    let mut output = StdSink::new(io::writer(&rt));
+    let a = FileDisk::new(&rt, FIRST_FILE);
+    let b = FileDisk::new(&rt, SECOND_FILE);
     let ended = run(
-        rt,
+        &rt,
         rt.alloc(),
         &words,
         &secrets,
@@ -118,18 +124,5 @@ fn serve(rt: &HostRuntime) -> u8 {
         a,
         b,
     );
-    ended.status
-}
-
-// A standard stream that was closed leaves its descriptor to the next file that is opened, which must be none of a disk:
-// replies would be written into it. So these hold the descriptors; of a folder each read and each write fails.
-fn main(rt: HostRuntime) -> ExitCode {
-    let first = fs::open(&rt, "/");
-    let second = fs::open(&rt, "/");
-    let third = fs::open(&rt, "/");
-    let status = serve(&rt);
-    drop(third);
-    drop(second);
-    drop(first);
-    ExitCode::from(status)
+    ExitCode::from(ended.status)
 }
