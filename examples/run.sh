@@ -66,6 +66,20 @@ else
     differ=$((differ + 1))
 fi
 
+# a closed output or input leaves its descriptor to no disk: the run fails, and nothing is written into the store
+closed=0
+"$program" script --stored < "$here/stored/read.pcfs" >&- 2> /dev/null || closed=$?
+silent=0
+"$program" script --stored <&- > replies || silent=$?
+if [ "$closed" -eq 7 ] && [ "$silent" -eq 6 ] && [ "$(cat replies)" = readfault ] && "$program" script --stored < /dev/null \
+    && mkdir closed && (cd closed && cp ../pcfs.secrets . && ! "$program" init >&- 2> /dev/null && "$program" script --stored < /dev/null); then
+    echo "agrees closed streams"
+    agree=$((agree + 1))
+else
+    echo "differs closed streams"
+    differ=$((differ + 1))
+fi
+
 # what the client signs is registered
 while read -r statement; do
     python3 "$here/pcfs_client.py" statement pcfs.secrets "$statement"
