@@ -1,6 +1,6 @@
 //! Dates and times of day.
 
-ghost use Rattle.std.specs.Prelude.{◌≡◌, ◌+◌, ◌<◌, ◌≤◌, pos, ◌+ℤ◌, ◌*ℤ◌, ◌≤ℤ◌, negsuc, length, IsTrue, IfSome};
+ghost use Rattle.std.specs.Prelude.{◌≡◌, ◌+◌, ◌<◌, pos, ◌+ℤ◌, ◌*ℤ◌, ◌≤ℤ◌, negsuc, length, IsTrue, IfSome};
 ghost use Rattle.jiff.specs.Words.{epoch_day};
 ghost use Rattle.bl_tokens.specs.Dates.{has_two, has_byte, has_date_front, has_time_of_day, two_at, year_at, date_second, day_second, date_second_at, day_second_at};
 

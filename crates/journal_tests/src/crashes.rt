@@ -3,7 +3,7 @@
 use crate::accounts::{account, respelled};
 use crate::areas::disk_of;
 use crate::outcomes::{Outcomes, add, add_torn};
-use bl_syntax::{Bytes, NoMemory};
+use bl_syntax::NoMemory;
 use journal_core::{Area, ScanFault};
 use pcfs_ports::{Disk, MemoryDisk};
 use std::alloc::Global;

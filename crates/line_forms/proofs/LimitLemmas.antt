@@ -1,5 +1,5 @@
 -- What is known of what a line brings: few bytes, a second within the range, numbers that can be cited.
-use Rattle.std.proofs.Common.{◌≡◌, ◌≤◌, ℕ, ℤ, Bool, true, false, List, [], ◌∷◌, length, Option, Some, IsTrue, sym, ap, ◌∙◌, subst, arith}
+use Rattle.std.proofs.Common.{◌≡◌, ◌≤◌, ℕ, ℤ, Bool, true, false, List, [], ◌∷◌, length, Option, Some, IsTrue, sym, ap, subst, arith}
 use Rattle.std.specs.Prelude.{unwrap_or}
 use Rattle.bl_syntax.specs.Names.{is_text, is_principal_name}
 use Rattle.bl_syntax.specs.Statement.{StatementView, IsStatement}

@@ -1,5 +1,5 @@
 -- What a line may ask for: what is known of what it brings, and in which modes it is said (this project's own).
-use Rattle.std.specs.Prelude.{◌≡◌, ◌≤◌, ℕ, List, length, IsSome, IsTrue}
+use Rattle.std.specs.Prelude.{◌≡◌, ◌≤◌, List, length, IsSome, IsTrue}
 use Rattle.std.specs.List.{AllByRecursion}
 use Rattle.bl_syntax.specs.Names.{is_principal_name}
 use Rattle.bl_syntax.specs.Statement.{IsStatement}

@@ -27,7 +27,7 @@ use Rattle.procap.specs.Procap.{procap_spelling, procap_at}
 use Rattle.procap.proofs.ProcapLemmas.{procap_codec}
 use Rattle.line_words.specs.Cited.{AreJoined, one_number, more_numbers, IsCited}
 use Rattle.line_words.specs.Grammar.{IsName, is_name_word, IsPrincipal, IsData, IsQuoted, IsPermission, IsSignature, IsSignatureHex, IsSigned, by_ring, by_bytes}
-use Rattle.line_words.specs.Numbers.{IsDigits, IsInteger, plain, negated, IsSecond, IsNumberBelow, IsNumber, IsLongNumber, IsFile, IsIssue}
+use Rattle.line_words.specs.Numbers.{IsDigits, IsInteger, plain, negated, IsSecond, IsNumberBelow, IsLongNumber, IsFile, IsIssue}
 use Rattle.line_words.specs.Numerals.{IsPlain}
 use Rattle.line_words.specs.Procaps.{IsProcapHex, IsProcapWord, by_number, by_spelling}
 use Rattle.line_words.specs.declared.procap_word.ProcapWord.TheVariants.{Procap as BySpelling, Issue}

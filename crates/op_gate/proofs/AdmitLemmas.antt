@@ -1,6 +1,6 @@
 -- The first damage of an event, over plain values.
-use Rattle.std.proofs.Common.{◌≡◌, ◌<◌, ◌≤◌, ◌-◌, ◌^◌, ℕ, List, [], ◌∷◌, ◌++◌, length, refl, sym, ap, subst, ◌∙◌, arith, ⊎_elim, Some, None}
-use Rattle.std.specs.Prelude.{ℤ, ◌≤ℤ◌, Contains, Result, Ok, Err, IfOk, IfErr, IsTrue, Option, ◌⊎◌}
+use Rattle.std.proofs.Common.{◌≡◌, ◌<◌, ◌-◌, ◌^◌, ℕ, List, [], ◌∷◌, ◌++◌, length, refl, sym, ap, subst, ◌∙◌, arith, ⊎_elim, Some, None}
+use Rattle.std.specs.Prelude.{ℤ, ◌≤ℤ◌, Result, Ok, Err, IfOk, IfErr, IsTrue, Option}
 use Rattle.std.specs.List.{AllByRecursion}
 use Rattle.std.specs.Option.{option_map}
 use Rattle.std.proofs.lemmas.Bool.{false≢true}
@@ -33,7 +33,6 @@ use Rattle.file_world.specs.Effect.{IsOperation, refusal}
 use Rattle.file_world.specs.Needs.{needs}
 use Rattle.access_history.specs.declared.event.Event.{Event}
 use Rattle.access_history.specs.declared.event.Event.TheVariants.{Registered, Issued, Acted}
-use Rattle.access_history.specs.declared.event.Addition.TheVariants as additions
 use Rattle.access_history.specs.declared.reply.StepReply.{StepReply}
 use Rattle.access_history.specs.declared.request.StepRequest.TheVariants.{Act}
 use Rattle.access_history.specs.Admission.{IsAdmitted, IsNeedMet}
@@ -43,7 +42,6 @@ use Rattle.access_history.specs.Base.{BaseView}
 use Rattle.bl_syntax.specs.Citable.{AreCitable, DoRise}
 use Rattle.access_history.specs.Citing.{AreFound, IsAbsent, IsGoodIssue, StandsUnderNumber, numbers_of}
 use Rattle.access_history.specs.History.{HistoryView, authority_of, state_of, addition_of, IsReadyFor}
-use Rattle.access_history.specs.Keeping.{HasMomentInRange}
 use Rattle.access_history.specs.Lawful.{IsLawfulBase, MayAct}
 use Rattle.access_history.specs.Numbered.{IsNumbered, HasNumber}
 use Rattle.access_history.proofs.AdmissionLemmas.{AreDerived-admitted}
@@ -58,7 +56,7 @@ use Rattle.op_gate.specs.Admits.{FindsCited, IsPendingAs, GivesPending, IsTimely
 use Rattle.op_gate.specs.Damage.{HasShape, TakesEffect, IsNewAmong, IsFreeOf, IsDamagedBy, MayComeNext, TellsDamage, event_damages}
 use Rattle.op_gate.specs.DamageLaws.{IsTypedEvent}
 use Rattle.op_gate.specs.Decision.{IsPlanned}
-use Rattle.op_gate.proofs.RegistryLemmas.{new_to_registry, said_from_registry, may_register}
+use Rattle.op_gate.proofs.RegistryLemmas.{said_from_registry, may_register}
 
 -- ---- the first damage, kind by kind
 

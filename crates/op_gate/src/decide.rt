@@ -1,6 +1,6 @@
 //! The answers to requests on statements and issues, and what is to be kept.
 
-ghost use Rattle.std.specs.Prelude.{◌≡◌, ◌∷◌, ◌↔◌, [], Some, None, IfOk, MatchOption, IsTrue, ℕ, ℤ, length};
+ghost use Rattle.std.specs.Prelude.{◌≡◌, ◌↔◌, Some, None, IfOk, MatchOption, IsTrue, ℕ, ℤ, length};
 ghost use Rattle.bl_syntax.specs.Statement.{IsStatement};
 ghost use Rattle.access_history.specs.declared.request.StepRequest.TheVariants as requests;
 ghost use Rattle.access_history.specs.Answer.{Answers, MaySee};

@@ -1,6 +1,6 @@
 //! Listeners: where connections come from.
 
-ghost use Rattle.std.specs.Prelude.{◌≡◌, ◌≢◌, ℕ, ◌≤◌, ◌↔◌, List, [], ◌∷◌, ◌++◌, Option, Some, IfSome, IsErr, OnOk, OnErr, length};
+ghost use Rattle.std.specs.Prelude.{◌≡◌, ◌≢◌, ℕ, ◌≤◌, ◌↔◌, [], ◌∷◌, ◌++◌, Option, Some, IfSome, IsErr, OnOk, OnErr, length};
 ghost use Rattle.pcfs_ports.specs.Faults.{HasRisen};
 ghost use Rattle.pcfs_ports.specs.Calls.{no_calls, FailsNext, after_call, after_failed_call};
 ghost use Rattle.pcfs_ports.specs.Accepted.{connections_of, count_of, FallsBy};

@@ -1,5 +1,5 @@
 -- How serving ends. This project's own.
-use Rattle.std.specs.Prelude.{◌≡◌, ℕ, ◌+◌, ◌<◌, ◌≤◌, ◌⊎◌, Option, IfSome}
+use Rattle.std.specs.Prelude.{◌≡◌, ℕ, ◌+◌, ◌<◌, ◌⊎◌, Option, IfSome}
 use Rattle.pcfs_ports.specs.Accepted.{FallsBy}
 use Rattle.pcfs_server.specs.declared.end.ServeEnd.{ServeEnd}
 use Rattle.pcfs_server.specs.declared.end.ServeEnd.TheVariants.{Done, NetFault, NoMemory}

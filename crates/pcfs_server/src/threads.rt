@@ -1,6 +1,6 @@
 //! One thread a connection, in a table by its key.
 
-ghost use Rattle.std.specs.Prelude.{◌≡◌, ℕ, ◌+◌, ◌<◌, ◌≤◌, true, false};
+ghost use Rattle.std.specs.Prelude.{◌≡◌, ◌+◌, ◌<◌, ◌≤◌, true, false};
 ghost use Rattle.slab.specs.Slab.{slab_len};
 ghost use Rattle.pcfs_server.specs.Table.{AllHave};
 

@@ -17,7 +17,7 @@ use Rattle.journal_records.specs.EventSpelling.{erase, event_spelling, IsSpellab
 use Rattle.journal_records.proofs.EventLemmas.{same_spelling}
 use Rattle.pcfs_store.specs.Image.{fresh_image, IsImageOf}
 use Rattle.pcfs_store.specs.StoredHistory.{payloads_of, AreSpellable, StandsFor, Resumes}
-use Rattle.pcfs_store.specs.Newest.{newer, one_of, newest, SurvivesClosed, SurvivesWhole, SurvivesWholeClosed}
+use Rattle.pcfs_store.specs.Newest.{newer, one_of, newest, SurvivesWhole, SurvivesWholeClosed}
 use Rattle.pcfs_store.specs.StoreView.{StoreView, first_disk, second_disk, body_of, IsStore}
 use Rattle.pcfs_store.specs.Ready.{IsBehind, IsReady, IsCurrent, StopsNow}
 

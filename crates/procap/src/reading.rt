@@ -1,8 +1,6 @@
 //! Reading grants and procaps.
 
-ghost use Rattle.std.specs.Prelude.{◌≡◌, ◌≤◌, ◌+◌, ◌-◌, ℕ, List, [], IsTrue, IfOk, length};
-ghost use Rattle.std.specs.List.{list_any};
-ghost use Rattle.bl_syntax.specs.Grant.{GrantView};
+ghost use Rattle.std.specs.Prelude.{◌≡◌, ◌≤◌, ◌+◌, ◌-◌, [], IfOk, length};
 ghost use Rattle.bl_syntax.specs.Reading.{GivesReading, reading, term_at};
 ghost use Rattle.bl_syntax.specs.Codec.{GivesReadingOrReports, ReadsFront};
 ghost use Rattle.bl_syntax.specs.FormulaReading.{is_formula_tag};

@@ -2,7 +2,6 @@
 
 ghost use Rattle.std.specs.Prelude.{◌≡◌, Ok, Err, MatchResult, []};
 ghost use Rattle.bl_syntax.specs.Terms.{sort_of};
-ghost use Rattle.proof_verifier.specs.Tests.{is_as_strong};
 ghost use Rattle.proof_verifier.specs.Conditions.{term_condition, strength_condition};
 
 use crate::fault::CheckFault;
