@@ -16,7 +16,7 @@ use file_world::{Kind, TreeOp};
 use std::alloc::{AllocFailed, Global};
 use std::collections::BTreeMap;
 
-/// Keeps a number under a name in a directory. It takes no memory where the name is there.
+/// Keeps a number under a name in a directory. It takes no memory if the name is there.
 pub fn enter(nodes: &mut KeptNodes, spot: &Spot, number: u64) -> Result<(), NoMemory>
     requires { IsSome (kept_at nodes.old.entries spot.now.directory) }
     ensures ok { OnOk result (Puts nodes.old.entries nodes.new.entries (spot_place spot.now) (Some number)) }

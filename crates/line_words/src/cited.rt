@@ -29,7 +29,7 @@ fn are_citable(numbers: &[u32]) -> bool
     !numbers.is_empty() && numbers.len() <= MOST_CITED && do_rise(numbers)
 }
 
-// Adds the numbers of the word to those before it, and tells whether it has numbers alone and there are not more than
+// Adds the numbers of the word to those before it, and returns whether it has numbers alone and there are not more than
 // can be cited then.
 fn read_numbers(word: &[u8], numbers: &mut Numbers) -> Result<bool, NoMemory>
     ensures added { IfOk result (λ all. IsTrue all → AreAdded word.now numbers.old numbers.new) }

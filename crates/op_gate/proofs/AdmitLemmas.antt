@@ -103,7 +103,7 @@ registered_pending h pass statement signature told pending is may pending_is = r
   ready = tt;
 }
 
--- what is told of a statement that the registry takes
+-- what is reported of a statement that the registry takes
 pub registered_told : (h : HistoryView) (pass : ℕ) (statement : StatementView) (signature : List ℕ) (told : Unit {0}) (result : Result Pending AdmitFault) → IsStatement statement →
     MayRegister (is_accepted h.ring statement.who (statement_message statement) signature) (state_of h).statements statement (Ok told) →
     IfOk result (λ pending. pending ≡ pending_statement pass statement signature) → IfErr result (λ fault. fault ≡ NoMemory) → GivesPending h h (Registered pass statement signature) result
@@ -194,7 +194,7 @@ pub good_found : (statements : List StatementView) (cited : List ℕ) (proof : P
 good_found statements cited proof g number good absent =
     none_fails (HasNumber statements) cited absent.place number (subst (AllByRecursion (HasNumber statements)) (sym good.cited) (have_numbers statements good.cites good.stand)) absent.first
 
--- what is told of an issue with this grant, which its proof gives
+-- what is reported of an issue with this grant, which its proof gives
 pub issued_told : (pass : ℕ) (checked : CheckedView) (g : GrantView) (result : Result Pending AdmitFault) → IsChecked checked → checked.goal ≡ g.goal → checked.grant ≡ g →
     IfOk result (λ pending. pending ≡ pending_issue pass (numbers_of checked.cited) checked.proof checked.grant) → IfErr result (λ fault. fault ≡ NoMemory) → GivesIssue pass checked.cited checked.proof g result
 issued_told pass checked g (Ok pending) is goal same ok err = (
@@ -272,7 +272,7 @@ lacks_next authority state shown event (Damaged damage) same lacks =
     (damaged_shape authority state event (λ has. omega (arith, has.0, lacks.1, ap (λ (s : BaseView). s.count) same)))
 lacks_next authority state shown event NoMemory same lacks = tt
 
--- what is told of the event that is kept, and of one that is not
+-- what is reported of the event that is kept, and of one that is not
 pub told_kept : (before after : HistoryView) (event : Event) (pending : Pending) → (state_of before).count < 2 ^ 48 - 1 → IsPendingAs before after event pending → MayComeNext (authority_of before) (state_of before) event
 told_kept before after event pending counted is = record { counted = counted; follows = is.follows }
 

@@ -134,7 +134,7 @@ pub fn issued_procap(
     }
 }
 
-// Whether the procap of the grant may be seen: by whom it names, or by the operator, where nobody is named.
+// Whether the procap of the grant may be seen: by whom it names, or by the operator, if nobody is named.
 fn may_see(who: &Option<Principal>, grant: &Grant) -> bool
     ensures { IsTrue result ↔ MaySee who.now grant.now }
 {

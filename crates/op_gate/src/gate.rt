@@ -51,7 +51,7 @@ impl Model for Gate {
     ghost invariant = { λ g. MatchOption g.pending ⊤ (CanKeep g.history) };
 }
 
-// Puts the event in the place of what was pending.
+// Replaces what was pending by the event.
 fn put(place: &mut Option<Pending>, pending: Pending)
     ensures { place.new ≡ Some pending }
 {
@@ -237,7 +237,7 @@ impl Gate {
         }
     }
 
-    /// Drops the pending event, where there is one.
+    /// Drops the pending event, if there is one.
     pub fn forget(&mut self)
         ensures { self.new ≡ record self.old { pending = None } }
     {

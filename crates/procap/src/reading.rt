@@ -326,7 +326,7 @@ fn tag_of(bytes: &[u8]) -> [u8; 32]
     tag
 }
 
-/// Reads a grant at the front of the bytes, and tells how many bytes it takes.
+/// Reads a grant at the front of the bytes, and returns how many bytes it takes.
 pub fn read_grant(alloc: Global, bytes: &[u8]) -> Result<(Grant, usize), CodecFault>
     ensures exact { GivesReadingOrReports (λ x. (x.0, x.1)) result (reading grant_at bytes.now) }
     ensures front { ReadsFront (λ g. g) IsSpellableGrant grant_spelling bytes.now result }
