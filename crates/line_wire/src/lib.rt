@@ -1,7 +1,8 @@
 //! The line that each reply is written as.
 //!
 //! A reply is written in one way, all of its line or nothing. The numbers of causes, refusals and faults stand here and
-//! nowhere else: below, they have names. Laws say that a reply is one line, and which word it begins with.
+//! nowhere else: below, they have names. Laws say that a reply is one line, and which word it begins with. Beside it
+//! stands what becomes of a line before a login.
 #![tactic(auto)]
 
 mod checked_text;
