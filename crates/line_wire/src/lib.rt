@@ -7,11 +7,15 @@
 mod checked_text;
 mod fault_text;
 mod gate_text;
+mod guest;
+mod guest_line;
 mod hex_text;
 pub mod laws;
 mod operation_text;
 mod reply;
 mod reply_text;
 
+pub use guest::read_guest_line;
+pub use guest_line::GuestLine;
 pub use reply::LineReply;
 pub use reply_text::write_reply;

@@ -1,5 +1,5 @@
 -- The lines of a script, answered over a store.
-use Rattle.std.proofs.Common.{◌≡◌, ◌↔◌, ◌⊎◌, inl, inr, ℕ, ◌≤◌, List, ◌∷◌, [], ◌++◌, Bool, true, false, Option, Some, None, Result, Ok, Err, refl, sym, ap, subst, ◌∙◌, arith}
+use Rattle.std.proofs.Common.{◌≡◌, ◌↔◌, ℕ, List, ◌∷◌, [], ◌++◌, true, false, Option, Some, None, Ok, Err, refl, subst}
 use Rattle.std.specs.Prelude.{IsTrue, IsSome}
 use Rattle.pcfs_ports.specs.Told.{with_back, HoldsSome}
 use Rattle.line_text.specs.Lines.{lines_of}
@@ -9,13 +9,12 @@ use Rattle.line_wire.specs.ReplyText.{reply_text}
 use Rattle.pcfs_store.specs.StoreView.{StoreView}
 use Rattle.pcfs_top.specs.InterpreterView.{InterpreterView, standing_of}
 use Rattle.pcfs_top.specs.Outbox.{GoesOut}
-use Rattle.pcfs_top.specs.ScriptEnds.{RunsPart}
 use Rattle.pcfs_top.specs.ScriptRun.{Standing, IsLawfulStanding, IsReplied}
 use Rattle.pcfs_top.specs.Stored.{IsStopFor, StoreGoesOn, LeadsTo, AnswersAll}
 use Rattle.pcfs_top.specs.declared.script.ScriptFault.{ScriptFault}
 use Rattle.pcfs_top.specs.declared.script.ScriptFault.TheVariants.{Write, NoMemory, Stopped}
 use Rattle.pcfs_top.proofs.ScriptLemmas.{HasRun, HasRun-more, HasRun-cut, HasRun-out, HasRun-part, HasRun-whole}
-use Rattle.pcfs_top.proofs.StoredLemmas.{StoreGoesOn-on, runs_for, none_some}
+use Rattle.pcfs_top.proofs.StoredLemmas.{StoreGoesOn-on}
 
 -- a store that did not stop met nothing
 met_nothing : (stop : Option ℕ) (met : Option Event) → IsStopFor stop met → stop ≡ None → met ≡ None

@@ -34,7 +34,7 @@ use Rattle.line_wire.specs.declared.reply.LineReply.TheVariants as replies
 use Rattle.pcfs_top.specs.Asker.{Asker, asker_after}
 use Rattle.pcfs_top.specs.Procaps.{BringsProcap, held, issued, NamesIssue, AreBrought, IsFirstUnissued}
 use Rattle.pcfs_top.specs.Proved.{IsUnproved, cites_none, proves_none, IsProved}
-use Rattle.pcfs_top.specs.LineAnswer.{authority_under, signature_under, Look, replied, requested, ComesTo, AnswersCommand, at_once, decided, AnswersLine, faulty, asks}
+use Rattle.pcfs_top.specs.LineAnswer.{authority_under, Look, replied, requested, ComesTo, AnswersCommand, at_once, decided, AnswersLine, faulty, asks}
 use Rattle.pcfs_top.specs.LineAnswer as line_answer
 use Rattle.pcfs_top.specs.ScriptRun.{Standing, state_of_standing}
 use Rattle.pcfs_top.proofs.BroughtLemmas.{NamesIssue-brought}

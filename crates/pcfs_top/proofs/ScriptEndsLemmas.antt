@@ -1,19 +1,17 @@
 -- The ends of a script that is read from an input.
-use Rattle.std.proofs.Common.{◌≡◌, ◌⊎◌, inl, inr, ℕ, List, [], take, ap, sym, subst, ◌∙◌, arith, Option, Some, None, Result, Ok, Err, refl}
+use Rattle.std.proofs.Common.{◌≡◌, ◌⊎◌, inl, inr, ℕ, List, [], take, ap, sym, subst, ◌∙◌, arith, Option, Some, None, Ok, Err, refl}
 use Rattle.std.specs.Prelude.{codes}
 use Rattle.std.proofs.lemmas.List.{take-append-drop}
 use Rattle.pcfs_ports.specs.Faults.{HasRisen}
 use Rattle.pcfs_ports.specs.Told.{with_front, with_back, ReadsToEnd, TakesFirst, TakesSome, HoldsSome}
-use Rattle.line_text.specs.Lines.{lines_of}
-use Rattle.access_history.specs.declared.event.Event.{Event}
 use Rattle.pcfs_top.specs.InterpreterView.{InterpreterView, standing_of}
 use Rattle.pcfs_top.specs.Ports.{Streams}
-use Rattle.pcfs_top.specs.ScriptEnds.{RunsOver, RunsPart, AreTaken, HasAnswered, ScriptWrites, ScriptEnds, with_line_end}
+use Rattle.pcfs_top.specs.ScriptEnds.{AreTaken, ScriptWrites, ScriptEnds, with_line_end}
 use Rattle.pcfs_top.specs.ScriptEnds as ends
 use Rattle.pcfs_secrets.specs.declared.secrets.Secrets.{Secrets}
 use Rattle.pcfs_top.specs.ScriptRun.{Standing, IsLawfulStanding, fresh_start}
 use Rattle.pcfs_top.proofs.LawfulRunLemmas.{IsLawfulStanding-fresh}
-use Rattle.pcfs_top.specs.Stored.{StoreGoesOn, AnswersAll, AnswersInput}
+use Rattle.pcfs_top.specs.Stored.{AnswersAll, AnswersInput}
 use Rattle.pcfs_top.specs.declared.script.ScriptFault.{ScriptFault}
 use Rattle.pcfs_top.specs.declared.script.ScriptFault.TheVariants.{Write, NoMemory, Stopped}
 use Rattle.pcfs_top.proofs.OutboxLemmas.{with_back-nil}

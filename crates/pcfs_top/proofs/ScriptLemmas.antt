@@ -1,5 +1,5 @@
 -- A script that was run as far as some rest of its input.
-use Rattle.std.proofs.Common.{◌≡◌, ℕ, ◌+◌, ◌≤◌, List, [], ◌∷◌, ◌++◌, length, Option, Some, None, refl, sym, ap, subst, ◌∙◌, arith, append_assoc, append-nil}
+use Rattle.std.proofs.Common.{◌≡◌, ℕ, List, [], ◌∷◌, ◌++◌, Option, None, refl, sym, ap, subst, ◌∙◌, append_assoc, append-nil}
 use Rattle.std.proofs.lemmas.Grind.{flat_map-append}
 use Rattle.pcfs_ports.specs.Told.{with_back, HoldsSome}
 use Rattle.line_text.specs.Lines.{lines_of}
@@ -7,14 +7,13 @@ use Rattle.access_history.proofs.HeadlineLemmas.{Headline-lawful}
 use Rattle.line_wire.specs.declared.reply.LineReply.{LineReply}
 use Rattle.line_wire.specs.ReplyText.{reply_text, output_of}
 use Rattle.pcfs_secrets.specs.declared.secrets.Secrets.{Secrets}
-use Rattle.access_history.specs.Headline.{Headline}
 use Rattle.pcfs_top.specs.LineAnswer.{authority_under}
-use Rattle.pcfs_top.specs.ScriptRun.{Standing, state_of_standing, IsLawfulStanding, IsReplied, ScriptRun}
+use Rattle.pcfs_top.specs.ScriptRun.{Standing, IsLawfulStanding, IsReplied, ScriptRun}
 use Rattle.pcfs_top.specs.ScriptRun as script
 use Rattle.pcfs_top.specs.Outbox.{GoesOut}
 use Rattle.pcfs_top.specs.ScriptEnds.{RunsOver, RunsPart}
 use Rattle.pcfs_top.proofs.LawfulRunLemmas.{runs_lawfully}
-use Rattle.pcfs_top.proofs.OutboxLemmas.{with_back-nil, GoesOut-none, GoesOut-more, GoesOut-whole, GoesOut-some, GoesOut-part}
+use Rattle.pcfs_top.proofs.OutboxLemmas.{GoesOut-none, GoesOut-more, GoesOut-whole, GoesOut-some, GoesOut-part}
 
 -- ---- a run that goes on
 

@@ -120,14 +120,14 @@ IsTold status line held faults result held_after faults_after =
 abbrev pub IsUntold : Option (List ℕ) → ℕ → Option (List ℕ) → Type 0
 IsUntold held result held_after = (result ≡ 9) × (held_after ≡ held)
 
--- what is told of why no store was opened
+-- what is reported of why no store was opened
 abbrev pub TellsUnopened : OpenFault → Option (List ℕ) → ℕ → ℕ → Option (List ℕ) → ℕ → Type 0
 TellsUnopened opens.NoStore held faults result held_after faults_after = IsTold 4 (codes "nostore") held faults result held_after faults_after
 TellsUnopened (opens.Damaged number damage) held faults result held_after faults_after = IsTold 3 (damaged_text number damage) held faults result held_after faults_after ⊎ IsUntold held result held_after
 TellsUnopened opens.Disk held faults result held_after faults_after = IsTold 5 (codes "stopped") held faults result held_after faults_after
 TellsUnopened opens.NoMemory held faults result held_after faults_after = IsUntold held result held_after
 
--- what is told of why no store was made
+-- what is reported of why no store was made
 abbrev pub TellsUnmade : FormatFault → Option (List ℕ) → ℕ → ℕ → Option (List ℕ) → ℕ → Type 0
 TellsUnmade formats.AlreadyStore held faults result held_after faults_after = IsTold 10 (codes "exists") held faults result held_after faults_after
 TellsUnmade formats.Disk held faults result held_after faults_after = IsTold 5 (codes "stopped") held faults result held_after faults_after

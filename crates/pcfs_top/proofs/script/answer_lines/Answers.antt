@@ -1,6 +1,6 @@
 -- Each line that was answered, with its reply on its way, is one more of the run.
 use Rattle.std.proofs.Common.{refl, arith}
-use Rattle.pcfs_top.proofs.ScriptLemmas.{HasRun-start, HasRun-lawful, HasRun-more}
+use Rattle.pcfs_top.proofs.ScriptLemmas.{HasRun-start, HasRun-lawful}
 use Rattle.pcfs_top.proofs.AnsweredLemmas.{AnswersAll-cut, AnswersAll-stopped, AnswersAll-part, AnswersAll-whole, goes_further, run_further, not_some}
 use Rattle.pcfs_top.proofs.StoredLemmas.{StoreGoesOn-same}
 use Rattle.pcfs_top.proofs.script.answer_lines.Goals as goal
