@@ -26,8 +26,8 @@ pub data FormulaView : Type 0 where
 -- the formula that a formula of the program stands for
 abbrev pub formula_view : Formula → FormulaView
 formula_view (code.Atom name terms) = atom name terms
-formula_view (code.Cons c) = compare c
-formula_view (code.State s) = state s
+formula_view (code.Cons c) = compare c.value
+formula_view (code.State s) = state s.value
 formula_view (code.And' p a q b) = both (formula_view a) (formula_view b)
 formula_view (code.Or' p a q b) = either (formula_view a) (formula_view b)
 formula_view (code.Imp' p a q b) = implies (formula_view a) (formula_view b)
@@ -35,5 +35,5 @@ formula_view code.True = truth
 formula_view code.False = falsity
 formula_view (code.Forall' s p a) = forall_ s (formula_view a)
 formula_view (code.Exists' s p a) = exists_ s (formula_view a)
-formula_view (code.Says' t p a) = says t (formula_view a)
-formula_view (code.At' p a u v) = on (formula_view a) u v
+formula_view (code.Says' t p a) = says t.value (formula_view a)
+formula_view (code.At' p a u v) = on (formula_view a) u.value v.value

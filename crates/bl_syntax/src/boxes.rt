@@ -23,7 +23,7 @@ pub fn atom_of(alloc: Global, name: &Word, terms: Terms) -> Result<Box<Formula>,
 pub fn constraint_of(alloc: Global, c: &Constraint) -> Result<Box<Formula>, NoMemory>
     ensures { IfOk result (λ f. formula_view f.value ≡ compare c.now) }
 {
-    Ok(Box::new(alloc, Formula::Cons(*c))?)
+    Ok(Box::new(alloc, Formula::Cons(Box::new(alloc, *c)?))?)
 }
 
 /// The predicate on the server's state as a formula.
@@ -31,7 +31,7 @@ pub fn constraint_of(alloc: Global, c: &Constraint) -> Result<Box<Formula>, NoMe
 pub fn state_of(alloc: Global, s: &StatePred) -> Result<Box<Formula>, NoMemory>
     ensures { IfOk result (λ f. formula_view f.value ≡ state s.now) }
 {
-    Ok(Box::new(alloc, Formula::State(*s))?)
+    Ok(Box::new(alloc, Formula::State(Box::new(alloc, *s)?))?)
 }
 
 /// The conjunction of two formulas.
@@ -95,7 +95,7 @@ pub fn some_of(alloc: Global, sort: Sort, a: Box<Formula>) -> Result<Box<Formula
 pub fn says_of(alloc: Global, who: &Term, a: Box<Formula>) -> Result<Box<Formula>, NoMemory>
     ensures { IfOk result (λ f. formula_view f.value ≡ says who.now (formula_view a.value)) }
 {
-    Ok(Box::new(alloc, Formula::Says(*who, a))?)
+    Ok(Box::new(alloc, Formula::Says(Box::new(alloc, *who)?, a))?)
 }
 
 /// The formula on an interval.
@@ -108,5 +108,7 @@ pub fn on_of(
 ) -> Result<Box<Formula>, NoMemory>
     ensures { IfOk result (λ f. formula_view f.value ≡ on (formula_view a.value) from.now to.now) }
 {
-    Ok(Box::new(alloc, Formula::At(a, *from, *to))?)
+    let from = Box::new(alloc, *from)?;
+    let to = Box::new(alloc, *to)?;
+    Ok(Box::new(alloc, Formula::At(a, from, to))?)
 }

@@ -3,7 +3,7 @@
 ghost use Rattle.std.specs.Prelude.{◌≡◌, ◌≤◌, ◌-◌};
 ghost use Rattle.std.specs.Option.{SomeIff};
 ghost use Rattle.bl_syntax.specs.Binders.{sorts};
-ghost use Rattle.bl_syntax.specs.Formula.{formula_view, atom};
+ghost use Rattle.bl_syntax.specs.Formula.{formula_view, atom, state};
 ghost use Rattle.bl_syntax.specs.Terms.{sort_of};
 ghost use Rattle.bl_syntax.specs.WellSorted.{size, widest_atom};
 ghost use Rattle.bl_syntax.specs.FirstFault.{Finds, formula_fault, sorting_fault, may_fault, scopes_fault, state_fault, times_fault, term_fault};
@@ -60,8 +60,8 @@ fn nodes_left(f: &Formula, nodes: u16) -> Option<u16>
                 None
             }
         }
-        Formula::State(StatePred::HasXattr(..)) => nodes.checked_sub(4),
-        Formula::Cons(_) | Formula::State(_) => nodes.checked_sub(3),
+        Formula::State(s) => nodes.checked_sub(state_size(s)),
+        Formula::Cons(_) => nodes.checked_sub(3),
         Formula::And(a, b) | Formula::Or(a, b) | Formula::Imp(a, b) => {
             nodes_left(b, nodes_left(a, nodes.checked_sub(1)?)?)
         }
@@ -69,6 +69,16 @@ fn nodes_left(f: &Formula, nodes: u16) -> Option<u16>
         Formula::Forall(_, a) | Formula::Exists(_, a) => nodes_left(a, nodes.checked_sub(1)?),
         Formula::Says(_, a) => nodes_left(a, nodes.checked_sub(2)?),
         Formula::At(a, _, _) => nodes_left(a, nodes.checked_sub(3)?),
+    }
+}
+
+/// How many nodes a predicate on the server's state has.
+fn state_size(s: &StatePred) -> u16
+    ensures { result ≡ size (state s.now) }
+{
+    match s {
+        StatePred::HasXattr(..) => 4,
+        _ => 3,
     }
 }
 

@@ -1,20 +1,22 @@
 //! Formulas of the logic.
 
+use crate::boxes::{constraint_of, on_of, says_of, state_of};
 use crate::lists::NoMemory;
 use crate::names::Word;
 use crate::terms::{Constraint, Sort, StatePred, Term, Terms, are_same};
 use std::alloc::Global;
 use std::mem;
 
-/// A formula. A variable is the number of binders between it and its own, so the innermost binder's is 0.
+/// A formula, which takes little room itself: its constraints, its predicates on the server's state and its terms are
+/// in boxes, since each of these has room for the longest text. A variable is the number of binders between it and its own, so the innermost binder's is 0.
 #[derive(Debug)]
 pub enum Formula {
     /// A predicate and its arguments.
     Atom(Word, Terms),
     /// One time is not after another.
-    Cons(Constraint),
+    Cons(Box<Constraint>),
     /// A predicate on the server's state.
-    State(StatePred),
+    State(Box<StatePred>),
     And(Box<Formula>, Box<Formula>),
     Or(Box<Formula>, Box<Formula>),
     Imp(Box<Formula>, Box<Formula>),
@@ -23,9 +25,9 @@ pub enum Formula {
     Forall(Sort, Box<Formula>),
     Exists(Sort, Box<Formula>),
     /// A principal says a formula.
-    Says(Term, Box<Formula>),
+    Says(Box<Term>, Box<Formula>),
     /// A formula on an interval, from the first time to the second.
-    At(Box<Formula>, Term, Term),
+    At(Box<Formula>, Box<Term>, Box<Term>),
 }
 
 // A loop, so that the deepest formula takes no more of the stack than any other. What still waits for it hangs in a
@@ -48,10 +50,9 @@ impl Drop for Formula {
                         }
                     }
                 }
-                Formula::Forall(_, a)
-                | Formula::Exists(_, a)
-                | Formula::Says(_, a)
-                | Formula::At(a, _, _) => self = Box::into_inner(a),
+                Formula::Forall(_, a) | Formula::Exists(_, a) => self = Box::into_inner(a),
+                Formula::Says(_who, a) => self = Box::into_inner(a),
+                Formula::At(a, _from, _to) => self = Box::into_inner(a),
                 Formula::Atom(_, _)
                 | Formula::Cons(_)
                 | Formula::State(_)
@@ -127,8 +128,8 @@ impl Formula {
         let f = match self {
             Formula::Forall(sort, _) => Formula::Forall(*sort, a),
             Formula::Exists(sort, _) => Formula::Exists(*sort, a),
-            Formula::Says(who, _) => Formula::Says(*who, a),
-            Formula::At(_, from, to) => Formula::At(a, *from, *to),
+            Formula::Says(who, _) => return says_of(alloc, who, a),
+            Formula::At(_, from, to) => return on_of(alloc, a, from, to),
             _ => return Ok(a),
         };
         Ok(Box::new(alloc, f)?)
@@ -141,8 +142,8 @@ impl Formula {
     {
         let f = match self {
             Formula::Atom(name, terms) => Formula::Atom(*name, terms.copy(alloc)?),
-            Formula::Cons(c) => Formula::Cons(*c),
-            Formula::State(s) => Formula::State(*s),
+            Formula::Cons(c) => return constraint_of(alloc, c),
+            Formula::State(s) => return state_of(alloc, s),
             Formula::True => Formula::True,
             _ => Formula::False,
         };

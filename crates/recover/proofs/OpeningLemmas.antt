@@ -160,6 +160,7 @@ module _ {D : Type 0} (clock : D → ℕ) (left_since : D → ℕ → List ℕ �
       ring_is = holds.ring_is;
       base_is = holds.base_is;
       lawful = subst (λ (base : BaseView). IsLawful (authority_with key ring) base gate.events) (sym holds.base_is) holds.lawful;
+      each = holds.each;
       running = refl;
       newest_history = λ x y told_a told_b. newest_history x x y key ring end generation gate holds (area_first x told_a) (newest_first x y (which_first x y told_a told_b));
       current = λ x y told_a told_b. record {
@@ -209,6 +210,7 @@ module _ {D : Type 0} (clock : D → ℕ) (left_since : D → ℕ → List ℕ �
       ring_is = holds.ring_is;
       base_is = holds.base_is;
       lawful = subst (λ (base : BaseView). IsLawful (authority_with key ring) base gate.events) (sym holds.base_is) holds.lawful;
+      each = holds.each;
       running = refl;
       newest_history = λ x y told_a told_b. newest_history y x y key ring end generation gate holds (area_second y told_b) (newest_second x y (which_second x y told_a told_b));
       current = λ x y told_a told_b. record {
