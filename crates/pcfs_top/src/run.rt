@@ -4,7 +4,7 @@ ghost use Rattle.std.specs.Prelude.{◌≡◌, ◌⊎◌, ℕ, List, Option, Str
 ghost use Rattle.std.specs.declared.alloc.Global.{Global};
 ghost use Rattle.pcfs_ports.specs.Disk.{IsPinned};
 ghost use Rattle.pcfs_store.specs.Formats.{IsNewStore};
-ghost use Rattle.pcfs_top.specs.ScriptEnds.{with_line_end};
+ghost use Rattle.pcfs_session.specs.ScriptEnds.{with_line_end};
 ghost use Rattle.pcfs_top.specs.Run.{IsStored, IsInit, MemoryEnds, EndsWith, TellsUnopened, TellsUnmade, damage_number, damaged_text};
 
 use crate::answering::{DISK_FAULT, DONE, OUT_OF_MEMORY, run_over, tell};
