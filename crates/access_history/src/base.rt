@@ -3,8 +3,9 @@
 ghost use Rattle.std.specs.Prelude.{◌≡◌, IfOk};
 ghost use Rattle.access_history.specs.Replay.{fresh};
 
-use crate::event::{Issues, Statements};
+use crate::event::{Issue, Issues, Statements};
 use bl_syntax::{NoMemory, Sequence};
+use policy_statement::Registered;
 use std::alloc::Global;
 use std::marker::Model;
 use world_state::World;
@@ -53,6 +54,20 @@ impl Base {
         ensures { result.now.world ≡ self.now.world }
     {
         &self.world
+    }
+
+    /// The statements that are registered, with their signatures, by their numbers from 1.
+    pub fn statements(&self) -> &[Registered]
+        ensures { result.now ≡ self.now.statements }
+    {
+        self.statements.as_slice()
+    }
+
+    /// The grants that were issued, by their numbers from 1.
+    pub fn issues(&self) -> &[Issue]
+        ensures { result.now ≡ self.now.issues }
+    {
+        self.issues.as_slice()
     }
 
     /// The greatest moment so far.

@@ -30,7 +30,7 @@ pub record IsMetaReady (state : MetaView) (op : MetaOp) : Type 0 where
   pub free : meta_refusal state.marks op ≡ None
   pub ready : state.ready ≡ Some (ready_for state.marks op)
 
--- the operation got its reply and is ready; or it is refused, and its first refusal is told; or out of memory
+-- the operation got its reply and is ready; or it is refused, and its first refusal is reported; or out of memory
 abbrev pub ReservesMeta : Marks → MetaOp → Result MetaReply OpFault → Option MetaReady → Type 0
 ReservesMeta marks op (Ok reply) ready = (meta_refusal marks op ≡ None) × (reply ≡ meta_reply marks op) × (ready ≡ Some (ready_for marks op))
 ReservesMeta marks op (Err (Refused refusal)) ready = (meta_refusal marks op ≡ Some refusal) × (ready ≡ None)

@@ -42,7 +42,7 @@ pub fn value_among(attributes: &[Attribute], name: &[u8]) -> Option<Text>
     }
 }
 
-/// Puts a value under a name, in the place of one that is there.
+/// Puts a value under a name, replacing one that is there.
 pub fn put(attributes: &mut KeptAttributes, name: &[u8], value: Text)
     requires short { length name.now ≤ longest_name }
     requires sorted { AreSorted attributes.old.items }

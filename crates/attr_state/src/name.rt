@@ -1,6 +1,6 @@
 //! Names of attributes: which bytes are one.
 
-ghost use Rattle.std.specs.Prelude.{◌≡◌, ◌≤◌, length};
+ghost use Rattle.std.specs.Prelude.{◌≡◌};
 ghost use Rattle.std.specs.List.{list_all};
 ghost use Rattle.file_world.specs.FileNames.{is_attribute_name_byte, is_attribute_name};
 

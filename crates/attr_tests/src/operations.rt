@@ -82,7 +82,12 @@ fn is_wanted(reply: &MetaReply, wanted: &Wanted) -> bool {
 }
 
 // Whether the operation, reserved and applied, answers what is wanted.
-fn answers(meta: &mut Meta, alloc: Global, call: &Call, wanted: &Wanted) -> Result<bool, Fail> {
+fn check_answer(
+    meta: &mut Meta,
+    alloc: Global,
+    call: &Call,
+    wanted: &Wanted,
+) -> Result<bool, Fail> {
     let op = op_of(alloc, call)?;
     if !is_askable(meta, &op) {
         return Ok(false);
@@ -98,9 +103,9 @@ fn answers(meta: &mut Meta, alloc: Global, call: &Call, wanted: &Wanted) -> Resu
 }
 
 // Whether each operation in turn answers what is wanted.
-fn all_answer(meta: &mut Meta, alloc: Global, calls: &[(Call, Wanted)]) -> Result<bool, Fail> {
+fn check_all(meta: &mut Meta, alloc: Global, calls: &[(Call, Wanted)]) -> Result<bool, Fail> {
     for (call, wanted) in calls {
-        if !answers(meta, alloc, call, wanted)? {
+        if !check_answer(meta, alloc, call, wanted)? {
             return Ok(false);
         }
     }
@@ -111,22 +116,22 @@ fn file(node: u64) -> Term {
     Term::File(NodeId(node))
 }
 
-fn owned(node: u64, owner: &[u8]) -> Result<StatePred, Fail> {
+fn ownership(node: u64, owner: &[u8]) -> Result<StatePred, Fail> {
     Ok(StatePred::Owner(file(node), Term::Prin(principal(owner)?)))
 }
 
-fn has(node: u64, name: &[u8], value: &[u8]) -> Result<StatePred, Fail> {
+fn attribute(node: u64, name: &[u8], value: &[u8]) -> Result<StatePred, Fail> {
     let name = Term::Text(text(name)?);
     let value = Term::Text(text(value)?);
     Ok(StatePred::HasXattr(file(node), name, value))
 }
 
-fn is_in(node: u64, directory: u64) -> StatePred {
+fn location(node: u64, directory: u64) -> StatePred {
     StatePred::InDir(file(node), file(directory))
 }
 
 // How many of the predicates are true.
-fn true_of(meta: &Meta, predicates: &[StatePred]) -> usize {
+fn count_true(meta: &Meta, predicates: &[StatePred]) -> usize {
     predicates.iter().filter(|s| meta.holds(s)).count()
 }
 
@@ -141,18 +146,18 @@ fn each_operation_is_made(rt: HostRuntime) -> Result<(), Fail> {
         (Call::Chown(2, b"bob"), Wanted::Done),
         (Call::Move(2, 3), Wanted::Done),
     ];
-    assert!(rt; all_answer(&mut meta, rt.alloc(), &calls)?);
+    assert!(rt; check_all(&mut meta, rt.alloc(), &calls)?);
     let held = [
-        owned(2, b"bob")?,
-        has(2, b"pcfs.class", b"public")?,
-        is_in(2, 3),
+        ownership(2, b"bob")?,
+        attribute(2, b"pcfs.class", b"public")?,
+        location(2, 3),
     ];
     let others = [
-        owned(2, b"alice")?,
-        has(2, b"pcfs.class", b"secret")?,
-        is_in(2, 1),
+        ownership(2, b"alice")?,
+        attribute(2, b"pcfs.class", b"secret")?,
+        location(2, 1),
     ];
-    assert!(rt; true_of(&meta, &held) == 3 && true_of(&meta, &others) == 0);
+    assert!(rt; count_true(&meta, &held) == 3 && count_true(&meta, &others) == 0);
     let calls = [
         (Call::Remove(2, b"pcfs.class"), Wanted::Done),
         (
@@ -165,15 +170,17 @@ fn each_operation_is_made(rt: HostRuntime) -> Result<(), Fail> {
             Wanted::Refused(Refusal::NoNode),
         ),
     ];
-    assert!(rt; all_answer(&mut meta, rt.alloc(), &calls)? && true_of(&meta, &held) == 0);
+    assert!(rt; check_all(&mut meta, rt.alloc(), &calls)? && count_true(&meta, &held) == 0);
     Ok(())
 }
 
 #[test]
 fn the_root_has_an_owner_and_no_directory(rt: HostRuntime) -> Result<(), Fail> {
     let meta = Meta::new(rt.alloc())?;
-    let others = [is_in(1, 0), is_in(1, 1), owned(0, b"admin")?];
-    assert!(rt; true_of(&meta, &[owned(1, b"admin")?]) == 1 && true_of(&meta, &others) == 0);
+    let others = [location(1, 0), location(1, 1), ownership(0, b"admin")?];
+    assert!(rt;
+        count_true(&meta, &[ownership(1, b"admin")?]) == 1 && count_true(&meta, &others) == 0
+    );
     assert!(rt; meta.owner(NodeId(1)) == Principal::new(b"admin"));
     Ok(())
 }
@@ -186,7 +193,7 @@ fn is_no_name(meta: &mut Meta, alloc: Global, name: &[u8]) -> Result<bool, Fail>
         (Call::Set(1, name, b""), refused),
         (Call::Remove(1, name), refused),
     ];
-    all_answer(meta, alloc, &calls)
+    check_all(meta, alloc, &calls)
 }
 
 #[test]
@@ -201,7 +208,7 @@ fn the_first_refusal_is_reported(rt: HostRuntime) -> Result<(), Fail> {
             Wanted::Refused(Refusal::NoAttribute),
         ),
     ];
-    assert!(rt; all_answer(&mut meta, rt.alloc(), &calls)?);
+    assert!(rt; check_all(&mut meta, rt.alloc(), &calls)?);
     for name in [
         b"".as_slice(),
         b"A".as_slice(),
@@ -217,7 +224,7 @@ fn the_first_refusal_is_reported(rt: HostRuntime) -> Result<(), Fail> {
 // Sets 32 attributes, whose names end in these bytes.
 fn fill(meta: &mut Meta, alloc: Global) -> Result<bool, Fail> {
     for last in b"z9a.8b_7c6d5e4f3g2h1i0jklmnopqrs" {
-        if !answers(
+        if !check_answer(
             meta,
             alloc,
             &Call::Set(1, &[b'x', *last], b"old"),
@@ -243,7 +250,7 @@ fn a_node_has_at_most_32_attributes(rt: HostRuntime) -> Result<(), Fail> {
         (Call::Remove(1, b"xz"), Wanted::Done),
         (Call::Set(1, b"x", b"new"), Wanted::Done),
     ];
-    assert!(rt; fill(&mut meta, rt.alloc())? && all_answer(&mut meta, rt.alloc(), &calls)?);
+    assert!(rt; fill(&mut meta, rt.alloc())? && check_all(&mut meta, rt.alloc(), &calls)?);
     Ok(())
 }
 
@@ -254,13 +261,13 @@ fn a_copy_has_the_same_marks(rt: HostRuntime) -> Result<(), Fail> {
         (Call::Add(2, b"alice", 1), Wanted::Done),
         (Call::Set(2, b"pcfs.class", b"public"), Wanted::Done),
     ];
-    assert!(rt; all_answer(&mut meta, rt.alloc(), &calls)?);
+    assert!(rt; check_all(&mut meta, rt.alloc(), &calls)?);
     let held = [
-        owned(2, b"alice")?,
-        has(2, b"pcfs.class", b"public")?,
-        is_in(2, 1),
+        ownership(2, b"alice")?,
+        attribute(2, b"pcfs.class", b"public")?,
+        location(2, 1),
     ];
     let copy = meta.copy()?;
-    assert!(rt; true_of(&copy, &held) == 3);
+    assert!(rt; count_true(&copy, &held) == 3);
     Ok(())
 }

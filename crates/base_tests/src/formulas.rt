@@ -2,6 +2,7 @@
 
 use crate::rows::{bytes_of, is_end, number_of, word_and_rest};
 use bl_codec::{read_formula, read_statement, write_formula, write_statement};
+use bl_syntax::boxes::{constraint_of, on_of, says_of, state_of};
 use bl_syntax::{
     Bytes, CodecFault, Constraint, Formula, NodeId, Perm, Principal, Sequence, Sort, StatePred,
     Statement, Term, Text, TimePoint, Word,
@@ -37,19 +38,23 @@ fn right(alloc: Global) -> Result<Formula, Fail> {
 }
 
 // The predicate on the state with that tag.
-fn predicate(tag: u8) -> Result<Formula, Fail> {
+fn predicate(alloc: Global, tag: u8) -> Result<Formula, Fail> {
     let bob = principal(b"bob")?;
     let a = text(b"a")?;
     let b = text(b"b")?;
-    Ok(match tag {
-        0x11 => Formula::Cons(Constraint {
-            low: CTIME,
-            high: Term::Time(TimePoint::At(5)),
-        }),
-        0x12 => Formula::State(StatePred::Owner(file(2), bob)),
-        0x13 => Formula::State(StatePred::HasXattr(file(2), a, b)),
-        _ => Formula::State(StatePred::InDir(file(3), Term::Bound(1))),
-    })
+    let f = match tag {
+        0x11 => constraint_of(
+            alloc,
+            &Constraint {
+                low: CTIME,
+                high: Term::Time(TimePoint::At(5)),
+            },
+        )?,
+        0x12 => state_of(alloc, &StatePred::Owner(file(2), bob))?,
+        0x13 => state_of(alloc, &StatePred::HasXattr(file(2), a, b))?,
+        _ => state_of(alloc, &StatePred::InDir(file(3), Term::Bound(1)))?,
+    };
+    Ok(Box::into_inner(f))
 }
 
 // `false` and `true` under the connective with that tag.
@@ -67,16 +72,17 @@ fn joined(alloc: Global, tag: u8) -> Result<Formula, Fail> {
 fn above(alloc: Global, tag: u8) -> Result<Formula, Fail> {
     let bob = principal(b"bob")?;
     let yes = Box::new(alloc, Formula::True)?;
-    Ok(match tag {
-        0x1a => Formula::Forall(Sort::Principal, yes),
-        0x1b => Formula::Exists(Sort::Text, yes),
-        0x1c => Formula::Says(bob, yes),
-        _ => Formula::At(
+    match tag {
+        0x1a => Ok(Formula::Forall(Sort::Principal, yes)),
+        0x1b => Ok(Formula::Exists(Sort::Text, yes)),
+        0x1c => Ok(Box::into_inner(says_of(alloc, &bob, yes)?)),
+        _ => Ok(Box::into_inner(on_of(
+            alloc,
             yes,
-            Term::Time(TimePoint::NegInf),
-            Term::Time(TimePoint::PosInf),
-        ),
-    })
+            &Term::Time(TimePoint::NegInf),
+            &Term::Time(TimePoint::PosInf),
+        )?)),
+    }
 }
 
 // Whether the bytes are read as the formula, and this is written as them.
@@ -94,7 +100,7 @@ fn has_bytes(alloc: Global, f: &Formula, bytes: &[u8]) -> Result<bool, Fail> {
 fn tagged(alloc: Global, tag: u8) -> Result<Formula, Fail> {
     match tag {
         0x10 => right(alloc),
-        0x11..=0x14 => predicate(tag),
+        0x11..=0x14 => predicate(alloc, tag),
         0x15..=0x17 => joined(alloc, tag),
         0x18 => Ok(Formula::True),
         0x19 => Ok(Formula::False),

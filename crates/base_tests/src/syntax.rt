@@ -1,5 +1,6 @@
 //! Formulas, statements and grants: each call once, and the faults of formulas that no line of a script reaches.
 
+use bl_syntax::boxes::{constraint_of, every_of, state_of};
 use bl_syntax::{
     Constraint, Formula, Goal, Grant, NodeId, Perm, Principal, Sequence, Sort, StatePred,
     Statement, SyntaxFault, Term, TimePoint, Word, check_formula, holds_at, instantiate, is_moment,
@@ -67,8 +68,18 @@ fn atoms_with_parameters_are_checked(rt: HostRuntime) -> Result<(), Fail> {
     Ok(())
 }
 
+fn state_fault(alloc: Global, predicate: &StatePred) -> Result<Option<SyntaxFault>, Fail> {
+    let f = state_of(alloc, predicate)?;
+    Ok(fault(&*f))
+}
+
+fn constraint_fault(alloc: Global, constraint: &Constraint) -> Result<Option<SyntaxFault>, Fail> {
+    let f = constraint_of(alloc, constraint)?;
+    Ok(fault(&*f))
+}
+
 #[test]
-fn predicates_and_times_are_checked(rt: HostRuntime) {
+fn predicates_and_times_are_checked(rt: HostRuntime) -> Result<(), Fail> {
     for (predicate, want) in [
         (StatePred::InDir(ONE, ONE), None),
         (
@@ -80,27 +91,27 @@ fn predicates_and_times_are_checked(rt: HostRuntime) {
             Some(SyntaxFault::WrongSort),
         ),
     ] {
-        assert_eq!(rt; fault(&Formula::State(predicate)), want);
+        assert_eq!(rt; state_fault(rt.alloc(), &predicate)?, want);
     }
     for (constraint, want) in [
         (between(Term::Ctime, Term::Param(0)), None),
         (between(ONE, Term::Bound(0)), Some(SyntaxFault::WrongSort)),
         (between(Term::Bound(0), ONE), Some(SyntaxFault::Unbound)),
     ] {
-        assert_eq!(rt; fault(&Formula::Cons(constraint)), want);
+        assert_eq!(rt; constraint_fault(rt.alloc(), &constraint)?, want);
     }
+    Ok(())
 }
 
 // `owner` of the nearest binder's file, under a binder.
-fn owned_by(alloc: Global, owner: Term) -> Result<Formula, Fail> {
-    let predicate = Formula::State(StatePred::Owner(Term::Bound(0), owner));
-    let body = Box::new(alloc, predicate)?;
-    Ok(Formula::Forall(Sort::File, body))
+fn owned_by(alloc: Global, owner: Term) -> Result<Box<Formula>, Fail> {
+    let body = state_of(alloc, &StatePred::Owner(Term::Bound(0), owner))?;
+    Ok(every_of(alloc, Sort::File, body)?)
 }
 
 fn is_owned_by(alloc: Global, f: &Formula, owner: Term) -> Result<bool, Fail> {
     let want = owned_by(alloc, owner)?;
-    Ok(f.is_same(&want))
+    Ok(f.is_same(&*want))
 }
 
 fn has_instance(alloc: Global, body: &Formula, t: &Term) -> Result<bool, Fail> {
@@ -110,7 +121,7 @@ fn has_instance(alloc: Global, body: &Formula, t: &Term) -> Result<bool, Fail> {
 
 fn is_put_for_the_outer(alloc: Global, t: &Term) -> Result<bool, Fail> {
     let body = owned_by(alloc, Term::Bound(1))?;
-    has_instance(alloc, &body, t)
+    has_instance(alloc, &*body, t)
 }
 
 #[test]

@@ -1,7 +1,7 @@
 -- Reading nodes: what is read is spelled so, and takes as many of the nodes that are left as it has.
 use Rattle.std.proofs.Common.{◌≡◌, ◌≤◌, ◌-◌, ◌+◌, ℕ, zero, suc, Bool, true, false, eqb, List, ◌∷◌, ◌++◌, Ok, Err, refl, sym, ap, subst, ◌∙◌, append_assoc, arith}
 use Rattle.std.proofs.lemmas.Bool.{ne_eqb}
-use Rattle.bl_syntax.specs.declared.codec_fault.CodecFault.TheVariants.{BadTag, TooLarge}
+use Rattle.bl_syntax.specs.declared.codec_fault.CodecFault.TheVariants.{TooLarge}
 use Rattle.bl_syntax.specs.declared.codec_fault.CodecFault.TheVariants as faults
 use Rattle.bl_syntax.specs.Reading.{◌>>=◌, Reading, map_reading}
 use Rattle.bl_syntax.specs.FormulaReading.{Counted, with_left, admit_node}

@@ -2,13 +2,17 @@
 
 ghost use Rattle.std.specs.Prelude.{◌≡◌, Err, IfOk, IfErr};
 ghost use Rattle.bl_syntax.specs.declared.codec_fault.CodecFault.TheVariants.{NoMemory};
-ghost use Rattle.bl_syntax.specs.Formula.{formula_view, says, on};
+ghost use Rattle.bl_syntax.specs.Formula.{formula_view};
 ghost use Rattle.bl_syntax.specs.Reading.{GivesReading, reading};
 ghost use Rattle.bl_syntax.specs.Codec.{GivesReadingOrReports, ReadsFront};
 ghost use Rattle.bl_syntax.specs.FormulaSpelling.{IsSpellableFormula, formula_spelling};
 ghost use Rattle.bl_codec.specs.Leaves.{is_leaf_tag, leaf_at, join_formulas, bind_formula};
 ghost use Rattle.bl_syntax.specs.FormulaReading.{is_term_tag, is_formula_tag, node_term_at, two_terms_at, three_terms_at, terms_at, count_at, atom_at, pair_at, binder_at, says_at, on_at, fields_at, no_more, node_at, formula_at, whole_formula_at};
 
+use bl_syntax::boxes::{
+    atom_of, both_of, constraint_of, either_of, every_of, falsity_of, implies_of, on_of, says_of,
+    some_of, state_of, truth_of,
+};
 use bl_syntax::fields::{place, predicate_at, sort_at, term_at};
 use bl_syntax::{CodecFault, Constraint, Formula, Sequence, Sort, StatePred, Term, Terms};
 use std::alloc::Global;
@@ -130,8 +134,8 @@ fn atom_at(
     input: usize,
     left: u16,
     bytes: &[u8],
-) -> Result<(Formula, u16, &[u8]), CodecFault>
-    ensures { GivesReadingOrReports (λ x. (formula_view x.0, (x.1, x.2.now))) result (atom_at input left bytes.now) }
+) -> Result<(Box<Formula>, u16, &[u8]), CodecFault>
+    ensures { GivesReadingOrReports (λ x. (formula_view x.0.value, (x.1, x.2.now))) result (atom_at input left bytes.now) }
 {
     match predicate_at(input, bytes) {
         Err(fault) => Err(fault),
@@ -139,7 +143,7 @@ fn atom_at(
             let (count, rest) = count_at(input, rest)?;
             match terms_at(alloc, count, input, left, rest) {
                 Err(fault) => Err(fault),
-                Ok((terms, left, rest)) => Ok((Formula::Atom(name, terms), left, rest)),
+                Ok((terms, left, rest)) => Ok((atom_of(alloc, &name, terms)?, left, rest)),
             }
         }
     }
@@ -147,57 +151,8 @@ fn atom_at(
 
 /// The fields of a formula that has no formulas in it.
 #[tactic(auto, using(bl_syntax::proofs::ReportsFaultLemmas::hands_on, bl_syntax::proofs::ReportsFaultLemmas::stops), unfolding(crate::specs::Leaves::leaf_at))]
-fn leaf_at(
-    alloc: Global,
-    input: usize,
-    left: u16,
-    tag: u8,
-    rest: &[u8],
-) -> Result<(Formula, u16, &[u8]), CodecFault>
-    ensures { GivesReadingOrReports (λ x. (formula_view x.0, (x.1, x.2.now))) result (leaf_at input left tag rest.now) }
-{
-    match tag {
-        16 => atom_at(alloc, input, left, rest),
-        17 => match two_terms_at(input, left, rest) {
-            Err(fault) => Err(fault),
-            Ok((low, high, left, rest)) => {
-                Ok((Formula::Cons(Constraint { low, high }), left, rest))
-            }
-        },
-        18 => match two_terms_at(input, left, rest) {
-            Err(fault) => Err(fault),
-            Ok((file, owner, left, rest)) => {
-                Ok((Formula::State(StatePred::Owner(file, owner)), left, rest))
-            }
-        },
-        19 => match three_terms_at(input, left, rest) {
-            Err(fault) => Err(fault),
-            Ok((file, name, value, left, rest)) => {
-                Ok((
-                    Formula::State(StatePred::HasXattr(file, name, value)),
-                    left,
-                    rest,
-                ))
-            }
-        },
-        20 => match two_terms_at(input, left, rest) {
-            Err(fault) => Err(fault),
-            Ok((file, directory, left, rest)) => {
-                Ok((
-                    Formula::State(StatePred::InDir(file, directory)),
-                    left,
-                    rest,
-                ))
-            }
-        },
-        24 => Ok((Formula::True, left, rest)),
-        _ => Ok((Formula::False, left, rest)),
-    }
-}
-
-/// The same in memory of its own, so that what calls itself below keeps no formula on the stack.
 #[inline(never)]
-fn boxed_leaf_at(
+fn leaf_at(
     alloc: Global,
     input: usize,
     left: u16,
@@ -206,9 +161,38 @@ fn boxed_leaf_at(
 ) -> Result<(Box<Formula>, u16, &[u8]), CodecFault>
     ensures { GivesReadingOrReports (λ x. (formula_view x.0.value, (x.1, x.2.now))) result (leaf_at input left tag rest.now) }
 {
-    match leaf_at(alloc, input, left, tag, rest) {
-        Err(fault) => Err(fault),
-        Ok((f, left, rest)) => Ok((Box::new(alloc, f)?, left, rest)),
+    match tag {
+        16 => atom_at(alloc, input, left, rest),
+        17 => match two_terms_at(input, left, rest) {
+            Err(fault) => Err(fault),
+            Ok((low, high, left, rest)) => {
+                Ok((constraint_of(alloc, &Constraint { low, high })?, left, rest))
+            }
+        },
+        18 => match two_terms_at(input, left, rest) {
+            Err(fault) => Err(fault),
+            Ok((file, owner, left, rest)) => {
+                Ok((state_of(alloc, &StatePred::Owner(file, owner))?, left, rest))
+            }
+        },
+        19 => match three_terms_at(input, left, rest) {
+            Err(fault) => Err(fault),
+            Ok((file, name, value, left, rest)) => Ok((
+                state_of(alloc, &StatePred::HasXattr(file, name, value))?,
+                left,
+                rest,
+            )),
+        },
+        20 => match two_terms_at(input, left, rest) {
+            Err(fault) => Err(fault),
+            Ok((file, directory, left, rest)) => Ok((
+                state_of(alloc, &StatePred::InDir(file, directory))?,
+                left,
+                rest,
+            )),
+        },
+        24 => Ok((truth_of(alloc)?, left, rest)),
+        _ => Ok((falsity_of(alloc)?, left, rest)),
     }
 }
 
@@ -221,7 +205,7 @@ fn is_leaf_tag(tag: u8) -> bool
 
 /// Two formulas joined by the connective of that tag.
 #[inline(never)]
-fn boxed_pair(
+fn pair_of(
     alloc: Global,
     tag: u8,
     a: Box<Formula>,
@@ -230,17 +214,16 @@ fn boxed_pair(
     ensures ok { IfOk result (λ f. formula_view f.value ≡ join_formulas tag (formula_view a.value) (formula_view b.value)) }
     ensures err { IfErr result (λ fault. fault ≡ NoMemory) }
 {
-    let f = match tag {
-        21 => Formula::And(a, b),
-        22 => Formula::Or(a, b),
-        _ => Formula::Imp(a, b),
-    };
-    Ok(Box::new(alloc, f)?)
+    match tag {
+        21 => Ok(both_of(alloc, a, b)?),
+        22 => Ok(either_of(alloc, a, b)?),
+        _ => Ok(implies_of(alloc, a, b)?),
+    }
 }
 
 /// A formula inside the binder of that tag.
 #[inline(never)]
-fn boxed_binder(
+fn binder_of(
     alloc: Global,
     tag: u8,
     sort: Sort,
@@ -249,34 +232,10 @@ fn boxed_binder(
     ensures ok { IfOk result (λ f. formula_view f.value ≡ bind_formula tag sort (formula_view body.value)) }
     ensures err { IfErr result (λ fault. fault ≡ NoMemory) }
 {
-    let f = match tag {
-        26 => Formula::Forall(sort, body),
-        _ => Formula::Exists(sort, body),
-    };
-    Ok(Box::new(alloc, f)?)
-}
-
-/// What a principal says.
-#[inline(never)]
-fn boxed_says(alloc: Global, who: &Term, body: Box<Formula>) -> Result<Box<Formula>, CodecFault>
-    ensures ok { IfOk result (λ f. formula_view f.value ≡ says who.now (formula_view body.value)) }
-    ensures err { IfErr result (λ fault. fault ≡ NoMemory) }
-{
-    Ok(Box::new(alloc, Formula::Says(*who, body))?)
-}
-
-/// A formula on an interval.
-#[inline(never)]
-fn boxed_on(
-    alloc: Global,
-    body: Box<Formula>,
-    from: &Term,
-    to: &Term,
-) -> Result<Box<Formula>, CodecFault>
-    ensures ok { IfOk result (λ f. formula_view f.value ≡ on (formula_view body.value) from.now to.now) }
-    ensures err { IfErr result (λ fault. fault ≡ NoMemory) }
-{
-    Ok(Box::new(alloc, Formula::At(body, *from, *to))?)
+    match tag {
+        26 => Ok(every_of(alloc, sort, body)?),
+        _ => Ok(some_of(alloc, sort, body)?),
+    }
 }
 
 /// Two formulas.
@@ -335,7 +294,7 @@ fn says_at(
         Err(fault) => Err(fault),
         Ok((who, left, rest)) => match formula_at(alloc, input, depth, left, rest) {
             Err(fault) => Err(fault),
-            Ok((body, left, rest)) => Ok((boxed_says(alloc, &who, body)?, left, rest)),
+            Ok((body, left, rest)) => Ok((says_of(alloc, &who, body)?, left, rest)),
         },
     }
 }
@@ -356,7 +315,7 @@ fn on_at(
         Err(fault) => Err(fault),
         Ok((body, left, rest)) => match two_terms_at(input, left, rest) {
             Err(fault) => Err(fault),
-            Ok((from, to, left, rest)) => Ok((boxed_on(alloc, body, &from, &to)?, left, rest)),
+            Ok((from, to, left, rest)) => Ok((on_of(alloc, body, &from, &to)?, left, rest)),
         },
     }
 }
@@ -381,16 +340,16 @@ fn fields_at(
     ensures { GivesReadingOrReports (λ x. (formula_view x.0.value, (x.1, x.2.now))) result (fields_at (λ n rest. formula_at input depth n rest) input left tag rest.now) }
 {
     if is_leaf_tag(tag) {
-        return boxed_leaf_at(alloc, input, left, tag, rest);
+        return leaf_at(alloc, input, left, tag, rest);
     }
     match tag {
         21 | 22 | 23 => match pair_at(alloc, input, depth, left, rest) {
             Err(fault) => Err(fault),
-            Ok((a, b, left, rest)) => Ok((boxed_pair(alloc, tag, a, b)?, left, rest)),
+            Ok((a, b, left, rest)) => Ok((pair_of(alloc, tag, a, b)?, left, rest)),
         },
         26 | 27 => match binder_at(alloc, input, depth, left, rest) {
             Err(fault) => Err(fault),
-            Ok((sort, body, left, rest)) => Ok((boxed_binder(alloc, tag, sort, body)?, left, rest)),
+            Ok((sort, body, left, rest)) => Ok((binder_of(alloc, tag, sort, body)?, left, rest)),
         },
         28 => says_at(alloc, input, depth, left, rest),
         _ => on_at(alloc, input, depth, left, rest),

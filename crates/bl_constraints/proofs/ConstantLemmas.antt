@@ -1,11 +1,10 @@
 -- The latest constant from which a chain leads to a term, and the earliest to which one leads.
-use Rattle.std.proofs.Common.{◌≡◌, ◌⊎◌, inl, inr, ℕ, ◌+◌, ◌<◌, ◌≤◌, List, [], ◌∷◌, ◌++◌, length, Bool, true, false, not, ◌||◌, refl, sym, subst, ap, ◌∙◌, arith}
-use Rattle.std.specs.Prelude.{◌↔◌, Contains, IsTrue}
+use Rattle.std.proofs.Common.{◌≡◌, ◌⊎◌, inl, inr, ℕ, ◌+◌, ◌<◌, ◌≤◌, List, [], ◌∷◌, ◌++◌, length, Bool, true, false, not, refl, sym, subst, ap, ◌∙◌, arith}
+use Rattle.std.specs.Prelude.{◌↔◌, IsTrue}
 use Rattle.std.proofs.lemmas.Bool.{cases_eq, false≢true}
 use Rattle.std.specs.List.{slice_get}
 use Rattle.std.proofs.lemmas.Option.{same_Some}
 use Rattle.bl_syntax.specs.declared.terms.TimePoint.{TimePoint}
-use Rattle.bl_syntax.specs.declared.terms.TimePoint.TheVariants.{NegInf, PosInf}
 use Rattle.bl_syntax.specs.declared.terms.Term.{Term}
 use Rattle.bl_syntax.specs.declared.terms.Term.TheVariants.{Time}
 use Rattle.bl_syntax.specs.declared.terms.Constraint.{Constraint}
@@ -14,7 +13,7 @@ use Rattle.bl_syntax.specs.Entailment.{IsLink, IsChain, link, IsContradictory}
 use Rattle.bl_syntax.proofs.EntailmentLemmas.{IsUpTo-itself, IsUpTo-PosInf, IsUpTo-transitive, IsChain-joined}
 use Rattle.bl_constraints.specs.Places.{HasPlace}
 use Rattle.bl_constraints.specs.Reached.{StandsAt, AreAfter, AreBefore, IsLatestStart, IsEarliestEnd}
-use Rattle.bl_constraints.proofs.ChainLemmas.{by_cases, stands_contained, contained_stands, through, chain_before, chain_through, chain_parts, HasFirst, HasLast, first_of_chain, last_of_chain}
+use Rattle.bl_constraints.proofs.ChainLemmas.{by_cases, stands_contained, contained_stands, through, chain_before, chain_through, chain_parts, first_of_chain, last_of_chain}
 use Rattle.bl_constraints.proofs.LinkLemmas.{link_in, link_from_time, link_into_time}
 
 -- the latest among the term and the constraints at these places, of the first so many

@@ -1,12 +1,12 @@
 -- One constraint more among those to which chains lead, and among those from which they do.
-use Rattle.std.proofs.Common.{◌≡◌, ◌⊎◌, inl, inr, ℕ, zero, suc, ◌+◌, ◌-◌, ◌<◌, ◌≤◌, List, [], ◌∷◌, ◌++◌, map, take, length, get_or, Bool, true, false, refl, sym, subst, ap, ◌∙◌, arith}
-use Rattle.std.specs.Prelude.{◌↔◌, Contains, Some, IsTrue}
+use Rattle.std.proofs.Common.{◌≡◌, ◌⊎◌, inl, inr, ℕ, zero, suc, ◌+◌, ◌-◌, ◌<◌, ◌≤◌, List, [], ◌∷◌, ◌++◌, take, length, get_or, Bool, refl, sym, subst, ap, ◌∙◌, arith}
+use Rattle.std.specs.Prelude.{◌↔◌, Some, IsTrue}
 use Rattle.std.specs.List.{slice_get}
 use Rattle.std.proofs.lemmas.List.{take_more, take_all, take-map, take_at, take-take, take-append-le, length-append, length-map, length-take, length-take-le, get_or-map}
 use Rattle.std.proofs.lemmas.Option.{slice_get-get_or, slice_get_within, same_Some}
 use Rattle.bl_syntax.specs.declared.terms.Term.{Term}
 use Rattle.bl_syntax.specs.declared.terms.Constraint.{Constraint}
-use Rattle.bl_syntax.specs.Entailment.{IsLink, IsChain, link, longer, IsContradictory}
+use Rattle.bl_syntax.specs.Entailment.{IsLink, IsChain, link, IsContradictory}
 use Rattle.bl_syntax.proofs.EntailmentLemmas.{IsChain-joined}
 use Rattle.bl_constraints.specs.declared.tracked.Tracked.{Tracked}
 use Rattle.bl_constraints.specs.Places.{HasPlace, Meet}

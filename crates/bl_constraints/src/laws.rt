@@ -1,6 +1,6 @@
 //! Laws of entailment. A law is the contract of an empty function, which nothing calls.
 
-ghost use Rattle.std.specs.Prelude.{◌≡◌, ℤ, List, Contains, map};
+ghost use Rattle.std.specs.Prelude.{ℤ, List, Contains, map};
 ghost use Rattle.bl_syntax.specs.declared.terms.Constraint.{Constraint};
 ghost use Rattle.bl_syntax.specs.declared.terms.Term.{Term};
 ghost use Rattle.bl_syntax.specs.declared.terms.TimePoint.{TimePoint};

@@ -1,6 +1,6 @@
 //! A constraint, and what is known of it beside those that were pushed before it.
 
-ghost use Rattle.std.specs.Prelude.{◌≡◌, ◌<◌, ◌↔◌, ◌∷◌, ◌++◌, [], IsTrue, length};
+ghost use Rattle.std.specs.Prelude.{◌≡◌, ◌↔◌, IsTrue};
 ghost use Rattle.bl_syntax.specs.Entailment.{IsContradictory};
 ghost use Rattle.bl_constraints.specs.Reached.{AreTracked, IsTracked, constraints_of};
 

@@ -17,7 +17,7 @@ use Rattle.bl_rules.specs.AtMoment.{hypothesis_at, view_at, known_at}
 use Rattle.bl_rules.proofs.Membership.{IsClaim, Contains-map, Contains-map_cases, Contains-claims_among, claims_among-Contains}
 use Rattle.bl_rules.proofs.AtMomentTerms.{HasSort-at, IsAtLeastAsStrong-at, instance_at-at}
 
--- with these in the place of its own, and the view at the moment
+-- with these instead of its own, and the view at the moment
 abbrev pub given_at : ℤ → List Constraint → List StatePred → List Hypothesis → Known → Known
 given_at moment psi facts hs known = record { sorts = known.sorts; constraints = psi; facts = facts; hypotheses = hs; view = view_at moment known.view }
 

@@ -30,15 +30,15 @@ IsOfSort known s t = HasSort known.sorts [] s t
 
 -- from what is known, the formula holds from the first time to the second
 pub data Derivable : Known → FormulaView → Term → Term → Type 0 where
-  -- an atom is derivable where a truth of it is known on an interval that holds the goal's
+  -- an atom is derivable if a truth of it is known on an interval that holds the goal's
   init : {known : Known} {name : List ℕ} {terms : List Term} {u v : Term} (from to : Term)
       → Assumes known (holds (atom name terms) from to) → IsNotAfter known from u → IsNotAfter known v to
       → Derivable known (atom name terms) u v
-  -- a constraint is derivable where the constraints entail it
+  -- a constraint is derivable if the constraints entail it
   cons_r : {known : Known} {c : Constraint} {u v : Term}
       → IsNotAfter known c.low c.high
       → Derivable known (compare c) u v
-  -- a predicate on the state is derivable where it is a fact
+  -- a predicate on the state is derivable if it is a fact
   inter_r : {known : Known} {s : StatePred} {u v : Term}
       → Contains known.facts s
       → Derivable known (state s) u v

@@ -4,7 +4,7 @@ use Rattle.bl_syntax.specs.declared.terms.Constraint.{Constraint}
 use Rattle.bl_syntax.specs.declared.terms.StatePred.{StatePred}
 use Rattle.bl_rules.specs.Sequent.{Hypothesis, Known}
 
--- with these constraints, facts and hypotheses in the place of its own
+-- with these constraints, facts and hypotheses instead of its own
 abbrev pub given : List Constraint → List StatePred → List Hypothesis → Known → Known
 given constraints facts hypotheses known = record known { constraints = constraints; facts = facts; hypotheses = hypotheses }
 

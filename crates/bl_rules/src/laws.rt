@@ -37,7 +37,7 @@ pub fn more_keeps_what_is_derivable()
         → Derivable known goal u v → Derivable (given constraints facts hypotheses known) goal u v }
 {}
 
-/// Constraints may be put in the place of others that they entail: so those can be left out that the rest entails.
+/// Constraints may be replaced by others that entail them: so those can be left out that the rest entails.
 pub fn entailed_constraints_can_be_left_out()
     ensures { (known : Known) (constraints : List Constraint) (goal : FormulaView) (u v : Term)
         → EntailsAll constraints known.constraints
@@ -117,7 +117,7 @@ pub fn more_statements_keep_a_grant_sound()
         → Includes more statements → SoundGrant statements granted → SoundGrant more granted }
 {}
 
-/// A grant is sound where what it grants is derivable from the statements with the grant's conditions to build on, the current time left open.
+/// A grant is sound if what it grants is derivable from the statements with the grant's conditions to build on, the current time left open.
 pub fn a_derivation_under_its_conditions_makes_a_grant_sound()
     ensures { (statements : List StatementView) (granted : GrantView)
         → AllByRecursion IsStatement statements → AllByRecursion IsStateCondition granted.states

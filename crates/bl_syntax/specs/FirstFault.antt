@@ -17,7 +17,7 @@ abbrev pub first_of : Option SyntaxFault → Option SyntaxFault → Option Synta
 first_of (Some fault) later = Some fault
 first_of None later = later
 
--- a fault where the sorts differ
+-- a fault if the sorts differ
 abbrev pub sort_mismatch : Sort → Sort → Option SyntaxFault
 sort_mismatch sorts.Principal sorts.Principal = None
 sort_mismatch sorts.File sorts.File = None
@@ -79,6 +79,6 @@ abbrev pub formula_fault : List Sort → FormulaView → Option SyntaxFault
 formula_fault parameters f =
     if nat_le (size f) 512 && nat_le (widest_atom f) 8 then sorting_fault parameters [] f else Some TooLarge
 
--- a check gives the fault that there is, and passes where there is none
+-- a check gives the fault that there is, and passes if there is none
 abbrev pub Finds : Result (Unit {0}) SyntaxFault → Option SyntaxFault → Type 0
 Finds result fault = MatchResult result (λ _. fault ≡ None) (λ found. fault ≡ Some found)

@@ -12,7 +12,7 @@ use Rattle.bl_syntax.specs.declared.terms.StatePred.{StatePred}
 use Rattle.bl_syntax.specs.declared.terms.StatePred.TheVariants.{Owner, HasXattr, InDir}
 use Rattle.bl_syntax.specs.TimeOrder.{IsUpTo, IsInRange}
 
--- the sort of a term, where parameters and binders (the innermost first) have these; none where it has a variable out of scope
+-- the sort of a term, where parameters and binders (the innermost first) have these; none if it has a variable out of scope
 abbrev pub sort_of : List Sort → List Sort → Term → Option Sort
 sort_of parameters binders (Prin name) = Some sorts.Principal
 sort_of parameters binders (File number) = Some sorts.File

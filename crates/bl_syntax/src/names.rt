@@ -1,6 +1,6 @@
 //! Names of principals and of predicates, and text constants. None of them takes memory.
 
-ghost use Rattle.std.specs.Prelude.{◌≡◌, ◌↔◌, ◌≤◌, length, IsSome, IfSome, IsTrue};
+ghost use Rattle.std.specs.Prelude.{◌≡◌, ◌↔◌, IsSome, IfSome, IsTrue};
 ghost use Rattle.std.specs.List.{list_all, list_any};
 ghost use Rattle.std.specs.Str.{bytes_eq};
 ghost use Rattle.bl_syntax.specs.Names.{is_name_byte, is_identifier, is_principal_name, is_predicate_name, is_text_byte, is_text};

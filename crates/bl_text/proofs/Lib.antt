@@ -3,6 +3,7 @@ pub mod LexedLemmas
 pub mod TotalLemmas
 pub mod PieceTotalLemmas
 pub mod PieceLemmas
+pub mod ReportsFaultLemmas
 pub mod PlaceLemmas
 pub mod PrintedAtoms
 pub mod PrintedFormulas

@@ -1,6 +1,7 @@
 -- The pieces of a formula's text that hold no formula themselves, each with its first fault (this project's own). A piece takes a token at a time, from the left; at one token the lower of the faults
 -- Unexpected, UnknownName, BadDate, Sort and TooLarge counts.
 use Rattle.std.specs.Prelude.{◌≡◌, ℕ, List, [], ◌∷◌, codes, Bool, false, not, nat_le, ◌&&◌, Option, Some, None, Result, Ok, Err, if◌then◌else◌}
+use Rattle.std.specs.Global.{Box}
 use Rattle.std.specs.Str.{bytes_eq}
 use Rattle.bl_syntax.specs.declared.terms.Sort.{Sort}
 use Rattle.bl_syntax.specs.declared.terms.Sort.TheVariants as sorts
@@ -224,11 +225,20 @@ simple_formula text in_statement scope here = simple_by text in_statement scope 
 
 -- ---- the values of the program
 
--- the program gives what is read
-abbrev pub GivesPiece : Result Formula TextFault → Result FormulaView TextFault → Type 0
-GivesPiece (Ok f) r = r ≡ Ok (formula_view f)
-GivesPiece (Err e) r = r ≡ Err e
+-- a fault of the program is what is read, unless there was no memory
+abbrev pub ReportsFault : {A : Type 0} → TextFault → Result A TextFault → Type 0
+ReportsFault (Unexpected at) r = r ≡ Err (Unexpected at)
+ReportsFault (UnknownName at) r = r ≡ Err (UnknownName at)
+ReportsFault (faults.BadDate at) r = r ≡ Err (faults.BadDate at)
+ReportsFault (faults.Sort at) r = r ≡ Err (faults.Sort at)
+ReportsFault (TooLarge at) r = r ≡ Err (TooLarge at)
+ReportsFault faults.NoMemory r = Unit {0}
 
-abbrev pub GivesPieceWith : Result (Formula × Cursor) TextFault → Result (FormulaView × Cursor) TextFault → Type 0
-GivesPieceWith (Ok p) r = r ≡ Ok (formula_view p.0, p.1)
-GivesPieceWith (Err e) r = r ≡ Err e
+-- the program gives what is read, unless there was no memory
+abbrev pub GivesPiece : Result (Box Formula) TextFault → Result FormulaView TextFault → Type 0
+GivesPiece (Ok f) r = r ≡ Ok (formula_view f.value)
+GivesPiece (Err e) r = ReportsFault e r
+
+abbrev pub GivesPieceWith : Result (Box Formula × Cursor) TextFault → Result (FormulaView × Cursor) TextFault → Type 0
+GivesPieceWith (Ok p) r = r ≡ Ok (formula_view p.0.value, p.1)
+GivesPieceWith (Err e) r = ReportsFault e r

@@ -108,14 +108,14 @@ fn named_call(
     name: &Principal,
     here: &Cursor,
     ahead: &Cursor,
-) -> Result<(Formula, Cursor), TextFault>
+) -> Result<(Box<Formula>, Cursor), TextFault>
     requires scope { length (variables scope.now) ≤ 512 }
     requires within { here.now.end ≤ length text.now }
     requires ahead { ahead.now ≡ cursor_after_node text.now here.now }
     requires ahead_within { ahead.now.end ≤ length text.now }
     requires ahead_left { ahead.now.left ≡ here.now.left - 1 }
     requires name { here.now.token ≡ Token.Name name.now }
-    ensures read { IfOk result (λ r. ReadsCall text.now in_statement (variables scope.now) here.now r.1 (formula_view r.0)) }
+    ensures read { IfOk result (λ r. ReadsCall text.now in_statement (variables scope.now) here.now r.1 (formula_view r.0.value)) }
     ensures fault { IfErr result (λ e. CallHasFirstFault text.now in_statement (variables scope.now) here.now e) }
 {
     count(here)?;
@@ -128,7 +128,7 @@ fn named_call(
         &cursor_after(text, ahead),
     )?;
     let there = expect_sign(text, Sign::Close, &mid)?;
-    let f = apply_predicate(scope, here.at, name, terms)?;
+    let f = apply_predicate(alloc, scope, here.at, name, terms)?;
     Ok((f, there))
 }
 
@@ -140,14 +140,14 @@ fn call(
     scope: &Scope<'_>,
     here: &Cursor,
     ahead: &Cursor,
-) -> Result<(Formula, Cursor), TextFault>
+) -> Result<(Box<Formula>, Cursor), TextFault>
     requires scope { length (variables scope.now) ≤ 512 }
     requires within { here.now.end ≤ length text.now }
     requires ahead { ahead.now ≡ cursor_after_node text.now here.now }
     requires ahead_within { ahead.now.end ≤ length text.now }
     requires ahead_left { ahead.now.left ≡ here.now.left - 1 }
     requires call { is_call text.now here.now ≡ true }
-    ensures read { IfOk result (λ r. ReadsCall text.now in_statement (variables scope.now) here.now r.1 (formula_view r.0)) }
+    ensures read { IfOk result (λ r. ReadsCall text.now in_statement (variables scope.now) here.now r.1 (formula_view r.0.value)) }
     ensures fault { IfErr result (λ e. CallHasFirstFault text.now in_statement (variables scope.now) here.now e) }
 {
     match &here.token {
@@ -178,7 +178,7 @@ fn simple_here(
 {
     let (f, there) = simple_formula(alloc, text, in_statement, scope, here, ahead)?;
     *here = there;
-    Ok(Box::new(alloc, f)?)
+    Ok(f)
 }
 
 /// A predicate with arguments at that place, and goes past it.
@@ -203,7 +203,7 @@ fn call_here(
 {
     let (f, there) = call(alloc, text, in_statement, scope, here, ahead)?;
     *here = there;
-    Ok(Box::new(alloc, f)?)
+    Ok(f)
 }
 
 /// Reads a formula without signs.

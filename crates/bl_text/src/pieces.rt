@@ -9,6 +9,7 @@ ghost use Rattle.bl_text.specs.Pieces.{count, expect_sign, term_of, require_saya
 
 use crate::predicates::apply_predicate;
 use crate::scope::Scope;
+use bl_syntax::boxes::{constraint_of, falsity_of, truth_of};
 use bl_syntax::{Constraint, Formula, Principal, Sequence, Short, Sort, Term};
 use bl_tokens::{
     Cursor, Keyword, Sign, TextFault, Token, cursor_after, cursor_after_node, is_sign,
@@ -321,14 +322,15 @@ fn less_sign(here: &Cursor) -> Result<(), TextFault>
 }
 
 /// A comparison of times whose first term stands at that place, and what follows it.
-#[tactic(auto, unfolding(crate::specs::Pieces::comparison))]
+#[tactic(auto, using(crate::proofs::ReportsFaultLemmas::hands_on, crate::proofs::ReportsFaultLemmas::stops), unfolding(crate::specs::Pieces::comparison))]
 fn comparison(
+    alloc: Global,
     text: &[u8],
     in_statement: bool,
     scope: &Scope<'_>,
     here: &Cursor,
     ahead: &Cursor,
-) -> Result<(Formula, Cursor), TextFault>
+) -> Result<(Box<Formula>, Cursor), TextFault>
     requires scope { length (variables scope.now) ≤ 512 }
     requires ahead { ahead.now ≡ cursor_after_node text.now here.now }
     requires ahead_within { ahead.now.end ≤ length text.now }
@@ -345,12 +347,12 @@ fn comparison(
     count(ahead)?;
     let place = cursor_after_node(text, ahead);
     let high = time_argument(in_statement, scope, &place)?;
-    let f = Formula::Cons(Constraint { low, high });
+    let f = constraint_of(alloc, &Constraint { low, high })?;
     Ok((f, cursor_after_node(text, &place)))
 }
 
 /// A predicate without arguments.
-#[tactic(auto, unfolding(crate::specs::Pieces::bare_predicate))]
+#[tactic(auto, using(crate::proofs::ReportsFaultLemmas::hands_on, crate::proofs::ReportsFaultLemmas::stops), unfolding(crate::specs::Pieces::bare_predicate))]
 fn bare_predicate(
     alloc: Global,
     text: &[u8],
@@ -358,7 +360,7 @@ fn bare_predicate(
     name: &Principal,
     here: &Cursor,
     ahead: &Cursor,
-) -> Result<(Formula, Cursor), TextFault>
+) -> Result<(Box<Formula>, Cursor), TextFault>
     requires ahead { ahead.now ≡ cursor_after_node text.now here.now }
     requires ahead_within { ahead.now.end ≤ length text.now }
     requires ahead_left { ahead.now.left ≡ here.now.left - 1 }
@@ -366,7 +368,7 @@ fn bare_predicate(
     ensures within { IfOk result (λ r. r.1.end ≤ length text.now) }
     ensures left { IfOk result (λ r. r.1.left + 1 ≤ here.now.left) }
 {
-    let f = apply_predicate(scope, here.at, name, Sequence::new(alloc))?;
+    let f = apply_predicate(alloc, scope, here.at, name, Sequence::new(alloc))?;
     count(here)?;
     Ok((f, *ahead))
 }
@@ -383,7 +385,7 @@ fn named_time(here: &Cursor) -> TextFault
 }
 
 /// A predicate's name without arguments; before `<=` it is a principal, which is no time.
-#[tactic(auto, unfolding(crate::specs::Pieces::name_alone))]
+#[tactic(auto, using(crate::proofs::ReportsFaultLemmas::hands_on, crate::proofs::ReportsFaultLemmas::stops), unfolding(crate::specs::Pieces::name_alone))]
 fn name_alone(
     alloc: Global,
     text: &[u8],
@@ -391,7 +393,7 @@ fn name_alone(
     name: &Principal,
     here: &Cursor,
     ahead: &Cursor,
-) -> Result<(Formula, Cursor), TextFault>
+) -> Result<(Box<Formula>, Cursor), TextFault>
     requires ahead { ahead.now ≡ cursor_after_node text.now here.now }
     requires ahead_within { ahead.now.end ≤ length text.now }
     requires ahead_left { ahead.now.left ≡ here.now.left - 1 }
@@ -407,24 +409,28 @@ fn name_alone(
 }
 
 /// `true` or `false`.
-#[tactic(auto, unfolding(crate::specs::Pieces::constant_formula))]
+#[tactic(auto, using(crate::proofs::ReportsFaultLemmas::hands_on, crate::proofs::ReportsFaultLemmas::stops), unfolding(crate::specs::Pieces::constant_formula))]
 fn constant_formula(
+    alloc: Global,
     holds: bool,
     here: &Cursor,
     ahead: &Cursor,
-) -> Result<(Formula, Cursor), TextFault>
+) -> Result<(Box<Formula>, Cursor), TextFault>
     requires ahead_left { ahead.now.left ≡ here.now.left - 1 }
     ensures value { (text : List ℕ) → ahead.now ≡ cursor_after_node text here.now → GivesPieceWith result (constant_formula text (if holds then truth else falsity) here.now) }
     ensures ahead { IfOk result (λ r. r.1 ≡ ahead.now) }
     ensures left { IfOk result (λ r. r.1.left + 1 ≤ here.now.left) }
 {
     count(here)?;
-    let f = if holds { Formula::True } else { Formula::False };
-    Ok((f, *ahead))
+    if holds {
+        Ok((truth_of(alloc)?, *ahead))
+    } else {
+        Ok((falsity_of(alloc)?, *ahead))
+    }
 }
 
 /// A formula without parentheses at that place, and what follows it.
-#[tactic(auto, unfolding(crate::specs::Pieces::simple_formula))]
+#[tactic(auto, using(crate::proofs::ReportsFaultLemmas::hands_on, crate::proofs::ReportsFaultLemmas::stops), unfolding(crate::specs::Pieces::simple_formula))]
 pub fn simple_formula(
     alloc: Global,
     text: &[u8],
@@ -432,7 +438,7 @@ pub fn simple_formula(
     scope: &Scope<'_>,
     here: &Cursor,
     ahead: &Cursor,
-) -> Result<(Formula, Cursor), TextFault>
+) -> Result<(Box<Formula>, Cursor), TextFault>
     requires scope { length (variables scope.now) ≤ 512 }
     requires ahead { ahead.now ≡ cursor_after_node text.now here.now }
     requires ahead_within { ahead.now.end ≤ length text.now }
@@ -442,9 +448,9 @@ pub fn simple_formula(
     ensures left { IfOk result (λ r. r.1.left + 1 ≤ here.now.left) }
 {
     match &here.token {
-        Token::Keyword(Keyword::True) => constant_formula(true, here, ahead),
-        Token::Keyword(Keyword::False) => constant_formula(false, here, ahead),
+        Token::Keyword(Keyword::True) => constant_formula(alloc, true, here, ahead),
+        Token::Keyword(Keyword::False) => constant_formula(alloc, false, here, ahead),
         Token::Name(name) => name_alone(alloc, text, scope, name, here, ahead),
-        _ => comparison(text, in_statement, scope, here, ahead),
+        _ => comparison(alloc, text, in_statement, scope, here, ahead),
     }
 }

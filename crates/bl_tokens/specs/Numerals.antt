@@ -6,6 +6,6 @@ use Rattle.std.specs.Str.Parse.{digits_value}
 abbrev pub is_numeral : List ℕ → Bool
 is_numeral digits = nat_le 1 (length digits) && ((length digits == 1) || not (slice_index digits 0 == 48))
 
--- the number that the digits write without leading zeros, where it is below the limit
+-- the number that the digits write without leading zeros, if it is below the limit
 abbrev pub numeral_below : ℕ → List ℕ → Option ℕ
 numeral_below limit digits = if is_numeral digits && nat_lt (digits_value 10 digits) limit then Some (digits_value 10 digits) else None

@@ -27,7 +27,7 @@ sized_lexeme token size = record { token = token; size = size }
 abbrev pub bad_lexeme : Lexeme
 bad_lexeme = sized_lexeme tokens.Bad 0
 
--- the time constant of a second, where it is a moment
+-- the time constant of a second, if it is a moment
 abbrev pub second_token : ℤ → Token
 second_token second = if is_moment second then tokens.Constant (terms.Time (times.At second)) else tokens.BadDate
 
@@ -180,7 +180,7 @@ first_lexeme (first ∷ others) =
 abbrev lexeme_cursor : ℕ → ℕ → Lexeme → Cursor
 lexeme_cursor at left found = record { at = at; token = found.token; end = at + found.size; left = left }
 
--- the place of the first token from that byte of the text on, after spaces, where so many nodes are left
+-- the place of the first token from that byte of the text on, after spaces, if so many nodes are left
 unfoldable pub token_from : List ℕ → ℕ → ℕ → Cursor
 token_from text from left = let at = from + prefix_len (is_in classes.Space) (drop from text) in lexeme_cursor at left (first_lexeme (drop at text))
 

@@ -1,6 +1,6 @@
 //! Dates and times of day.
 
-ghost use Rattle.std.specs.Prelude.{◌≡◌, ◌+◌, ◌<◌, ◌≤◌, pos, ◌+ℤ◌, ◌*ℤ◌, ◌≤ℤ◌, negsuc, length, IsTrue, IfSome};
+ghost use Rattle.std.specs.Prelude.{◌≡◌, ◌+◌, ◌<◌, pos, ◌+ℤ◌, ◌*ℤ◌, ◌≤ℤ◌, negsuc, length, IsTrue, IfSome};
 ghost use Rattle.jiff.specs.Words.{epoch_day};
 ghost use Rattle.bl_tokens.specs.Dates.{has_two, has_byte, has_date_front, has_time_of_day, two_at, year_at, date_second, day_second, date_second_at, day_second_at};
 
@@ -77,7 +77,7 @@ fn first_second(date: Date) -> i64
     distance.as_secs()
 }
 
-/// The second with which a date begins; none where there is no such date from the year 1 on.
+/// The second with which a date begins; none if there is no such date from the year 1 on.
 fn date_second(year: u16, month: u8, day: u8) -> Option<i64>
     requires year { year < 10000 }
     requires month { month < 100 }
@@ -94,7 +94,7 @@ fn date_second(year: u16, month: u8, day: u8) -> Option<i64>
     }
 }
 
-/// The second of a day; none where there is no such time of day.
+/// The second of a day; none if there is no such time of day.
 fn day_second(hour: u8, minute: u8, second: u8) -> Option<u32>
     ensures value { result ≡ day_second hour minute second }
     ensures range { IfSome result (λ s. s < 86_400) }

@@ -17,7 +17,7 @@ fn with_digit(value: u64, digit: u8) -> Option<u64>
     }
 }
 
-/// The number that the digits write, where it fits.
+/// The number that the digits write, if it fits.
 pub fn digits_value(digits: &[u8]) -> Option<u64>
     requires { IsTrue (list_all is_digit digits.now) }
     ensures { SomeIff result (digits_value 10 digits.now < 2 ^ 64) (digits_value 10 digits.now) }

@@ -29,7 +29,7 @@ fn time_at(here: &Cursor) -> Result<TimePoint, TextFault>
     }
 }
 
-/// The point, where nothing stands after it.
+/// The point, if nothing stands after it.
 fn at_end(point: TimePoint, behind: &Cursor) -> Result<TimePoint, TextFault>
     ensures { result ≡ at_end behind.now.at behind.now.token point }
 {

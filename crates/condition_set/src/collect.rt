@@ -1,6 +1,6 @@
 //! Conditions as they come up: each is kept once, in the order of its first appearance.
 
-ghost use Rattle.std.specs.Prelude.{◌≡◌, ◌↔◌, List, Contains, IsOk, IsTrue, IsErrOf, OnOk, OnErr};
+ghost use Rattle.std.specs.Prelude.{◌≡◌, ◌↔◌, Contains, IsOk, IsTrue, IsErrOf, OnOk, OnErr};
 ghost use Rattle.bl_syntax.specs.Grant.{GrantView, IsTimeCondition, IsStateCondition};
 ghost use Rattle.condition_set.specs.Conditions.{without_conditions, IsFull, AddsTime, AddsState};
 ghost use Rattle.condition_set.specs.declared.collect.CollectFault.TheVariants.{NoMemory as OutOfMemory};

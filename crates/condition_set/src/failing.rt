@@ -1,6 +1,6 @@
 //! The first condition of a grant that fails.
 
-ghost use Rattle.std.specs.Prelude.{◌≡◌, ◌↔◌, List, Contains, IsNone, IsTrue, IfSome};
+ghost use Rattle.std.specs.Prelude.{◌↔◌, List, Contains, IsNone, IsTrue, IfSome};
 ghost use Rattle.std.specs.List.{AllByRecursion};
 ghost use Rattle.bl_syntax.specs.declared.terms.StatePred.{StatePred};
 ghost use Rattle.bl_syntax.specs.Grant.{HoldsAt};

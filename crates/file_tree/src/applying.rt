@@ -1,6 +1,6 @@
 //! The changes that operations make. None of them takes memory.
 
-ghost use Rattle.std.specs.Prelude.{◌≡◌, ◌≤◌, ◌<◌, ◌^◌, ◌+◌, ◌-◌, ◌++◌, take, drop, length, None, Some, IsSome, vec_capacity};
+ghost use Rattle.std.specs.Prelude.{◌≡◌, ◌≤◌, ◌<◌, ◌^◌, ◌+◌, ◌-◌, ◌++◌, take, drop, length, Some, IsSome, vec_capacity};
 ghost use Rattle.file_world.specs.Limits.{longest_name};
 ghost use Rattle.file_world.specs.Tree.{node_at, contents_sum};
 ghost use Rattle.file_world.specs.TreeEffect.{at, contents_of, write_at, resize_to, tree_after};

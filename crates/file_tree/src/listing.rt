@@ -1,6 +1,6 @@
 //! What an operation answers.
 
-ghost use Rattle.std.specs.Prelude.{◌≡◌, ◌≤◌, ◌<◌, length, map, None, IfOk, IsTrue};
+ghost use Rattle.std.specs.Prelude.{◌≡◌, map, None, IfOk, IsTrue};
 ghost use Rattle.std.specs.List.Sorted.{IsStrictlySortedBy};
 ghost use Rattle.std.specs.Map.{keys_of};
 ghost use Rattle.std.specs.Ordering.{nat_cmp};

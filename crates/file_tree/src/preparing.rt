@@ -1,10 +1,10 @@
 //! The memory for what an operation changes, taken before it.
 
-ghost use Rattle.std.specs.Prelude.{◌≡◌, ◌≤◌, ◌<◌, ℕ, length, None, Some, IsSome, IsOk, IsTrue, IfOk, OnOk, OnErr, unwrap_or};
+ghost use Rattle.std.specs.Prelude.{◌≡◌, ◌≤◌, length, None, Some, IsSome, IsOk, IsTrue, IfOk, OnOk, OnErr, unwrap_or};
 ghost use Rattle.file_world.specs.Limits.{longest_name};
 ghost use Rattle.file_world.specs.Tree.{node_at};
 ghost use Rattle.file_world.specs.TreeEffect.{child_of, is_directory, new_node, tree_refusal};
-ghost use Rattle.file_tree.specs.Index.{rows_of, kept_at, reserved_at, spot_place, reserved_spot, published_nodes, tree_in, IsTreeIndex, Puts, ChangesRoomAlone, AddsLast, Prepares, Stays, AreNumbersBelow};
+ghost use Rattle.file_tree.specs.Index.{rows_of, kept_at, reserved_at, spot_place, published_nodes, tree_in, IsTreeIndex, Puts, ChangesRoomAlone, AddsLast, Prepares, Stays, AreNumbersBelow};
 ghost use Rattle.file_tree.specs.State.{ready_for, spot as spot_at};
 
 use crate::name::Name;
@@ -16,7 +16,7 @@ use file_world::{Kind, TreeOp};
 use std::alloc::{AllocFailed, Global};
 use std::collections::BTreeMap;
 
-/// Keeps a number under a name in a directory. It takes no memory where the name is there.
+/// Keeps a number under a name in a directory. It takes no memory if the name is there.
 pub fn enter(nodes: &mut KeptNodes, spot: &Spot, number: u64) -> Result<(), NoMemory>
     requires { IsSome (kept_at nodes.old.entries spot.now.directory) }
     ensures ok { OnOk result (Puts nodes.old.entries nodes.new.entries (spot_place spot.now) (Some number)) }

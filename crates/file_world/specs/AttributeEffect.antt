@@ -18,7 +18,7 @@ use Rattle.file_world.specs.Attributes.{Attributes, Mark, Marks, mark_at, value_
 use Rattle.file_world.specs.TreeEffect.{revise}
 use Rattle.file_world.specs.Outcome.{Tests, first_of, Outcome, outcome}
 
--- the attributes of the node of that number; none where there is no node
+-- the attributes of the node of that number; none if there is no node
 abbrev pub attributes_of : Option Mark → Attributes
 attributes_of None = []
 attributes_of (Some mark) = mark.attributes
@@ -26,7 +26,7 @@ attributes_of (Some mark) = mark.attributes
 abbrev pub value_of : Marks → ℕ → List ℕ → Option (List ℕ)
 value_of marks number name = value_at (attributes_of (mark_at marks number)) name
 
--- the attributes with the value under the name, in the place of one that is there
+-- the attributes with the value under the name, replacing one that is there
 abbrev pub with_value : Attributes → List ℕ → List ℕ → Attributes
 with_value attributes name value = insert_entry (slice_cmp nat_cmp) attributes name value
 

@@ -8,7 +8,7 @@ use Rattle.file_world.specs.Effect.{Part, tree_part, meta_part}
 use Rattle.file_world.specs.Tree.{FileTree}
 use Rattle.file_world.specs.TreeEffect.{TreeChange, nothing, add, fill, remove, move, change_of, tree_after}
 
--- what follows a change of the tree by the caller in owners and attributes, where something does
+-- what follows a change of the tree by the caller in owners and attributes, if something does
 abbrev pub following : List ℕ → ℕ → TreeChange → Option MetaOp
 following caller next nothing = None
 following caller next (add kind place) = Some (Add (record { 0 = next }) caller (record { 0 = place.directory }))
@@ -31,7 +31,7 @@ IsDirect (Add node owner parent) = ⊥
 IsDirect (Drop node) = ⊥
 IsDirect (Move node parent) = ⊥
 
--- the operation on owners and attributes that an operation of the caller leads to, where it leads to one
+-- the operation on owners and attributes that an operation of the caller leads to, if it leads to one
 abbrev pub meta_op_of : List ℕ → FileTree → Part → Option MetaOp
 meta_op_of caller tree (tree_part op) = following caller tree.next (change_of tree op)
 meta_op_of caller tree (meta_part op) = Some op

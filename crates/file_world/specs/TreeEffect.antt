@@ -47,7 +47,7 @@ has_names rows directory = list_any (λ row. row.1.place.directory == directory)
 abbrev pub is_full : FileTree → Bool
 is_full tree = nat_le most_nodes (length tree.rows) || (tree.next == last_number)
 
--- the walk goes on to the node's directory; it fails where there is no node
+-- the walk goes on to the node's directory; it fails if there is no node
 abbrev pub has_way_on : Option Node → (ℕ → Bool) → Bool
 has_way_on None past = false
 has_way_on (Some node) past = past node.place.directory
@@ -111,7 +111,7 @@ name_tests rows directory name = directory_tests rows directory ++ (not (is_node
 abbrev pub length_after : ℕ → ℕ → ℕ → ℕ
 length_after old offset len = if len == 0 then old else max old (offset + len)
 
--- the end of what the file is to have, and all contents with the new length in the place of the old one
+-- the end of what the file is to have, and all contents with the new length instead of the old one
 abbrev pub length_tests : Nodes → ℕ → ℕ → ℕ → Tests
 length_tests rows number end len =
     (nat_lt most_bytes end, TooBig) ∷ (nat_lt most_bytes_together (contents_sum rows - length (contents_of (node_at rows number)) + len), TreeFull) ∷ []

@@ -1,7 +1,7 @@
 -- What the writes of an area leave of its bytes.
-use Rattle.std.proofs.Common.{◌≡◌, ◌≢◌, ◌⊎◌, ℕ, ◌+◌, ◌-◌, ◌<◌, ◌≤◌, min, List, [], ◌∷◌, ◌++◌, length, take, drop, get_or, replicate, refl, sym, ◌∙◌, ap, subst, inl, inr, ⊎_elim, arith, append_assoc, length-append, length-take, length-drop, take-append-drop, get_or-take, get_or-drop}
+use Rattle.std.proofs.Common.{◌≡◌, ◌⊎◌, ℕ, ◌+◌, ◌-◌, ◌<◌, ◌≤◌, min, List, [], ◌∷◌, ◌++◌, length, take, drop, get_or, replicate, refl, sym, ◌∙◌, ap, subst, inl, inr, ⊎_elim, arith, append_assoc, length-append, length-take, take-append-drop, get_or-take, get_or-drop}
 use Rattle.std.proofs.lemmas.Bool.{cases_lt}
-use Rattle.std.proofs.lemmas.List.{append-nil, take_at, drop_at, take_all, take-take, take-append-le, take-replicate, drop-drop, get_or_at, length-replicate}
+use Rattle.std.proofs.lemmas.List.{append-nil, take_at, take_all, take-take, take-append-le, take-replicate, drop-drop, get_or_at}
 use Rattle.std.proofs.Math.Seq.{take-append-add}
 use Rattle.pcfs_ports.specs.Disk.{written, Torn}
 use Rattle.pcfs_ports.specs.DiskLaws.{drop_written, length-front, torn_written}
@@ -9,7 +9,7 @@ use Rattle.std.specs.Prelude.{Option, Some, None}
 use Rattle.std.specs.Option.{option_map}
 use Rattle.std.specs.Int.{w32, to_be_bytes}
 use Rattle.journal_core.specs.Frame.{frame_bytes}
-use Rattle.journal_core.specs.Area.{IsShut, Begins, StandsForBody, Closed, record_bytes}
+use Rattle.journal_core.specs.Area.{IsShut, Begins, Closed, record_bytes}
 use Rattle.journal_core.specs.Rest.{IsWithOrWithout}
 
 -- a front that is there is not longer than the whole

@@ -1,10 +1,7 @@
 -- Each string of bytes has one reading as an area.
-use Rattle.std.proofs.Common.{◌≡◌, ◌≢◌, ◌⊎◌, ℕ, zero, suc, ◌+◌, ◌-◌, ◌^◌, ◌<◌, ◌≤◌, List, [], ◌∷◌, ◌++◌, length, take, drop, get_or, refl, sym, ◌∙◌, ap, subst, inl, inr, ⊎_elim, arith, append_assoc, length-append, length-take, length-drop, take-append-drop, get_or-take, get_or-drop}
-use Rattle.std.specs.Int.{w32, w64, to_be_bytes, from_be_bytes}
-use Rattle.std.proofs.lemmas.Bool.{cases_lt, cases_eq}
-use Rattle.std.proofs.lemmas.List.{append-nil, take_at, drop_at, drop-drop}
-use Rattle.journal_core.specs.Area.{area_limit, magic, area_bytes, record_bytes, records, IsShut, Begins, StandsForBody, IsGeneration, IsArea, IsFront, HasNoBase, BreaksAfter, IsBroken}
-use Rattle.journal_core.proofs.AreaLemmas.{begins_within}
+use Rattle.std.proofs.Common.{◌≡◌, ◌≢◌, ◌⊎◌, ℕ, ◌+◌, ◌^◌, ◌<◌, ◌≤◌, List, [], ◌∷◌, ◌++◌, length, take, drop, get_or, refl, sym, ◌∙◌, ap, subst, inl, inr, ⊎_elim, arith, append_assoc, length-append, get_or-drop}
+use Rattle.std.proofs.lemmas.List.{append-nil, take_at, drop-drop}
+use Rattle.journal_core.specs.Area.{area_limit, area_bytes, record_bytes, records, IsShut, Begins, IsGeneration, IsArea, IsFront, HasNoBase, BreaksAfter, IsBroken}
 use Rattle.journal_core.proofs.RecordLemmas.{begins_split, begins_by, begins_append, begins_rest, record_number, record_length, base_generation, base_length, area_split}
 
 begins_front : (front more bytes : List ℕ) → Begins (front ++ more) bytes → Begins front bytes

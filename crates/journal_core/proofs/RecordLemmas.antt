@@ -1,11 +1,11 @@
 -- Header, image and records in the bytes of an area.
-use Rattle.std.proofs.Common.{◌≡◌, ◌≢◌, ◌⊎◌, ℕ, ◌+◌, ◌-◌, ◌^◌, ◌<◌, ◌≤◌, min, List, [], ◌∷◌, ◌++◌, length, take, drop, get_or, map, Bool, true, false, not, refl, sym, ◌∙◌, ap, subst, inl, inr, ⊎_elim, arith, append_assoc, length-append, length-take, length-drop, take-append-drop, get_or-take, get_or-drop}
+use Rattle.std.proofs.Common.{◌≡◌, ◌≢◌, ℕ, ◌+◌, ◌-◌, ◌^◌, ◌<◌, ◌≤◌, List, [], ◌∷◌, ◌++◌, length, take, drop, get_or, Bool, true, false, not, refl, sym, ◌∙◌, ap, subst, inl, inr, ⊎_elim, arith, append_assoc, length-append, length-take, length-drop, take-append-drop, get_or-take, get_or-drop}
 use Rattle.std.specs.Int.{w32, w64, to_be_bytes, from_be_bytes}
 use Rattle.std.proofs.lemmas.Nat.{be_bytes_4, be_bytes_8, from_be_bytes-to_be_bytes_4, from_be_bytes-to_be_bytes_8}
 use Rattle.std.proofs.lemmas.List.{append-nil, take_at, drop_at, take-take, drop-drop, drop_more, get_or_past}
 use Rattle.std.proofs.lemmas.Bool.{cases_lt}
-use Rattle.journal_core.specs.Area.{area_limit, magic, area_bytes, record_bytes, records, IsShut, Begins, StandsForBody, IsGeneration, IsArea, IsFront, HasNoBase, BreaksAfter, IsBroken}
-use Rattle.journal_core.specs.Reports.{BaseEndsAt, RecordEndsAt, NoRecordAt, RecordsEndAt, BreaksAt}
+use Rattle.journal_core.specs.Area.{area_limit, magic, area_bytes, record_bytes, records, IsShut, Begins, IsArea, IsFront, HasNoBase, BreaksAfter, IsBroken}
+use Rattle.journal_core.specs.Reports.{BaseEndsAt, RecordEndsAt, NoRecordAt, RecordsEndAt}
 use Rattle.journal_core.specs.Faults.{BrokeAt, IsReported, IsFrontReported}
 use Rattle.journal_core.specs.declared.scan.ScanFault.{ScanFault}
 use Rattle.journal_core.specs.declared.scan.ScanFault.TheVariants.{Closed, Broken, Disk, NoMemory}

@@ -1,5 +1,5 @@
 -- What the faults of a scan say of the bytes. This project's own.
-use Rattle.std.specs.Prelude.{◌≡◌, ◌≢◌, ℕ, ◌+◌, List}
+use Rattle.std.specs.Prelude.{◌≡◌, ℕ, ◌+◌, List}
 use Rattle.journal_core.specs.Area.{IsShut, HasNoBase, IsBroken}
 use Rattle.journal_core.specs.Reports.{BreaksAt}
 use Rattle.journal_core.specs.declared.scan.ScanFault.{ScanFault}

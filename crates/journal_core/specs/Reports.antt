@@ -1,5 +1,5 @@
 -- What the parts of a scan report of the bytes of an area. This project's own.
-use Rattle.std.specs.Prelude.{◌≡◌, ◌≢◌, ℕ, ◌+◌, ◌<◌, ◌≤◌, List, [], length, drop, get_or}
+use Rattle.std.specs.Prelude.{◌≡◌, ℕ, ◌+◌, ◌<◌, ◌≤◌, List, [], length, drop, get_or}
 use Rattle.std.specs.List.{between}
 use Rattle.journal_core.specs.Area.{area_limit, area_bytes, record_bytes, records, Begins, IsGeneration}
 

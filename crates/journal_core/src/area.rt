@@ -1,11 +1,10 @@
 //! Areas: a disk with an image, and with records that are added to it one by one.
 
-ghost use Rattle.std.specs.Prelude.{◌≡◌, ◌≢◌, ◌↔◌, ◌+◌, ◌<◌, ◌≤◌, ◌^◌, ℕ, List, [], ◌∷◌, ◌++◌, Some, IfOk, IfErr, OnOk, OnErr, IsErrOf, IsErrAnd, MatchResult, length, is_some};
+ghost use Rattle.std.specs.Prelude.{◌≡◌, ◌≢◌, ◌↔◌, ◌+◌, ◌<◌, ◌≤◌, ℕ, List, [], ◌∷◌, ◌++◌, Some, IfOk, IfErr, OnOk, OnErr, IsErrOf, IsErrAnd, MatchResult, length, is_some};
 ghost use Rattle.std.specs.Option.{option_map};
 ghost use Rattle.pcfs_ports.specs.Faults.{HasRisen};
 ghost use Rattle.pcfs_ports.specs.Disk.{written, IsPinned, LeavesOnly};
-ghost use Rattle.journal_core.specs.Frame.{frame_bytes};
-ghost use Rattle.journal_core.specs.Area.{area_limit, magic, base_bytes, area_bytes, record_bytes, StandsForBody, IsGeneration};
+ghost use Rattle.journal_core.specs.Area.{area_limit, base_bytes, area_bytes, record_bytes, StandsForBody, IsGeneration};
 ghost use Rattle.journal_core.specs.Rest.{Rests, IsWithOrWithout, IsOldOrShutOrNew};
 ghost use Rattle.journal_core.specs.declared.area.AreaFault.TheVariants.{Disk as DiskFailed, NoMemory as OutOfMemory};
 

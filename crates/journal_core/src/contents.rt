@@ -1,6 +1,6 @@
 //! What a scan finds: the bytes of an area, and where its image and its payloads lie in them.
 
-ghost use Rattle.std.specs.Prelude.{◌≡◌, ◌+◌, ◌<◌, ◌≤◌, List, [], length, get_or};
+ghost use Rattle.std.specs.Prelude.{◌≡◌, ◌<◌, [], length, get_or};
 ghost use Rattle.journal_core.specs.ScanView.{bytes_at};
 
 use bl_syntax::{Bytes, Sequence};

@@ -1,6 +1,6 @@
 //! Whether a disk has an open area, and of which generation.
 
-ghost use Rattle.std.specs.Prelude.{◌≡◌, ◌+◌, ◌≤◌, ℕ, IfOk, IfSome, OnOk, OnErr, IsTrue, ◌↔◌, length, take, drop, get_or, is_some};
+ghost use Rattle.std.specs.Prelude.{◌≡◌, ◌+◌, ◌≤◌, IfOk, IfSome, OnOk, OnErr, IsTrue, ◌↔◌, length, take, drop, get_or, is_some};
 ghost use Rattle.std.specs.Int.{w64, from_be_bytes};
 ghost use Rattle.pcfs_ports.specs.Faults.{HasRisen};
 ghost use Rattle.pcfs_ports.specs.Disk.{Idles};

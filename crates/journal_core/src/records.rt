@@ -1,10 +1,10 @@
 //! The image and the records of an area in its bytes.
 
-ghost use Rattle.std.specs.Prelude.{◌≡◌, ◌≢◌, ◌+◌, ◌-◌, ◌<◌, ◌≤◌, ℕ, List, [], IfOk, IfErr, MatchOption, length, take, drop, get_or};
+ghost use Rattle.std.specs.Prelude.{◌≡◌, ◌≢◌, ◌+◌, ◌-◌, ◌<◌, ◌≤◌, IfOk, IfErr, MatchOption, length, take, drop, get_or};
 ghost use Rattle.std.specs.Int.{w32, from_be_bytes};
-ghost use Rattle.journal_core.specs.Area.{area_limit, area_bytes, IsShut, IsArea, IsFront, HasNoBase, IsBroken};
+ghost use Rattle.journal_core.specs.Area.{area_limit, area_bytes, IsArea, IsFront, HasNoBase};
 ghost use Rattle.journal_core.specs.ScanView.{all_bytes_at};
-ghost use Rattle.journal_core.specs.Reports.{BaseEndsAt, RecordEndsAt, NoRecordAt, RecordsEndAt, BreaksAt};
+ghost use Rattle.journal_core.specs.Reports.{BaseEndsAt, RecordEndsAt, NoRecordAt, RecordsEndAt};
 ghost use Rattle.journal_core.specs.Faults.{BrokeAt, IsReported, IsFrontReported};
 
 use crate::area::{AREA_LIMIT, MAGIC};

@@ -1,6 +1,6 @@
 //! A scan: what a disk's area holds.
 
-ghost use Rattle.std.specs.Prelude.{◌≡◌, ◌≢◌, ◌↔◌, ◌+◌, ◌-◌, ◌<◌, ◌≤◌, ℕ, List, Some, IfOk, IfErr, IfSome, OnOk, OnErr, IsErrOf, IsTrue, MatchResult, length, min, take, drop, is_some};
+ghost use Rattle.std.specs.Prelude.{◌≡◌, ◌≢◌, ◌↔◌, ◌+◌, ◌-◌, ◌<◌, ◌≤◌, ℕ, IfOk, IfErr, IfSome, OnOk, OnErr, IsErrOf, IsTrue, MatchResult, length, min, take, is_some};
 ghost use Rattle.pcfs_ports.specs.Faults.{HasRisen};
 ghost use Rattle.pcfs_ports.specs.Disk.{IsPinned, Idles};
 ghost use Rattle.journal_core.specs.Area.{area_limit, area_bytes, IsArea, IsFront, IsShut, IsBroken, IsGeneration};

@@ -32,7 +32,7 @@ acted a = Acted 0 a.0 a.1.0 a.1.1.0 a.1.1.1
 abbrev Spells : List ℕ → Event → List ℕ → Type 0
 Spells bytes e rest = IsReadEvent e × (bytes ≡ event_spelling e ++ rest)
 
--- an event of which all behind the tag was read
+-- an event of which all after the tag was read
 with_tag : {A : Type 0} (IsSpelled : A → Type 0) (spelling : A → List ℕ) (at : ℕ → List ℕ → Reading A) (f : A → Event) (code : ℕ) → IsCodec IsSpelled spelling at
     → ((x : A) → IsSpelled x → IsReadEvent (f x)) → ((x : A) → event_spelling (f x) ≡ code ∷ spelling x)
     → (input tag : ℕ) (more rest : List ℕ) (e : Event) → AreBytes more → tag ≡ code → map_reading f (at input more) ≡ Ok (e, rest) → Spells (tag ∷ more) e rest

@@ -62,8 +62,8 @@ pub fn account(bytes: &[u8]) -> Result<(u64, usize), ScanFault> {
     Ok((count, end))
 }
 
-/// The bytes of an area with what was scanned, without its closed gate.
-pub fn respelled(alloc: Global, scan: &Scan) -> Result<Bytes, NoMemory> {
+/// Spells the area of a scan, without its closed gate.
+pub fn spell_area(alloc: Global, scan: &Scan) -> Result<Bytes, NoMemory> {
     let mut bytes = Bytes::new(alloc);
     bytes.extend(b"\x01PCFS\0\0\x01")?;
     bytes.extend(&scan.generation().to_be_bytes())?;

@@ -12,16 +12,20 @@ pub fn disk_of(alloc: Global, bytes: &[u8], failing: &[u32]) -> Option<MemoryDis
     MemoryDisk::new(alloc, bytes, failing).ok()
 }
 
-// The disk of a new area with that image.
-fn formatted(alloc: Global, disk: MemoryDisk, image: &[u8]) -> Result<Area<MemoryDisk>, AreaFault> {
+// Formats a disk as an area with that image.
+fn format_area(
+    alloc: Global,
+    disk: MemoryDisk,
+    image: &[u8],
+) -> Result<Area<MemoryDisk>, AreaFault> {
     match Area::format(alloc, disk, 1, image) {
         Ok(area) => Ok(area),
         Err((fault, _disk)) => Err(fault),
     }
 }
 
-// The disk of an area after `first` was appended.
-fn appended(alloc: Global, area: Area<MemoryDisk>) -> Result<MemoryDisk, AreaFault> {
+// Appends `first`, and gives the disk back.
+fn append_first(alloc: Global, area: Area<MemoryDisk>) -> Result<MemoryDisk, AreaFault> {
     let mut area = area;
     match frame(alloc, b"first") {
         Ok(framed) => match area.append(&framed) {
@@ -33,10 +37,10 @@ fn appended(alloc: Global, area: Area<MemoryDisk>) -> Result<MemoryDisk, AreaFau
 }
 
 // The disk of an area with one record, over what a disk had.
-fn added(alloc: Global, bytes: &[u8], failing: &[u32]) -> Result<MemoryDisk, AreaFault> {
+fn new_area_disk(alloc: Global, bytes: &[u8], failing: &[u32]) -> Result<MemoryDisk, AreaFault> {
     match disk_of(alloc, bytes, failing) {
-        Some(disk) => match formatted(alloc, disk, b"image") {
-            Ok(area) => appended(alloc, area),
+        Some(disk) => match format_area(alloc, disk, b"image") {
+            Ok(area) => append_first(alloc, area),
             Err(fault) => Err(fault),
         },
         None => Err(AreaFault::NoMemory),
@@ -44,7 +48,7 @@ fn added(alloc: Global, bytes: &[u8], failing: &[u32]) -> Result<MemoryDisk, Are
 }
 
 // Whether a disk has these bytes, after how many calls, and what a peek gives.
-fn shown(disk: MemoryDisk, bytes: &[u8]) -> (bool, usize, Result<Option<u64>, Failed>) {
+fn inspect(disk: MemoryDisk, bytes: &[u8]) -> (bool, usize, Result<Option<u64>, Failed>) {
     let mut disk = disk;
     let is_spelled = disk.image() == bytes;
     (is_spelled, disk.made().len(), peek(&mut disk))
@@ -52,7 +56,7 @@ fn shown(disk: MemoryDisk, bytes: &[u8]) -> (bool, usize, Result<Option<u64>, Fa
 
 // The generation of a disk's area, how many payloads it has, and whether image and first payload are
 // these.
-fn scanned(alloc: Global, disk: MemoryDisk) -> Result<(u64, usize, bool, bool), ScanFault> {
+fn scan_disk(alloc: Global, disk: MemoryDisk) -> Result<(u64, usize, bool, bool), ScanFault> {
     match Area::scan(alloc, disk) {
         Ok((_area, scan)) => {
             let is_image = scan.image() == b"image".as_slice();
@@ -64,13 +68,13 @@ fn scanned(alloc: Global, disk: MemoryDisk) -> Result<(u64, usize, bool, bool), 
 }
 
 // What a scan of these bytes reports.
-fn scan_of(
+fn scan_bytes(
     alloc: Global,
     bytes: &[u8],
     failing: &[u32],
 ) -> Result<(u64, usize, bool, bool), ScanFault> {
     match disk_of(alloc, bytes, failing) {
-        Some(disk) => scanned(alloc, disk),
+        Some(disk) => scan_disk(alloc, disk),
         None => Err(ScanFault::NoMemory),
     }
 }
@@ -82,13 +86,13 @@ const AREA: &[u8] =
 #[test]
 fn an_area_is_formatted_and_appended_to(rt: HostRuntime) {
     let old = b"\x01old, and shorter than the area";
-    let disk = added(rt.alloc(), old, &[]).map(|disk| shown(disk, AREA));
+    let disk = new_area_disk(rt.alloc(), old, &[]).map(|disk| inspect(disk, AREA));
     assert_eq!(rt; disk, Ok((true, 10, Ok(Some(1)))));
 }
 
 #[test]
 fn an_area_is_scanned(rt: HostRuntime) {
-    assert_eq!(rt; scan_of(rt.alloc(), AREA, &[]), Ok((1, 1, true, true)));
+    assert_eq!(rt; scan_bytes(rt.alloc(), AREA, &[]), Ok((1, 1, true, true)));
 }
 
 // The bytes of a new area with an image of 65 bytes, as a fresh one has.
@@ -101,10 +105,10 @@ fn a_fresh_area_has_ninety_bytes(rt: HostRuntime) {
     bytes[89] = 0;
     let alloc = rt.alloc();
     let area = match disk_of(alloc, &[], &[]) {
-        Some(disk) => formatted(alloc, disk, &[7; 65]),
+        Some(disk) => format_area(alloc, disk, &[7; 65]),
         None => Err(AreaFault::NoMemory),
     };
-    let disk = area.map(|area| shown(area.into_disk(), &bytes));
+    let disk = area.map(|area| inspect(area.into_disk(), &bytes));
     assert_eq!(rt; disk, Ok((true, 6, Ok(Some(1)))));
 }
 
@@ -139,19 +143,19 @@ fn a_scan_reports_the_first_record_that_is_cut(rt: HostRuntime) {
             Err(ScanFault::Broken(2)),
         ),
     ];
-    for (bytes, told) in cases {
-        assert_eq!(rt; scan_of(rt.alloc(), bytes, &[]), told);
+    for (bytes, expected) in cases {
+        assert_eq!(rt; scan_bytes(rt.alloc(), bytes, &[]), expected);
     }
 }
 
 #[test]
 fn each_fault_of_a_disk_is_reported(rt: HostRuntime) {
     for call in 0..10u32 {
-        let fault = added(rt.alloc(), &[], &[call]).err();
+        let fault = new_area_disk(rt.alloc(), &[], &[call]).err();
         assert_eq!(rt; fault, Some(AreaFault::Disk));
     }
     for call in 0..28u32 {
-        assert_eq!(rt; scan_of(rt.alloc(), AREA, &[call]), Err(ScanFault::Disk));
+        assert_eq!(rt; scan_bytes(rt.alloc(), AREA, &[call]), Err(ScanFault::Disk));
     }
-    assert_eq!(rt; scan_of(rt.alloc(), AREA, &[28]), Ok((1, 1, true, true)));
+    assert_eq!(rt; scan_bytes(rt.alloc(), AREA, &[28]), Ok((1, 1, true, true)));
 }

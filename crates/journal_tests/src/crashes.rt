@@ -1,9 +1,9 @@
 //! Scans of every outcome of a crash.
 
-use crate::accounts::{account, respelled};
+use crate::accounts::{account, spell_area};
 use crate::areas::disk_of;
 use crate::outcomes::{Outcomes, add, add_torn};
-use bl_syntax::{Bytes, NoMemory};
+use bl_syntax::NoMemory;
 use journal_core::{Area, ScanFault};
 use pcfs_ports::{Disk, MemoryDisk};
 use std::alloc::Global;
@@ -46,11 +46,11 @@ const OVER: [DiskStep; 5] = [
 
 // What a scan of these bytes reports: how many records, and that the area with them begins the bytes
 // and no open gate follows, or the fault.
-fn scanned(alloc: Global, bytes: &[u8]) -> Option<Result<(u64, usize), ScanFault>> {
+fn scan_outcome(alloc: Global, bytes: &[u8]) -> Option<Result<(u64, usize), ScanFault>> {
     let disk = disk_of(alloc, bytes, &[])?;
     match Area::scan(alloc, disk) {
         Ok((_area, scan)) => {
-            let area = respelled(alloc, &scan).ok()?;
+            let area = spell_area(alloc, &scan).ok()?;
             if bytes.starts_with(area.as_slice()) {
                 Some(Ok((scan.count() as u64, area.len())))
             } else {
@@ -64,17 +64,22 @@ fn scanned(alloc: Global, bytes: &[u8]) -> Option<Result<(u64, usize), ScanFault
 // Compares scans of all outcomes with the account, and their counts of records.
 fn compare(rt: &impl Abort, alloc: Global, outcomes: &Outcomes, counts: Option<(u64, u64)>) {
     for outcome in outcomes.as_slice() {
-        let told = account(outcome.as_slice());
-        assert_eq!(rt; scanned(alloc, outcome.as_slice()), Some(told));
+        let expected = account(outcome.as_slice());
+        assert_eq!(rt; scan_outcome(alloc, outcome.as_slice()), Some(expected));
         if let Some((least, most)) = counts {
-            let count = told.map_or(99, |found| found.0);
+            let count = expected.map_or(99, |found| found.0);
             assert!(rt; least <= count && count <= most);
         }
     }
 }
 
 // What a write may leave of each outcome.
-fn torn(alloc: Global, at: usize, piece: &[u8], outcomes: &Outcomes) -> Result<Outcomes, NoMemory> {
+fn tear_all(
+    alloc: Global,
+    at: usize,
+    piece: &[u8],
+    outcomes: &Outcomes,
+) -> Result<Outcomes, NoMemory> {
     let mut more = Outcomes::new(alloc);
     for outcome in outcomes.as_slice() {
         add_torn(alloc, at, piece, outcome.as_slice(), &mut more)?;
@@ -83,7 +88,7 @@ fn torn(alloc: Global, at: usize, piece: &[u8], outcomes: &Outcomes) -> Result<O
 }
 
 // What a crash may leave after one more call.
-fn after(
+fn outcomes_after(
     alloc: Global,
     call: DiskStep,
     disk: &mut MemoryDisk,
@@ -92,7 +97,7 @@ fn after(
     match call {
         DiskStep::Write(at, piece) => {
             let _ = disk.write_at(at as u64, piece);
-            torn(alloc, at, piece, &outcomes)
+            tear_all(alloc, at, piece, &outcomes)
         }
         DiskStep::Sync => {
             let _ = disk.sync();
@@ -115,7 +120,7 @@ fn go_over(
     add(alloc, &mut outcomes, AREA)?;
     let mut seen: usize = 0;
     for call in calls {
-        outcomes = after(alloc, *call, &mut disk, outcomes)?;
+        outcomes = outcomes_after(alloc, *call, &mut disk, outcomes)?;
         compare(rt, alloc, &outcomes, counts);
         seen = seen.saturating_add(outcomes.len());
     }

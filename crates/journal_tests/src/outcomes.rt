@@ -26,7 +26,7 @@ pub fn byte(bytes: &[u8], at: usize) -> Option<u8> {
 }
 
 /// Whether this is one of the outcomes.
-pub fn has(outcomes: &Outcomes, bytes: &[u8]) -> bool {
+pub fn contains(outcomes: &Outcomes, bytes: &[u8]) -> bool {
     outcomes
         .as_slice()
         .iter()
@@ -35,7 +35,7 @@ pub fn has(outcomes: &Outcomes, bytes: &[u8]) -> bool {
 
 /// Adds a copy of these bytes, unless it is there.
 pub fn add(alloc: Global, outcomes: &mut Outcomes, bytes: &[u8]) -> Result<(), NoMemory> {
-    if !has(outcomes, bytes) {
+    if !contains(outcomes, bytes) {
         let mut copied = Bytes::new(alloc);
         copied.extend(bytes)?;
         outcomes.push(copied)?;
@@ -44,7 +44,7 @@ pub fn add(alloc: Global, outcomes: &mut Outcomes, bytes: &[u8]) -> Result<(), N
 }
 
 // The bytes of `old`, with others from `start` to `end`.
-fn replaced(
+fn replace(
     alloc: Global,
     old: &[u8],
     start: usize,
@@ -99,7 +99,7 @@ fn add_torn_of(
     for number in 0..count {
         let middle = string(alloc, number, len)?;
         let end = at.saturating_add(piece.len());
-        let new = replaced(alloc, old, at, end, middle.as_slice())?;
+        let new = replace(alloc, old, at, end, middle.as_slice())?;
         if is_whole(at, piece, old, new.as_slice()) {
             add(alloc, outcomes, new.as_slice())?;
         }
@@ -140,7 +140,7 @@ mod tests {
         for (len, count) in COUNTS[..6].iter().enumerate() {
             for number in 0..*count {
                 let new = string(alloc, number, len)?;
-                let is_listed = has(&outcomes, new.as_slice());
+                let is_listed = contains(&outcomes, new.as_slice());
                 assert_eq!(rt; is_listed, may_leave(at, piece, old, new.as_slice()));
             }
         }

@@ -1,6 +1,7 @@
 -- What is known of what a line brings: few bytes, a second within the range, numbers that can be cited.
-use Rattle.std.proofs.Common.{◌≡◌, ◌≤◌, ℕ, ℤ, Bool, true, false, List, [], ◌∷◌, length, Option, Some, IsTrue, sym, ap, ◌∙◌, subst, arith}
+use Rattle.std.proofs.Common.{◌≡◌, ◌≤◌, ℕ, ℤ, Bool, true, false, List, [], ◌∷◌, length, Option, Some, IsTrue, sym, ap, subst, arith}
 use Rattle.std.specs.Prelude.{unwrap_or}
+use Rattle.bl_syntax.specs.Citable.{AreCitable}
 use Rattle.bl_syntax.specs.Names.{is_text, is_principal_name}
 use Rattle.bl_syntax.specs.Statement.{StatementView, IsStatement}
 use Rattle.bl_syntax.specs.TimeOrder.{IsMoment}
@@ -19,7 +20,6 @@ use Rattle.line_words.specs.declared.kinds.WordKind.{WordKind}
 use Rattle.line_words.specs.declared.kinds.WordKind.TheVariants as kinds
 use Rattle.line_words.specs.declared.arguments.Arguments.{Arguments}
 use Rattle.line_words.specs.declared.procap_word.ProcapWord.{ProcapWord}
-use Rattle.line_words.proofs.CitedLemmas.{joined_some}
 use Rattle.line_forms.specs.declared.command.Command.TheVariants as commands
 use Rattle.line_forms.specs.declared.asked.Line.{Line}
 use Rattle.line_forms.specs.declared.mode.Mode.{Mode}
@@ -27,7 +27,6 @@ use Rattle.line_forms.specs.declared.forms.Form.{Form}
 use Rattle.line_forms.specs.declared.forms.Form.TheVariants.{At, As, Login, Register, Procap, Verify, Check, Do, Statement, Goal}
 use Rattle.line_forms.specs.declared.forms.Operation.{Operation}
 use Rattle.line_forms.specs.declared.forms.Operation.TheVariants.{Read, Write, Truncate, List as ListOf, Lookup, Create, Mkdir, Unlink, Rename, Getattr, Setattr, Delattr, Chown}
-use Rattle.line_forms.specs.Cited.{CanBeCited}
 use Rattle.line_forms.specs.Forms.{kinds_of_operation}
 use Rattle.line_forms.specs.Lines.{IsAsked, kinds_said, IsLineIn, IsLine}
 use Rattle.line_forms.specs.Making.{op_of}
@@ -132,10 +131,10 @@ module _ (out : Bool) where
 
 -- ---- numbers of statements, a login
 
-cited_of_word : (word numbers : List ℕ) → IsCited word numbers → CanBeCited numbers
-cited_of_word word numbers h = record { some = joined_some h.joined; few = h.few; rising = h.rising }
+cited_of_word : (word numbers : List ℕ) → IsCited word numbers → AreCitable numbers
+cited_of_word word numbers h = h.citable
 
-cited_of_words : (behind : List ℕ) (a : Arguments) (rest : List ℕ) → AreWords (kinds.Who ∷ kinds.Node ∷ kinds.Permission ∷ kinds.Cited ∷ []) behind blank a rest → CanBeCited a.cited
+cited_of_words : (behind : List ℕ) (a : Arguments) (rest : List ℕ) → AreWords (kinds.Who ∷ kinds.Node ∷ kinds.Permission ∷ kinds.Cited ∷ []) behind blank a rest → AreCitable a.cited
 cited_of_words behind a rest words =
     let second = others kinds.Who (kinds.Node ∷ kinds.Permission ∷ kinds.Cited ∷ []) behind blank a rest words in
     let third = others kinds.Node (kinds.Permission ∷ kinds.Cited ∷ []) second.behind second.before a rest second.words in
@@ -189,10 +188,10 @@ statement_of_line line signature statement h = line_within h
 pub second_of_line : (line : List ℕ) (second : ℤ) → IsLine line (commands.At second) → IsMoment second
 second_of_line line second h = line_within h
 
-pub cited_of_verify : (line : List ℕ) (goal : GoalOf) (numbers : List ℕ) (proof : ProofView) → IsLine line (commands.Verify goal numbers proof) → CanBeCited numbers
+pub cited_of_verify : (line : List ℕ) (goal : GoalOf) (numbers : List ℕ) (proof : ProofView) → IsLine line (commands.Verify goal numbers proof) → AreCitable numbers
 cited_of_verify line goal numbers proof h = (line_within h).0
 
-pub cited_of_check : (line : List ℕ) (goal : GoalOf) (numbers : List ℕ) (proof : ProofView) → IsLine line (commands.Check goal numbers proof) → CanBeCited numbers
+pub cited_of_check : (line : List ℕ) (goal : GoalOf) (numbers : List ℕ) (proof : ProofView) → IsLine line (commands.Check goal numbers proof) → AreCitable numbers
 cited_of_check line goal numbers proof h = (line_within h).0
 
 pub times_of_verify : (line : List ℕ) (goal : GoalOf) (numbers : List ℕ) (proof : ProofView) → IsLine line (commands.Verify goal numbers proof) → HasTimesInRange proof

@@ -13,7 +13,6 @@ use Rattle.line_words.proofs.ReadingLemmas.{AreWords-unique, words_or_bad, bad_o
 use Rattle.line_forms.specs.declared.asked.Line.{Line}
 use Rattle.line_forms.specs.declared.asked.Line.TheVariants as lines
 use Rattle.line_forms.specs.declared.mode.Mode.{Mode}
-use Rattle.line_forms.specs.declared.mode.Mode.TheVariants.{Operator}
 use Rattle.line_forms.specs.declared.command.Command.{Command}
 use Rattle.line_forms.specs.declared.command.Command.TheVariants as commands
 use Rattle.line_forms.specs.declared.forms.Form.{Form}

@@ -21,7 +21,7 @@ use Rattle.line_forms.specs.declared.forms.Form.TheVariants.{At, As, Login, Regi
 use Rattle.line_forms.specs.declared.forms.Operation.{Operation}
 use Rattle.line_forms.specs.declared.fault.LineFault.{LineFault}
 use Rattle.line_forms.specs.Forms.{form_named, operation_named, kinds_of_operation}
-use Rattle.line_forms.specs.Heads.{Head, by_form, by_operation, operation_head, do_head, head_in}
+use Rattle.line_forms.specs.Heads.{Head, by_form, by_operation, do_head, head_in}
 use Rattle.line_forms.specs.Lines.{IsAsked, kinds_said, IsLineIn}
 use Rattle.line_forms.specs.Modes.{modes_of, is_in, known, is_session}
 use Rattle.line_forms.specs.Said.{IsWrittenOut, IsSaidInScript, IsSaidInSession, IsSaidInInquiry, IsSaidIn}

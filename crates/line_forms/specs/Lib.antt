@@ -1,4 +1,3 @@
-pub mod Cited
 pub mod Faults
 pub mod Forms
 pub mod Heads

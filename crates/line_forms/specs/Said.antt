@@ -1,6 +1,7 @@
 -- What a line may ask for: what is known of what it brings, and in which modes it is said (this project's own).
-use Rattle.std.specs.Prelude.{◌≡◌, ◌≤◌, ℕ, List, length, IsSome, IsTrue}
+use Rattle.std.specs.Prelude.{◌≡◌, ◌≤◌, List, length, IsSome, IsTrue}
 use Rattle.std.specs.List.{AllByRecursion}
+use Rattle.bl_syntax.specs.Citable.{AreCitable}
 use Rattle.bl_syntax.specs.Names.{is_principal_name}
 use Rattle.bl_syntax.specs.Statement.{IsStatement}
 use Rattle.bl_syntax.specs.TimeOrder.{IsMoment}
@@ -16,7 +17,6 @@ use Rattle.line_forms.specs.declared.asked.Line.{Line}
 use Rattle.line_forms.specs.declared.asked.Line.TheVariants as lines
 use Rattle.line_forms.specs.declared.mode.Mode.{Mode}
 use Rattle.line_forms.specs.declared.mode.Mode.TheVariants.{Operator, Guest, User, Inquiry}
-use Rattle.line_forms.specs.Cited.{CanBeCited}
 
 -- an operation with a procap for each place of its needs
 pub record IsOperationAsked (op : Op) (procaps : List ProcapWord) : Type 0 where
@@ -30,8 +30,8 @@ IsWithin (At second) = IsMoment second
 IsWithin (As who) = IsTrue (is_principal_name who)
 IsWithin (Register signature statement) = IsStatement statement
 IsWithin (Procap number) = Unit {0}
-IsWithin (Verify goal numbers proof) = CanBeCited numbers × HasTimesInRange proof
-IsWithin (Check goal numbers proof) = CanBeCited numbers × HasTimesInRange proof
+IsWithin (Verify goal numbers proof) = AreCitable numbers × HasTimesInRange proof
+IsWithin (Check goal numbers proof) = AreCitable numbers × HasTimesInRange proof
 IsWithin (Do op procaps) = IsOperationAsked op procaps
 
 -- what is known of what a line brings

@@ -2,7 +2,7 @@
 
 ghost use Rattle.std.specs.Prelude.{◌≡◌, ◌≤◌, length, Option, Some, MatchResult, Ok, Err};
 ghost use Rattle.line_forms.specs.Forms.{form_named};
-ghost use Rattle.line_forms.specs.Heads.{by_form, by_operation, operation_head, do_head, head_in, may_end, is_counted, text_of};
+ghost use Rattle.line_forms.specs.Heads.{operation_head, do_head, head_in, may_end, is_counted, text_of};
 ghost use Rattle.line_forms.specs.Modes.{known};
 
 use crate::fault::LineFault;

@@ -1,9 +1,8 @@
 -- What a piece leaves of a framer.
-use Rattle.std.proofs.Common.{◌≡◌, ◌≤◌, ◌<◌, ◌+◌, ◌-◌, ℕ, suc, Bool, true, false, List, [], ◌∷◌, ◌++◌, length, take, refl, sym, ap, ◌∙◌, subst, append_assoc, arith}
+use Rattle.std.proofs.Common.{◌≡◌, ◌≤◌, ℕ, Bool, true, false, List, [], ◌∷◌, ◌++◌, length, take, refl, sym, ap, ◌∙◌, subst, append_assoc, arith}
 use Rattle.std.specs.List.{AllByRecursion}
 use Rattle.std.proofs.lemmas.List.{append-nil, length-take-le}
 use Rattle.line_text.specs.Lines.{lines_of}
-use Rattle.line_text.specs.Words.{HasNo}
 use Rattle.line_framer.specs.Framing.{ended, FramerState, IsLine, IsOpen, cut_off}
 use Rattle.line_framer.specs.Scanning.{HasLong, IsLong}
 use Rattle.line_framer.specs.Feeding.{AreShort, IsFed, IsTooLong, already, with_piece}

@@ -1,12 +1,11 @@
 -- A piece is scanned line by line.
-use Rattle.std.proofs.Common.{◌≡◌, ◌≤◌, ◌<◌, ◌+◌, ◌-◌, ℕ, suc, List, [], ◌∷◌, ◌++◌, IsTrue, length, take, drop, Option, Some, None, MatchOption, refl, sym, ap, ◌∙◌, subst, append_assoc, length-append, arith}
+use Rattle.std.proofs.Common.{◌≡◌, ◌≤◌, ◌<◌, ◌+◌, ◌-◌, ℕ, List, [], ◌∷◌, ◌++◌, length, take, drop, refl, sym, ap, ◌∙◌, append_assoc, length-append, arith}
 use Rattle.std.specs.List.{AllByRecursion}
 use Rattle.std.proofs.lemmas.List.{append-nil, take_at, length-take-le}
 use Rattle.line_text.specs.Lines.{lines_of}
 use Rattle.line_text.specs.Words.{HasNo}
 use Rattle.line_framer.specs.Framing.{ended, IsFirst, IsLine, IsOpen}
-use Rattle.line_framer.specs.Scanning.{HasLong, IsLong, IsScanned}
-use Rattle.line_framer.specs.declared.scanning.Scanned.{Scanned}
+use Rattle.line_framer.specs.Scanning.{IsLong, IsScanned}
 use Rattle.line_framer.specs.declared.scanning.Scanned.TheVariants.{Short, Long}
 use Rattle.line_framer.proofs.FramingLemmas.{HasNo-append, first_line, last_line, ended-append, lines_of-whole, AllLines-append}
 

@@ -1,5 +1,5 @@
 -- What a piece does to a framer (this project's own).
-use Rattle.std.specs.Prelude.{◌≡◌, ◌≤◌, ℕ, List, ◌++◌, Bool, true, false, length}
+use Rattle.std.specs.Prelude.{◌≡◌, ◌≤◌, ℕ, List, ◌++◌, true, false, length}
 use Rattle.std.specs.List.{AllByRecursion}
 use Rattle.line_text.specs.Lines.{lines_of}
 use Rattle.line_framer.specs.Framing.{FramerState, ended}

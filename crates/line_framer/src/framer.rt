@@ -1,6 +1,6 @@
 //! The framer, which keeps what was fed and not taken.
 
-ghost use Rattle.std.specs.Prelude.{◌≡◌, ◌≤◌, ◌++◌, [], ℕ, List, true, false, length, IsSome, IfSome, MatchOption, MatchResult, OnOk, OnErr};
+ghost use Rattle.std.specs.Prelude.{◌≡◌, ◌≤◌, [], ℕ, List, true, false, length, IsSome, IfSome, MatchOption, MatchResult, OnOk, OnErr};
 ghost use Rattle.line_text.specs.Words.{HasNo};
 ghost use Rattle.line_framer.specs.Framing.{IsFirst, cut_off};
 ghost use Rattle.line_framer.specs.Feeding.{IsFed, IsNotFed};

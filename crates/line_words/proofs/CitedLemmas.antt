@@ -1,28 +1,14 @@
 -- The numbers of a word, one after another.
-use Rattle.std.proofs.Common.{◌≡◌, ◌≢◌, ◌<◌, ◌≤◌, ◌+◌, ℕ, zero, suc, true, false, List, [], ◌∷◌, ◌++◌, length, IsTrue, refl, sym, ap, ◌∙◌, subst, arith, append-nil, append_assoc, length-append}
+use Rattle.std.proofs.Common.{◌≡◌, ◌≢◌, ◌≤◌, ◌+◌, ℕ, true, false, List, [], ◌∷◌, ◌++◌, length, IsTrue, refl, sym, ap, ◌∙◌, subst, arith, append-nil, append_assoc, length-append}
 use Rattle.std.specs.Prelude.{◌==◌}
 use Rattle.std.proofs.lemmas.Bool.{false≢true, eqb-true}
 use Rattle.std.proofs.lemmas.List.{nil_from_length}
-use Rattle.std.specs.List.Sorted.{IsStrictlyIncreasing}
 use Rattle.line_text.specs.Words.{is_word_end, HasNo}
 use Rattle.line_text.proofs.WordLemmas.{same_split}
 use Rattle.line_words.specs.Numbers.{IsNumber}
 use Rattle.line_words.specs.Cited.{AreJoined, one_number, more_numbers}
 use Rattle.line_words.specs.Cited.{AreAdded}
 use Rattle.line_words.proofs.NumeralLemmas.{HasNo-number, IsNumber-unique}
-
-pub rising-short : (numbers : List ℕ) → length numbers < 2 → IsStrictlyIncreasing numbers
-rising-short numbers few k inside = absurd (omega (arith, few))
-
-pub rising-more : (first second : ℕ) (others : List ℕ) → first < second → IsStrictlyIncreasing (second ∷ others) → IsStrictlyIncreasing (first ∷ second ∷ others)
-rising-more first second others below h zero inside = below
-rising-more first second others below h (suc k) inside = let e : suc k + 1 ≡ suc (k + 1) = omega arith in rw e (h k (omega arith))
-
-later : (first second : ℕ) (others : List ℕ) → IsStrictlyIncreasing (first ∷ second ∷ others) → IsStrictlyIncreasing (second ∷ others)
-later first second others h k inside = let e : suc k + 1 ≡ suc (k + 1) = omega arith in rw e at (h (suc k) (omega arith))
-
-pub rising-fewer : (first second : ℕ) (others : List ℕ) → IsStrictlyIncreasing (first ∷ second ∷ others) → (first < second) × IsStrictlyIncreasing (second ∷ others)
-rising-fewer first second others h = (h 0 (omega arith), λ k inside. later first second others h k inside)
 
 -- the first word of a list of numbers, and what stands after it
 pub data IsFirst (front behind : List ℕ) : List ℕ → Type 0 where

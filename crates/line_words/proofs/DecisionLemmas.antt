@@ -3,7 +3,6 @@ use Rattle.std.proofs.Common.{◌≡◌, ◌≢◌, ℕ, ◌^◌, ◌<◌, ◌�
 use Rattle.std.specs.Prelude.{◌==◌}
 use Rattle.std.specs.Bool.{Decides}
 use Rattle.std.specs.List.{list_all}
-use Rattle.std.specs.List.Sorted.{IsStrictlyIncreasing}
 use Rattle.std.specs.Str.{bytes_eq}
 use Rattle.std.specs.Str.Parse.{digits_value}
 use Rattle.std.proofs.lemmas.Bool.{cases_eq, cases_lt, cases_Bool, false≢true, and_from, and_parts, eqb-true}
@@ -11,6 +10,7 @@ use Rattle.std.proofs.lemmas.List.{append_cancel_right}
 use Rattle.std.proofs.lemmas.Slice.Eq.{bytes_eq-Decides}
 use Rattle.hex.specs.Hex.{decode_of}
 use Rattle.hex.specs.declared.error.FromHexError.{FromHexError}
+use Rattle.bl_syntax.specs.Citable.{DoRise}
 use Rattle.bl_syntax.specs.ConditionTests.{is_at_most}
 use Rattle.bl_syntax.specs.Names.{is_digit, is_principal_name, is_text}
 use Rattle.bl_syntax.specs.TimeOrder.{IsMoment}
@@ -27,11 +27,11 @@ use Rattle.procap.specs.Procap.{procap_spelling, procap_at}
 use Rattle.procap.proofs.ProcapLemmas.{procap_codec}
 use Rattle.line_words.specs.Cited.{AreJoined, one_number, more_numbers, IsCited}
 use Rattle.line_words.specs.Grammar.{IsName, is_name_word, IsPrincipal, IsData, IsQuoted, IsPermission, IsSignature, IsSignatureHex, IsSigned, by_ring, by_bytes}
-use Rattle.line_words.specs.Numbers.{IsDigits, IsInteger, plain, negated, IsSecond, IsNumberBelow, IsNumber, IsLongNumber, IsFile, IsIssue}
+use Rattle.line_words.specs.Numbers.{IsDigits, IsInteger, plain, negated, IsSecond, IsNumberBelow, IsLongNumber, IsFile, IsIssue}
 use Rattle.line_words.specs.Numerals.{IsPlain}
 use Rattle.line_words.specs.Procaps.{IsProcapHex, IsProcapWord, by_number, by_spelling}
 use Rattle.line_words.specs.declared.procap_word.ProcapWord.TheVariants.{Procap as BySpelling, Issue}
-use Rattle.line_words.proofs.CitedLemmas.{rising-short, rising-more, rising-fewer, IsFirst, alone, followed, first_of, no_first, AreJoined-same}
+use Rattle.line_words.proofs.CitedLemmas.{IsFirst, alone, followed, first_of, no_first, joined_some, AreJoined-same}
 use Rattle.line_words.proofs.NumeralLemmas.{number_of, IsWritten-below, IsInteger-from_minus, IsInteger-unique, IsNumberBelow-unique}
 use Rattle.line_words.proofs.ProcapLemmas.{number_of_word, not_given}
 
@@ -367,23 +367,23 @@ joined_decided front (byte ∷ rest) no_comma = elim (cases_eq byte 44) [
   | inr other ↦ subst (λ w. IsDecided (AreJoined w)) (append_assoc front (byte ∷ []) rest) (joined_decided (front ++ byte ∷ []) rest (no_comma_more front byte no_comma other))
 ]
 
-rising_or_not : (numbers : List ℕ) → IsStrictlyIncreasing numbers ⊎ (IsStrictlyIncreasing numbers → ⊥)
-rising_or_not [] = inl (rising-short [] (omega arith))
-rising_or_not (first ∷ []) = inl (rising-short (first ∷ []) (omega arith))
+rising_or_not : (numbers : List ℕ) → DoRise numbers ⊎ (DoRise numbers → ⊥)
+rising_or_not [] = inl tt
+rising_or_not (first ∷ []) = inl tt
 rising_or_not (first ∷ second ∷ others) = elim (cases_lt first second) [
   | inl below ↦ elim (rising_or_not (second ∷ others)) [
-    | inl h ↦ inl (rising-more first second others below h)
-    | inr never ↦ inr (λ h. never (rising-fewer first second others h).1)
+    | inl h ↦ inl (below, h)
+    | inr never ↦ inr (λ h. never h.1)
   ]
-  | inr high ↦ inr (λ h. omega (arith, high, (rising-fewer first second others h).0))
+  | inr high ↦ inr (λ h. omega (arith, high, h.0))
 ]
 
 cited_or_not : (word numbers : List ℕ) → AreJoined word numbers → IsCited word numbers ⊎ (IsCited word numbers → ⊥)
 cited_or_not word numbers h = elim (cases_lt 64 (length numbers)) [
-  | inl many ↦ inr (λ c. omega (arith, c.few, many))
+  | inl many ↦ inr (λ c. omega (arith, c.citable.few, many))
   | inr few ↦ elim (rising_or_not numbers) [
-    | inl rising ↦ inl (record { joined = h; few = few; rising = rising })
-    | inr never ↦ inr (λ c. never c.rising)
+    | inl rising ↦ inl (record { joined = h; citable = record { some = joined_some h; few = few; rising = rising } })
+    | inr never ↦ inr (λ c. never c.citable.rising)
   ]
 ]
 

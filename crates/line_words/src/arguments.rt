@@ -31,7 +31,7 @@ pub struct Arguments {
     pub procaps: ProcapWords,
 }
 
-// Puts a value that was read into its field, and tells whether there is one.
+// Puts a value that was read into its field, and returns whether there is one.
 fn put<T: Drop>(field: &mut T, value: Option<T>) -> bool
     ensures found { IfSome value (λ v. (result ≡ true) × (field.new ≡ v)) }
     ensures outside { IfNone value (result ≡ false) }
@@ -70,7 +70,7 @@ impl Arguments {
         }
     }
 
-    // Adds the procap that the word gives, and tells whether it gives one.
+    // Adds the procap that the word gives, and returns whether it gives one.
     fn add_procap(&mut self, alloc: Global, word: &[u8]) -> Result<bool, NoMemory>
         ensures set { IfOk result (λ fits. IsTrue fits → Sets WordKind.Procap word.now self.old self.new) }
         ensures outside { IfOk result (λ fits. fits ≡ false → IsOutside WordKind.Procap word.now) }
@@ -86,7 +86,7 @@ impl Arguments {
         }
     }
 
-    // Sets the signature that the word writes out, and tells whether it writes one.
+    // Sets the signature that the word writes out, and returns whether it writes one.
     fn set_signature(&mut self, alloc: Global, word: &[u8]) -> Result<bool, NoMemory>
         ensures set { IfOk result (λ fits. IsTrue fits → Sets WordKind.SignatureHex word.now self.old self.new) }
         ensures outside { IfOk result (λ fits. fits ≡ false → IsOutside WordKind.SignatureHex word.now) }
@@ -102,7 +102,7 @@ impl Arguments {
         }
     }
 
-    // Adds the procap that the word writes out, and tells whether it writes one.
+    // Adds the procap that the word writes out, and returns whether it writes one.
     fn add_written_procap(&mut self, alloc: Global, word: &[u8]) -> Result<bool, NoMemory>
         ensures set { IfOk result (λ fits. IsTrue fits → Sets WordKind.ProcapHex word.now self.old self.new) }
         ensures outside { IfOk result (λ fits. fits ≡ false → IsOutside WordKind.ProcapHex word.now) }

@@ -1,7 +1,7 @@
 //! The numbers of the statements that a line cites.
 
 ghost use Rattle.std.specs.Prelude.{◌≡◌, ◌≤◌, ◌+◌, ◌↔◌, ℕ, List, false, length, IsTrue, IfOk, MatchOption};
-ghost use Rattle.std.specs.List.Sorted.{IsStrictlyIncreasing};
+ghost use Rattle.bl_syntax.specs.Citable.{AreCitable, DoRise};
 ghost use Rattle.line_words.specs.Cited.{AreJoined, IsCited, AreAdded};
 
 use crate::numerals::number;
@@ -14,7 +14,7 @@ const MOST_CITED: usize = 64;
 
 // Whether each number is below the next.
 fn do_rise(numbers: &[u32]) -> bool
-    ensures { IsTrue result ↔ IsStrictlyIncreasing numbers.now }
+    ensures { IsTrue result ↔ DoRise numbers.now }
 {
     match numbers {
         [first, second, ..] => *first < *second && do_rise(&numbers[1..]),
@@ -22,14 +22,14 @@ fn do_rise(numbers: &[u32]) -> bool
     }
 }
 
-// Whether they are few enough and rise.
-fn can_be_cited(numbers: &[u32]) -> bool
-    ensures { IsTrue result ↔ ((length numbers.now ≤ 64) × IsStrictlyIncreasing numbers.now) }
+// Whether they are 1 to 64 numbers, strictly rising.
+fn are_citable(numbers: &[u32]) -> bool
+    ensures { IsTrue result ↔ AreCitable numbers.now }
 {
-    numbers.len() <= MOST_CITED && do_rise(numbers)
+    !numbers.is_empty() && numbers.len() <= MOST_CITED && do_rise(numbers)
 }
 
-// Adds the numbers of the word to those before it, and tells whether it has numbers alone and there are not more than
+// Adds the numbers of the word to those before it, and returns whether it has numbers alone and there are not more than
 // can be cited then.
 fn read_numbers(word: &[u8], numbers: &mut Numbers) -> Result<bool, NoMemory>
     ensures added { IfOk result (λ all. IsTrue all → AreAdded word.now numbers.old numbers.new) }
@@ -58,7 +58,7 @@ pub fn cited_numbers(alloc: Global, word: &[u8]) -> Result<Option<Numbers>, NoMe
     if !read_numbers(word, &mut numbers)? {
         return Ok(None);
     }
-    if !can_be_cited(numbers.as_slice()) {
+    if !are_citable(numbers.as_slice()) {
         return Ok(None);
     }
     Ok(Some(numbers))

@@ -1,11 +1,11 @@
 //! Numbers, files and seconds in the words of a line.
 
-ghost use Rattle.std.specs.Prelude.{◌≡◌, ◌↔◌, ◌<◌, ◌≤◌, ◌^◌, ℕ, ℤ, pos, length, IsTrue, IfSome, MatchOption};
+ghost use Rattle.std.specs.Prelude.{◌≡◌, ◌↔◌, ◌≤◌, ℕ, ℤ, pos, length, IsTrue, IfSome, MatchOption};
 ghost use Rattle.std.specs.List.{list_all};
 ghost use Rattle.std.specs.Str.Parse.{digits_value};
 ghost use Rattle.bl_syntax.specs.Names.{is_digit};
 ghost use Rattle.bl_syntax.specs.declared.terms.NodeId.{NodeId};
-ghost use Rattle.line_words.specs.Numbers.{IsDigits, IsInteger, IsSecond, IsFile, IsNumber, IsNumberBelow, IsLongNumber, IsCount, IsIssue};
+ghost use Rattle.line_words.specs.Numbers.{IsDigits, IsInteger, IsSecond, IsFile, IsNumber, IsLongNumber, IsCount, IsIssue};
 ghost use Rattle.line_words.specs.Numerals.{IsPlain};
 
 use bl_syntax::byte_classes::is_digit;

@@ -95,7 +95,7 @@ shown kinds.Who word v h = record { named = subst (λ (w : List ℕ). IsTrue (is
 shown kinds.Permission word v h = refl
 shown kinds.Second word v h = record { integer = second_shown v h.in_range; in_range = h.in_range }
 shown kinds.Issue word v h = record { number_is = below_shown (2 ^ 64) word v h.number_is; some = h.some }
-shown kinds.Cited word v h = record { joined = subst (λ (w : List ℕ). AreJoined w v) (more_joined h.joined) h.joined; few = h.few; rising = h.rising }
+shown kinds.Cited word v h = record { joined = subst (λ (w : List ℕ). AreJoined w v) (more_joined h.joined) h.joined; citable = h.citable }
 shown kinds.Signature word v h = subst (λ (w : List ℕ). IsSigned w v) (signed_word h) h
 shown kinds.Procap word v h = subst (λ (w : List ℕ). IsProcapWord w v) (procap_word h) h
 shown kinds.SignatureHex word v h = record { hex = record { in_range = h.hex.in_range; word_is = refl }; few = h.few }

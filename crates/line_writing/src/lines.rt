@@ -1,10 +1,8 @@
 //! The line that asks for something.
 #![tactic(auto, using(bl_syntax::proofs::BeginsWithLemmas::writing))]
 
-ghost use Rattle.std.specs.Prelude.{◌≡◌, ◌++◌, codes, OnOk, OnErr};
+ghost use Rattle.std.specs.Prelude.{◌≡◌, ◌++◌, OnOk, OnErr};
 ghost use Rattle.bl_syntax.specs.BeginsWith.{BeginsWith};
-ghost use Rattle.proof_text.specs.Printed.{proof_text};
-ghost use Rattle.line_writing.specs.WordTexts.{goal_text, cited_text};
 ghost use Rattle.line_writing.specs.LineTexts.{cited_goal_text, command_text, asked_text};
 
 use crate::operations::put_operation;

@@ -2,7 +2,7 @@
 #![tactic(auto, using(bl_syntax::proofs::BeginsWithLemmas::writing))]
 
 ghost use Rattle.std.specs.Prelude.{◌≡◌, ◌++◌, [], codes, OnOk, OnErr};
-ghost use Rattle.std.specs.Fmt.{decimal, signed_decimal};
+ghost use Rattle.std.specs.Fmt.{signed_decimal};
 ghost use Rattle.bl_syntax.specs.BeginsWith.{BeginsWith};
 ghost use Rattle.bl_text.specs.Printed.{permission_text};
 ghost use Rattle.line_text.specs.HexWord.{hex_word};

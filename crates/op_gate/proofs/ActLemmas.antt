@@ -64,7 +64,7 @@ fault_decided before after pass clock caller op procaps faults.NoMemory count ad
 pub reserved_not : (caller : List ℕ) (world : World) (op : Op) (told : Result OpReply OpFault) (fault : OpFault) (after : WorldState) → told ≡ Err fault → ReservesWorld caller world op told after → ReservesWorld caller world op (Err fault) after
 reserved_not caller world op told fault after told_is reserves = subst (λ (r : Result OpReply OpFault). ReservesWorld caller world op r after) told_is reserves
 
--- the reply that it tells
+-- the reply that it gives
 pub reserved_done : (caller : List ℕ) (world : World) (op : Op) (told : Result OpReply OpFault) (reply : OpReply) (after : WorldState) → told ≡ Ok reply → ReservesWorld caller world op told after → ReservesWorld caller world op (Ok reply) after
 reserved_done caller world op told reply after told_is reserves = subst (λ (r : Result OpReply OpFault). ReservesWorld caller world op r after) told_is reserves
 

@@ -1,6 +1,6 @@
 -- The first damage of an event, over plain values.
-use Rattle.std.proofs.Common.{◌≡◌, ◌<◌, ◌≤◌, ◌-◌, ◌^◌, ℕ, List, [], ◌∷◌, ◌++◌, length, refl, sym, ap, subst, ◌∙◌, arith, ⊎_elim, Some, None}
-use Rattle.std.specs.Prelude.{ℤ, ◌≤ℤ◌, Contains, Result, Ok, Err, IfOk, IfErr, IsTrue, Option, ◌⊎◌}
+use Rattle.std.proofs.Common.{◌≡◌, ◌<◌, ◌-◌, ◌^◌, ℕ, List, [], ◌∷◌, ◌++◌, length, refl, sym, ap, subst, ◌∙◌, arith, ⊎_elim, Some, None}
+use Rattle.std.specs.Prelude.{ℤ, ◌≤ℤ◌, Result, Ok, Err, IfOk, IfErr, IsTrue, Option}
 use Rattle.std.specs.List.{AllByRecursion}
 use Rattle.std.specs.Option.{option_map}
 use Rattle.std.proofs.lemmas.Bool.{false≢true}
@@ -33,7 +33,6 @@ use Rattle.file_world.specs.Effect.{IsOperation, refusal}
 use Rattle.file_world.specs.Needs.{needs}
 use Rattle.access_history.specs.declared.event.Event.{Event}
 use Rattle.access_history.specs.declared.event.Event.TheVariants.{Registered, Issued, Acted}
-use Rattle.access_history.specs.declared.event.Addition.TheVariants as additions
 use Rattle.access_history.specs.declared.reply.StepReply.{StepReply}
 use Rattle.access_history.specs.declared.request.StepRequest.TheVariants.{Act}
 use Rattle.access_history.specs.Admission.{IsAdmitted, IsNeedMet}
@@ -43,7 +42,6 @@ use Rattle.access_history.specs.Base.{BaseView}
 use Rattle.bl_syntax.specs.Citable.{AreCitable, DoRise}
 use Rattle.access_history.specs.Citing.{AreFound, IsAbsent, IsGoodIssue, StandsUnderNumber, numbers_of}
 use Rattle.access_history.specs.History.{HistoryView, authority_of, state_of, addition_of, IsReadyFor}
-use Rattle.access_history.specs.Keeping.{HasMomentInRange}
 use Rattle.access_history.specs.Lawful.{IsLawfulBase, MayAct}
 use Rattle.access_history.specs.Numbered.{IsNumbered, HasNumber}
 use Rattle.access_history.proofs.AdmissionLemmas.{AreDerived-admitted}
@@ -58,7 +56,7 @@ use Rattle.op_gate.specs.Admits.{FindsCited, IsPendingAs, GivesPending, IsTimely
 use Rattle.op_gate.specs.Damage.{HasShape, TakesEffect, IsNewAmong, IsFreeOf, IsDamagedBy, MayComeNext, TellsDamage, event_damages}
 use Rattle.op_gate.specs.DamageLaws.{IsTypedEvent}
 use Rattle.op_gate.specs.Decision.{IsPlanned}
-use Rattle.op_gate.proofs.RegistryLemmas.{new_to_registry, said_from_registry, may_register}
+use Rattle.op_gate.proofs.RegistryLemmas.{said_from_registry, may_register}
 
 -- ---- the first damage, kind by kind
 
@@ -105,7 +103,7 @@ registered_pending h pass statement signature told pending is may pending_is = r
   ready = tt;
 }
 
--- what is told of a statement that the registry takes
+-- what is reported of a statement that the registry takes
 pub registered_told : (h : HistoryView) (pass : ℕ) (statement : StatementView) (signature : List ℕ) (told : Unit {0}) (result : Result Pending AdmitFault) → IsStatement statement →
     MayRegister (is_accepted h.ring statement.who (statement_message statement) signature) (state_of h).statements statement (Ok told) →
     IfOk result (λ pending. pending ≡ pending_statement pass statement signature) → IfErr result (λ fault. fault ≡ NoMemory) → GivesPending h h (Registered pass statement signature) result
@@ -196,7 +194,7 @@ pub good_found : (statements : List StatementView) (cited : List ℕ) (proof : P
 good_found statements cited proof g number good absent =
     none_fails (HasNumber statements) cited absent.place number (subst (AllByRecursion (HasNumber statements)) (sym good.cited) (have_numbers statements good.cites good.stand)) absent.first
 
--- what is told of an issue with this grant, which its proof gives
+-- what is reported of an issue with this grant, which its proof gives
 pub issued_told : (pass : ℕ) (checked : CheckedView) (g : GrantView) (result : Result Pending AdmitFault) → IsChecked checked → checked.goal ≡ g.goal → checked.grant ≡ g →
     IfOk result (λ pending. pending ≡ pending_issue pass (numbers_of checked.cited) checked.proof checked.grant) → IfErr result (λ fault. fault ≡ NoMemory) → GivesIssue pass checked.cited checked.proof g result
 issued_told pass checked g (Ok pending) is goal same ok err = (
@@ -274,7 +272,7 @@ lacks_next authority state shown event (Damaged damage) same lacks =
     (damaged_shape authority state event (λ has. omega (arith, has.0, lacks.1, ap (λ (s : BaseView). s.count) same)))
 lacks_next authority state shown event NoMemory same lacks = tt
 
--- what is told of the event that is kept, and of one that is not
+-- what is reported of the event that is kept, and of one that is not
 pub told_kept : (before after : HistoryView) (event : Event) (pending : Pending) → (state_of before).count < 2 ^ 48 - 1 → IsPendingAs before after event pending → MayComeNext (authority_of before) (state_of before) event
 told_kept before after event pending counted is = record { counted = counted; follows = is.follows }
 

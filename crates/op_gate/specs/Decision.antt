@@ -31,7 +31,7 @@ Keeps reply event (Answer told) = ⊥
 Keeps reply event (Keep told pending) = (told ≡ reply) × (pending ≡ record { event = event; addition = addition_of event })
 Keeps reply event NoMemory = Unit {0}
 
--- what is told of an operation without effect, after that many events
+-- what is reported of an operation without effect, after that many events
 abbrev pub plan_of_fault : ℕ → OpFault → Planned
 plan_of_fault count (faults.Refused why) = Answer (replies.Refused why count)
 plan_of_fault count faults.NoMemory = NoMemory

@@ -5,7 +5,7 @@ use Rattle.policy_statement.specs.declared.registry.RegisterFault.TheVariants as
 use Rattle.access_history.specs.declared.reply.Rejection.{Rejection}
 use Rattle.access_history.specs.declared.reply.Rejection.TheVariants.{BadSignature, RegistryFull, Duplicate}
 
--- nothing where there was no memory, which is no fault of the statement
+-- nothing if there was no memory, which is no fault of the statement
 abbrev pub rejection_of : Fault → Option Rejection
 rejection_of faults.BadSignature = Some BadSignature
 rejection_of faults.RegistryFull = Some RegistryFull

@@ -88,7 +88,7 @@ fn pend_act(pass: u64, caller: Principal, op: Op, procaps: Procaps, moment: i64)
     }
 }
 
-// What is told of an operation without effect, after that many events.
+// What is reported of an operation without effect, after that many events.
 fn plan_of_refusal(fault: OpFault, count: u64) -> Planned
     ensures { result ≡ plan_of_fault count fault }
 {

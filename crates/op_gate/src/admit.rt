@@ -111,8 +111,8 @@ fn are_same_states(states: &[StatePred], others: &[StatePred]) -> bool
     states == others
 }
 
-// Whether they grant the same under the same conditions.
-fn is_same_grant(first: &Grant, second: &Grant) -> bool
+/// Whether they grant the same under the same conditions.
+pub fn is_same_grant(first: &Grant, second: &Grant) -> bool
     ensures { IsTrue result ↔ (first.now ≡ second.now) }
 {
     if !first.goal().is_same(&second.goal()) {

@@ -1,6 +1,6 @@
 //! What an operation brings.
 
-ghost use Rattle.std.specs.Prelude.{◌≡◌, ◌↔◌, ◌≤◌, IsTrue, length};
+ghost use Rattle.std.specs.Prelude.{◌≡◌, IsTrue};
 ghost use Rattle.bl_syntax.specs.Names.{is_principal_name};
 ghost use Rattle.file_world.specs.Effect.{IsOperation};
 ghost use Rattle.file_world.specs.Needs.{slots, bytes_to_write};

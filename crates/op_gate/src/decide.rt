@@ -1,6 +1,6 @@
 //! The answers to requests on statements and issues, and what is to be kept.
 
-ghost use Rattle.std.specs.Prelude.{◌≡◌, ◌∷◌, ◌↔◌, [], Some, None, IfOk, MatchOption, IsTrue, ℕ, ℤ, length};
+ghost use Rattle.std.specs.Prelude.{◌≡◌, ◌↔◌, Some, None, IfOk, MatchOption, IsTrue, ℕ, ℤ, length};
 ghost use Rattle.bl_syntax.specs.Statement.{IsStatement};
 ghost use Rattle.access_history.specs.declared.request.StepRequest.TheVariants as requests;
 ghost use Rattle.access_history.specs.Answer.{Answers, MaySee};
@@ -134,7 +134,7 @@ pub fn issued_procap(
     }
 }
 
-// Whether the procap of the grant may be seen: by whom it names, or by the operator, where nobody is named.
+// Whether the procap of the grant may be seen: by whom it names, or by the operator, if nobody is named.
 fn may_see(who: &Option<Principal>, grant: &Grant) -> bool
     ensures { IsTrue result ↔ MaySee who.now grant.now }
 {

@@ -1,7 +1,6 @@
 //! The gate: what may happen is decided, and what was decided is kept.
 
-ghost use Rattle.std.specs.Prelude.{◌≡◌, ◌≤◌, ◌<◌, ◌+◌, ◌-◌, ◌^◌, ◌++◌, ◌∷◌, [], Some, None, IfOk, IfSome, IsSome, MatchOption, OnOk, OnErr, MatchResult, length};
-ghost use Rattle.access_history.specs.History.{authority_of, state_of};
+ghost use Rattle.std.specs.Prelude.{◌≡◌, ◌<◌, ◌-◌, ◌^◌, ◌++◌, ◌∷◌, [], Some, None, IfOk, IfSome, IsSome, MatchOption, OnOk, OnErr, MatchResult, length};
 ghost use Rattle.op_gate.specs.Decision.{IsPlanned};
 ghost use Rattle.access_history.specs.WellFormed.{IsWellFormed};
 
@@ -52,7 +51,7 @@ impl Model for Gate {
     ghost invariant = { λ g. MatchOption g.pending ⊤ (CanKeep g.history) };
 }
 
-// Puts the event in the place of what was pending.
+// Replaces what was pending by the event.
 fn put(place: &mut Option<Pending>, pending: Pending)
     ensures { place.new ≡ Some pending }
 {
@@ -238,7 +237,7 @@ impl Gate {
         }
     }
 
-    /// Drops the pending event, where there is one.
+    /// Drops the pending event, if there is one.
     pub fn forget(&mut self)
         ensures { self.new ≡ record self.old { pending = None } }
     {

@@ -2,9 +2,9 @@
 //! store in memory, or with `--stored` over the one in the files `pcfs.a` and `pcfs.b` of the current folder, which
 //! `pcfs init` makes.
 //!
-//! It ends with the status that `pcfs_top::run::run` answers, or with 19, where the secrets file is bad or cannot be
+//! It ends with the status that `pcfs_top::run::run` answers, or with 19, if the secrets file is bad or cannot be
 //! read. Where there is no memory for its words or its secrets, that is 9. Words that are not UTF-8 count as none. The
-//! secrets stand in the file `pcfs.secrets` of the current folder; where there is no such file, the key of the seal is
+//! secrets stand in the file `pcfs.secrets` of the current folder; if there is no such file, the key of the seal is
 //! empty and nobody has a key to sign with.
 #![tactic(auto)]
 
@@ -51,7 +51,7 @@ fn words_of<R: env::Env + AllocGlobal>(rt: &R) -> io::Result<Vec<String>> {
     Ok(words)
 }
 
-// The bytes of the secrets file; none where there is no such file.
+// The bytes of the secrets file; none if there is no such file.
 fn secrets_text<R: Files + AllocGlobal>(rt: &R) -> Result<Option<Bytes>, Lacking> {
     let file = match fs::open(rt, SECRETS_FILE) {
         Ok(file) => file,
@@ -66,7 +66,7 @@ fn secrets_text<R: Files + AllocGlobal>(rt: &R) -> Result<Option<Bytes>, Lacking
     }
 }
 
-// The secrets of the file, or an empty key and ring where there is no such file.
+// The secrets of the file, or an empty key and ring if there is no such file.
 fn secrets_of<R: Files + AllocGlobal>(rt: &R) -> Result<Secrets, Lacking> {
     match secrets_text(rt)? {
         Some(text) => match Secrets::parse(rt.alloc(), text.as_slice()) {

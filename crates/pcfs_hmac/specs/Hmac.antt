@@ -24,7 +24,7 @@ xor_bytes _ _ = []
 unfoldable pub zero_filled : List ℕ → List ℕ
 zero_filled key = key ++ replicate (block_length - length key) 0
 
--- K: the key, hashed first where it is longer than B bytes, and filled up to B bytes
+-- K: the key, hashed first if it is longer than B bytes, and filled up to B bytes
 unfoldable pub block_key : List ℕ → List ℕ
 block_key key = zero_filled (if nat_lt block_length (length key) then sha256 key else key)
 

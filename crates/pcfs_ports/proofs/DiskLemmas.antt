@@ -1,7 +1,7 @@
 -- What one more call does to the clock of a disk in memory, and to what a crash may leave.
-use Rattle.std.proofs.Common.{◌≡◌, ◌⊎◌, ℕ, ◌+◌, ◌-◌, ◌≤◌, min, List, [], ◌∷◌, ◌++◌, Some, length, take, drop, replicate, refl, sym, ◌∙◌, ap, subst, inl, inr, ⊎_elim, arith, append_assoc, length-append, length-take, length-drop}
+use Rattle.std.proofs.Common.{◌≡◌, ◌⊎◌, ℕ, ◌+◌, ◌-◌, ◌≤◌, List, [], ◌∷◌, ◌++◌, Some, length, take, drop, replicate, refl, sym, ◌∙◌, ap, subst, inl, inr, ⊎_elim, arith, append_assoc, length-append}
 use Rattle.std.proofs.lemmas.Bool.{cases_lt}
-use Rattle.std.proofs.lemmas.List.{append-nil, take_all, take_min, take_at, drop_at, drop_all, take-append-le, take-replicate, length-replicate}
+use Rattle.std.proofs.lemmas.List.{append-nil, take_all, take_min, drop_all, take-append-le, take-replicate, length-replicate}
 use Rattle.std.proofs.Math.Seq.{take-append-add}
 use Rattle.pcfs_ports.specs.Disk.{written, Torn, TornFrom, LeftNow, Elapses, Idles, IsPinned}
 use Rattle.pcfs_ports.specs.MemoryDisk.{MemoryDiskView, image_by, image_after, left_by, left_after, disk_image, disk_clock, disk_left_since}

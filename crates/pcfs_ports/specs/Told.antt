@@ -1,5 +1,5 @@
 -- What a port tells of its bytes: `Some` of those that a source still has to give, or that a sink
--- holds, and `None` where it does not tell them. This project's own.
+-- holds, and `None` if it does not tell them. This project's own.
 use Rattle.std.specs.Prelude.{◌≡◌, ℕ, ◌≤◌, List, [], ◌++◌, length, take, drop, Option, IfSome}
 use Rattle.std.specs.Option.{option_map}
 
@@ -11,7 +11,7 @@ with_front bytes told = option_map (λ rest. bytes ++ rest) told
 abbrev pub with_back : Option (List ℕ) → List ℕ → Option (List ℕ)
 with_back told bytes = option_map (λ first. first ++ bytes) told
 
--- where it is told, nothing is left
+-- if it is told, nothing is left
 abbrev pub IsAtEnd : Option (List ℕ) → Type 0
 IsAtEnd told = IfSome told (λ left. left ≡ [])
 

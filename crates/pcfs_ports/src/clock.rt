@@ -1,6 +1,6 @@
 //! Clocks: which moment it is.
 
-ghost use Rattle.std.specs.Prelude.{ℤ, negsuc, pos, ◌≤ℤ◌};
+ghost use Rattle.std.specs.Prelude.{ℤ};
 ghost use Rattle.bl_syntax.specs.TimeOrder.{IsMoment};
 
 use std::rt;
@@ -89,7 +89,6 @@ impl<'a, R: rt::Clock> Clock for SystemClock<'a, R> {
 #[cfg(test)]
 mod tests {
     use super::*;
-    use std::fs;
 
     #[test]
     fn set_clock_gives_what_it_was_set_to(rt: HostRuntime) {

@@ -1,6 +1,6 @@
 //! Disks: bytes that outlive the program, and what a crash may leave of them.
 
-ghost use Rattle.std.specs.Prelude.{◌≡◌, ◌≢◌, ℕ, ◌≤◌, List, Option, Some, IfOk, IfSome, OnOk, OnErr, length, is_some};
+ghost use Rattle.std.specs.Prelude.{◌≡◌, ℕ, ◌≤◌, List, Option, Some, IfOk, IfSome, OnOk, OnErr, length, is_some};
 ghost use Rattle.std.specs.Option.{option_map};
 ghost use Rattle.pcfs_ports.specs.Faults.{HasRisen};
 ghost use Rattle.pcfs_ports.specs.Disk.{written, TornFrom, LeftNow, Elapses, Idles, IsPinned, ReadsAt};

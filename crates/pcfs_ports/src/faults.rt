@@ -4,7 +4,6 @@ ghost use Rattle.std.specs.Prelude.{◌≡◌, ◌≤◌, ◌↔◌, IsTrue};
 ghost use Rattle.pcfs_ports.specs.Calls.{no_calls, FailsNext, after_call, after_failed_call};
 
 use bl_syntax::Numbers;
-use std::alloc::Global;
 use std::marker::Model;
 
 /// The one fault of a port.

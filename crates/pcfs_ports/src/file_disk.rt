@@ -1,7 +1,6 @@
 //! A disk over a file of the system.
 
-ghost use Rattle.std.specs.Prelude.{◌≡◌, ℕ, ◌≤◌, List, Option, None, IfOk, length, is_ok, if◌then◌else◌};
-ghost use Rattle.pcfs_ports.specs.Faults.{raise};
+ghost use Rattle.std.specs.Prelude.{◌≡◌, ℕ, ◌≤◌, Option, None, IfOk, length, if◌then◌else◌};
 ghost use Rattle.pcfs_ports.specs.DiskLaws.{untold};
 
 use super::disk::Disk;

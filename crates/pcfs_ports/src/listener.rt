@@ -1,6 +1,6 @@
 //! Listeners: where connections come from.
 
-ghost use Rattle.std.specs.Prelude.{◌≡◌, ◌≢◌, ℕ, ◌≤◌, ◌↔◌, List, [], ◌∷◌, ◌++◌, Option, Some, IfSome, IsErr, OnOk, OnErr, length};
+ghost use Rattle.std.specs.Prelude.{◌≡◌, ◌≢◌, ℕ, ◌≤◌, ◌↔◌, [], ◌∷◌, ◌++◌, Option, Some, IfSome, IsErr, OnOk, OnErr, length};
 ghost use Rattle.pcfs_ports.specs.Faults.{HasRisen};
 ghost use Rattle.pcfs_ports.specs.Calls.{no_calls, FailsNext, after_call, after_failed_call};
 ghost use Rattle.pcfs_ports.specs.Accepted.{connections_of, count_of, FallsBy};
@@ -17,7 +17,7 @@ use std::marker::Model;
 /// Where connections come from, one after another.
 ///
 /// Its meaning is how many connections are still to come, which it tells or does not tell; whether it is over; and a count
-/// of faults that never falls, and counts as risen where it stands at `u64::MAX`. Whether it tells how many come is the
+/// of faults that never falls, and counts as risen if it stands at `u64::MAX`. Whether it tells how many come is the
 /// same after each call as before.
 pub trait Listener {
     /// Where a connection's bytes come from.
@@ -26,7 +26,7 @@ pub trait Listener {
     /// Where a connection's bytes go.
     type Out: Sink + Send + Drop;
 
-    // How many connections are still to come, where it tells that.
+    // How many connections are still to come, if it tells that.
     ghost waiting: { Self → Option ℕ };
 
     // No connection comes any more.
@@ -52,7 +52,7 @@ pub trait Listener {
         ensures never_falls { faults self.old ≤ faults self.new };
 }
 
-/// A listener that gives connections from memory, in the order in which they were added, and is over where none is left.
+/// A listener that gives connections from memory, in the order in which they were added, and is over if none is left.
 /// It fails exactly at the calls, of `listen` and `accept` together, that are to fail, which give no connection.
 #[derive(Debug, Drop)]
 pub struct MemoryListener {
@@ -118,7 +118,7 @@ impl Listener for MemoryListener {
         ensures planned { (result ≡ Accepted.Failed) ↔ FailsNext self.old.calls }
         ensures failed { result ≡ Accepted.Failed → self.new ≡ record self.old { calls = after_failed_call self.old.calls } }
 
-        // Else it gives the first connection, and is closed where there is none.
+        // Else it gives the first connection, and is closed if there is none.
         ensures closed { result ≡ Accepted.Closed → self.old.queue ≡ [] }
         ensures taken { self.old.queue ≡ connections_of result ++ self.new.queue }
         ensures calls { result ≢ Accepted.Failed → self.new.calls ≡ after_call self.old.calls }

@@ -1,8 +1,7 @@
 //! A disk in memory, with a record of its calls.
 
-ghost use Rattle.std.specs.Prelude.{◌≡◌, ℕ, ◌+◌, ◌-◌, ◌≤◌, ◌⊎◌, ◌↔◌, List, [], ◌∷◌, ◌++◌, Some, IfOk, IfSome, IsErr, OnOk, OnErr, length, take, drop, replicate, min, is_some};
+ghost use Rattle.std.specs.Prelude.{◌≡◌, ℕ, ◌+◌, ◌-◌, ◌≤◌, ◌⊎◌, ◌↔◌, List, [], ◌∷◌, ◌++◌, IfOk, IfSome, IsErr, OnOk, OnErr, length, take, drop, replicate, min, is_some};
 ghost use Rattle.std.specs.Option.{option_map};
-ghost use Rattle.pcfs_ports.specs.Faults.{HasRisen};
 ghost use Rattle.pcfs_ports.specs.Calls.{no_calls, FailsNext};
 ghost use Rattle.pcfs_ports.specs.Disk.{written, TornFrom, LeftNow, Elapses, Idles, IsPinned, ReadsAt};
 ghost use Rattle.pcfs_ports.specs.MemoryDisk.{image_after, new_disk, disk_image, disk_clock, disk_left_since, after_disk_read, after_disk_call, after_failed_disk_call, after_refused_disk_call};

@@ -18,7 +18,7 @@ pub const NONCE_LEN: usize = 16;
 
 /// Where nonces come from.
 ///
-/// Its meaning is a count of faults that never falls, and counts as risen where it stands at `u64::MAX`. Nothing is told
+/// Its meaning is a count of faults that never falls, and counts as risen if it stands at `u64::MAX`. Nothing is told
 /// of the bytes. Asking takes no memory.
 pub trait Nonces {
     // How many faults it has had.
@@ -30,7 +30,7 @@ pub trait Nonces {
         ensures never_falls { faults self.old ≤ faults self.new };
 }
 
-/// Nonces from a list of bytes, sixteen at a time. It fails at the calls that are to fail, which take no byte, and where
+/// Nonces from a list of bytes, sixteen at a time. It fails at the calls that are to fail, which take no byte, and if
 /// fewer than sixteen bytes are left.
 #[derive(Debug, Drop)]
 pub struct ListNonces {
@@ -121,7 +121,7 @@ impl<'a, R: Files> UrandomNonces<'a, R> {
     }
 }
 
-// The next bytes of the file, which is opened first where it is not open. After an error it is closed.
+// The next bytes of the file, which is opened first if it is not open. After an error it is closed.
 fn read_nonce<R: Files>(rt: &R, file: &mut Option<R::File>) -> io::Result<[u8; 16]> {
     let mut reader = match file.take() {
         Some(reader) => reader,

@@ -1,6 +1,6 @@
 //! Sinks: where bytes go.
 
-ghost use Rattle.std.specs.Prelude.{◌≡◌, ℕ, ◌+◌, ◌<◌, ◌≤◌, ◌⊎◌, List, [], ◌++◌, Option, None, Some, IfOk, IsErr, OnOk, OnErr, length, take, is_ok, if◌then◌else◌};
+ghost use Rattle.std.specs.Prelude.{◌≡◌, ℕ, ◌<◌, ◌≤◌, ◌⊎◌, List, [], Option, None, Some, IfOk, IsErr, OnOk, OnErr, length, take, is_ok, if◌then◌else◌};
 ghost use Rattle.std.specs.Io.KnownBytes.{WriteAppends};
 ghost use Rattle.pcfs_ports.specs.Faults.{HasRisen, raise};
 ghost use Rattle.pcfs_ports.specs.Told.{with_back};
@@ -16,10 +16,10 @@ use std::marker::Model;
 /// Where bytes go, in order.
 ///
 /// Its meaning is the bytes that it holds, which it tells or does not tell, and a count of faults that
-/// never falls, and counts as risen where it stands at `u64::MAX`. Whether it tells its bytes is the
+/// never falls, and counts as risen if it stands at `u64::MAX`. Whether it tells its bytes is the
 /// same after each call as before.
 pub trait Sink {
-    // The bytes that it holds, where it tells them.
+    // The bytes that it holds, if it tells them.
     ghost held: { Self → Option (List ℕ) };
 
     // How many faults it has had.
@@ -39,7 +39,7 @@ pub trait Sink {
         ensures never_falls { faults self.old ≤ faults self.new };
 }
 
-/// A sink that holds its bytes in memory. It fails at the calls that are to fail, and where a growth
+/// A sink that holds its bytes in memory. It fails at the calls that are to fail, and if a growth
 /// is refused.
 #[derive(Debug, Drop)]
 pub struct MemorySink {
@@ -90,7 +90,7 @@ impl Sink for MemorySink {
     ghost faults = { λ s. s.calls.faults };
 
     fn write(&mut self, piece: &[u8]) -> Result<usize, Failed>
-        // It fails where it is to, and else only if a growth is refused.
+        // It fails if it is to, and else only if a growth is refused.
         ensures planned { FailsNext self.old.calls → IsErr result × (self.new ≡ after_failed_write self.old) }
         ensures refused { OnErr result (
             FailsNext self.old.calls ⊎ (self.new ≡ after_refused_write self.old)) }

@@ -16,10 +16,10 @@ use std::marker::Model;
 /// Where bytes come from, in order.
 ///
 /// Its meaning is the bytes that are still to come, which it tells or does not tell, and a count of
-/// faults that never falls, and counts as risen where it stands at `u64::MAX`. Whether it tells its
+/// faults that never falls, and counts as risen if it stands at `u64::MAX`. Whether it tells its
 /// bytes is the same after each call as before.
 pub trait Source {
-    // The bytes that are still to come, where it tells them.
+    // The bytes that are still to come, if it tells them.
     ghost left: { Self → Option (List ℕ) };
 
     // How many faults it has had.

@@ -103,7 +103,7 @@ fn take_piece<I: Source>(
 
 /// Reads a source to its end.
 ///
-/// `TooLong` comes where `INPUT_LIMIT` bytes were taken and the end was not met before; it is not
+/// `TooLong` comes if `INPUT_LIMIT` bytes were taken and the end was not met before; it is not
 /// asked whether more follow. `Failed` comes only if the source's count of faults rose. `NoMemory`
 /// may come at any time. After a fault the bytes that were taken are lost.
 pub fn read_to_end<I: Source>(alloc: Global, input: &mut I) -> Result<Bytes, TakeFault>

@@ -12,7 +12,7 @@ abbrev pub IsSecrets : List (List ℕ) → Secrets → Type 0
 IsSecrets [] secrets = ⊥
 IsSecrets (line ∷ lines) secrets = IsSealLine line secrets.seal_key × GiveKeys [] lines secrets.ring
 
--- the line of this number, from 1, is the first bad one; where there is no line it is the first
+-- the line of this number, from 1, is the first bad one; if there is no line it is the first
 pub data IsFirstBad : List (List ℕ) → ℕ → Type 0 where
   no_line : IsFirstBad [] 1
   no_seal : (line : List ℕ) (lines : List (List ℕ)) → ((key : List ℕ) → IsSealLine line key → ⊥) → IsFirstBad (line ∷ lines) 1

@@ -1,5 +1,5 @@
 -- How serving ends. This project's own.
-use Rattle.std.specs.Prelude.{◌≡◌, ℕ, ◌+◌, ◌<◌, ◌≤◌, ◌⊎◌, Option, IfSome}
+use Rattle.std.specs.Prelude.{◌≡◌, ℕ, ◌+◌, ◌<◌, ◌⊎◌, Option, IfSome}
 use Rattle.pcfs_ports.specs.Accepted.{FallsBy}
 use Rattle.pcfs_server.specs.declared.end.ServeEnd.{ServeEnd}
 use Rattle.pcfs_server.specs.declared.end.ServeEnd.TheVariants.{Done, NetFault, NoMemory}
@@ -10,7 +10,7 @@ number_of (Done n) = n
 number_of (NetFault n) = n
 number_of (NoMemory n) = n
 
--- What a listener had to give, where it tells that, fell by the connections that were attended, and at an end other than
+-- What a listener had to give, if it tells that, fell by the connections that were attended, and at an end other than
 -- `Done` perhaps by one more, which was not admitted.
 abbrev pub HasTaken : ServeEnd → Option ℕ → Option ℕ → Type 0
 HasTaken (Done n) old new = FallsBy n old new

@@ -5,7 +5,7 @@ use std::sync::{Condvar, Mutex, Wait};
 
 /// The keys of the threads that have ended and were not joined yet.
 ///
-/// A thread tells its key as the last that it does. Who waits for one sleeps until then.
+/// A thread reports its key as the last thing that it does. Who waits for one sleeps until then.
 #[derive(Drop)]
 pub(crate) struct EndedThreads {
     keys: Mutex<Vec<usize>>,
@@ -46,7 +46,7 @@ impl EndedThreads {
         keys.pop()
     }
 
-    /// Forgets a key that was told.
+    /// Forgets a key that was reported.
     pub(crate) fn forget<R: Wait>(&self, rt: &R, key: usize) {
         let mut keys = self.keys.lock(rt);
         keys.retain(|other| *other != key);

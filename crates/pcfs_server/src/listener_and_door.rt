@@ -1,6 +1,6 @@
 //! A listener and a door as one, so that one reference to both comes back out of a scope of threads.
 
-ghost use Rattle.std.specs.Prelude.{◌≡◌, ℕ, ◌+◌, ◌<◌, ◌≤◌, true, false, IfSome, IfOk, IsErrOf, is_ok, if◌then◌else◌};
+ghost use Rattle.std.specs.Prelude.{◌≡◌, ◌+◌, ◌<◌, ◌≤◌, true, false, IfSome, IfOk, IsErrOf, is_ok, if◌then◌else◌};
 ghost use Rattle.std.specs.Borrow.{GName};
 ghost use Rattle.pcfs_ports.specs.Faults.{HasRisen};
 ghost use Rattle.pcfs_ports.specs.Accepted.{count_of, FallsBy};

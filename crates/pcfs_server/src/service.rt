@@ -48,7 +48,7 @@ pub trait Service<I: Source, O: Sink> {
     // How many more tokens can be admitted.
     ghost room: { Self.Door → ℕ };
 
-    // How many faults the door has had. It counts as risen where it stands at `u64::MAX`.
+    // How many faults the door has had. It counts as risen if it stands at `u64::MAX`.
     ghost faults: { Self.Door → ℕ };
 
     // What no call changes of the door.

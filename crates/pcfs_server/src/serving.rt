@@ -1,6 +1,6 @@
 //! The serving loop.
 
-ghost use Rattle.std.specs.Prelude.{◌≡◌, ℕ, ◌+◌, ◌<◌, ◌≤◌, ◌⊎◌};
+ghost use Rattle.std.specs.Prelude.{◌≡◌, ◌+◌, ◌<◌, ◌≤◌, ◌⊎◌};
 ghost use Rattle.slab.specs.Slab.{slab_len};
 ghost use Rattle.pcfs_ports.specs.Faults.{HasRisen};
 ghost use Rattle.pcfs_server.specs.Table.{AllHave};

@@ -162,7 +162,7 @@ fn listener(
 }
 
 // How serving ended, how many tokens are out and were served then, and how many connections were at hand at most.
-fn served<R: Threads + Wait + Sync>(
+fn serve<R: Threads + Wait + Sync>(
     rt: &R,
     alloc: Global,
     net: &mut MemoryListener,
@@ -186,7 +186,7 @@ fn served<R: Threads + Wait + Sync>(
 #[test]
 fn two_at_a_time_are_never_three(rt: HostRuntime) -> Result<(), Fail> {
     let mut net = listener(rt.alloc(), 5, None)?;
-    let (end, out, served, highest) = served(&rt, rt.alloc(), &mut net, None, 5, 2);
+    let (end, out, served, highest) = serve(&rt, rt.alloc(), &mut net, None, 5, 2);
     assert_eq!(rt; end, ServeEnd::Done(5));
     assert_eq!(rt; (out, served), (0, 5));
     assert!(rt; highest == 1 || highest == 2, "{highest} were at hand");
@@ -196,7 +196,7 @@ fn two_at_a_time_are_never_three(rt: HostRuntime) -> Result<(), Fail> {
 #[test]
 fn eight_without_a_thread_are_attended_all_the_same(rt: HostRuntime) -> Result<(), Fail> {
     let mut net = listener(rt.alloc(), 8, None)?;
-    let end = served(&rt, rt.alloc(), &mut net, None, 8, 1);
+    let end = serve(&rt, rt.alloc(), &mut net, None, 8, 1);
     assert_eq!(rt; end, (ServeEnd::Done(8), 0, 8, 1));
     Ok(())
 }
@@ -212,7 +212,7 @@ fn each_end_has_its_cause(rt: HostRuntime) -> Result<(), Fail> {
     ];
     for (failing_call, failing_admission, count, want) in cases {
         let mut net = listener(rt.alloc(), 3, failing_call)?;
-        let (end, out, _, _) = served(&rt, rt.alloc(), &mut net, failing_admission, count, 64);
+        let (end, out, _, _) = serve(&rt, rt.alloc(), &mut net, failing_admission, count, 64);
         assert_eq!(rt; end, want);
         assert_eq!(rt; out, 0);
     }

@@ -1,6 +1,6 @@
 //! One thread a connection, in a table by its key.
 
-ghost use Rattle.std.specs.Prelude.{◌≡◌, ℕ, ◌+◌, ◌<◌, ◌≤◌, true, false};
+ghost use Rattle.std.specs.Prelude.{◌≡◌, ◌+◌, ◌<◌, ◌≤◌, true, false};
 ghost use Rattle.slab.specs.Slab.{slab_len};
 ghost use Rattle.pcfs_server.specs.Table.{AllHave};
 
@@ -122,7 +122,7 @@ pub(crate) fn make_room<R: Threads + Wait, L: Listener, H: Service<L::In, L::Out
     unreachable!()
 }
 
-/// Attends an admitted connection in a thread of its own, or here where no thread can be started.
+/// Attends an admitted connection in a thread of its own, or here if no thread can be started.
 pub(crate) fn begin<
     's,
     'e,

@@ -1,30 +1,18 @@
 -- What a line asks for is allowed.
-use Rattle.std.proofs.Common.{ℕ, List, [], ◌∷◌}
-use Rattle.std.specs.List.Sorted.{IsStrictlyIncreasing}
-use Rattle.bl_syntax.specs.Citable.{DoRise, AreCitable}
-use Rattle.line_words.proofs.CitedLemmas.{rising-fewer}
+use Rattle.std.proofs.Common.{ℕ, List}
 use Rattle.line_forms.specs.declared.command.Command.{Command}
 use Rattle.line_forms.specs.declared.command.Command.TheVariants.{At, As, Register, Procap, Verify, Check, Do}
-use Rattle.line_forms.specs.Cited.{CanBeCited}
 use Rattle.line_forms.specs.Lines.{IsLine}
 use Rattle.line_forms.proofs.LimitLemmas.{operation_of_line, caller_of_line, statement_of_line, few_bytes, second_of_line, cited_of_verify, cited_of_check}
 use Rattle.line_forms.proofs.ProcapCount.{procap_for_each_need}
 use Rattle.pcfs_session.specs.Interpreter.{IsAllowed}
-
-rise : (numbers : List ℕ) → IsStrictlyIncreasing numbers → DoRise numbers
-rise [] h = tt
-rise (first ∷ []) h = tt
-rise (first ∷ second ∷ others) h = let fewer = rising-fewer first second others h in (fewer.0, rise (second ∷ others) fewer.1)
-
-citable : (numbers : List ℕ) → CanBeCited numbers → AreCitable numbers
-citable numbers h = record { some = h.some; few = h.few; rising = rise numbers h.rising }
 
 -- what a line asks for is allowed
 pub IsAllowed-line : (line : List ℕ) (command : Command) → IsLine line command → IsAllowed command
 IsAllowed-line line (At second) is = second_of_line line second is
 IsAllowed-line line (As who) is = caller_of_line line who is
 IsAllowed-line line (Register signature statement) is = statement_of_line line signature statement is
-IsAllowed-line line (Verify goal numbers proof) is = citable numbers (cited_of_verify line goal numbers proof is)
-IsAllowed-line line (Check goal numbers proof) is = citable numbers (cited_of_check line goal numbers proof is)
+IsAllowed-line line (Verify goal numbers proof) is = cited_of_verify line goal numbers proof is
+IsAllowed-line line (Check goal numbers proof) is = cited_of_check line goal numbers proof is
 IsAllowed-line line (Procap number) is = tt
 IsAllowed-line line (Do op words) is = (operation_of_line line op words is, procap_for_each_need line op words is, few_bytes line op words is)

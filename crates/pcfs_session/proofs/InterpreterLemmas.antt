@@ -16,7 +16,6 @@ use Rattle.proof_verifier.specs.Verdict.{verdict}
 use Rattle.file_world.specs.declared.operation.Op.{Op}
 use Rattle.access_history.specs.declared.request.StepRequest.{StepRequest}
 use Rattle.access_history.specs.declared.request.StepRequest.TheVariants as requests
-use Rattle.access_history.specs.declared.reply.StepReply.{StepReply}
 use Rattle.access_history.specs.declared.reply.StepReply.TheVariants.{Absent}
 use Rattle.access_history.specs.Authority.{sayings}
 use Rattle.access_history.specs.Citing.{AreFound}
@@ -39,7 +38,7 @@ use Rattle.pcfs_session.specs.Brought.{AreProcapsAdded}
 use Rattle.pcfs_session.specs.Procaps.{AreBrought, IsFirstUnissued}
 use Rattle.pcfs_session.specs.Proved.{IsUnproved, cites_none, proves_none, IsProved}
 use Rattle.pcfs_session.specs.InterpreterView.{InterpreterView, standing_of}
-use Rattle.pcfs_session.specs.LineAnswer.{signature_under, replied, requested, ComesTo, AnswersCommand, at_once, decided, faulty, asks}
+use Rattle.pcfs_session.specs.LineAnswer.{signature_under, replied, requested, ComesTo, at_once, decided, faulty, asks}
 use Rattle.pcfs_session.specs.LineAnswer as line_answer
 use Rattle.pcfs_session.specs.ScriptRun.{Standing, state_of_standing, Becomes, kept, IsReplied, answered, without_memory}
 use Rattle.pcfs_session.specs.Interpreter.{IsDecidedAs, IsFollowed, unread_reply}

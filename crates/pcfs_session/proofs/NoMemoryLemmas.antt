@@ -1,5 +1,5 @@
 -- No answer to a line says that memory ran out.
-use Rattle.std.proofs.Common.{◌≡◌, ℕ, Bool, true, false, cond, List, [], ◌∷◌, get_or, Option, Some, None, Result, Ok, Err, refl, ap, subst, arith}
+use Rattle.std.proofs.Common.{◌≡◌, ℕ, List, get_or, Option, Err, refl, ap, subst, arith}
 use Rattle.std.specs.Prelude.{codes, ◌≢◌}
 use Rattle.bl_syntax.specs.Statement.{StatementView}
 use Rattle.bl_syntax.specs.declared.grant.Goal.{Goal}

@@ -34,7 +34,7 @@ use Rattle.line_wire.specs.declared.reply.LineReply.TheVariants as replies
 use Rattle.pcfs_session.specs.Asker.{Asker, asker_after}
 use Rattle.pcfs_session.specs.Procaps.{BringsProcap, held, issued, NamesIssue, AreBrought, IsFirstUnissued}
 use Rattle.pcfs_session.specs.Proved.{IsUnproved, cites_none, proves_none, IsProved}
-use Rattle.pcfs_session.specs.LineAnswer.{authority_under, signature_under, Look, replied, requested, ComesTo, AnswersCommand, at_once, decided, AnswersLine, faulty, asks}
+use Rattle.pcfs_session.specs.LineAnswer.{authority_under, Look, replied, requested, ComesTo, AnswersCommand, at_once, decided, AnswersLine, faulty, asks}
 use Rattle.pcfs_session.specs.LineAnswer as line_answer
 use Rattle.pcfs_session.specs.ScriptRun.{Standing, state_of_standing}
 use Rattle.pcfs_session.proofs.BroughtLemmas.{NamesIssue-brought}

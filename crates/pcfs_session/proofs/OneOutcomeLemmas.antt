@@ -1,13 +1,13 @@
 -- The lines of a script have one outcome at most, unless memory runs out or a disk fails.
-use Rattle.std.proofs.Common.{◌≡◌, ℕ, List, ◌∷◌, ◌++◌, Option, Some, None, refl, sym, ap, subst, ◌∙◌}
+use Rattle.std.proofs.Common.{◌≡◌, ℕ, List, ◌∷◌, Option, refl, sym, ap, subst, ◌∙◌}
 use Rattle.std.specs.Prelude.{◌≢◌}
 use Rattle.access_history.specs.declared.event.Event.{Event}
 use Rattle.access_history.specs.Lawful.{IsLawful}
 use Rattle.line_wire.specs.declared.reply.LineReply.{LineReply}
 use Rattle.line_wire.specs.declared.reply.LineReply.TheVariants as replies
 use Rattle.pcfs_session.specs.Asker.{Asker}
-use Rattle.pcfs_session.specs.LineAnswer.{authority_under, AnswersLine}
-use Rattle.pcfs_session.specs.ScriptRun.{Standing, state_of_standing, IsLawfulStanding, HasRoom, Becomes, kept, full, stopped, IsReplied, answered, without_memory, IsUndisturbed, AreUndisturbed, ScriptRun, ended}
+use Rattle.pcfs_session.specs.LineAnswer.{authority_under}
+use Rattle.pcfs_session.specs.ScriptRun.{Standing, IsLawfulStanding, HasRoom, Becomes, kept, full, stopped, IsReplied, answered, without_memory, IsUndisturbed, AreUndisturbed, ScriptRun, ended}
 use Rattle.pcfs_session.specs.ScriptRun as script
 use Rattle.pcfs_session.proofs.LawfulRunLemmas.{IsLawfulStanding-replied}
 use Rattle.pcfs_session.proofs.OneAnswerLemmas.{line_once}

@@ -45,7 +45,7 @@ abbrev pub standing_after : Standing → Option Event → Asker → Standing
 standing_after s None asker = record s { asker = asker }
 standing_after s (Some event) asker = record s { events = s.events ++ event ∷ []; used = used_with s.used event; asker = asker }
 
--- what becomes of an answer: it is told, and its event kept; or its event has no room, and nothing changes; or a disk fails for it
+-- what becomes of an answer: it is reported, and its event kept; or its event has no room, and nothing changes; or a disk fails for it
 pub data Becomes (before : Standing) (told : LineReply) (asker : Asker) : Option Event → LineReply → Standing → Type 0 where
   kept : (event : Option Event) → HasRoom before event → Becomes before told asker event told (standing_after before event asker)
   full : (event : Event) → IsFull before.used (state_of_standing before).count event → Becomes before told asker (Some event) replies.Full before

@@ -17,7 +17,7 @@ use Rattle.journal_records.specs.EventSpelling.{erase, event_spelling, IsSpellab
 use Rattle.journal_records.proofs.EventLemmas.{same_spelling}
 use Rattle.pcfs_store.specs.Image.{fresh_image, IsImageOf}
 use Rattle.pcfs_store.specs.StoredHistory.{payloads_of, AreSpellable, StandsFor, Resumes}
-use Rattle.pcfs_store.specs.Newest.{newer, one_of, newest, SurvivesClosed, SurvivesWhole, SurvivesWholeClosed}
+use Rattle.pcfs_store.specs.Newest.{newer, one_of, newest, SurvivesWhole, SurvivesWholeClosed}
 use Rattle.pcfs_store.specs.StoreView.{StoreView, first_disk, second_disk, body_of, IsStore}
 use Rattle.pcfs_store.specs.Ready.{IsBehind, IsReady, IsCurrent, StopsNow}
 
@@ -49,7 +49,7 @@ newer_second : (generation : ℕ) (other : Option ℕ) → IsBehind true generat
 newer_second generation None behind = refl
 newer_second generation (Some found) behind = ap Some (lt-ltb found generation (omega (arith, behind)))
 
--- the area that is not behind counts
+-- the area that is not older counts
 pub newest_active : (second : Bool) (active other : List ℕ) (generation : ℕ) → generation_of active ≡ Some generation → IsBehind second generation (generation_of other) →
     newest (one_of active other second) (one_of other active second) ≡ Some active
 newest_active false active other generation is behind =
@@ -131,7 +131,7 @@ pub tellable_push : (generation : ℕ) (base : BaseView) (events : List Event) (
     length (area_bytes generation fresh_image (payloads_of (events ++ event ∷ []))) < area_limit → IsTellable generation base (events ++ event ∷ [])
 tellable_push generation base events event told spelled fits = record { generated = told.generated; is_image = told.is_image; spelled = AllByRecursion-push IsSpellableEvent events event told.spelled spelled; fits = fits }
 
--- bytes of the area that counts, beside others that are behind
+-- bytes of the area that counts, beside others that are older
 pub survives_beside : (second : Bool) (active other : List ℕ) (generation : ℕ) (base : BaseView) (events : List Event) → IsTellable generation base events →
     StandsForBody (area_bytes generation fresh_image (payloads_of events)) active → IsBehind second generation (generation_of other) →
     SurvivesWhole base events (one_of active other second) (one_of other active second)

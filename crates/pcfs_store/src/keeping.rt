@@ -1,6 +1,6 @@
 //! How the event that a gate decided is kept: on the disk first, and then in the history.
 
-ghost use Rattle.std.specs.Prelude.{◌≡◌, ◌≢◌, ◌+◌, ◌<◌, ◌≤◌, Some, IfOk, IfErr, IfSome, IsSome, length};
+ghost use Rattle.std.specs.Prelude.{◌≡◌, ◌≢◌, ◌+◌, ◌≤◌, Some, IfOk, IfErr, IfSome, IsSome, length};
 ghost use Rattle.journal_core.specs.Area.{area_limit};
 ghost use Rattle.journal_records.specs.EventSpelling.{event_spelling, IsSpellableEvent, HasFittingFields};
 ghost use Rattle.pcfs_store.specs.Keeping.{AppendsEvent, KeepsPending};

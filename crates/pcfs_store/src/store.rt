@@ -1,6 +1,6 @@
 //! The store.
 
-ghost use Rattle.std.specs.Prelude.{◌≡◌, ◌≢◌, ◌↔◌, ◌≤◌, ◌+◌, ◌-◌, ◌^◌, ◌++◌, ◌∷◌, [], Some, None, ℕ, List, IsSome, IsTrue, length, is_some};
+ghost use Rattle.std.specs.Prelude.{◌≡◌, ◌≢◌, ◌↔◌, ◌≤◌, ◌-◌, Some, None, IsSome, IsTrue, length, is_some};
 ghost use Rattle.journal_core.specs.Area.{area_bytes, IsGeneration};
 ghost use Rattle.access_history.specs.Replay.{fresh};
 ghost use Rattle.pcfs_store.specs.Image.{fresh_image};

@@ -1,5 +1,5 @@
 -- The ends of a run.
-use Rattle.std.proofs.Common.{◌≡◌, ◌⊎◌, inl, inr, ℕ, ◌≤◌, ◌<◌, ◌+◌, le-ltb, lt-ltb, Bool, true, false, List, [], ◌∷◌, ◌++◌, length, take, drop, ap, sym, subst, ◌∙◌, arith, Option, Some, None, refl}
+use Rattle.std.proofs.Common.{◌≡◌, ◌⊎◌, inl, inr, ℕ, ◌≤◌, ◌<◌, le-ltb, lt-ltb, Bool, true, false, List, [], length, take, drop, ap, sym, subst, ◌∙◌, arith, Option, Some, None, refl}
 use Rattle.std.specs.Prelude.{String, codes, IfSome, nat_lt, ◌==◌, if◌then◌else◌}
 use Rattle.std.specs.Int.{w64, from_be_bytes}
 use Rattle.std.specs.Option.{option_map}
@@ -28,13 +28,12 @@ use Rattle.recover.specs.declared.fault.OpenFault.TheVariants as opens
 use Rattle.recover.specs.Opening.{IsNotOpened, IsNewestClosed}
 use Rattle.recover.specs.Opening as opening
 use Rattle.pcfs_session.specs.Asker.{Asker, first_asker}
-use Rattle.pcfs_session.specs.InterpreterView.{InterpreterView, standing_over}
+use Rattle.pcfs_session.specs.InterpreterView.{standing_over}
 use Rattle.pcfs_session.specs.Streams.{Streams}
 use Rattle.pcfs_top.specs.LastLine.{IsTold, IsUntold}
-use Rattle.pcfs_top.specs.Ports.{Disks, Ports, Rests, IfTold, AreBytesKept}
+use Rattle.pcfs_top.specs.Ports.{Disks, Ports, Rests, AreBytesKept}
 use Rattle.pcfs_top.specs.Run.{AreKnown, IsScript, IsStored, IsInit, HasNoArea, IsNotLost, IsOpened, IsNewestOf, Returns, HasCause, EndsWith, MemoryEnds, TellsUnopened, TellsUnmade, damaged_text}
 use Rattle.pcfs_top.specs.Run as run
-use Rattle.pcfs_session.specs.ScriptEnds.{with_line_end}
 use Rattle.pcfs_top.specs.ScriptStatus.{ScriptStatus, AnswersInput}
 use Rattle.pcfs_session.specs.ScriptRun.{Standing, IsLawfulStanding, fresh_start, script_pass}
 use Rattle.pcfs_session.specs.Stored.{StoreGoesOn}

@@ -1,6 +1,6 @@
 -- What the words of a command are.
 use Rattle.std.proofs.Common.{◌≡◌, ℕ, ◌≤◌, ◌<◌, Bool, true, false, List, [], ◌∷◌, length, get_or, map, ap, sym, ◌∙◌, subst, arith}
-use Rattle.std.specs.Prelude.{String, codes, ◌↔◌, IsTrue}
+use Rattle.std.specs.Prelude.{String}
 use Rattle.std.specs.String.{string_bytes}
 use Rattle.std.specs.Str.{bytes_eq}
 use Rattle.std.specs.declared.alloc.Global.{Global}

@@ -114,14 +114,14 @@ pub data HasCause (secrets : Secrets) (words : List (String Global)) (rests : Re
   damaged : (number : ℕ) (damage : Damage) → IsStored words → IfTold before (IsNewestDamaged (authority_under secrets) number damage) → AreBytesKept before after → HasCause secrets words rests before after 3 (damaged_text number damage)
   not_opened : IsStored words → HasDiskFailed before after → (rests.before → AreBytesKept before after) → HasCause secrets words rests before after 5 (codes "stopped")
 
--- what is told of why no store was opened
+-- what is reported of why no store was opened
 abbrev pub TellsUnopened : OpenFault → Option (List ℕ) → ℕ → ℕ → Option (List ℕ) → ℕ → Type 0
 TellsUnopened opens.NoStore held faults result held_after faults_after = IsTold 4 (codes "nostore") held faults result held_after faults_after
 TellsUnopened (opens.Damaged number damage) held faults result held_after faults_after = IsTold 3 (damaged_text number damage) held faults result held_after faults_after ⊎ IsUntold held result held_after
 TellsUnopened opens.Disk held faults result held_after faults_after = IsTold 5 (codes "stopped") held faults result held_after faults_after
 TellsUnopened opens.NoMemory held faults result held_after faults_after = IsUntold held result held_after
 
--- what is told of why no store was made
+-- what is reported of why no store was made
 abbrev pub TellsUnmade : FormatFault → Option (List ℕ) → ℕ → ℕ → Option (List ℕ) → ℕ → Type 0
 TellsUnmade formats.AlreadyStore held faults result held_after faults_after = IsTold 10 (codes "exists") held faults result held_after faults_after
 TellsUnmade formats.Disk held faults result held_after faults_after = IsTold 5 (codes "stopped") held faults result held_after faults_after

@@ -1,8 +1,6 @@
 //! Reading grants and procaps.
 
-ghost use Rattle.std.specs.Prelude.{◌≡◌, ◌≤◌, ◌+◌, ◌-◌, ℕ, List, [], IsTrue, IfOk, length};
-ghost use Rattle.std.specs.List.{list_any};
-ghost use Rattle.bl_syntax.specs.Grant.{GrantView};
+ghost use Rattle.std.specs.Prelude.{◌≡◌, ◌≤◌, ◌+◌, ◌-◌, [], IfOk, length};
 ghost use Rattle.bl_syntax.specs.Reading.{GivesReading, reading, term_at};
 ghost use Rattle.bl_syntax.specs.Codec.{GivesReadingOrReports, ReadsFront};
 ghost use Rattle.bl_syntax.specs.FormulaReading.{is_formula_tag};
@@ -328,7 +326,7 @@ fn tag_of(bytes: &[u8]) -> [u8; 32]
     tag
 }
 
-/// Reads a grant at the front of the bytes, and tells how many bytes it takes.
+/// Reads a grant at the front of the bytes, and returns how many bytes it takes.
 pub fn read_grant(alloc: Global, bytes: &[u8]) -> Result<(Grant, usize), CodecFault>
     ensures exact { GivesReadingOrReports (λ x. (x.0, x.1)) result (reading grant_at bytes.now) }
     ensures front { ReadsFront (λ g. g) IsSpellableGrant grant_spelling bytes.now result }

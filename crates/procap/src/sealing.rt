@@ -57,8 +57,8 @@ impl SealKey {
         self.tag(&p.grant) == p.tag
     }
 
-    /// The tag of a grant under the key.
-    fn tag(&self, grant: &Grant) -> [u8; 32]
+    /// The tag of a grant under the key. It takes no memory.
+    pub fn tag(&self, grant: &Grant) -> [u8; 32]
         ensures same { result ≡ seal_of self.now grant.now }
         ensures spelled { IsSpellableGrant grant.now }
     {

@@ -22,7 +22,7 @@ pub struct Measured {
     pub depth: u8,
 }
 
-/// Measures a proof; none where it has more nodes or levels than these. It calls itself no deeper
+/// Measures a proof; none if it has more nodes or levels than these. It calls itself no deeper
 /// than there are levels.
 pub fn measure(p: &Proof, nodes: u16, levels: u8) -> Option<Measured>
     ensures { SomeIff result

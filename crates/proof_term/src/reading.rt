@@ -52,7 +52,7 @@ fn has_terms(tag: u8) -> bool
     tag == 0x0a || tag == 0x16 || tag == 0x17
 }
 
-/// The right rule with that tag, which stands at `start`, where it names no term.
+/// The right rule with that tag, which stands at `start`, if it names no term.
 #[tactic(auto, unfolding(crate::specs::ProofReading::right_rule_at))]
 fn plain_right_rule_at(start: usize, tag: u8, rest: &[u8]) -> Result<(Plain, &[u8]), ProofFault>
     requires { tag ≢ 0x0a }
@@ -77,7 +77,7 @@ fn plain_right_rule_at(start: usize, tag: u8, rest: &[u8]) -> Result<(Plain, &[u
     }
 }
 
-/// The left rule with that tag, which stands at `start`, where it names no term. Each names a hypothesis.
+/// The left rule with that tag, which stands at `start`, if it names no term. Each names a hypothesis.
 #[tactic(auto, unfolding(crate::specs::ProofReading::left_rule_at))]
 fn plain_left_rule_at(start: usize, tag: u8, rest: &[u8]) -> Result<(Plain, &[u8]), ProofFault>
     requires one { tag ≢ 0x16 }
@@ -101,7 +101,7 @@ fn plain_left_rule_at(start: usize, tag: u8, rest: &[u8]) -> Result<(Plain, &[u8
     }
 }
 
-/// The rule with that tag, which stands at `start`, where it names no term.
+/// The rule with that tag, which stands at `start`, if it names no term.
 #[tactic(auto, unfolding(crate::specs::ProofReading::rule_at))]
 fn plain_rule_at(start: usize, tag: u8, rest: &[u8]) -> Result<(Plain, &[u8]), ProofFault>
     requires { has_terms tag ≡ false }
@@ -234,7 +234,7 @@ pub(crate) fn proof_at(
     }
 }
 
-/// The proof whose root has that tag, at `start`, where its rule names no term.
+/// The proof whose root has that tag, at `start`, if its rule names no term.
 #[cycle(proofs)]
 fn plain_at(
     alloc: Global,
@@ -282,7 +282,7 @@ fn plain_premises_at(
     }
 }
 
-/// The proof whose root has that tag, at `start`, where its rule names terms.
+/// The proof whose root has that tag, at `start`, if its rule names terms.
 #[inline(never)]
 #[cycle(proofs)]
 fn termed_at(

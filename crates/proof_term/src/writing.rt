@@ -14,7 +14,7 @@ use crate::tree::ProofTree;
 use bl_syntax::fields::u16_bytes;
 use bl_syntax::{Bytes, NoMemory, write_term};
 
-/// Adds the canonical bytes of a proof at the end, or nothing where there is no memory for them.
+/// Adds the canonical bytes of a proof at the end, or nothing if there is no memory for them.
 pub fn write_proof(p: &ProofTree, out: &mut Bytes) -> Result<(), NoMemory>
     ensures ok { OnOk result (out.new ≡ out.old ++ proof_spelling p.now) }
     ensures spelled { OnOk result (IsSpellableProof p.now) }
@@ -28,7 +28,7 @@ pub fn write_proof(p: &ProofTree, out: &mut Bytes) -> Result<(), NoMemory>
     written
 }
 
-/// Adds the bytes of a proof, or a part of them where there is no memory. It calls itself as deep as the proof is.
+/// Adds the bytes of a proof, or a part of them if there is no memory. It calls itself as deep as the proof is.
 fn write_node(p: &Proof, out: &mut Bytes) -> Result<(), NoMemory>
     requires { HasTimesInRange (proof_view p.now) }
     ensures ok { OnOk result (out.new ≡ out.old ++ proof_spelling (proof_view p.now)) }

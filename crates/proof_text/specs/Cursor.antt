@@ -18,7 +18,7 @@ use Rattle.proof_text.specs.declared.names.RuleName.{RuleName}
 use Rattle.proof_text.specs.declared.cursor.ProofCursor.{ProofCursor}
 use Rattle.proof_text.specs.Rules.{rule_named}
 
--- the place from a byte on, where so many rules are left
+-- the place from a byte on, if so many rules are left
 abbrev pub cursor_at : ℕ → ℕ → ProofCursor
 cursor_at from left = record { from = from; left = left }
 
@@ -33,7 +33,7 @@ token_at text here = token_from text here.from here.left
 abbrev pub cursor_after_token : Cursor → ProofCursor
 cursor_after_token token = cursor_at token.end token.left
 
--- what stands after the sign, where it is there
+-- what stands after the sign, if it is there
 unfoldable pub cursor_after_sign : List ℕ → Sign → ProofCursor → Result ProofCursor TextFault
 cursor_after_sign text sign here = if is_sign sign (token_at text here).token then Ok (cursor_after_token (token_at text here)) else Err (Unexpected (token_at text here).at)
 
@@ -87,7 +87,7 @@ rule_in at left bytes = if is_word_start bytes then rule_of_word at left (take_w
 unfoldable pub rule_at : List ℕ → ProofCursor → Result (RuleName × ProofCursor) TextFault
 rule_at text here = rule_in (first_byte text here) here.left (drop (first_byte text here) text)
 
--- takes a rule, where so many levels are left for it and what is above it
+-- takes a rule, if so many levels are left for it and what is above it
 unfoldable pub room : List ℕ → ℕ → ProofCursor → Result (Unit {0}) TextFault
 room text levels here = if nat_le 1 here.left && nat_le 1 levels then Ok tt else Err (TooLarge (first_byte text here))
 

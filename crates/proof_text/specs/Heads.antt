@@ -103,7 +103,7 @@ unfoldable pub named_head : List ℕ → RuleName → ProofCursor → HeadReadin
 named_head text (Plain rule) here = plain_head text rule here
 named_head text (Citing rule) here = with_hypothesis text rule here
 
--- the rule at that place with its fields before the premises, where so many levels are left, and what follows
+-- the rule at that place with its fields before the premises, if so many levels are left, and what follows
 unfoldable pub head : List ℕ → ℕ → ProofCursor → HeadReading
 head text levels here = do
   name ← rule_at text here

@@ -73,7 +73,7 @@ fn has_sign_front(sign: Sign, bytes: &[u8]) -> bool
     }
 }
 
-/// What stands after the sign, where it is there.
+/// What stands after the sign, if it is there.
 #[tactic(auto, unfolding(crate::specs::Cursor::cursor_after_sign))]
 pub fn cursor_after_sign(
     text: &[u8],
@@ -184,7 +184,7 @@ pub fn rule_at(text: &[u8], here: ProofCursor) -> Result<(RuleName, ProofCursor)
     }
 }
 
-/// Takes a rule, where one is left and so many levels.
+/// Takes a rule, if one is left and so many levels.
 #[tactic(auto, unfolding(crate::specs::Cursor::room))]
 pub fn room(text: &[u8], levels: u8, here: ProofCursor) -> Result<(), TextFault>
     requires { here.from ≤ length text.now }

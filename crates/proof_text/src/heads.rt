@@ -195,7 +195,7 @@ fn named_head(
     }
 }
 
-/// The rule at that place with its fields before the premises, where so many levels are left, and
+/// The rule at that place with its fields before the premises, if so many levels are left, and
 /// what follows.
 #[tactic(auto, unfolding(crate::specs::Heads::head))]
 #[inline(never)]

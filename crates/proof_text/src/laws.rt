@@ -30,8 +30,8 @@ pub fn one_fault_of_a_proof()
 {}
 
 /// The place of a fault is exact. The words before it can be completed to a sentence of the grammar,
-/// limits aside: so it is not told too late. A text that has the same next token from each byte on,
-/// up to that place, has the fault too: so it is not told too early.
+/// limits aside: so it is not reported too late. A text that has the same next token from each byte on,
+/// up to that place, has the fault too: so it is not reported too early.
 pub fn exact_fault_of_a_proof()
     ensures { (text : List ℕ) (e : TextFault) → ProofTextFault text e → (e ≡ TextFault.NoMemory) ⊎ IsExactInProof text e }
 {}
@@ -54,7 +54,7 @@ pub fn text_of_a_sentence()
         → ((p : ProofView) × IsProofText text p) ⊎ ((at : ℕ) × ProofTextFault text (TextFault.TooLarge at)) }
 {}
 
-/// The text that a proof is written as is a text of it, where it is within the limits, its hypotheses have
+/// The text that a proof is written as is a text of it, if it is within the limits, its hypotheses have
 /// numbers below 65,536, its terms have a spelling and are no variables, and those of an implication are times.
 pub fn proof_round_trip()
     ensures { (d : ProofView) → IsPrintableProof d → IsProofText (proof_text d) d }

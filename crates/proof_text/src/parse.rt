@@ -100,7 +100,7 @@ fn two_of(
     Ok(Box::new(alloc, r.proof(p, q))?)
 }
 
-/// The proof that was read, and what stands after the sign that follows it, where it is there.
+/// The proof that was read, and what stands after the sign that follows it, if it is there.
 #[inline(never)]
 fn before_sign(
     text: &[u8],

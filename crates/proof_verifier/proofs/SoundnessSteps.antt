@@ -116,7 +116,7 @@ gives_keep_state left_over node s g open_ =
     (λ full. no_gift (TooManyConditions node) (KeepsState left_over s g))
     (λ room. gives_here (with_state s g) (KeepsState left_over s g) (gives_with_state left_over s g open_ new room)))
 
--- what is known of a sequent, with these constraints, facts and hypotheses in the place of its own
+-- what is known of a sequent, with these constraints, facts and hypotheses instead of its own
 abbrev pub known_of : Sequent → List Constraint → List StatePred → List Hypothesis → Known
 known_of s psi facts hs = record { sorts = s.sorts; constraints = psi; facts = facts; hypotheses = hs; view = s.view }
 

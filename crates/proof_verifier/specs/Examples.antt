@@ -66,7 +66,7 @@ reading = record { who = codes "bob"; file = number 2; perm = Read }
 abbrev pub by_employment : ProofView
 by_employment = says_r (claim 0 (forall_l 2 (Prin (codes "bob")) (imp_l 3 Ctime Ctime (says_r (claim 1 (init 4))) (init 4))))
 
--- bob may read where `hr` says that he is an employee
+-- bob may read if `hr` says that he is an employee
 abbrev pub bob_may_read_if_employed : FormulaView
 bob_may_read_if_employed = implies (says (Prin (codes "hr")) bob_is_employed) (access (codes "bob") (number 2) Read)
 
@@ -80,7 +80,7 @@ p_of_bob = atom (codes "p") (Prin (codes "bob") ∷ [])
 abbrev pub q_of_bob : FormulaView
 q_of_bob = atom (codes "q") (Prin (codes "bob") ∷ [])
 
--- bob may read where q follows from p
+-- bob may read if q follows from p
 abbrev pub bob_may_read_if_it_follows : FormulaView
 bob_may_read_if_it_follows = implies (implies p_of_bob q_of_bob) (access (codes "bob") (number 2) Read)
 

@@ -23,7 +23,7 @@ hypotheses_by_number (code.Struck' p older) = map unless_truth (hypotheses_by_nu
 abbrev pub left_at : List (Option Hypothesis) → ℕ → Option Hypothesis
 left_at hypotheses h = option_and_then (λ (left : Option Hypothesis). left) (slice_get hypotheses h)
 
--- what is left of it, where truths may be struck out
+-- what is left of it, if truths may be struck out
 abbrev pub struck_if : Bool → Option Hypothesis → Option Hypothesis
 struck_if true left = unless_truth left
 struck_if false left = left

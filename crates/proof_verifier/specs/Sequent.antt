@@ -10,7 +10,7 @@ use Rattle.bl_syntax.specs.declared.terms.Constraint.{Constraint}
 use Rattle.bl_syntax.specs.Formula.{FormulaView}
 use Rattle.bl_rules.specs.Sequent.{Hypothesis, holds, claims, View}
 
--- the sorts of the parameters 0, 1 and so on, the constraints, the facts, the hypotheses by their numbers from 0 (none where one was struck out), the view, and the goal on its
+-- the sorts of the parameters 0, 1 and so on, the constraints, the facts, the hypotheses by their numbers from 0 (none if one was struck out), the view, and the goal on its
 -- interval
 pub record Sequent : Type 0 where
   pub sorts : List Sort

@@ -45,7 +45,7 @@ impl<'a> Hypotheses<'a> {
         }
     }
 
-    /// The hypothesis with that many newer ones; none where it was struck out, or there are too few.
+    /// The hypothesis with that many newer ones; none if it was struck out, or there are too few.
     fn newer_hypothesis(&self, newer: usize, struck: bool) -> Option<HypothesisRef<'a>>
         ensures { (h : ℕ) → h + newer + 1 ≡ length (hypotheses_by_number self.now)
             → option_map hypothesis result ≡ struck_if struck (left_at (hypotheses_by_number self.now) h) }
@@ -64,7 +64,7 @@ impl<'a> Hypotheses<'a> {
     }
 }
 
-/// What is left of a hypothesis, where truths may be struck out.
+/// What is left of a hypothesis, if truths may be struck out.
 fn left_of(held: HypothesisRef<'_>, struck: bool) -> Option<HypothesisRef<'_>>
     ensures { option_map hypothesis result ≡ struck_if struck (Some (hypothesis held.entry)) }
 {

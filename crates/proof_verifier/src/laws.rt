@@ -91,7 +91,7 @@ pub fn a_statement_grants_what_it_says()
     ensures { verdict (stated (codes "admin") may_write 0 200 ∷ []) writing by_its_claim ≡ Ok (between writing 0 200) }
 {}
 
-/// A right of all employees is granted where `hr` says that the reader is one, as long as both statements hold.
+/// A right of all employees is granted if `hr` says that the reader is one, as long as both statements hold.
 pub fn an_employee_may_read()
     ensures { verdict (stated (codes "admin") employees_may_read 0 200 ∷ stated (codes "hr") bob_is_employed 50 150 ∷ []) reading by_employment
         ≡ Ok (within_both reading 0 200 50 150) }

@@ -1,6 +1,6 @@
 //! Right rules: they prove the goal from its form.
 
-ghost use Rattle.std.specs.Prelude.{◌≡◌, ◌+◌};
+ghost use Rattle.std.specs.Prelude.{◌+◌};
 ghost use Rattle.proof_term.specs.Proof.{proof_view, cons_r, inter_r, and_r, or_r1, or_r2, true_r, imp_r, forall_r, exists_r, says_r, at_r};
 ghost use Rattle.proof_term.specs.Limits.{size, depth};
 ghost use Rattle.proof_verifier.specs.Rules.{by_cons_r, by_inter_r, by_and_r, by_or_r1, by_or_r2, by_true_r, by_imp_r, by_forall_r, by_exists_r, by_says_r, by_at_r};

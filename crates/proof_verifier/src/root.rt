@@ -22,6 +22,7 @@ use crate::hypotheses::{Hypotheses, HypothesisRef};
 use crate::instance::{Instance, TermList};
 use crate::position::Position;
 use bl_constraints::ConstraintStack;
+use bl_syntax::boxes::{atom_of, says_of};
 use bl_syntax::{Formula, Goal, Grant, NoMemory, Principal, Sequence, Term, Word};
 use condition_set::Collect;
 use proof_term::{Proof, ProofTree};
@@ -78,7 +79,7 @@ pub fn grant_of(
     ensures kept { IfOk result (λ _. IsKeptProof proof.now) }
 {
     let wanted = goal_formula(alloc, goal)?;
-    follow_from_root(alloc, cites, goal, &wanted, proof)
+    follow_from_root(alloc, cites, goal, &*wanted, proof)
 }
 
 /// The grant that the proof of what is wanted gives the goal, where what a grant can keep is left over.
@@ -125,15 +126,15 @@ fn follow_from_root(
 }
 
 /// That `admin` says that the goal's principal may have the permission on the file.
-fn goal_formula(alloc: Global, goal: &Goal) -> Result<Formula, NoMemory>
-    ensures { IfOk result (λ wanted. formula_view wanted ≡ says admin (access goal.now.who goal.now.file goal.now.perm)) }
+fn goal_formula(alloc: Global, goal: &Goal) -> Result<Box<Formula>, NoMemory>
+    ensures { IfOk result (λ wanted. formula_view wanted.value ≡ says admin (access goal.now.who goal.now.file goal.now.perm)) }
 {
     let mut terms = Vec::new(alloc);
     terms.push(Term::Prin(goal.who))?;
     terms.push(Term::File(goal.file))?;
     terms.push(Term::Perm(goal.perm))?;
-    let access = Formula::Atom(may(), Sequence::from_vec(terms));
-    Ok(Formula::Says(Term::Prin(principal(b"admin")), Box::new(alloc, access)?))
+    let access = atom_of(alloc, &may(), Sequence::from_vec(terms))?;
+    says_of(alloc, &Term::Prin(principal(b"admin")), access)
 }
 
 /// The principal of that name.

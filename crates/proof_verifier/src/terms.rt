@@ -2,7 +2,6 @@
 
 ghost use Rattle.std.specs.Prelude.{◌≡◌, Ok, Err, MatchResult, []};
 ghost use Rattle.bl_syntax.specs.Terms.{sort_of};
-ghost use Rattle.proof_verifier.specs.Tests.{is_as_strong};
 ghost use Rattle.proof_verifier.specs.Conditions.{term_condition, strength_condition};
 
 use crate::fault::CheckFault;
@@ -19,7 +18,7 @@ pub fn test_term(t: &Term, sort: Sort, sorts: &[Sort], node: usize) -> Result<()
     }
 }
 
-/// The sort of a term; none where it has a bound variable, or a parameter out of scope.
+/// The sort of a term; none if it has a bound variable, or a parameter out of scope.
 fn sort_of(t: &Term, sorts: &[Sort]) -> Option<Sort>
     ensures { result ≡ sort_of sorts.now [] t.now }
 {

@@ -90,7 +90,7 @@ sized_bytes_memoryless bytes e =
 pub sized_bytes_codec : IsCodec FitsFourBytes sized_bytes_spelling (λ input. sized_bytes_at)
 sized_bytes_codec = codec FitsFourBytes sized_bytes_spelling (λ input. sized_bytes_at) (λ input. sized_bytes_found) (λ input. sized_bytes_again) (λ input. sized_bytes_memoryless)
 
--- ---- moments: as the points in time that are written behind a byte 1
+-- ---- moments: as the points in time that are written after a byte 1
 
 read_time : (input : ℕ) (bytes : List ℕ) (n : ℕ × List ℕ) → number_at w64 bytes ≡ Ok n → is_moment (cast_signed w64 n.0) ≡ true → time_at input (1 ∷ bytes) ≡ Ok (At (cast_signed w64 n.0), n.1)
 unfolding time_at moment_at

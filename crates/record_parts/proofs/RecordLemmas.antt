@@ -1,4 +1,4 @@
--- What records hold behind their tag: what is read is spelled so, and what is spelled so is read.
+-- What records hold after their tag: what is read is spelled so, and what is spelled so is read.
 use Rattle.std.proofs.Common.{ℕ, ℤ, List, refl}
 use Rattle.std.specs.Prelude.{IsTrue}
 use Rattle.bl_syntax.specs.Names.{is_principal_name}

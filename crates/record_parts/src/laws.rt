@@ -3,7 +3,7 @@
 ghost use Rattle.bl_syntax.specs.Codec.{IsCodec};
 ghost use Rattle.record_parts.specs.OperationSpelling.{operation_spelling, IsSpellableOperation};
 ghost use Rattle.record_parts.specs.OperationReading.{operation_at};
-ghost use Rattle.record_parts.specs.RecordSpelling.{Registration, IsRegistration, registration_spelling, Issuing, IsIssuing, issuing_spelling, Action, IsAction, action_spelling};
+ghost use Rattle.record_parts.specs.RecordSpelling.{IsRegistration, registration_spelling, IsIssuing, issuing_spelling, IsAction, action_spelling};
 ghost use Rattle.record_parts.specs.RecordReading.{registered_at, issued_at, acted_at};
 
 /// The spelling of operations and the reading of them belong together.

@@ -1,6 +1,6 @@
 //! Proofs with their length, and lists of parts, both ways.
 
-ghost use Rattle.std.specs.Prelude.{◌≡◌, ◌↔◌, ◌≤◌, ◌+◌, ◌-◌, ◌++◌, IsTrue, OnOk, OnErr, take, drop, length};
+ghost use Rattle.std.specs.Prelude.{◌≡◌, ◌↔◌, ◌≤◌, ◌-◌, ◌++◌, IsTrue, OnOk, OnErr, length};
 ghost use Rattle.std.specs.List.{AllByRecursion, flat_map};
 ghost use Rattle.bl_syntax.specs.BeginsWith.{BeginsWith};
 ghost use Rattle.bl_syntax.specs.Codec.{GivesReadingOrReports};

@@ -2,7 +2,7 @@
 
 use crate::operations::OPERATIONS;
 use crate::rows::{bytes_of, is_end, word_and_rest};
-use crate::told::{tell_number, tell_operation, tell_word};
+use crate::texts::{put_number, put_operation, put_word};
 use access_history::Event;
 use bl_syntax::{Bytes, CodecFault, Grant, NoMemory, Numbers, Statement};
 use journal_records::{read_event, write_event};
@@ -10,7 +10,7 @@ use proof_term::ProofTree;
 use std::alloc::Global;
 use std::test::Fail;
 
-/// The statement that alice may write to the root, the issue of that grant, and the file that she makes, each told by its
+/// The statement that alice may write to the root, the issue of that grant, and the file that she makes, each with its
 /// pass and its fields. The signature and the seal are those under the example's keys, made by another program.
 const FIRST_FILE: &str =
     "010561646d696e10036d6179030105616c69636502000000000000000103020100000000000000000100000000000000c8000000209efa4c8dc2816d5e04d51d2d69107b0e33f880f6ea5a6c0df5a7440014841a99 registered 0 admin 32
@@ -83,20 +83,20 @@ const ENDS: &str = "- short
 010561646d696e10017009 too large 10";
 
 // Adds the pass, who says the statement, and how long the signature is.
-fn tell_registered(
+fn put_registered(
     pass: u64,
     statement: &Statement,
     signature: &Bytes,
     out: &mut Bytes,
 ) -> Result<(), NoMemory> {
     out.extend(b"registered")?;
-    tell_number(pass, out)?;
-    tell_word(statement.who().bytes(), out)?;
-    tell_number(signature.len() as u64, out)
+    put_number(pass, out)?;
+    put_word(statement.who().bytes(), out)?;
+    put_number(signature.len() as u64, out)
 }
 
 // Adds the pass, the numbers that are cited, the nodes of the proof, and who is granted what on which node.
-fn tell_issued(
+fn put_issued(
     pass: u64,
     cited: &Numbers,
     proof: &ProofTree,
@@ -104,29 +104,29 @@ fn tell_issued(
     out: &mut Bytes,
 ) -> Result<(), NoMemory> {
     out.extend(b"issued")?;
-    tell_number(pass, out)?;
+    put_number(pass, out)?;
     for number in cited.as_slice() {
-        tell_number(u64::from(*number), out)?;
+        put_number(u64::from(*number), out)?;
     }
-    tell_number(proof.size() as u64, out)?;
+    put_number(proof.size() as u64, out)?;
     let goal = grant.goal();
-    tell_word(goal.who.bytes(), out)?;
-    tell_number(goal.file.0, out)
+    put_word(goal.who.bytes(), out)?;
+    put_number(goal.file.0, out)
 }
 
-fn tell_event(e: &Event, out: &mut Bytes) -> Result<(), NoMemory> {
+fn put_event(e: &Event, out: &mut Bytes) -> Result<(), NoMemory> {
     match e {
         Event::Registered {
             pass,
             statement,
             signature,
-        } => tell_registered(*pass, statement, signature, out),
+        } => put_registered(*pass, statement, signature, out),
         Event::Issued {
             pass,
             cited,
             proof,
             grant,
-        } => tell_issued(*pass, cited, proof, grant, out),
+        } => put_issued(*pass, cited, proof, grant, out),
         Event::Acted {
             pass,
             caller,
@@ -135,20 +135,20 @@ fn tell_event(e: &Event, out: &mut Bytes) -> Result<(), NoMemory> {
             moment,
         } => {
             out.extend(b"acted")?;
-            tell_number(*pass, out)?;
-            tell_word(caller.bytes(), out)?;
+            put_number(*pass, out)?;
+            put_word(caller.bytes(), out)?;
             out.push(b' ')?;
-            tell_operation(op, out)?;
-            tell_number(procaps.len() as u64, out)?;
-            tell_number(moment.unsigned_abs(), out)
+            put_operation(op, out)?;
+            put_number(procaps.len() as u64, out)?;
+            put_number(moment.unsigned_abs(), out)
         }
     }
 }
 
-// Whether the event is told as the text.
-fn is_told(alloc: Global, e: &Event, told: &str) -> bool {
+// Whether this is the event's text.
+fn has_text(alloc: Global, e: &Event, text: &str) -> bool {
     let mut out = Bytes::new(alloc);
-    tell_event(e, &mut out).is_ok() && out.as_slice() == told.as_bytes()
+    put_event(e, &mut out).is_ok() && out.as_slice() == text.as_bytes()
 }
 
 // The number of the bytes if they are an event, or the fault.
@@ -159,12 +159,12 @@ fn end_of(alloc: Global, bytes: &[u8]) -> Result<usize, CodecFault> {
     }
 }
 
-// Whether the bytes are read as the event that is told so, which is written as them.
-fn is_spelled(alloc: Global, told: &str, bytes: &[u8]) -> bool {
+// Whether the bytes are read as the event with this text, which is written as them.
+fn is_spelled(alloc: Global, text: &str, bytes: &[u8]) -> bool {
     let mut out = Bytes::new(alloc);
     match read_event(alloc, bytes) {
         Ok(event) => {
-            is_told(alloc, &event, told)
+            has_text(alloc, &event, text)
                 && write_event(&event, &mut out).is_ok()
                 && out.as_slice() == bytes
         }
@@ -182,11 +182,11 @@ fn are_cuts_short(alloc: Global, bytes: &[u8]) -> bool {
     true
 }
 
-fn is_event_row(alloc: Global, word: &str, told: &str, len: usize) -> Result<bool, Fail> {
+fn is_event_row(alloc: Global, word: &str, text: &str, len: usize) -> Result<bool, Fail> {
     let bytes = bytes_of(alloc, word)?;
     Ok(
         bytes.len() == len
-            && is_spelled(alloc, told, bytes.as_slice())
+            && is_spelled(alloc, text, bytes.as_slice())
             && are_cuts_short(alloc, bytes.as_slice()),
     )
 }
@@ -199,8 +199,8 @@ fn is_end_row(alloc: Global, word: &str, want: &str) -> Result<bool, Fail> {
 #[test]
 fn the_first_files_events_have_their_bytes_both_ways(rt: HostRuntime) -> Result<(), Fail> {
     for (row, len) in FIRST_FILE.lines().zip(LENGTHS) {
-        let (word, told) = word_and_rest(row)?;
-        assert!(rt; is_event_row(rt.alloc(), word, told, len)?, "{row}");
+        let (word, text) = word_and_rest(row)?;
+        assert!(rt; is_event_row(rt.alloc(), word, text, len)?, "{row}");
     }
     Ok(())
 }
@@ -227,7 +227,7 @@ fn is_extended_row(alloc: Global, word: &str) -> Result<bool, Fail> {
 #[test]
 fn each_operation_ends_where_its_words_end(rt: HostRuntime) -> Result<(), Fail> {
     for row in OPERATIONS.lines() {
-        let (word, _told) = word_and_rest(row)?;
+        let (word, _text) = word_and_rest(row)?;
         assert!(rt; is_extended_row(rt.alloc(), word)?, "{row}");
     }
     Ok(())

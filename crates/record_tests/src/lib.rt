@@ -9,4 +9,4 @@ mod operations;
 #[cfg(test)]
 mod rows;
 #[cfg(test)]
-mod told;
+mod texts;

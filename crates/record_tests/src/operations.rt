@@ -1,7 +1,7 @@
 //! Operations: the bytes of each, every cut of them, and each fault at its place.
 
 use crate::rows::{bytes_of, is_end, word_and_rest};
-use crate::told::tell_operation;
+use crate::texts::put_operation;
 use bl_syntax::fields::place;
 use bl_syntax::{Bytes, CodecFault};
 use file_world::Op;
@@ -49,19 +49,19 @@ fn end_of(alloc: Global, bytes: &[u8]) -> Result<usize, CodecFault> {
     }
 }
 
-// Whether the operation is told as the text.
-fn is_told(alloc: Global, op: &Op, told: &str) -> bool {
+// Whether this is the operation's text.
+fn has_text(alloc: Global, op: &Op, text: &str) -> bool {
     let mut out = Bytes::new(alloc);
-    tell_operation(op, &mut out).is_ok() && out.as_slice() == told.as_bytes()
+    put_operation(op, &mut out).is_ok() && out.as_slice() == text.as_bytes()
 }
 
-// Whether the bytes are read as the operation that is told so, which is written as them.
-fn is_spelled(alloc: Global, told: &str, bytes: &[u8]) -> bool {
+// Whether the bytes are read as the operation with this text, which is written as them.
+fn is_spelled(alloc: Global, text: &str, bytes: &[u8]) -> bool {
     let mut out = Bytes::new(alloc);
     match operation_at(alloc, bytes.len(), bytes) {
         Ok((op, rest)) => {
             rest.is_empty()
-                && is_told(alloc, &op, told)
+                && has_text(alloc, &op, text)
                 && write_operation(&op, &mut out).is_ok()
                 && out.as_slice() == bytes
         }
@@ -79,9 +79,9 @@ fn are_cuts_short(alloc: Global, bytes: &[u8]) -> bool {
     true
 }
 
-fn is_operation_row(alloc: Global, word: &str, told: &str) -> Result<bool, Fail> {
+fn is_operation_row(alloc: Global, word: &str, text: &str) -> Result<bool, Fail> {
     let bytes = bytes_of(alloc, word)?;
-    Ok(is_spelled(alloc, told, bytes.as_slice()) && are_cuts_short(alloc, bytes.as_slice()))
+    Ok(is_spelled(alloc, text, bytes.as_slice()) && are_cuts_short(alloc, bytes.as_slice()))
 }
 
 fn is_end_row(alloc: Global, word: &str, want: &str) -> Result<bool, Fail> {
@@ -92,8 +92,8 @@ fn is_end_row(alloc: Global, word: &str, want: &str) -> Result<bool, Fail> {
 #[test]
 fn each_operation_has_its_bytes_both_ways(rt: HostRuntime) -> Result<(), Fail> {
     for row in OPERATIONS.lines() {
-        let (word, told) = word_and_rest(row)?;
-        assert!(rt; is_operation_row(rt.alloc(), word, told)?, "{row}");
+        let (word, text) = word_and_rest(row)?;
+        assert!(rt; is_operation_row(rt.alloc(), word, text)?, "{row}");
     }
     Ok(())
 }

@@ -1,13 +1,13 @@
 -- What is wrong first with the bytes of an area, over plain values.
-use Rattle.std.proofs.Common.{◌≡◌, ◌≢◌, ◌≤◌, ◌<◌, ◌+◌, ◌*◌, ◌-◌, ◌^◌, ℕ, List, [], ◌∷◌, ◌++◌, length, get_or, refl, sym, ap, subst, ◌∙◌, arith, inl, inr, ⊎_elim, length-append, IfSome}
+use Rattle.std.proofs.Common.{◌≡◌, ◌≢◌, ◌≤◌, ◌<◌, ◌+◌, ℕ, List, [], ◌∷◌, length, get_or, refl, sym, ap, subst, arith, ⊎_elim, length-append, IfSome}
 use Rattle.std.specs.Prelude.{Option}
 use Rattle.std.proofs.lemmas.Bool.{cases_eq}
-use Rattle.journal_core.specs.Area.{area_limit, area_bytes, record_bytes, records, IsFront, IsArea, IsBroken, IsShut, HasNoBase}
+use Rattle.journal_core.specs.Area.{area_limit, area_bytes, record_bytes, records, IsFront, IsBroken}
 use Rattle.journal_core.specs.Faults.{IsFrontReported}
 use Rattle.journal_core.specs.declared.scan.ScanFault.{ScanFault}
 use Rattle.journal_core.specs.declared.scan.ScanFault.TheVariants as scans
 use Rattle.journal_core.proofs.RestsLemmas.{if_told, at_told}
-use Rattle.journal_core.proofs.ReadingLemmas.{front_area, area_front, area_not_broken}
+use Rattle.journal_core.proofs.ReadingLemmas.{front_area, area_not_broken}
 use Rattle.journal_core.proofs.RecordLemmas.{area_split, record_length}
 use Rattle.access_history.specs.Authority.{Authority}
 use Rattle.op_gate.specs.declared.damage.Damage.{Damage}

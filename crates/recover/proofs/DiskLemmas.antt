@@ -1,9 +1,9 @@
 -- Disks that are read and synced, over plain values.
-use Rattle.std.proofs.Common.{◌≡◌, ◌≤◌, ◌<◌, ◌+◌, ◌-◌, ◌^◌, ◌⊎◌, ℕ, List, refl, sym, ap, ◌∙◌, subst, arith, inl, inr, ⊎_elim, Some, None}
-use Rattle.std.specs.Prelude.{Option, is_some, true, false, Bool, Result, Ok, Err, OnOk}
+use Rattle.std.proofs.Common.{◌≡◌, ◌≤◌, ℕ, List, refl, sym, ap, ◌∙◌, arith, Some, None}
+use Rattle.std.specs.Prelude.{Option, is_some, false, Result, Ok, Err, OnOk}
 use Rattle.pcfs_ports.specs.Disk.{IsPinned, Idles}
 use Rattle.pcfs_ports.specs.Faults.{HasRisen}
-use Rattle.journal_core.proofs.RestsLemmas.{idle_then_idle, idle_pinned}
+use Rattle.journal_core.proofs.RestsLemmas.{idle_then_idle}
 use Rattle.recover.specs.Opening.{IsHandled, IsRead}
 
 none_told : (told : Option (List ℕ)) → is_some told ≡ false → told ≡ None

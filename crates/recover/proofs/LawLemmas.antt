@@ -1,8 +1,8 @@
 -- An area has at most one first damage, and none if it stands for a lawful history.
-use Rattle.std.proofs.Common.{◌≡◌, ◌≢◌, ◌≤◌, ◌<◌, ◌+◌, ◌⊎◌, ℕ, suc, List, [], ◌∷◌, ◌++◌, length, take, drop, get_or, map, refl, sym, ap, subst, ◌∙◌, arith, inl, inr, ⊎_elim, append_assoc, length-append, length-take, take-append-drop, Some, None}
+use Rattle.std.proofs.Common.{◌≡◌, ◌<◌, ◌+◌, ◌⊎◌, ℕ, List, [], ◌∷◌, ◌++◌, length, take, drop, get_or, map, refl, sym, ap, subst, ◌∙◌, arith, inl, inr, ⊎_elim, append_assoc, length-append, length-take, take-append-drop, Some, None}
 use Rattle.std.specs.List.{AllByRecursion}
 use Rattle.std.proofs.lemmas.List.{map-append, length-map, append-nil}
-use Rattle.journal_core.specs.Area.{area_bytes, IsFront, IsArea, IsShut, HasNoBase}
+use Rattle.journal_core.specs.Area.{area_bytes, IsFront, IsArea, IsShut}
 use Rattle.journal_core.proofs.ReadingLemmas.{one_area, one_front, front_has_base, area_front, opens}
 use Rattle.access_history.specs.declared.event.Event.{Event}
 use Rattle.access_history.specs.declared.event.Event.TheVariants.{Registered, Issued, Acted}
@@ -14,7 +14,6 @@ use Rattle.access_history.proofs.ReplayLemmas.{count-replay, replay-more}
 use Rattle.journal_records.specs.EventSpelling.{event_spelling, erase, IsSpellableEvent, IsReadEvent}
 use Rattle.journal_records.proofs.EventLemmas.{apart, same_spelling}
 use Rattle.op_gate.specs.declared.damage.Damage.{Damage}
-use Rattle.op_gate.specs.declared.damage.Damage.TheVariants.{Shape}
 use Rattle.op_gate.specs.Damage.{IsDamagedBy, MayComeNext}
 use Rattle.op_gate.proofs.AdmitLemmas.{damaged_not_next, first_damages}
 use Rattle.pcfs_store.specs.Image.{fresh_image}

@@ -1,11 +1,9 @@
 -- What an opening finds and reports, over plain values.
-use Rattle.std.proofs.Common.{◌≡◌, ◌≢◌, ◌≤◌, ◌<◌, ◌+◌, ◌⊎◌, ℕ, List, [], ◌∷◌, length, get_or, refl, sym, ap, subst, ◌∙◌, arith, lt-ltb, le-ltb, ne_eqb, inl, inr, ⊎_elim, cond, Some, None, IfSome}
-use Rattle.std.specs.Prelude.{Option, Bool, true, false, nat_eq, nat_lt, is_some}
+use Rattle.std.proofs.Common.{◌≡◌, ◌≢◌, ◌≤◌, ◌⊎◌, ℕ, List, [], ◌∷◌, length, get_or, refl, sym, ap, subst, ◌∙◌, arith, lt-ltb, le-ltb, ne_eqb, inl, inr, ⊎_elim, cond, Some, None, IfSome}
+use Rattle.std.specs.Prelude.{Option, Bool, true, false, nat_eq, nat_lt}
 use Rattle.std.specs.Option.{option_map}
 use Rattle.std.specs.List.{AllByRecursion}
 use Rattle.std.proofs.lemmas.Bool.{cases_lt}
-use Rattle.std.specs.Int.{w64, from_be_bytes}
-use Rattle.pcfs_ports.specs.Disk.{IsPinned, Idles}
 use Rattle.pcfs_ports.specs.Faults.{HasRisen}
 use Rattle.policy_statement.specs.Ring.{KeyView}
 use Rattle.journal_core.specs.Area.{area_bytes, generation_of, IsArea, IsBroken, IsGeneration, IsShut, StandsForBody}
@@ -18,18 +16,18 @@ use Rattle.access_history.specs.Base.{BaseView}
 use Rattle.access_history.specs.History.{authority_with}
 use Rattle.access_history.specs.Lawful.{IsLawful}
 use Rattle.access_history.specs.Replay.{fresh}
-use Rattle.journal_records.specs.EventSpelling.{IsReadEvent, IsSpellableEvent}
+use Rattle.journal_records.specs.EventSpelling.{IsReadEvent}
 use Rattle.op_gate.specs.Decision.{GateView}
-use Rattle.pcfs_store.specs.Image.{fresh_image, IsImageOf}
+use Rattle.pcfs_store.specs.Image.{fresh_image}
 use Rattle.pcfs_store.specs.Newest.{newer, newest, one_of}
-use Rattle.pcfs_store.specs.Ready.{IsReady, IsCurrent, IsBehind}
+use Rattle.pcfs_store.specs.Ready.{IsBehind}
 use Rattle.pcfs_store.specs.StoredHistory.{payloads_of, AreSpellable, StandsFor}
-use Rattle.pcfs_store.specs.StoreView.{StoreView, first_disk, second_disk, body_of}
+use Rattle.pcfs_store.specs.StoreView.{StoreView, body_of}
 use Rattle.recover.specs.declared.fault.OpenFault.{OpenFault}
 use Rattle.recover.specs.declared.fault.OpenFault.TheVariants.{NoStore, Damaged, Disk, NoMemory}
 use Rattle.pcfs_store.proofs.SurvivalLemmas.{generation_stands}
 use Rattle.recover.specs.AreaDamage.{IsDamagedArea}
-use Rattle.recover.specs.Opening.{HoldsArea, IsHandled, IsNewestClosed, IsNewestDamaged, IsNewestHistory, IsNotOpened, IsOpened, IsRead, IsScanned, IsWhy, HasCause}
+use Rattle.recover.specs.Opening.{HoldsArea, IsHandled, IsNewestHistory, IsNotOpened, IsOpened, IsRead, IsScanned, IsWhy, HasCause}
 use Rattle.recover.specs.Reading.{HoldsHistory}
 use Rattle.recover.proofs.DiskLemmas.{handled_then, read_then, then_risen}
 
@@ -162,6 +160,7 @@ module _ {D : Type 0} (clock : D → ℕ) (left_since : D → ℕ → List ℕ �
       ring_is = holds.ring_is;
       base_is = holds.base_is;
       lawful = subst (λ (base : BaseView). IsLawful (authority_with key ring) base gate.events) (sym holds.base_is) holds.lawful;
+      each = holds.each;
       running = refl;
       newest_history = λ x y told_a told_b. newest_history x x y key ring end generation gate holds (area_first x told_a) (newest_first x y (which_first x y told_a told_b));
       current = λ x y told_a told_b. record {
@@ -211,6 +210,7 @@ module _ {D : Type 0} (clock : D → ℕ) (left_since : D → ℕ → List ℕ �
       ring_is = holds.ring_is;
       base_is = holds.base_is;
       lawful = subst (λ (base : BaseView). IsLawful (authority_with key ring) base gate.events) (sym holds.base_is) holds.lawful;
+      each = holds.each;
       running = refl;
       newest_history = λ x y told_a told_b. newest_history y x y key ring end generation gate holds (area_second y told_b) (newest_second x y (which_second x y told_a told_b));
       current = λ x y told_a told_b. record {

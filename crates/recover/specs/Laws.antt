@@ -1,6 +1,5 @@
 -- Laws of damage: an area has at most one first damage, and none if it stands for a lawful history.
 use Rattle.std.specs.Prelude.{◌≡◌, ℕ, List, None, map, take}
-use Rattle.std.specs.List.{AllByRecursion}
 use Rattle.access_history.specs.declared.event.Event.{Event}
 use Rattle.access_history.specs.Authority.{Authority}
 use Rattle.access_history.specs.Lawful.{IsLawful}

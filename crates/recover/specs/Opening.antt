@@ -97,7 +97,7 @@ module _ {D : Type 0} (clock : D → ℕ) (left_since : D → ℕ → List ℕ �
     pub same : image new ≡ image old
     pub pinned : IsPinned clock left_since image new
 
-  -- The store has the history of the newest area on these two disks, under that key and ring. It is ready if that area has its closed gate.
+  -- The store has the history of the newest area on these two disks, under that key and ring; each of its events was read, so it has no pass. It is ready if that area has its closed gate.
   pub record IsOpened (a b : D) (key : List ℕ) (ring : List KeyView) (s : StoreView D) : Type 0 where
     pub first_read : IsRead a (first_disk s)
     pub second_read : IsRead b (second_disk s)
@@ -105,6 +105,7 @@ module _ {D : Type 0} (clock : D → ℕ) (left_since : D → ℕ → List ℕ �
     pub ring_is : s.ring ≡ ring
     pub base_is : s.base ≡ fresh
     pub lawful : IsLawful (authority_with key ring) s.base s.events
+    pub each : AllByRecursion IsReadEvent s.events
     pub running : s.stop ≡ None
     pub newest_history : (x y : List ℕ) → image a ≡ Some x → image b ≡ Some y → IsNewestHistory (authority_with key ring) s.generation s.events x y
     pub current : (x y : List ℕ) → image a ≡ Some x → image b ≡ Some y → IsCurrent clock left_since image s

@@ -1,9 +1,9 @@
 //! The opening of a store.
 
-ghost use Rattle.std.specs.Prelude.{◌≡◌, ◌≢◌, ◌⊎◌, ◌≤◌, ℕ, IfErr, IfOk, IfSome, MatchResult, is_some, length};
+ghost use Rattle.std.specs.Prelude.{◌≡◌, ◌≢◌, ◌⊎◌, ◌≤◌, ℕ, IfErr, IfOk, IfSome, MatchResult, is_some};
 ghost use Rattle.pcfs_ports.specs.Faults.{HasRisen};
 ghost use Rattle.pcfs_ports.specs.Disk.{IsPinned, Idles};
-ghost use Rattle.journal_core.specs.Area.{area_bytes, IsArea, IsBroken, IsGeneration};
+ghost use Rattle.journal_core.specs.Area.{IsArea, IsBroken};
 ghost use Rattle.access_history.specs.History.{authority_with};
 ghost use Rattle.pcfs_store.specs.Image.{fresh_image};
 ghost use Rattle.pcfs_store.specs.StoredHistory.{payloads_of};
@@ -12,7 +12,7 @@ ghost use Rattle.recover.specs.Opening.{HoldsArea, IsNotOpened, IsOpened, IsScan
 use crate::fault::OpenFault;
 use crate::newest::find_newest;
 use crate::reading::read_history;
-use journal_core::{Area, Scan, ScanFault, scan_front};
+use journal_core::{Area, ScanFault, scan_front};
 use op_gate::{Damage, Gate};
 use pcfs_ports::Disk;
 use pcfs_store::Store;

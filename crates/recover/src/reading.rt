@@ -1,6 +1,6 @@
 //! The history of an area: its image, and its payloads one by one.
 
-ghost use Rattle.std.specs.Prelude.{◌≡◌, ◌<◌, [], IfErr, IfOk, length};
+ghost use Rattle.std.specs.Prelude.{◌≡◌, [], IfErr, IfOk};
 ghost use Rattle.access_history.specs.History.{authority_with};
 ghost use Rattle.access_history.specs.Replay.{fresh};
 ghost use Rattle.recover.specs.Reading.{AdmitsPayload, AdmitsPayloads, HasDamage, HoldsHistory, IsSameGate, fault_at, unread};

@@ -2,13 +2,12 @@
 ghost use Rattle.std.specs.Prelude.{◌≡◌, ◌+◌, ◌<◌, ◌^◌, ◌-◌, [], ◌∷◌, length, slice_index, Some, IfOk, IfErr};
 ghost use mathlib.Core.List.{IsPrefix};
 ghost use Rattle.tree_lock.specs.Entries.{AllOfNumber};
-ghost use Rattle.tree_lock.specs.Seen.{DoormanView, PassView};
 ghost use Rattle.tree_lock.specs.Closing.{TakesIn, IsClosed};
 
 use crate::parts::{Doorman, Pass, TreeLock};
 use crate::recorded::Recorded;
 use crate::rule::{LockTable, LookStep, MakeStep, RetireStep, TICKETS};
-use atomic_table::{Refused, Table};
+use atomic_table::Refused;
 use std::alloc::{AllocFailed, Global};
 use std::snapshot::Snapshot;
 

@@ -32,7 +32,7 @@ pub struct Doorman<V: Recorded> {
 impl<V: Recorded> Model for Doorman<V> {
     ghost use Rattle.std.specs.Prelude.{◌≡◌, [], ◌+◌, length};
     ghost use mathlib.Core.List.{IsPrefix};
-    ghost use Rattle.tree_lock.specs.Seen.{DoormanView, AreNumbers};
+    ghost use Rattle.tree_lock.specs.Seen.{DoormanView};
 
     ghost Value = { DoormanView V.Entry };
 

@@ -1,6 +1,6 @@
 //! What a lock's value and its jobs are.
-ghost use Rattle.std.specs.Prelude.{◌≡◌, ℕ, List, ◌++◌};
-ghost use Rattle.tree_lock.specs.Entries.{AllOfNumber, Appends};
+ghost use Rattle.std.specs.Prelude.{ℕ, List};
+ghost use Rattle.tree_lock.specs.Entries.{Appends};
 
 /// A value that keeps a list of entries, each under the number of the pass whose job appended it.
 pub trait Recorded {

@@ -15,7 +15,7 @@ fn name_of(number: u32) -> [u8; 3] {
     ]
 }
 
-fn are_created(tree: &mut Tree, alloc: Global, count: u32) -> bool {
+fn create_all(tree: &mut Tree, alloc: Global, count: u32) -> bool {
     for number in 0..count {
         let answer = answer_of(tree, alloc, Verb::Create, 1, &name_of(number), 0, b"");
         if answer.is_err() {
@@ -25,7 +25,7 @@ fn are_created(tree: &mut Tree, alloc: Global, count: u32) -> bool {
     true
 }
 
-fn are_filled(tree: &mut Tree, alloc: Global) -> bool {
+fn fill_all(tree: &mut Tree, alloc: Global) -> bool {
     for node in 2..34 {
         if answer_of(tree, alloc, Verb::Truncate, node, b"", 1_048_576, b"").is_err() {
             return false;
@@ -59,7 +59,7 @@ const NODES: [Step; 3] = [
 fn a_tree_has_at_most_so_many_nodes(rt: HostRuntime) -> Result<(), Fail> {
     let alloc = rt.alloc();
     let mut tree = Tree::new(alloc)?;
-    assert!(rt; are_created(&mut tree, alloc, 16_382));
+    assert!(rt; create_all(&mut tree, alloc, 16_382));
     for step in NODES {
         assert!(rt; is_right(&mut tree, alloc, step));
     }
@@ -102,8 +102,8 @@ const CONTENTS: [Step; 7] = [
 fn all_files_have_at_most_so_many_bytes(rt: HostRuntime) -> Result<(), Fail> {
     let alloc = rt.alloc();
     let mut tree = Tree::new(alloc)?;
-    assert!(rt; are_created(&mut tree, alloc, 33));
-    assert!(rt; are_filled(&mut tree, alloc));
+    assert!(rt; create_all(&mut tree, alloc, 33));
+    assert!(rt; fill_all(&mut tree, alloc));
     for step in CONTENTS {
         assert!(rt; is_right(&mut tree, alloc, step));
     }
@@ -114,7 +114,7 @@ fn all_files_have_at_most_so_many_bytes(rt: HostRuntime) -> Result<(), Fail> {
 fn a_copy_has_the_same_nodes(rt: HostRuntime) -> Result<(), Fail> {
     let alloc = rt.alloc();
     let mut tree = Tree::new(alloc)?;
-    assert!(rt; are_created(&mut tree, alloc, 2));
+    assert!(rt; create_all(&mut tree, alloc, 2));
     let copy = tree.copy()?;
     assert_eq!(rt; copy.next_number(), 4);
     assert_eq!(rt; copy.child(NodeId(1), b"aab"), Some(NodeId(3)));

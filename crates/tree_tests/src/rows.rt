@@ -5,7 +5,7 @@ use file_tree::{Refusal, Tree};
 use std::test::Fail;
 
 // A file, a directory, and in this a directory: the nodes 2, 3 and 4. Then each operation is refused: of the faults of a
-// row the first is told, and it is mended in the next.
+// row the first is reported, and it is mended in the next.
 const REFUSED: [Step; 45] = [
     (Verb::Create, 1, b"a", 0, b"", Want::Number(2)),
     (Verb::Mkdir, 1, b"d", 0, b"", Want::Number(3)),

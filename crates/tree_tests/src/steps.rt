@@ -50,7 +50,7 @@ fn op_on(verb: Verb, node: NodeId, name: Bytes, number: u64, renamed: Bytes) -> 
     }
 }
 
-fn done(tree: &mut Tree, alloc: Global, op: &TreeOp) -> Result<TreeReply, OpFault> {
+fn perform(tree: &mut Tree, alloc: Global, op: &TreeOp) -> Result<TreeReply, OpFault> {
     match tree.reserve(alloc, op) {
         Ok(reply) => {
             tree.apply(op);
@@ -73,7 +73,7 @@ pub fn answer_of(
     let name = bytes_of(alloc, name)?;
     let renamed = bytes_of(alloc, renamed)?;
     let op = op_on(verb, NodeId(node), name, number, renamed);
-    done(tree, alloc, &op)
+    perform(tree, alloc, &op)
 }
 
 fn is_refused(want: Want, refusal: Refusal) -> bool {

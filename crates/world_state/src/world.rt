@@ -94,6 +94,15 @@ impl World {
         apply(&mut self.tree, &mut self.meta, caller, &half);
         op_of(half)
     }
+
+    /// An equal world in memory of its own. What it is ready to change is not copied.
+    pub fn copy(&self) -> Result<World, NoMemory>
+        ensures { IfOk result (λ copied. copied.world ≡ self.now.world) }
+    {
+        let tree = self.tree.copy()?;
+        let meta = self.meta.copy()?;
+        Ok(World { tree, meta })
+    }
 }
 
 impl Facts for World {

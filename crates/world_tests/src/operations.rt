@@ -72,7 +72,7 @@ fn op_of(alloc: Global, call: &Call) -> Result<Op, Fail> {
 }
 
 // The operation in memory of its own again.
-fn copied(alloc: Global, call: &Call) -> Result<Op, Fail> {
+fn copy_of(alloc: Global, call: &Call) -> Result<Op, Fail> {
     let op = op_of(alloc, call)?;
     Ok(op.copy(alloc)?)
 }
@@ -91,9 +91,14 @@ fn is_wanted(reply: &OpReply, wanted: &Wanted) -> bool {
 }
 
 // Whether the caller's operation, reserved and applied, answers what is wanted.
-fn answers(world: &mut World, alloc: Global, call: &Call, wanted: &Wanted) -> Result<bool, Fail> {
+fn check_answer(
+    world: &mut World,
+    alloc: Global,
+    call: &Call,
+    wanted: &Wanted,
+) -> Result<bool, Fail> {
     let caller = principal(b"alice")?;
-    let (op, answer) = world.reserve(alloc, &caller, copied(alloc, call)?);
+    let (op, answer) = world.reserve(alloc, &caller, copy_of(alloc, call)?);
     match (answer, wanted) {
         (Ok(reply), wanted) => {
             world.apply(&caller, op);
@@ -105,9 +110,9 @@ fn answers(world: &mut World, alloc: Global, call: &Call, wanted: &Wanted) -> Re
 }
 
 // Whether each operation in turn answers what is wanted.
-fn all_answer(world: &mut World, alloc: Global, calls: &[(Call, Wanted)]) -> Result<bool, Fail> {
+fn check_all(world: &mut World, alloc: Global, calls: &[(Call, Wanted)]) -> Result<bool, Fail> {
     for (call, wanted) in calls {
-        if !answers(world, alloc, call, wanted)? {
+        if !check_answer(world, alloc, call, wanted)? {
             return Ok(false);
         }
     }
@@ -133,7 +138,7 @@ fn both_halves_follow(rt: HostRuntime) -> Result<(), Fail> {
         (Call::Chown(2, b"bob"), Wanted::Done),
         (Call::Unlink(1, b"home"), Wanted::Refused(Refusal::NotEmpty)),
     ];
-    assert!(rt; all_answer(&mut world, rt.alloc(), calls.as_slice())?);
+    assert!(rt; check_all(&mut world, rt.alloc(), calls.as_slice())?);
     assert!(rt; world.holds(&StatePred::Owner(file(3), Term::Prin(principal(b"alice")?))));
     assert!(rt; world.holds(&StatePred::Owner(file(2), Term::Prin(principal(b"bob")?))));
     assert!(rt; world.holds(&StatePred::InDir(file(3), file(2))));
@@ -150,7 +155,7 @@ fn both_halves_follow(rt: HostRuntime) -> Result<(), Fail> {
             Wanted::Refused(Refusal::NoAttribute),
         ),
     ];
-    assert!(rt; all_answer(&mut world, rt.alloc(), gone.as_slice())?);
+    assert!(rt; check_all(&mut world, rt.alloc(), gone.as_slice())?);
     Ok(())
 }
 
@@ -158,7 +163,7 @@ fn both_halves_follow(rt: HostRuntime) -> Result<(), Fail> {
 fn needs_name_the_child(rt: HostRuntime) -> Result<(), Fail> {
     let mut world = World::new(rt.alloc())?;
     let made = [(Call::Create(1, b"notes"), Wanted::Node(2))];
-    assert!(rt; all_answer(&mut world, rt.alloc(), made.as_slice())?);
+    assert!(rt; check_all(&mut world, rt.alloc(), made.as_slice())?);
     let there = op_of(rt.alloc(), &Call::Rename(1, b"notes", 1, b"kept"))?;
     let needs = world.needs(&there);
     assert_eq!(rt; needs.as_slice().len(), 3);
@@ -207,16 +212,16 @@ fn operations_are_refused(rt: HostRuntime) -> Result<(), Fail> {
             Wanted::Refused(Refusal::BadAttrName),
         ),
     ];
-    assert!(rt; all_answer(&mut world, rt.alloc(), made.as_slice())?);
-    assert!(rt; all_answer(&mut world, rt.alloc(), refused.as_slice())?);
+    assert!(rt; check_all(&mut world, rt.alloc(), made.as_slice())?);
+    assert!(rt; check_all(&mut world, rt.alloc(), refused.as_slice())?);
     Ok(())
 }
 
 // Sets 32 attributes of the root, whose names end in these bytes.
-fn are_set(world: &mut World, alloc: Global) -> Result<bool, Fail> {
+fn set_all(world: &mut World, alloc: Global) -> Result<bool, Fail> {
     for last in b"z9a.8b_7c6d5e4f3g2h1i0jklmnopqrs" {
         let call = Call::Setattr(1, &[b'x', *last], b"old");
-        if !answers(world, alloc, &call, &Wanted::Done)? {
+        if !check_answer(world, alloc, &call, &Wanted::Done)? {
             return Ok(false);
         }
     }
@@ -233,10 +238,10 @@ fn name_of(number: u64) -> [u8; 3] {
 }
 
 // Creates all nodes from 2 to 16,384.
-fn are_created(world: &mut World, alloc: Global) -> Result<bool, Fail> {
+fn create_all(world: &mut World, alloc: Global) -> Result<bool, Fail> {
     for number in 2..16_385 {
         let name = name_of(number);
-        if !answers(world, alloc, &Call::Create(1, &name), &Wanted::Node(number))? {
+        if !check_answer(world, alloc, &Call::Create(1, &name), &Wanted::Node(number))? {
             return Ok(false);
         }
     }
@@ -255,7 +260,7 @@ fn a_world_is_full(rt: HostRuntime) -> Result<(), Fail> {
         (Call::Create(1, b"more"), Wanted::Refused(Refusal::TreeFull)),
         (Call::Create(1, b"aac"), Wanted::Refused(Refusal::Exists)),
     ];
-    assert!(rt; are_set(&mut world, rt.alloc())? && are_created(&mut world, rt.alloc())?);
-    assert!(rt; all_answer(&mut world, rt.alloc(), calls.as_slice())?);
+    assert!(rt; set_all(&mut world, rt.alloc())? && create_all(&mut world, rt.alloc())?);
+    assert!(rt; check_all(&mut world, rt.alloc(), calls.as_slice())?);
     Ok(())
 }

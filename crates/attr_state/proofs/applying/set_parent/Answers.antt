@@ -1,4 +1,4 @@
--- The mark after the reference has another directory; where there is no mark, nothing changes.
+-- The mark after the reference has another directory; if there is no mark, nothing changes.
 use Rattle.std.proofs.Common.{◌≡◌, Some, refl, sym, ap, subst}
 use Rattle.file_world.specs.AttributeEffect.{with_parent}
 use Rattle.attr_state.specs.declared.mark.KeptMark.{KeptMark as Kept}

@@ -13,4 +13,4 @@ formula_at-returns t c = rw (formula_inside c.args.input c.args.depth c.args.lef
 
 pub fields_at-returns-then-is_leaf_tag : goal.fields_at-returns-then-is_leaf_tag
 fields_at-returns-then-is_leaf_tag t c =
-    rw (leaf_is (λ n rest. formula_at c.args.input c.args.depth n rest) c.args.input c.args.left c.args.tag c.args.rest.now (sym c.if-is_leaf_tag.ensures)) c.boxed_leaf_at.ensures
+    rw (leaf_is (λ n rest. formula_at c.args.input c.args.depth n rest) c.args.input c.args.left c.args.tag c.args.rest.now (sym c.if-is_leaf_tag.ensures)) c.leaf_at.ensures

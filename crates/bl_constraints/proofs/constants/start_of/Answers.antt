@@ -1,4 +1,3 @@
-use Rattle.std.proofs.Common.{refl}
 use Rattle.bl_syntax.specs.declared.terms.Term.TheVariants.{Time}
 use Rattle.bl_syntax.specs.Entailment.{same, from_the_start}
 use Rattle.bl_constraints.proofs.constants.start_of.Goals as goal

@@ -1,4 +1,4 @@
--- The directory is the node after the reference without the name; where there is no node, nothing is kept.
+-- The directory is the node after the reference without the name; if there is no node, nothing is kept.
 use Rattle.std.proofs.Common.{◌≡◌, Some, None, refl, sym}
 use Rattle.file_tree.specs.declared.node.KeptNode.{KeptNode as Kept}
 use Rattle.file_tree.specs.Index.{kept_at, spot_place}

@@ -1,10 +1,8 @@
-use Rattle.std.proofs.Common.{◌≡◌, ℕ, List, [], ◌∷◌, ◌++◌, Some, ap, sym, subst, ◌∙◌, inl}
+use Rattle.std.proofs.Common.{◌≡◌, ℕ, List, [], ◌∷◌, sym, subst, ◌∙◌}
 use Rattle.std.proofs.lemmas.List.{append-nil}
-use Rattle.std.specs.Option.{option_map}
-use Rattle.pcfs_ports.specs.Disk.{written, LeavesOnly}
+use Rattle.pcfs_ports.specs.Disk.{LeavesOnly}
 use Rattle.journal_core.specs.Area.{base_bytes, area_bytes}
 use Rattle.journal_core.specs.Rest.{IsOldOrShutOrNew}
-use Rattle.journal_core.proofs.RestsLemmas.{leaves_none}
 use Rattle.journal_core.proofs.area.format_disk.Goals as goal
 
 -- an area without records ends with its image

@@ -1,7 +1,6 @@
-use Rattle.std.proofs.Common.{◌≡◌, ◌⊎◌, ℕ, ◌+◌, List, [], ◌∷◌, ◌++◌, Some, ap, sym, subst, ◌∙◌, inl, inr, ⊎_elim}
+use Rattle.std.proofs.Common.{◌⊎◌, ℕ, List, [], ◌∷◌, ◌++◌, ap, subst, ◌∙◌, inl, inr, ⊎_elim}
 use Rattle.std.specs.Option.{option_map}
 use Rattle.pcfs_ports.specs.Disk.{written, Torn, LeavesOnly}
-use Rattle.journal_core.specs.Area.{IsShut, Closed}
 use Rattle.journal_core.specs.Rest.{IsOldOrShutOrNew}
 use Rattle.journal_core.proofs.RestsLemmas.{then_leaves, weaker_leaves}
 use Rattle.journal_core.proofs.AreaLemmas.{torn_start, closed_start, torn_after, torn_gate}

@@ -1,4 +1,4 @@
-use Rattle.std.proofs.Common.{◌≡◌, ◌⊎◌, ℕ, ◌+◌, List, [], ◌∷◌, Some, ap, ◌∙◌, inl}
+use Rattle.std.proofs.Common.{◌⊎◌, ◌+◌, [], ◌∷◌, ap, ◌∙◌, inl}
 use Rattle.std.specs.Option.{option_map}
 use Rattle.pcfs_ports.specs.Disk.{written, Torn}
 use Rattle.journal_core.proofs.RestsLemmas.{then_leaves, weaker_leaves}

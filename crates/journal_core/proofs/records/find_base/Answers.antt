@@ -1,9 +1,8 @@
-use Rattle.std.proofs.Common.{◌≡◌, ℕ, ◌+◌, ◌^◌, ◌<◌, ◌≤◌, List, [], ◌∷◌, ◌++◌, length, take, drop, ap, sym, ◌∙◌, arith, rules, append_assoc, length-append}
-use Rattle.std.specs.Int.{w64, from_be_bytes}
+use Rattle.std.proofs.Common.{◌≡◌, ℕ, ◌+◌, ◌^◌, ◌<◌, ◌≤◌, length, take, drop, ap, ◌∙◌, arith}
 use Rattle.std.proofs.lemmas.List.{append-nil}
 use Rattle.std.proofs.lemmas.Slice.Eq.{bytes_eq-Decides}
-use Rattle.journal_core.specs.Area.{area_limit, magic, area_bytes}
-use Rattle.journal_core.proofs.RecordLemmas.{base_found, base_name, base_generation, base_length, base_within, named_by}
+use Rattle.journal_core.specs.Area.{area_limit, magic}
+use Rattle.journal_core.proofs.RecordLemmas.{base_found, base_length, base_within, named_by}
 use Rattle.journal_core.proofs.records.find_base.Goals as goal
 use Rattle.journal_core.proofs.records.find_base.Goals.{then-len-via-then-len, then-len-via-else-len+then-bytes-len}
 

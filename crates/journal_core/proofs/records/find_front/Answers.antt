@@ -1,4 +1,4 @@
-use Rattle.std.proofs.Common.{◌≡◌, ℕ, List, get_or, ap, sym, subst, ◌∙◌}
+use Rattle.std.proofs.Common.{◌≡◌, ℕ, List, get_or, subst}
 use Rattle.journal_core.specs.ScanView.{all_bytes_at}
 use Rattle.journal_core.specs.Reports.{BaseEndsAt, RecordsEndAt, NoRecordAt}
 use Rattle.journal_core.proofs.RecordLemmas.{front_found}

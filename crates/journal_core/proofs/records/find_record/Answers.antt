@@ -1,5 +1,4 @@
-use Rattle.std.proofs.Common.{◌≡◌, ℕ, ◌+◌, ◌^◌, ◌<◌, ◌≤◌, length, arith, inl, inr, ap}
-use Rattle.journal_core.specs.Area.{area_limit}
+use Rattle.std.proofs.Common.{ℕ, ◌+◌, ◌^◌, ◌<◌, length, arith, inl, inr, ap}
 use Rattle.journal_core.proofs.RecordLemmas.{record_found, record_number, record_within}
 use Rattle.journal_core.proofs.records.find_record.Goals as goal
 

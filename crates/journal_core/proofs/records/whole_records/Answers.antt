@@ -1,4 +1,4 @@
-use Rattle.std.proofs.Common.{◌≡◌, ℕ, List, ap, sym, subst, refl, ◌∙◌}
+use Rattle.std.proofs.Common.{ℕ, List, ap, sym, subst, refl, ◌∙◌}
 use Rattle.std.proofs.lemmas.List.{map_push}
 use Rattle.journal_core.specs.ScanView.{bytes_at, all_bytes_at}
 use Rattle.journal_core.specs.Reports.{RecordsEndAt}

@@ -1,4 +1,4 @@
-use Rattle.std.proofs.Common.{◌≡◌, ℕ, ◌-◌, min, List, ◌++◌, length, take, drop, ap, ◌∙◌, arith}
+use Rattle.std.proofs.Common.{◌≡◌, ℕ, min, length, take, ap, ◌∙◌, arith}
 use Rattle.std.proofs.lemmas.List.{take_at, take_min}
 use Rattle.pcfs_ports.specs.Disk.{ReadsAt}
 use Rattle.journal_core.specs.Area.{area_limit}

@@ -1,6 +1,6 @@
-use Rattle.std.proofs.Common.{◌≡◌, ◌≢◌, ◌<◌, ℕ, List, length, take, IfSome, IfOk, IfErr, Result, Ok, Err, ap, subst, ◌∙◌}
+use Rattle.std.proofs.Common.{◌≡◌, ◌≢◌, ℕ, List, take, IfSome, Err, ap, subst, ◌∙◌}
 use Rattle.std.proofs.lemmas.Result.{IfOk-weaker, IfErr-weaker}
-use Rattle.journal_core.specs.Area.{area_limit, area_bytes, IsFront}
+use Rattle.journal_core.specs.Area.{area_limit, IsFront}
 use Rattle.journal_core.specs.Faults.{IsFrontReported}
 use Rattle.journal_core.specs.declared.scan.ScanFault.{ScanFault}
 use Rattle.journal_core.specs.declared.scan.ScanFault.TheVariants.{Disk}

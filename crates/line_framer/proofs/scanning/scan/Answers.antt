@@ -1,7 +1,7 @@
 -- Each line of the piece is short enough, or it is the first that is not.
-use Rattle.std.proofs.Common.{◌≡◌, ◌≤◌, ℕ, List, take, drop, length, ◌+◌, sym, ap, subst, length-drop, arith}
+use Rattle.std.proofs.Common.{◌≡◌, ◌≤◌, ℕ, List, drop, length, ◌+◌, sym, ap, subst, length-drop, arith}
 use Rattle.std.proofs.lemmas.List.{take_rest}
-use Rattle.line_framer.proofs.ScanningLemmas.{SoFar, SoFar-none, scan_more, scan_line, IsScanned-short, IsScanned-rest}
+use Rattle.line_framer.proofs.ScanningLemmas.{SoFar, scan_more, scan_line, IsScanned-short, IsScanned-rest}
 use Rattle.line_framer.proofs.scanning.scan.Goals as goal
 
 within : (rest piece after : List ℕ) (n : ℕ) → after ≡ drop n rest → length rest ≤ length piece → length after ≤ length piece

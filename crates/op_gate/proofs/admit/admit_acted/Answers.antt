@@ -1,5 +1,5 @@
 -- What is wrong before the operation is decided, or what is decided.
-use Rattle.std.proofs.Common.{subst, sym, List}
+use Rattle.std.proofs.Common.{subst, List}
 use Rattle.std.specs.Prelude.{ℤ}
 use Rattle.std.specs.Int.{w64}
 use mir.Val.{to_z, of_z}

@@ -1,7 +1,6 @@
 -- What the registry tells is tested, as for a request.
 use Rattle.std.specs.Prelude.{Ok, Err}
-use Rattle.std.proofs.Common.{◌≡◌, sym, subst, List, ℕ}
-use Rattle.bl_syntax.specs.Statement.{StatementView}
+use Rattle.std.proofs.Common.{sym, subst}
 use Rattle.policy_statement.specs.Messages.{statement_message}
 use Rattle.policy_statement.specs.Registry.{MayRegister}
 use Rattle.policy_statement.specs.Ring.{is_accepted}

@@ -4,7 +4,7 @@ use Rattle.std.specs.Prelude.{ℤ}
 use Rattle.std.specs.Int.{w64}
 use Rattle.std.proofs.lemmas.Int.{to_z-of_z}
 use Rattle.access_history.specs.declared.request.StepRequest.TheVariants.{Act}
-use Rattle.access_history.specs.History.{authority_of, state_of}
+use Rattle.access_history.specs.History.{authority_of}
 use Rattle.access_history.proofs.LawfulLemmas.{IsLawfulBase-lawful}
 use Rattle.op_gate.specs.declared.planned.Planned.TheVariants.{Answer, Keep}
 use Rattle.op_gate.specs.Decision.{IsPlanned}

@@ -1,6 +1,5 @@
 -- The first thing that is wrong before the operation is decided.
-use Rattle.std.proofs.Common.{◌≡◌, subst, sym, arith, ap}
-use Rattle.std.specs.Prelude.{ℤ, ◌≤ℤ◌}
+use Rattle.std.proofs.Common.{subst, sym, arith}
 use Rattle.std.specs.Int.{w64}
 use Rattle.std.proofs.lemmas.Int.{ints, to_z-of_z}
 use Rattle.bl_syntax.specs.TimeOrder.{IsMoment}

@@ -1,5 +1,5 @@
 -- Goals and conditions are compared one after the other.
-use Rattle.std.proofs.Common.{◌≡◌, sym, ap, ◌∙◌, List}
+use Rattle.std.proofs.Common.{sym, ap, ◌∙◌}
 use Rattle.std.proofs.lemmas.Bool.{false≢true}
 use Rattle.bl_syntax.specs.Grant.{GrantView}
 use Rattle.op_gate.proofs.AdmitLemmas.{same_grant}

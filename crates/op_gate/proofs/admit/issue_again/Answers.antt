@@ -1,6 +1,5 @@
 -- The grant is the one that the proof gives, or another.
-use Rattle.std.proofs.Common.{◌≡◌, sym, subst, ◌∙◌}
-use Rattle.bl_syntax.specs.Grant.{GrantView}
+use Rattle.std.proofs.Common.{sym, ◌∙◌}
 use Rattle.op_gate.proofs.AdmitLemmas.{issued_told, other_grant}
 use Rattle.op_gate.proofs.CheckLemmas.{is_so, is_not_so}
 use Rattle.op_gate.proofs.admit.issue_again.Goals as goal

@@ -1,5 +1,5 @@
 -- The proof is checked again, and its grant compared.
-use Rattle.std.proofs.Common.{◌≡◌, sym, ap, subst, ◌∙◌, List}
+use Rattle.std.proofs.Common.{sym, ap, subst, ◌∙◌, List}
 use Rattle.std.specs.Prelude.{Err}
 use Rattle.bl_syntax.specs.declared.grant.Goal.{Goal}
 use Rattle.proof_term.specs.Proof.{ProofView}

@@ -1,5 +1,5 @@
 -- A store is made, or not.
-use Rattle.std.proofs.Common.{refl, subst, ap, sym, ◌∙◌}
+use Rattle.std.proofs.Common.{refl, subst}
 use Rattle.pcfs_store.specs.Formats.{IsNewStore}
 use Rattle.pcfs_top.proofs.EndsWithLemmas.{DiskLaws, EndsWith-made, EndsWith-unmade, EndsWith-unbegun, not_lost}
 use Rattle.pcfs_top.proofs.run.init.Goals as goal

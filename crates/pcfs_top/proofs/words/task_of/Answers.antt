@@ -1,4 +1,4 @@
-use Rattle.std.proofs.Common.{refl, true, false, ◌≡◌}
+use Rattle.std.proofs.Common.{true, false, ◌≡◌}
 use Rattle.pcfs_top.proofs.WordsLemmas.{unknown}
 use Rattle.pcfs_top.proofs.words.task_of.Goals as goal
 

@@ -1,15 +1,13 @@
 -- A payload before the break is damaged, or the record that breaks is cut.
-use Rattle.std.proofs.Common.{◌≡◌, ◌≢◌, ◌+◌, ◌<◌, length, sym, ap, subst, ◌∙◌, arith, ℕ, List, IfSome}
-use Rattle.journal_core.specs.Area.{area_limit, IsBroken, IsFront}
-use Rattle.journal_core.specs.declared.scan.ScanFault.{ScanFault}
-use Rattle.journal_core.specs.declared.scan.ScanFault.TheVariants as scans
+use Rattle.std.proofs.Common.{sym, subst, arith}
+use Rattle.journal_core.specs.Area.{IsBroken, IsFront}
 use Rattle.journal_core.proofs.RestsLemmas.{if_told, at_told}
 use Rattle.access_history.specs.History.{authority_with}
 use Rattle.op_gate.specs.declared.damage.Damage.TheVariants.{Shape}
 use Rattle.recover.specs.declared.fault.OpenFault.{OpenFault}
 use Rattle.recover.specs.declared.fault.OpenFault.TheVariants.{Damaged}
 use Rattle.recover.specs.Opening.{IsWhy, front_fault}
-use Rattle.recover.proofs.AreaDamageLemmas.{why_front, why_broken, why_no_front, front_failed}
+use Rattle.recover.proofs.AreaDamageLemmas.{why_front, why_broken, why_no_front}
 use Rattle.recover.proofs.open.damage_before_break.Goals as goal
 
 pub returns-in-Ok-read_history-clause-why : goal.returns-in-Ok-read_history-clause-why

@@ -1,13 +1,12 @@
 -- One of the areas counts, and holds a history or is damaged; or none does; or a disk failed.
-use Rattle.std.proofs.Common.{◌≡◌, ℕ, List, sym, ap, subst, ◌∙◌, Some, None, IfSome}
+use Rattle.std.proofs.Common.{◌≡◌, ℕ, List, sym, subst, Some, IfSome}
 use Rattle.std.specs.Prelude.{Option, Bool, true, false}
 use Rattle.journal_core.specs.Area.{generation_of}
-use Rattle.access_history.specs.History.{authority_with}
 use Rattle.pcfs_store.specs.Newest.{newer}
 use Rattle.pcfs_store.specs.StoreView.{StoreView}
 use Rattle.recover.specs.Opening.{IsOpened}
 use Rattle.recover.proofs.DiskLemmas.{was_read, handled}
-use Rattle.recover.proofs.OpeningLemmas.{opened_first, opened_second, not_opened_first, not_opened_second, not_opened_none, not_opened_failed}
+use Rattle.recover.proofs.OpeningLemmas.{opened_first, opened_second, not_opened_first, not_opened_second, not_opened_failed}
 use Rattle.recover.proofs.open.open_store.Goals as goal
 
 -- whether the second of two disks with these bytes counts

@@ -1,8 +1,7 @@
 -- The image is right, and a payload is damaged.
-use Rattle.std.proofs.Common.{◌≡◌, ℕ, List, sym, ap, subst, ◌∙◌}
+use Rattle.std.proofs.Common.{◌≡◌, sym, subst, ◌∙◌}
 use Rattle.std.specs.Prelude.{Err}
 use Rattle.std.proofs.lemmas.Slice.Eq.{bytes_eq-Decides}
-use Rattle.policy_statement.specs.Ring.{KeyView}
 use Rattle.journal_core.proofs.RecordLemmas.{named_by}
 use Rattle.access_history.specs.History.{authority_with}
 use Rattle.op_gate.specs.Decision.{GateView}

@@ -1,5 +1,5 @@
-use Rattle.std.proofs.Common.{refl, arith}
-use Rattle.bl_constraints.proofs.PlaceLemmas.{adding_none, adding_more, added_all}
+use Rattle.std.proofs.Common.{arith}
+use Rattle.bl_constraints.proofs.PlaceLemmas.{added_all}
 use Rattle.bl_constraints.proofs.places.Places.add_all.Goals as goal
 
 pub returns : goal.returns

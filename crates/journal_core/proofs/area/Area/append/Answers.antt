@@ -1,6 +1,6 @@
-use Rattle.std.proofs.Common.{◌≡◌, ◌⊎◌, ℕ, ◌+◌, List, [], ◌∷◌, ◌++◌, Some, ap, sym, subst, ◌∙◌}
+use Rattle.std.proofs.Common.{◌⊎◌, ℕ, ◌+◌, [], ◌∷◌, ◌++◌, ap, subst, ◌∙◌}
 use Rattle.std.specs.Option.{option_map}
-use Rattle.pcfs_ports.specs.Disk.{written, Torn, LeavesOnly}
+use Rattle.pcfs_ports.specs.Disk.{written, Torn}
 use Rattle.journal_core.specs.Area.{Closed, record_bytes}
 use Rattle.journal_core.specs.Rest.{IsWithOrWithout}
 use Rattle.journal_core.proofs.RestsLemmas.{weaker_leaves}

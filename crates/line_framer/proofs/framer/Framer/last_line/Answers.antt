@@ -1,5 +1,5 @@
 -- Bytes without an end of a line are all of the last one.
-use Rattle.std.proofs.Common.{◌≡◌, ℕ, List, Bool, length, sym, ap, ◌∙◌, subst}
+use Rattle.std.proofs.Common.{◌≡◌, sym, ap, ◌∙◌, subst}
 use Rattle.line_text.specs.Words.{HasNo}
 use Rattle.line_framer.specs.Framing.{FramerState}
 use Rattle.line_framer.proofs.FramingLemmas.{no_end_open}

@@ -1,6 +1,5 @@
-use Rattle.std.proofs.Common.{◌≡◌, ℕ, List, [], ◌∷◌, ◌++◌, sym, ap, ◌∙◌}
+use Rattle.std.proofs.Common.{[], ◌∷◌, ◌++◌, sym, ap, ◌∙◌}
 use Rattle.pcfs_ports.specs.MemoryDisk.{MemoryDiskView, image_after}
-use Rattle.pcfs_ports.specs.declared.disk_call.DiskCall.{DiskCall}
 use Rattle.pcfs_ports.specs.declared.disk_call.DiskCall.TheVariants.{Synced}
 use Rattle.pcfs_ports.proofs.DiskLemmas.{image_push, synced_image, synced_pinned, synced_idles}
 use Rattle.pcfs_ports.proofs.memory_disk.MemoryDiskDisk.sync.Goals as goal

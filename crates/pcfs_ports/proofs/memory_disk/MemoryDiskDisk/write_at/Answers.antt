@@ -1,6 +1,5 @@
-use Rattle.std.proofs.Common.{◌≡◌, ℕ, List, [], ◌∷◌, ◌++◌, Some, sym, ap, ◌∙◌}
+use Rattle.std.proofs.Common.{[], ◌∷◌, ◌++◌, Some, sym, ap, ◌∙◌}
 use Rattle.pcfs_ports.specs.MemoryDisk.{MemoryDiskView, image_after}
-use Rattle.pcfs_ports.specs.declared.disk_call.DiskCall.{DiskCall}
 use Rattle.pcfs_ports.specs.declared.disk_call.DiskCall.TheVariants.{Wrote}
 use Rattle.pcfs_ports.specs.Disk.{written}
 use Rattle.pcfs_ports.proofs.DiskLemmas.{image_push, image_more, more_elapses, wrote_torn, same_elapses, same_torn}

@@ -1,6 +1,4 @@
-use Rattle.std.proofs.Common.{suc, ap, ◌∙◌, arith}
-use Rattle.bl_syntax.specs.Substitution.{put_in_term}
-use Rattle.proof_verifier.specs.Instances.{term_with}
+use Rattle.std.proofs.Common.{◌∙◌, arith}
 use Rattle.proof_verifier.proofs.InstanceLemmas.{variable-inner}
 use Rattle.proof_verifier.proofs.instance.TermList.+variable.Goals as goal
 
