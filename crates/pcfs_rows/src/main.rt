@@ -4,7 +4,9 @@
 //! `README.md` beside `src/` says what the rows are.
 #![tactic(auto)]
 
+mod asked;
 mod case;
+mod case_input;
 mod rows;
 mod short_form;
 mod values;

@@ -25,15 +25,14 @@ use Rattle.access_history.proofs.NumberedLemmas.{Contains-numbered}
 use Rattle.op_gate.proofs.CitingLemmas.{AreCited-found}
 use Rattle.line_words.specs.declared.procap_word.ProcapWord.{ProcapWord}
 use Rattle.line_forms.specs.declared.command.Command.{Command}
-use Rattle.line_forms.specs.declared.command.Command.TheVariants.{Register, Verify, Do}
 use Rattle.line_forms.specs.Lines.{IsLine}
-use Rattle.line_forms.proofs.LimitLemmas.{times_of_verify}
+use Rattle.line_forms.specs.Said.{IsWithin}
+use Rattle.line_forms.proofs.LimitLemmas.{line_within}
 use Rattle.pcfs_session.specs.Asker.{Asker, IsAsker}
 use Rattle.pcfs_session.specs.Procaps.{AreBrought}
 use Rattle.pcfs_session.specs.Proved.{IsProved}
 use Rattle.pcfs_session.specs.LineAnswer.{requested, ComesTo}
 use Rattle.pcfs_session.specs.LineAnswer as line_answer
-use Rattle.pcfs_session.proofs.AllowedLemmas.{IsAllowed-line}
 
 -- as many words are there as procaps that they bring
 pub same_length : (key : List ℕ) (issues : List Issue) (words : List ProcapWord) (procaps : List Sealed) → AreBrought key issues words procaps → length words ≡ length procaps
@@ -65,15 +64,19 @@ IsGranted-proved statements goal numbers proof cites g are times proved =
       is_grant = IsGrant-verdict (statements_of cites) goal proof g all times proved.verdict_is;
     }
 
--- a request that a line leads to is well formed
+-- a request that a command of any mode leads to is well formed
+pub IsWellFormed-within : (secrets : Secrets) (state : BaseView) (asker : Asker) (command : Command) (request : StepRequest) → IsAsker asker → AllByRecursion IsStatement (sayings state.statements) → IsWithin command →
+    ComesTo secrets state asker command (requested request) → IsWellFormed request
+IsWellFormed-within secrets state asker _ _ is_asker are within (line_answer.registers signature statement) = within
+IsWellFormed-within secrets state asker _ _ is_asker are within (line_answer.shows number) = tt
+IsWellFormed-within secrets state asker _ _ is_asker are within (line_answer.verifies goal numbers proof cites g proved) = (
+  AreCited-numbers (sayings state.statements) numbers cites proved.found within.0,
+  IsGranted-proved (sayings state.statements) goal numbers proof cites g are within.1 proved,
+)
+IsWellFormed-within secrets state asker _ _ is_asker are within (line_answer.acts op words procaps brought) =
+    record { named = is_asker.named; operation = within.operation; slots = sym (same_length secrets.seal_key state.issues words procaps brought) ∙ within.one_each; few_bytes = within.few_bytes }
+
+-- a request that a line of a script leads to is
 pub IsWellFormed-line : (secrets : Secrets) (state : BaseView) (asker : Asker) (line : List ℕ) (command : Command) (request : StepRequest) → IsAsker asker → AllByRecursion IsStatement (sayings state.statements) → IsLine line command →
     ComesTo secrets state asker command (requested request) → IsWellFormed request
-IsWellFormed-line secrets state asker line _ _ is_asker are is (line_answer.registers signature statement) = IsAllowed-line line (Register signature statement) is
-IsWellFormed-line secrets state asker line _ _ is_asker are is (line_answer.shows number) = tt
-IsWellFormed-line secrets state asker line _ _ is_asker are is (line_answer.verifies goal numbers proof cites g proved) = (
-  AreCited-numbers (sayings state.statements) numbers cites proved.found (IsAllowed-line line (Verify goal numbers proof) is),
-  IsGranted-proved (sayings state.statements) goal numbers proof cites g are (times_of_verify line goal numbers proof is) proved,
-)
-IsWellFormed-line secrets state asker line _ _ is_asker are is (line_answer.acts op words procaps brought) =
-    let allowed = IsAllowed-line line (Do op words) is in
-    record { named = is_asker.named; operation = allowed.0; slots = sym (same_length secrets.seal_key state.issues words procaps brought) ∙ allowed.1; few_bytes = allowed.2 }
+IsWellFormed-line secrets state asker line command request is_asker are is comes = IsWellFormed-within secrets state asker command request is_asker are (line_within is) comes
