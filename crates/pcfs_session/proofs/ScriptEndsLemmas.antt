@@ -175,6 +175,11 @@ module _ {D : Type 0} (clock : D → ℕ) (left_since : D → ℕ → List ℕ �
     pub lawful_now : (now : InterpreterView D) (open_line : List ℕ) (left held : Option (List ℕ)) (count : ℕ) → IsLawfulStanding (standing_of start None) → IsReading now open_line left held count → IsLawfulStanding (standing_of now None)
     lawful_now now open_line left held count stands r = lawful_on clock left_since image faults r.lines start now r.answered.told stands r.answered.was
 
+    -- memory ran out before anything was taken
+    pub AnswersScript-unbegun : (after : Streams) → IsLawfulStanding (standing_of start None) → start.store.stop ≡ None → after.left ≡ before.left → after.held ≡ before.held → AnswersScript clock left_since image faults start before script_ends.NoMemory start after
+    AnswersScript-unbegun after stands running left held =
+        record { met = None; ends = ScriptEnds-unbegun (standing_of start None) before after stands left held; goes_on = StoreGoesOn-same clock left_since image faults start.store running }
+
     -- the bytes of a piece are taken too
     also_taken : (open_line piece : List ℕ) (lines : List (List ℕ)) (left left_after : Option (List ℕ)) → before.left ≡ with_front (ended lines ++ open_line) left → left ≡ with_front piece left_after →
         before.left ≡ with_front (ended lines ++ (open_line ++ piece)) left_after
@@ -229,11 +234,11 @@ module _ {D : Type 0} (clock : D → ℕ) (left_since : D → ℕ → List ℕ �
       }
 
       -- it halts, where the lines and their replies are those
-      halts : (halt : Halt) (lines : List (List ℕ)) (new : InterpreterView D) → (h : Halts lines start new before.held [] halt after.held) → IsUnderWay (standing_of start None) (standing_of new h.met) before after (output_of h.told) →
+      halted : (halt : Halt) (lines : List (List ℕ)) (new : InterpreterView D) → (h : Halts lines start new before.held [] halt after.held) → IsUnderWay (standing_of start None) (standing_of new h.met) before after (output_of h.told) →
           (halted_end halt ≡ script_ends.WriteFault → HasRisen before.write_faults after.write_faults) → AnswersScript clock left_since image faults start before (halted_end halt) new after
-      halts (Unsent fault) lines new h way risen =
+      halted (Unsent fault) lines new h way risen =
           record { met = h.met; ends = ends.cut_short fault (output_of h.told) (λ is. risen (ap unsent_end is)) way h.out; goes_on = h.was.goes_on }
-      halts Stopped lines new h way risen =
+      halted Stopped lines new h way risen =
           record { met = h.met; ends = ends.written script_ends.Stopped (output_of h.told) (ends.stopped (output_of h.told) h.is_met.0 way h.is_met.1) h.out; goes_on = h.was.goes_on }
 
       module _ (now new : InterpreterView D) (open_line piece : List ℕ) (left held : Option (List ℕ)) (count : ℕ) (r : IsReading now open_line left held count) where
@@ -255,7 +260,7 @@ module _ {D : Type 0} (clock : D → ℕ) (left_since : D → ℕ → List ℕ �
         at_line halt more risen w =
             let first = AreFirst-then r.lines w.lines (open_line ++ piece) w.rest r.whole w.first in
             let h = HaltsAt-then clock left_since image faults r.lines w.lines start now new before.held held after.held [] [] halt r.answered w.halts in
-            halts halt (r.lines ++ w.lines) new h
+            halted halt (r.lines ++ w.lines) new h
             (ends.while_reading (r.lines ++ w.lines) (record { bytes = ended r.lines ++ (open_line ++ piece); rest = w.rest; taken = also_taken open_line piece r.lines left after.left r.taken more; first = first })
             (runs_over (r.lines ++ w.lines) new h.met h.told h.was))
             risen
@@ -331,5 +336,5 @@ module _ {D : Type 0} (clock : D → ℕ) (left_since : D → ℕ → List ℕ �
             }
         AnswersScript-last _ same at_end risen (last_halted halt short h) =
             let both = HaltsAt-then clock left_since image faults r.lines (lines_of open_line) start now new before.held held after.held [] [] halt r.answered h in
-            halts halt (r.lines ++ lines_of open_line) new both
+            halted halt (r.lines ++ lines_of open_line) new both
             (ends.all_read (ended r.lines ++ open_line) (ReadsToEnd-taken (ended r.lines ++ open_line) before.left after.left (all_bytes same) at_end) (AreShort-then r.lines open_line r.whole short) (over_all both.met both.told both.was)) risen

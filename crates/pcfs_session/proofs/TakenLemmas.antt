@@ -136,11 +136,10 @@ IsBefore-long bytes lines has =
 
 by_rest : (lines others : List (List ℕ)) (left : List ℕ) → HasNo 10 left → ended lines ≡ ended others ++ left → lines ≡ others ++ lines_of left → lines ≡ others
 by_rest lines others [] none bytes same = same ∙ append-nil others
-by_rest lines others (byte ∷ bytes') none bytes same =
-    let left = byte ∷ bytes' in
-    let all : lines ≡ others ++ left ∷ [] = same ∙ ap (λ (ls : List (List ℕ)). others ++ ls) (last_line left none (omega arith)) in
-    let ends : ended lines ≡ ended others ++ (left ++ 10 ∷ []) = ap ended all ∙ ended-append others (left ∷ []) in
-    absurd (omega (arith, ap length bytes, ap length ends, length-append (ended others) left, length-append (ended others) (left ++ 10 ∷ []), length-append left (10 ∷ [])))
+by_rest lines others (byte ∷ behind) none bytes same =
+    let all : lines ≡ others ++ (byte ∷ behind) ∷ [] = same ∙ ap (λ (ls : List (List ℕ)). others ++ ls) (last_line (byte ∷ behind) none (omega arith)) in
+    let ends : ended lines ≡ ended others ++ ((byte ∷ behind) ++ 10 ∷ []) = ap ended all ∙ ended-append others ((byte ∷ behind) ∷ []) in
+    absurd (omega (arith, ap length bytes, ap length ends, length-append (ended others) (byte ∷ behind), length-append (ended others) ((byte ∷ behind) ++ 10 ∷ []), length-append (byte ∷ behind) (10 ∷ [])))
 
 pub same_lines : (lines others : List (List ℕ)) (left : List ℕ) → AllByRecursion IsLine lines → AllByRecursion IsLine others → HasNo 10 left → ended lines ≡ ended others ++ left → lines ≡ others
 same_lines lines others left whole also none bytes =

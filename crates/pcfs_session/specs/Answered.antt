@@ -19,19 +19,19 @@ use Rattle.pcfs_session.specs.Stored.{StoreGoesOn}
 use Rattle.pcfs_session.specs.Taken.{AreFirst}
 use Rattle.pcfs_session.specs.declared.outbox.SendFault.{SendFault}
 use Rattle.pcfs_session.specs.declared.script_end.Halt.{Halt}
-use Rattle.pcfs_session.specs.declared.script_end.Halt.TheVariants as halts
+use Rattle.pcfs_session.specs.declared.script_end.Halt.TheVariants.{Unsent, Stopped}
 use Rattle.pcfs_session.specs.declared.script_end.ScriptEnd.{ScriptEnd}
 use Rattle.pcfs_session.specs.declared.script_end.ScriptEnd.TheVariants as script_ends
 
 -- what is out of the replies if no further line is answered: all of them, or some first part
 abbrev pub IsOutAt : Halt → Option (List ℕ) → Option (List ℕ) → List ℕ → Type 0
-IsOutAt (halts.Unsent fault) held held_after bytes = HoldsSome held held_after bytes
-IsOutAt halts.Stopped held held_after bytes = held_after ≡ with_back held bytes
+IsOutAt (Unsent fault) held held_after bytes = HoldsSome held held_after bytes
+IsOutAt Stopped held held_after bytes = held_after ≡ with_back held bytes
 
 -- after a fault of a disk there is the event that met it
 abbrev pub IsMetAt : Halt → Option Event → Type 0
-IsMetAt (halts.Unsent fault) met = Unit {0}
-IsMetAt halts.Stopped met = (event : Event) × (met ≡ Some event)
+IsMetAt (Unsent fault) met = Unit {0}
+IsMetAt Stopped met = (event : Event) × (met ≡ Some event)
 
 -- what was collected was written, and all lines were answered; or the output failed
 abbrev pub IsFinished : List ℕ → Option (List ℕ) → ScriptEnd → Option (List ℕ) → Type 0

@@ -1,6 +1,7 @@
 -- Each line that was answered and taken is one more of the first lines.
-use Rattle.std.proofs.Common.{refl, arith}
-use Rattle.pcfs_session.proofs.AnsweredLemmas.{IsAnswering-start, IsAnswering-more, AnswersHeld-all, HaltsWithin-at, lawful_on, runs_on}
+use Rattle.std.proofs.Common.{refl, sym, ap, subst, ◌∙◌, arith}
+use Rattle.line_framer.specs.Framing.{FramerState}
+use Rattle.pcfs_session.proofs.AnsweredLemmas.{IsAnswering, IsAnswering-start, IsAnswering-more, AnswersHeld-all, HaltsWithin-at, lawful_on, runs_on}
 use Rattle.pcfs_session.proofs.answering.answer_held.Goals as goal
 
 pub loop-line-init : goal.loop-line-init
@@ -21,7 +22,15 @@ returns-in-Err-clause-halts g c =
     HaltsWithin-at g.D.Disk.clock g.D.Disk.left_since g.D.Disk.image g.D.Disk.faults _ _ _ _ _ _ _ _ c.in-Some.ensures.line.0 _ _ _ c.in-Err.halt c.loop-line.invariant.so_far c.in-Some.ensures.line.1 c.in-Some.ensures.few c.in-Err.ensures.halts
 
 pub loop-line-preserved : goal.loop-line-preserved
-loop-line-preserved g c = ?
+loop-line-preserved g c =
+    let next = c.take_line.ensures.taken _ _ c.in-Some.ensures.line.1 in
+    record {
+      so_far =
+          subst (λ (f : FramerState). IsAnswering g.D.Disk.clock g.D.Disk.left_since g.D.Disk.image g.D.Disk.faults _ _ _ _ c.answer_line.new.interpreter f.left _ _) (sym next)
+          (IsAnswering-more g.D.Disk.clock g.D.Disk.left_since g.D.Disk.image g.D.Disk.faults _ _ _ _ _ _ _ _ c.in-Some.ensures.line.0 _ _ _ _ c.loop-line.invariant.so_far c.in-Some.ensures.line.1 c.in-Some.ensures.few c.in-Ok.ensures.ok);
+      long_stays = ap (λ (f : FramerState). f.is_long) next ∙ c.loop-line.invariant.long_stays;
+      never_falls = omega (arith, c.in-Ok.ensures.never_falls);
+    }
 
 pub returns-clause-ok : goal.returns-clause-ok
 returns-clause-ok g c = AnswersHeld-all g.D.Disk.clock g.D.Disk.left_since g.D.Disk.image g.D.Disk.faults _ _ _ _ _ _ _ _ c.loop-line.invariant.so_far c.in_default.ensures.line

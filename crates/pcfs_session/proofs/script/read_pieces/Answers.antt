@@ -1,6 +1,6 @@
 -- The lines that came with their ends are answered, piece by piece.
 use Rattle.std.proofs.Common.{refl, arith}
-use Rattle.pcfs_session.proofs.ScriptEndsLemmas.{IsReading-start, running_now, lawful_now, IsReading-more, AnswersScript-read_fault, AnswersScript-too_long, AnswersScript-piece, AnswersScript-last}
+use Rattle.pcfs_session.proofs.ScriptEndsLemmas.{AnswersScript-unbegun, IsReading-start, running_now, lawful_now, IsReading-more, AnswersScript-read_fault, AnswersScript-too_long, AnswersScript-piece, AnswersScript-last}
 use Rattle.pcfs_session.proofs.script.read_pieces.Goals as goal
 
 pub loop-taken-init : goal.loop-taken-init
@@ -13,3 +13,21 @@ loop-taken-init g c = record {
   read_never_falls = omega arith;
   write_never_falls = omega arith;
 }
+
+pub returns-in-Err : goal.returns-in-Err
+returns-in-Err g c = ?
+
+pub returns-in-Err-read_piece-clause-ends : goal.returns-in-Err-read_piece-clause-ends
+returns-in-Err-read_piece-clause-ends g c = ?
+
+pub returns-then-count-clause-ends : goal.returns-then-count-clause-ends
+returns-then-count-clause-ends g c = ?
+
+pub returns-in-Err-answer_piece-clause-ends : goal.returns-in-Err-answer_piece-clause-ends
+returns-in-Err-answer_piece-clause-ends g c = ?
+
+pub loop-taken-preserved : goal.loop-taken-preserved
+loop-taken-preserved g c = ?
+
+pub returns-clause-ends : goal.returns-clause-ends
+returns-clause-ends g c = ?
