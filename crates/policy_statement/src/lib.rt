@@ -4,7 +4,7 @@
 //! statement of which it was told that it is there, and tells its number: `test` says when and why not to keep one.
 #![tactic(auto)]
 
-mod digest;
+pub mod digest;
 mod digests;
 mod messages;
 mod registry;

@@ -24,7 +24,7 @@ pub fn as_constraint<'a>(f: &'a Formula, node: usize) -> Result<&'a Constraint, 
         (λ fault. as_constraint node (formula_view f.now) ≡ Err fault) }
 {
     match f {
-        Formula::Cons(c) => Ok(&**c),
+        Formula::Cons(c) => Ok(c),
         _ => Err(CheckFault::WrongShape(node)),
     }
 }
@@ -35,7 +35,7 @@ pub fn as_state<'a>(f: &'a Formula, node: usize) -> Result<&'a StatePred, CheckF
         (λ fault. as_state node (formula_view f.now) ≡ Err fault) }
 {
     match f {
-        Formula::State(s) => Ok(&**s),
+        Formula::State(s) => Ok(s),
         _ => Err(CheckFault::WrongShape(node)),
     }
 }
@@ -121,7 +121,7 @@ pub fn as_says<'a>(f: &'a Formula, node: usize) -> Result<(&'a Term, &'a Formula
         (λ fault. as_says node (formula_view f.now) ≡ Err fault) }
 {
     match f {
-        Formula::Says(who, a) => Ok((&**who, &**a)),
+        Formula::Says(who, a) => Ok((who, &**a)),
         _ => Err(CheckFault::WrongShape(node)),
     }
 }
@@ -135,7 +135,7 @@ pub fn as_on<'a>(
         (λ fault. as_on node (formula_view f.now) ≡ Err fault) }
 {
     match f {
-        Formula::At(a, from, to) => Ok((&**a, &**from, &**to)),
+        Formula::At(a, from, to) => Ok((&**a, from, to)),
         _ => Err(CheckFault::WrongShape(node)),
     }
 }
