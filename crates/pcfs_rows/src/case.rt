@@ -8,7 +8,7 @@ use bl_syntax::{Bytes, NoMemory, Numbers};
 use line_text::write_hex;
 use pcfs_ports::{MemoryDisk, MemorySink};
 use pcfs_secrets::Secrets;
-use pcfs_top::run::{Ended, run};
+use pcfs_top::run::{Ended, run_alone};
 use std::alloc::Global;
 use std::sync::Wait;
 use std::thread::Threads;
@@ -323,7 +323,7 @@ impl Case {
         let b = second.into_disk(alloc)?;
         let status = match Secrets::parse(alloc, secrets.as_slice()) {
             Ok(secrets) => {
-                let ended = run(rt, alloc, &words, &secrets, &mut input, &mut output, a, b);
+                let ended = run_alone(rt, alloc, &words, &secrets, &mut input, &mut output, a, b);
                 left.keep(ended)
             }
             Err(_) => Err(RowFault::BadRow),

@@ -8,7 +8,7 @@ use Rattle.line_text.specs.Lines.{lines_of}
 use Rattle.line_text.specs.Words.{HasNo}
 use Rattle.line_framer.specs.Framing.{FramerState, ended, IsLine}
 use Rattle.line_framer.specs.Scanning.{HasLong}
-use Rattle.line_framer.specs.Feeding.{AreShort, IsFed, IsTooLong, already, with_piece}
+use Rattle.line_framer.specs.Feeding.{AreShort, IsTooLong, already, with_piece}
 use Rattle.line_framer.proofs.FramingLemmas.{last_line, lines_of-whole, ended-append, AllLines-append}
 use Rattle.access_history.specs.declared.event.Event.{Event}
 use Rattle.line_wire.specs.declared.reply.LineReply.{LineReply}
@@ -17,7 +17,7 @@ use Rattle.pcfs_session.specs.Answered.{IsOutAt, IsMetAt, IsFinished, WasRun, Ar
 use Rattle.pcfs_session.specs.Ends.{unsent_end, halted_end}
 use Rattle.pcfs_session.specs.InterpreterView.{InterpreterView, standing_of}
 use Rattle.pcfs_session.specs.Outbox.{GoesOut}
-use Rattle.pcfs_session.specs.ScriptEnds.{RunsOver, IsUnderWay, ScriptEnds, long_line_told}
+use Rattle.pcfs_session.specs.ScriptEnds.{RunsOver, IsUnderWay, ScriptWrites, ScriptEnds, long_line_told}
 use Rattle.pcfs_session.specs.ScriptEnds as ends
 use Rattle.pcfs_session.specs.ScriptRun.{Standing, IsLawfulStanding}
 use Rattle.pcfs_session.specs.Stored.{AnswersScript}
@@ -33,15 +33,15 @@ use Rattle.pcfs_session.proofs.AnsweredLemmas.{WasRun-then, WasRun-none, HaltsAt
 use Rattle.pcfs_session.proofs.OutboxLemmas.{with_back-nil, all_out, out_then, some_then, GoesOut-none, GoesOut-whole}
 use Rattle.pcfs_session.proofs.ScriptLemmas.{RunsOver-ran, RunsOver-none, output-append}
 use Rattle.pcfs_session.proofs.StoredLemmas.{StoreGoesOn-same, HasRisen-earlier}
-use Rattle.pcfs_session.proofs.TakenLemmas.{with_front-with_front, with_front-nil, ReadsToEnd-taken, AreFirst-none, AreFirst-then, AreShort-then, AreShort-last, HasLong-then, IsBefore-long, same_lines}
+use Rattle.pcfs_session.proofs.TakenLemmas.{with_front-with_front, with_front-nil, ReadsToEnd-taken, AreFirst-none, AreFirst-then, AreShort-then, AreShort-last, AreShort-open, few_rest, HasLong-then, IsBefore-long, same_lines}
 
 -- ---- nothing was answered
 
 -- memory ran out before anything was taken
 pub ScriptEnds-unbegun : (start : Standing) (before after : Streams) → IsLawfulStanding start → after.left ≡ before.left → after.held ≡ before.held → ScriptEnds start start before after script_ends.NoMemory
 ScriptEnds-unbegun start before after stands left held =
-    ends.cut_short NoMemory [] (λ is. absurd cc)
-    (ends.while_reading [] (record { bytes = []; rest = []; taken = with_front-nil before.left ∙ ap (with_front []) (sym left); first = AreFirst-none [] }) (RunsOver-none start stands))
+    ends.out_of_memory []
+    (ends.while_reading [] (record { bytes = []; rest = []; taken = with_front-nil before.left ∙ ap (with_front []) (sym left); first = AreFirst-none []; few = omega arith }) (RunsOver-none start stands))
     (record { count = 0; within = omega arith; held = held ∙ with_back-nil before.held })
 
 module _ {D : Type 0} (clock : D → ℕ) (left_since : D → ℕ → List ℕ → Type 0) (image : D → Option (List ℕ)) (faults : D → ℕ) where
@@ -161,13 +161,13 @@ module _ {D : Type 0} (clock : D → ℕ) (left_since : D → ℕ → List ℕ �
       pub whole : AllByRecursion IsLine lines
       pub taken : before.left ≡ with_front (ended lines ++ open_line) left
       pub counted : length (ended lines ++ open_line) ≡ count
-      pub no_more : HasNo 10 open_line
+      pub is_open : IsLine open_line
       pub answered : Answered lines start now before.held [] held []
 
     pub IsReading-start : (open_line : List ℕ) → start.store.stop ≡ None → open_line ≡ [] → IsReading start open_line before.left before.held 0
     IsReading-start open_line running none =
         subst (λ (b : List ℕ). IsReading start b before.left before.held 0) (sym none)
-        (record { lines = []; whole = tt; taken = with_front-nil before.left; counted = refl; no_more = refl; answered = AreAnswered-none clock left_since image faults start before.held [] running })
+        (record { lines = []; whole = tt; taken = with_front-nil before.left; counted = refl; is_open = record { one = refl; few = omega arith }; answered = AreAnswered-none clock left_since image faults start before.held [] running })
 
     pub running_now : (now : InterpreterView D) (open_line : List ℕ) (left held : Option (List ℕ)) (count : ℕ) → IsReading now open_line left held count → now.store.stop ≡ None
     running_now now open_line left held count r = runs_on clock left_since image faults r.lines start now r.answered.told r.answered.was
@@ -189,8 +189,8 @@ module _ {D : Type 0} (clock : D → ℕ) (left_since : D → ℕ → List ℕ �
 
     -- the lines that a piece ended were answered
     pub IsReading-more : (now next : InterpreterView D) (open_line piece left_line : List ℕ) (left left_after held held_after : Option (List ℕ)) (count len : ℕ) → IsReading now open_line left held count → left ≡ with_front piece left_after → length piece ≡ len →
-        AnswersHeld clock left_since image faults (open_line ++ piece) left_line now next held [] held_after [] → IsReading next left_line left_after held_after (count + len)
-    IsReading-more now next open_line piece left_line left left_after held held_after count len r more is_len all =
+        AnswersHeld clock left_since image faults (open_line ++ piece) left_line now next held [] held_after [] → length left_line ≤ 262144 → IsReading next left_line left_after held_after (count + len)
+    IsReading-more now next open_line piece left_line left left_after held held_after count len r more is_len all few =
         let first = AreFirst-then r.lines all.lines (open_line ++ piece) left_line r.whole all.first in
         record {
           lines = r.lines ++ all.lines;
@@ -198,7 +198,7 @@ module _ {D : Type 0} (clock : D → ℕ) (left_since : D → ℕ → List ℕ �
           taken = also_taken open_line piece r.lines left left_after r.taken more ∙ ap (λ (b : List ℕ). with_front b left_after) first.parts;
           counted =
               omega (arith, ap length first.parts, r.counted, is_len, length-append (ended r.lines) open_line, length-append (ended r.lines) (open_line ++ piece), length-append open_line piece);
-          no_more = all.no_more;
+          is_open = record { one = all.no_more; few = few };
           answered = AreAnswered-then clock left_since image faults r.lines all.lines start now next before.held held held_after [] [] [] r.answered all.answered;
         }
 
@@ -208,7 +208,7 @@ module _ {D : Type 0} (clock : D → ℕ) (left_since : D → ℕ → List ℕ �
 
       -- all lines that came with their ends
       all_taken : (now : InterpreterView D) (open_line : List ℕ) (held : Option (List ℕ)) (count : ℕ) → (r : IsReading now open_line after.left held count) → AreAllTaken before.left after.left r.lines
-      all_taken now open_line held count r = record { bytes = ended r.lines ++ open_line; rest = open_line; taken = r.taken; first = record { whole = r.whole; parts = refl }; no_more = r.no_more }
+      all_taken now open_line held count r = record { bytes = ended r.lines ++ open_line; rest = open_line; taken = r.taken; first = record { whole = r.whole; parts = refl }; is_open = r.is_open }
 
       written_so_far : (now : InterpreterView D) (open_line : List ℕ) (count : ℕ) → (r : IsReading now open_line after.left after.held count) → after.held ≡ with_back before.held (output_of r.answered.told)
       written_so_far now open_line count r = all_out before.held after.held (output_of r.answered.told) r.answered.out
@@ -236,8 +236,8 @@ module _ {D : Type 0} (clock : D → ℕ) (left_since : D → ℕ → List ℕ �
       -- it halts, where the lines and their replies are those
       halted : (halt : Halt) (lines : List (List ℕ)) (new : InterpreterView D) → (h : Halts lines start new before.held [] halt after.held) → IsUnderWay (standing_of start None) (standing_of new h.met) before after (output_of h.told) →
           (halted_end halt ≡ script_ends.WriteFault → HasRisen before.write_faults after.write_faults) → AnswersScript clock left_since image faults start before (halted_end halt) new after
-      halted (Unsent fault) lines new h way risen =
-          record { met = h.met; ends = ends.cut_short fault (output_of h.told) (λ is. risen (ap unsent_end is)) way h.out; goes_on = h.was.goes_on }
+      halted (Unsent Write) lines new h way risen = record { met = h.met; ends = ends.cut_short (output_of h.told) (risen refl) way h.out; goes_on = h.was.goes_on }
+      halted (Unsent NoMemory) lines new h way risen = record { met = h.met; ends = ends.out_of_memory (output_of h.told) way h.out; goes_on = h.was.goes_on }
       halted Stopped lines new h way risen =
           record { met = h.met; ends = ends.written script_ends.Stopped (output_of h.told) (ends.stopped (output_of h.told) h.is_met.0 way h.is_met.1) h.out; goes_on = h.was.goes_on }
 
@@ -255,13 +255,13 @@ module _ {D : Type 0} (clock : D → ℕ) (left_since : D → ℕ → List ℕ �
             subst (HoldsSome before.held after.held) (sym (joined replies more)) (some_then before.held held after.held [] (output_of r.answered.told) [] (output_of replies ++ more) r.answered.out some)
 
         -- at a line that a piece ended
-        at_line : (halt : Halt) → left ≡ with_front piece after.left → (halted_end halt ≡ script_ends.WriteFault → HasRisen before.write_faults after.write_faults) → Within (open_line ++ piece) now new held [] halt after.held →
+        at_line : (halt : Halt) → left ≡ with_front piece after.left → length piece ≤ 65536 → (halted_end halt ≡ script_ends.WriteFault → HasRisen before.write_faults after.write_faults) → Within (open_line ++ piece) now new held [] halt after.held →
             AnswersScript clock left_since image faults start before (halted_end halt) new after
-        at_line halt more risen w =
+        at_line halt more small risen w =
             let first = AreFirst-then r.lines w.lines (open_line ++ piece) w.rest r.whole w.first in
             let h = HaltsAt-then clock left_since image faults r.lines w.lines start now new before.held held after.held [] [] halt r.answered w.halts in
             halted halt (r.lines ++ w.lines) new h
-            (ends.while_reading (r.lines ++ w.lines) (record { bytes = ended r.lines ++ (open_line ++ piece); rest = w.rest; taken = also_taken open_line piece r.lines left after.left r.taken more; first = first })
+            (ends.while_reading (r.lines ++ w.lines) (record { bytes = ended r.lines ++ (open_line ++ piece); rest = w.rest; taken = also_taken open_line piece r.lines left after.left r.taken more; first = first; few = few_rest open_line piece w.rest w.lines w.first r.is_open.few small })
             (runs_over (r.lines ++ w.lines) new h.met h.told h.was))
             risen
 
@@ -276,39 +276,51 @@ module _ {D : Type 0} (clock : D → ℕ) (left_since : D → ℕ → List ℕ �
               halts = w.halts;
             }
 
-        cut_at : (lines : List (List ℕ)) → left ≡ with_front piece after.left → HasLong (open_line ++ piece) lines → IsCutAtLong before.left after.left (r.lines ++ lines)
-        cut_at lines more has =
-            record { bytes = ended r.lines ++ (open_line ++ piece); taken = also_taken open_line piece r.lines left after.left r.taken more; has_long = HasLong-then r.lines lines (open_line ++ piece) r.whole has }
+        cut_at : (lines : List (List ℕ)) → left ≡ with_front piece after.left → length piece ≤ 65536 → HasLong (open_line ++ piece) lines → IsCutAtLong before.left after.left (r.lines ++ lines)
+        cut_at lines more small has = record {
+          bytes = ended r.lines ++ open_line;
+          piece = piece;
+          taken = r.taken ∙ ap (with_front (ended r.lines ++ open_line)) more ∙ with_front-with_front (ended r.lines ++ open_line) piece after.left;
+          short = AreShort-then r.lines open_line r.whole (AreShort-open open_line r.is_open);
+          few = small;
+          has_long = subst (λ (b : List ℕ). HasLong b (r.lines ++ lines)) (sym (append_assoc (ended r.lines) open_line piece)) (HasLong-then r.lines lines (open_line ++ piece) r.whole has);
+        }
+
+        -- the replies and that a line is too long were not all sent
+        untold : (fault : SendFault) (whole : List ℕ) → (unsent_end fault ≡ script_ends.WriteFault → HasRisen before.write_faults after.write_faults) → ScriptWrites (standing_of start None) (standing_of new None) before after script_ends.LineTooLong whole →
+            HoldsSome before.held after.held whole → ScriptEnds (standing_of start None) (standing_of new None) before after (unsent_end fault)
+        untold Write whole risen writes some = ends.cut_at_long_line whole (risen refl) writes some
+        untold NoMemory whole risen writes some = ends.out_of_memory_at_long_line whole writes some
 
         -- before a line that is too long
-        before_long : (how : ScriptEnd) (lines : List (List ℕ)) → left ≡ with_front piece after.left → (how ≡ script_ends.WriteFault → HasRisen before.write_faults after.write_faults) → HasLong (open_line ++ piece) lines →
+        before_long : (how : ScriptEnd) (lines : List (List ℕ)) → left ≡ with_front piece after.left → length piece ≤ 65536 → (how ≡ script_ends.WriteFault → HasRisen before.write_faults after.write_faults) → HasLong (open_line ++ piece) lines →
             LongEnds clock left_since image faults lines now new held after.held how → AnswersScript clock left_since image faults start before how new after
-        before_long _ lines more risen has (long_told replies was out) =
+        before_long _ lines more small risen has (long_told replies was out) =
             let both = WasRun-then clock left_since image faults r.lines lines start now new None r.answered.told replies r.answered.was was in
             record {
               met = None;
               ends =
                   ends.written script_ends.LineTooLong (output_of (r.answered.told ++ replies) ++ long_line_told)
-                  (ends.line_too_long (r.lines ++ lines) (output_of (r.answered.told ++ replies)) (cut_at lines more has) (runs_over (r.lines ++ lines) new None (r.answered.told ++ replies) both) refl)
+                  (ends.line_too_long (r.lines ++ lines) (output_of (r.answered.told ++ replies)) (cut_at lines more small has) (runs_over (r.lines ++ lines) new None (r.answered.told ++ replies) both) refl)
                   (out_after replies long_line_told out);
               goes_on = both.goes_on;
             }
-        before_long _ lines more risen has (long_untold replies fault was some) =
+        before_long _ lines more small risen has (long_untold replies fault was some) =
             let both = WasRun-then clock left_since image faults r.lines lines start now new None r.answered.told replies r.answered.was was in
             record {
               met = None;
               ends =
-                  ends.cut_at_long_line fault (output_of (r.answered.told ++ replies) ++ long_line_told) (λ is. risen (ap unsent_end is))
-                  (ends.line_too_long (r.lines ++ lines) (output_of (r.answered.told ++ replies)) (cut_at lines more has) (runs_over (r.lines ++ lines) new None (r.answered.told ++ replies) both) refl)
+                  untold fault (output_of (r.answered.told ++ replies) ++ long_line_told) risen
+                  (ends.line_too_long (r.lines ++ lines) (output_of (r.answered.told ++ replies)) (cut_at lines more small has) (runs_over (r.lines ++ lines) new None (r.answered.told ++ replies) both) refl)
                   (some_after replies long_line_told some);
               goes_on = both.goes_on;
             }
-        before_long _ lines more risen has (long_halted halt w) = at_line halt more risen (within_long halt lines has w)
+        before_long _ lines more small risen has (long_halted halt w) = at_line halt more small risen (within_long halt lines has w)
 
-        pub AnswersScript-piece : (how : ScriptEnd) → left ≡ with_front piece after.left → (how ≡ script_ends.WriteFault → HasRisen before.write_faults after.write_faults) → PieceEnds clock left_since image faults open_line piece now new held after.held how →
+        pub AnswersScript-piece : (how : ScriptEnd) → left ≡ with_front piece after.left → length piece ≤ 65536 → (how ≡ script_ends.WriteFault → HasRisen before.write_faults after.write_faults) → PieceEnds clock left_since image faults open_line piece now new held after.held how →
             AnswersScript clock left_since image faults start before how new after
-        AnswersScript-piece _ more risen (at_long_line how lines has long) = before_long how lines more risen has long
-        AnswersScript-piece _ more risen (piece_halted halt w) = at_line halt more risen w
+        AnswersScript-piece _ more small risen (at_long_line how lines has long) = before_long how lines more small risen has long
+        AnswersScript-piece _ more small risen (piece_halted halt w) = at_line halt more small risen w
 
         -- ---- the end of the input
 

@@ -65,6 +65,26 @@ AreShort-then lines bytes whole short =
 pub AreShort-last : (bytes : List ℕ) → HasNo 10 bytes → 1 ≤ length bytes → length bytes ≤ 262144 → AreShort bytes
 AreShort-last bytes one some few = subst (AllByRecursion (λ (line : List ℕ). length line ≤ 262144)) (sym (last_line bytes one some)) (few, tt)
 
+pub AreShort-open : (bytes : List ℕ) → IsLine bytes → AreShort bytes
+AreShort-open [] is = tt
+AreShort-open (byte ∷ behind) is = AreShort-last (byte ∷ behind) is.one (omega arith) is.few
+
+last_short : (lines : List (List ℕ)) (last : List ℕ) → AllByRecursion (λ (line : List ℕ). length line ≤ 262144) (lines ++ last ∷ []) → length last ≤ 262144
+last_short [] last short = short.0
+last_short (line ∷ lines) last short = last_short lines last short.1
+
+-- what is left after the lines of bytes that are short has the length of a line
+pub few_left : (bytes left : List ℕ) (lines : List (List ℕ)) → AreFirst bytes lines left → HasNo 10 left → AreShort bytes → length left ≤ 262144
+few_left bytes [] lines first none short = omega arith
+few_left bytes (byte ∷ behind) lines first none short =
+    let is : lines_of bytes ≡ lines ++ (byte ∷ behind) ∷ [] =
+        ap lines_of first.parts ∙ lines_of-whole lines (byte ∷ behind) first.whole ∙ ap (λ (ls : List (List ℕ)). lines ++ ls) (last_line (byte ∷ behind) none (omega arith)) in
+    last_short lines (byte ∷ behind) (subst (AllByRecursion (λ (line : List ℕ). length line ≤ 262144)) is short)
+
+-- what is left after lines of a line and a piece has no more bytes than these
+pub few_rest : (open_line piece rest : List ℕ) (lines : List (List ℕ)) → AreFirst (open_line ++ piece) lines rest → length open_line ≤ 262144 → length piece ≤ 65536 → length rest ≤ 327680
+few_rest open_line piece rest lines first few small = omega (arith, few, small, ap length first.parts, length-append open_line piece, length-append (ended lines) rest)
+
 -- ---- a line is too long
 
 pub HasLong-then : (lines before : List (List ℕ)) (bytes : List ℕ) → AllByRecursion IsLine lines → HasLong bytes before → HasLong (ended lines ++ bytes) (lines ++ before)

@@ -14,11 +14,8 @@ use Rattle.pcfs_session.specs.LineAnswer.{authority_under}
 use Rattle.pcfs_session.specs.ScriptRun.{Standing, state_of_standing, ScriptRun}
 use Rattle.pcfs_session.specs.Streams.{Streams}
 use Rattle.pcfs_session.specs.Taken.{AreTaken, AreAllTaken, IsCutAtLong}
-use Rattle.pcfs_session.specs.Ends.{unsent_end}
-use Rattle.pcfs_session.specs.declared.outbox.SendFault.{SendFault}
-use Rattle.pcfs_session.specs.declared.outbox.SendFault.TheVariants.{Write}
 use Rattle.pcfs_session.specs.declared.script_end.ScriptEnd.{ScriptEnd}
-use Rattle.pcfs_session.specs.declared.script_end.ScriptEnd.TheVariants.{Done, LineTooLong, ReadFault, InputTooLong, Stopped}
+use Rattle.pcfs_session.specs.declared.script_end.ScriptEnd.TheVariants.{Done, LineTooLong, ReadFault, WriteFault, NoMemory, InputTooLong, Stopped}
 
 -- a line with its end
 abbrev pub with_line_end : List ℕ → List ℕ
@@ -55,10 +52,10 @@ pub data ScriptWrites (start end : Standing) (before after : Streams) : ScriptEn
       ScriptWrites start end before after InputTooLong written
   stopped : (written : List ℕ) (met : Event) → IsUnderWay start end before after written → end.met ≡ Some met → ScriptWrites start end before after Stopped written
 
--- how a script ends: all of that was written; or the output failed or memory ran out, and some first part was written of the replies to the first lines, or of what is written at a line that is too long
+-- How a script ends: all of that was written. Or the output failed or memory ran out, and some first part was written of the replies to the first lines, or of what is written at a line that is too long.
 pub data ScriptEnds (start end : Standing) (before after : Streams) : ScriptEnd → Type 0 where
   written : (how : ScriptEnd) (whole : List ℕ) → ScriptWrites start end before after how whole → after.held ≡ with_back before.held whole → ScriptEnds start end before after how
-  cut_short : (fault : SendFault) (whole : List ℕ) → (fault ≡ Write → HasRisen before.write_faults after.write_faults) → IsUnderWay start end before after whole → HoldsSome before.held after.held whole →
-      ScriptEnds start end before after (unsent_end fault)
-  cut_at_long_line : (fault : SendFault) (whole : List ℕ) → (fault ≡ Write → HasRisen before.write_faults after.write_faults) → ScriptWrites start end before after LineTooLong whole → HoldsSome before.held after.held whole →
-      ScriptEnds start end before after (unsent_end fault)
+  cut_short : (whole : List ℕ) → HasRisen before.write_faults after.write_faults → IsUnderWay start end before after whole → HoldsSome before.held after.held whole → ScriptEnds start end before after WriteFault
+  cut_at_long_line : (whole : List ℕ) → HasRisen before.write_faults after.write_faults → ScriptWrites start end before after LineTooLong whole → HoldsSome before.held after.held whole → ScriptEnds start end before after WriteFault
+  out_of_memory : (whole : List ℕ) → IsUnderWay start end before after whole → HoldsSome before.held after.held whole → ScriptEnds start end before after NoMemory
+  out_of_memory_at_long_line : (whole : List ℕ) → ScriptWrites start end before after LineTooLong whole → HoldsSome before.held after.held whole → ScriptEnds start end before after NoMemory

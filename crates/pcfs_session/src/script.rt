@@ -85,6 +85,7 @@ fn answer_piece<D: Disk, O: Sink>(
     requires not_long { framer.old.is_long ≡ false }
     requires nothing_waits { collected.old ≡ [] }
     ensures ok { OnOk result (AnswersPiece D.clock D.left_since D.image D.faults framer.old.left piece.now framer.new.left interpreter.old interpreter.new (O.held output.old) (O.held output.new)) }
+    ensures few { OnOk result (length framer.new.left ≤ 262144) }
     ensures stays_so { OnOk result (framer.new.is_long ≡ false) }
     ensures empty { OnOk result (collected.new ≡ []) }
     ensures ends { IfErr result (PieceEnds D.clock D.left_since D.image D.faults framer.old.left piece.now interpreter.old interpreter.new (O.held output.old) (O.held output.new)) }

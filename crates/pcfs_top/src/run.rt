@@ -224,7 +224,7 @@ fn init<O: Sink, D: Disk>(alloc: Global, secrets: &Secrets, output: &mut O, a: D
 /// failed: `stopped`; 6, the input failed: `readfault`; 7, the output failed, and may lack any of its end; 9, memory ran out,
 /// without a last line; 10, an area is open already: `exists`; 13, the input has 1 GiB or more: `toolong`. At 2, 5, 6 and 13
 /// the replies to the lines before come before that line.
-pub fn run<R: Threads + Wait + Sync, I: Source, O: Sink, D: Disk>(
+pub fn run_alone<R: Threads + Wait + Sync, I: Source, O: Sink, D: Disk>(
     _rt: &R,
     alloc: Global,
     words: &Vec<String>,

@@ -3,7 +3,7 @@ use Rattle.std.proofs.Common.{refl, subst}
 use Rattle.pcfs_top.specs.Run as run
 use Rattle.pcfs_top.specs.Words.{AsksFor}
 use Rattle.pcfs_top.proofs.EndsWithLemmas.{EndsWith-usage}
-use Rattle.pcfs_top.proofs.run.run.Goals as goal
+use Rattle.pcfs_top.proofs.run.run_alone.Goals as goal
 
 pub returns-in-Some-Script : goal.returns-in-Some-Script
 returns-in-Some-Script g c = run.in_memory _ (subst (AsksFor c.args.words.now.items) c.in-Some-Script.field-0-is c.in-Some-Script.ensures) refl c.run_in_memory.ensures
