@@ -4,17 +4,16 @@ use Rattle.std.specs.Prelude.{IsTrue, IsSome}
 use Rattle.std.specs.List.{AllByRecursion}
 use Rattle.pcfs_ports.specs.Told.{with_back, HoldsSome}
 use Rattle.line_text.specs.Words.{HasNo}
-use Rattle.line_framer.specs.Framing.{ended, IsFirst, IsLine}
+use Rattle.line_framer.specs.Framing.{ended, IsFirst}
 use Rattle.access_history.specs.declared.event.Event.{Event}
 use Rattle.line_wire.specs.declared.reply.LineReply.{LineReply}
 use Rattle.line_wire.specs.ReplyText.{reply_text, output_of}
-use Rattle.pcfs_store.specs.StoreView.{StoreView}
-use Rattle.pcfs_session.specs.Answered.{IsOutAt, IsMetAt, WasRun, AreAnswered, HaltsAt, AnswersHeld, HaltsWithin}
+use Rattle.pcfs_session.specs.Answered.{IsOutAt, WasRun, AreAnswered, HaltsAt, AnswersHeld, HaltsWithin}
 use Rattle.pcfs_session.specs.InterpreterView.{InterpreterView, standing_of}
 use Rattle.pcfs_session.specs.Outbox.{GoesOut}
-use Rattle.pcfs_session.specs.ScriptRun.{Standing, IsLawfulStanding, IsReplied}
+use Rattle.pcfs_session.specs.ScriptRun.{IsLawfulStanding, IsReplied}
 use Rattle.pcfs_session.specs.ScriptRun as script
-use Rattle.pcfs_session.specs.Stored.{IsStopFor, StoreGoesOn, LeadsTo}
+use Rattle.pcfs_session.specs.Stored.{IsStopFor, LeadsTo}
 use Rattle.pcfs_session.specs.Taken.{AreFirst}
 use Rattle.pcfs_session.specs.declared.outbox.SendFault.{SendFault}
 use Rattle.pcfs_session.specs.declared.script_end.Halt.{Halt}

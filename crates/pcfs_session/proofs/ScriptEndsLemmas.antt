@@ -2,27 +2,28 @@
 use Rattle.std.proofs.Common.{◌≡◌, ◌⊎◌, inl, inr, ◌≤◌, ◌+◌, ℕ, List, [], ◌∷◌, ◌++◌, length, Option, Some, None, refl, sym, ap, ◌∙◌, subst, append_assoc, append-nil, length-append, arith}
 use Rattle.std.specs.List.{AllByRecursion}
 use Rattle.pcfs_ports.specs.Faults.{HasRisen}
-use Rattle.pcfs_ports.specs.Told.{with_front, with_back, IsAtEnd, TakesFirst, HoldsSome}
-use Rattle.pcfs_ports.proofs.TakesLemmas.{with_back-with_back, first_of_taken}
+use Rattle.pcfs_ports.specs.Told.{with_front, with_back, IsAtEnd, HoldsSome}
+use Rattle.pcfs_ports.proofs.TakesLemmas.{first_of_taken}
 use Rattle.line_text.specs.Lines.{lines_of}
 use Rattle.line_text.specs.Words.{HasNo}
 use Rattle.line_framer.specs.Framing.{FramerState, ended, IsLine}
 use Rattle.line_framer.specs.Scanning.{HasLong}
-use Rattle.line_framer.specs.Feeding.{AreShort, IsTooLong, already, with_piece}
-use Rattle.line_framer.proofs.FramingLemmas.{last_line, lines_of-whole, ended-append, AllLines-append}
+use Rattle.line_framer.specs.Feeding.{AreShort, IsTooLong, already, with_piece, IsNotFed}
+use Rattle.line_framer.specs.declared.framer.FeedFault.{FeedFault}
+use Rattle.line_framer.specs.declared.framer.FeedFault.TheVariants.{TooLong}
+use Rattle.line_framer.proofs.FramingLemmas.{last_line, lines_of-whole}
 use Rattle.access_history.specs.declared.event.Event.{Event}
 use Rattle.line_wire.specs.declared.reply.LineReply.{LineReply}
 use Rattle.line_wire.specs.ReplyText.{output_of}
-use Rattle.pcfs_session.specs.Answered.{IsOutAt, IsMetAt, IsFinished, WasRun, AreAnswered, HaltsAt, AnswersHeld, HaltsWithin, LongEnds, long_told, long_untold, long_halted, PieceEnds, at_long_line, piece_halted, LastEnds, all_answered, last_halted}
+use Rattle.pcfs_session.specs.Answered.{IsFinished, WasRun, AreAnswered, HaltsAt, AnswersHeld, HaltsWithin, AnswersPiece, LongEnds, long_told, long_untold, long_halted, PieceEnds, at_long_line, piece_halted, LastEnds, all_answered, last_halted}
 use Rattle.pcfs_session.specs.Ends.{unsent_end, halted_end}
 use Rattle.pcfs_session.specs.InterpreterView.{InterpreterView, standing_of}
-use Rattle.pcfs_session.specs.Outbox.{GoesOut}
 use Rattle.pcfs_session.specs.ScriptEnds.{RunsOver, IsUnderWay, ScriptWrites, ScriptEnds, long_line_told}
 use Rattle.pcfs_session.specs.ScriptEnds as ends
 use Rattle.pcfs_session.specs.ScriptRun.{Standing, IsLawfulStanding}
 use Rattle.pcfs_session.specs.Stored.{AnswersScript}
 use Rattle.pcfs_session.specs.Streams.{Streams}
-use Rattle.pcfs_session.specs.Taken.{AreFirst, AreTaken, AreAllTaken, IsCutAtLong}
+use Rattle.pcfs_session.specs.Taken.{AreAllTaken, IsCutAtLong}
 use Rattle.pcfs_session.specs.declared.outbox.SendFault.{SendFault}
 use Rattle.pcfs_session.specs.declared.outbox.SendFault.TheVariants.{Write, NoMemory}
 use Rattle.pcfs_session.specs.declared.script_end.Halt.{Halt}
@@ -30,10 +31,21 @@ use Rattle.pcfs_session.specs.declared.script_end.Halt.TheVariants.{Unsent, Stop
 use Rattle.pcfs_session.specs.declared.script_end.ScriptEnd.{ScriptEnd}
 use Rattle.pcfs_session.specs.declared.script_end.ScriptEnd.TheVariants as script_ends
 use Rattle.pcfs_session.proofs.AnsweredLemmas.{WasRun-then, WasRun-none, HaltsAt-then, HaltsAt-unsent, AreAnswered-none, AreAnswered-then, lawful_on, runs_on}
-use Rattle.pcfs_session.proofs.OutboxLemmas.{with_back-nil, all_out, out_then, some_then, GoesOut-none, GoesOut-whole}
+use Rattle.pcfs_session.proofs.OutboxLemmas.{with_back-nil, all_out, out_then, some_then, GoesOut-whole}
 use Rattle.pcfs_session.proofs.ScriptLemmas.{RunsOver-ran, RunsOver-none, output-append}
-use Rattle.pcfs_session.proofs.StoredLemmas.{StoreGoesOn-same, HasRisen-earlier}
-use Rattle.pcfs_session.proofs.TakenLemmas.{with_front-with_front, with_front-nil, ReadsToEnd-taken, AreFirst-none, AreFirst-then, AreShort-then, AreShort-last, AreShort-open, few_rest, HasLong-then, IsBefore-long, same_lines}
+use Rattle.pcfs_session.proofs.StoredLemmas.{StoreGoesOn-same}
+use Rattle.pcfs_session.proofs.TakenLemmas.{with_front-with_front, with_front-nil, ReadsToEnd-taken, AreFirst-none, AreFirst-then, AreShort-then, AreShort-last, AreShort-open, few_left, few_rest, HasLong-then, IsBefore-long, same_lines}
+
+-- ---- which end
+
+-- if the output failed, it failed for a reply
+pub unsent_write : (fault : SendFault) (how : ScriptEnd) → how ≡ unsent_end fault → how ≡ script_ends.WriteFault → fault ≡ Write
+unsent_write Write how is same = refl
+unsent_write NoMemory how is same = absurd cc
+
+pub halted_write : (halt : Halt) (how : ScriptEnd) → how ≡ halted_end halt → how ≡ script_ends.WriteFault → halt ≡ Unsent Write
+halted_write (Unsent fault) how is same = ap Unsent (unsent_write fault how is same)
+halted_write Stopped how is same = absurd cc
 
 -- ---- nothing was answered
 
@@ -87,11 +99,27 @@ module _ {D : Type 0} (clock : D → ℕ) (left_since : D → ℕ → List ℕ �
 
   -- ---- a piece
 
+  -- the lines that have their end after it were answered
+  pub AnswersPiece-held : (before piece bytes left : List ℕ) (old new : InterpreterView D) (held held_after : Option (List ℕ)) (collected kept : List ℕ) → bytes ≡ before ++ piece → collected ≡ [] → kept ≡ [] → AnswersHeld clock left_since image faults bytes left old new held collected held_after kept →
+      AnswersPiece clock left_since image faults before piece left old new held held_after
+  AnswersPiece-held before piece bytes left old new held held_after collected kept same empty none all =
+      subst (λ (b : List ℕ). AnswersHeld clock left_since image faults b left old new held [] held_after []) same
+      (subst (λ (c : List ℕ). AnswersHeld clock left_since image faults bytes left old new held c held_after []) empty
+      (subst (λ (k : List ℕ). AnswersHeld clock left_since image faults bytes left old new held collected held_after k) none all))
+
+  pub few_held : (before piece bytes left : List ℕ) (old new : InterpreterView D) (held held_after : Option (List ℕ)) (collected kept : List ℕ) → bytes ≡ before ++ piece → AreShort (before ++ piece) → AnswersHeld clock left_since image faults bytes left old new held collected held_after kept → length left ≤ 262144
+  few_held before piece bytes left old new held held_after collected kept same short all = few_left bytes left all.lines all.first all.no_more (subst AreShort (sym same) short)
+
   -- the framer that took a piece has a line that is too long
-  pub PieceEnds-long : (before after : FramerState) (piece : List ℕ) (old new : InterpreterView D) (held held_after : Option (List ℕ)) (how : ScriptEnd) → before.is_long ≡ false → IsTooLong before piece after →
+  long_ends : (before after : FramerState) (piece : List ℕ) (old new : InterpreterView D) (held held_after : Option (List ℕ)) (how : ScriptEnd) → before.is_long ≡ false → IsTooLong before piece after →
       ((lines : List (List ℕ)) → AllByRecursion IsLine lines → after.left ≡ ended lines → LongEnds clock left_since image faults lines old new held held_after how) → PieceEnds clock left_since image faults before.left piece old new held held_after how
-  PieceEnds-long before _ piece old new held held_after how not_long (already is) long = absurd cc
-  PieceEnds-long before _ piece old new held held_after how not_long (with_piece lines was has_long) long = at_long_line how lines has_long (long lines has_long.whole refl)
+  long_ends before _ piece old new held held_after how not_long (already is) long = absurd cc
+  long_ends before _ piece old new held held_after how not_long (with_piece lines was has_long) long = at_long_line how lines has_long (long lines has_long.whole refl)
+
+  pub PieceEnds-long : (before after : FramerState) (piece : List ℕ) (old new : InterpreterView D) (held held_after : Option (List ℕ)) (fault : FeedFault) (how : ScriptEnd) → fault ≡ TooLong → before.is_long ≡ false → IsNotFed before piece fault after →
+      ((lines : List (List ℕ)) → AllByRecursion IsLine lines → after.left ≡ ended lines → LongEnds clock left_since image faults lines old new held held_after how) → PieceEnds clock left_since image faults before.left piece old new held held_after how
+  PieceEnds-long before after piece old new held held_after fault how is not_long not_fed long =
+      long_ends before after piece old new held held_after how not_long (subst (λ (f : FeedFault). IsNotFed before piece f after) is not_fed) long
 
   -- memory ran out for it
   pub PieceEnds-refused : (before piece : List ℕ) (i : InterpreterView D) (held held_after : Option (List ℕ)) → i.store.stop ≡ None → held_after ≡ held → PieceEnds clock left_since image faults before piece i i held held_after script_ends.NoMemory
@@ -110,10 +138,6 @@ module _ {D : Type 0} (clock : D → ℕ) (left_since : D → ℕ → List ℕ �
       (piece_halted halt (subst (λ (b : List ℕ). Within b old new held [] halt held_after) same (subst (λ (c : List ℕ). Within bytes old new held c halt held_after) empty halts)))
 
   -- ---- the last line
-
-  none_left : (bytes : List ℕ) → length bytes ≡ 0 → bytes ≡ []
-  none_left [] is = refl
-  none_left (byte ∷ bytes) is = absurd (omega (arith, is))
 
   -- there is none
   pub LastEnds-none : (bytes : List ℕ) (i : InterpreterView D) (held held_after : Option (List ℕ)) (collected : List ℕ) (how : ScriptEnd) → bytes ≡ [] → i.store.stop ≡ None → collected ≡ [] → IsFinished collected held how held_after →
@@ -213,14 +237,16 @@ module _ {D : Type 0} (clock : D → ℕ) (left_since : D → ℕ → List ℕ �
       written_so_far : (now : InterpreterView D) (open_line : List ℕ) (count : ℕ) → (r : IsReading now open_line after.left after.held count) → after.held ≡ with_back before.held (output_of r.answered.told)
       written_so_far now open_line count r = all_out before.held after.held (output_of r.answered.told) r.answered.out
 
-      pub AnswersScript-read_fault : (now : InterpreterView D) (open_line : List ℕ) (count : ℕ) → IsReading now open_line after.left after.held count → HasRisen before.read_faults after.read_faults → AnswersScript clock left_since image faults start before script_ends.ReadFault now after
-      AnswersScript-read_fault now open_line count r risen = record {
-        met = None;
-        ends =
-            ends.written script_ends.ReadFault (output_of r.answered.told)
-            (ends.read_fault r.lines (output_of r.answered.told) risen (all_taken now open_line after.held count r) (runs_over r.lines now None r.answered.told r.answered.was) refl) (written_so_far now open_line count r);
-        goes_on = r.answered.was.goes_on;
-      }
+      pub AnswersScript-read_fault : (now : InterpreterView D) (open_line : List ℕ) (left : Option (List ℕ)) (count : ℕ) → IsReading now open_line left after.held count → after.left ≡ left → HasRisen before.read_faults after.read_faults → AnswersScript clock left_since image faults start before script_ends.ReadFault now after
+      AnswersScript-read_fault now open_line left count reading same risen =
+          let r = subst (λ (l : Option (List ℕ)). IsReading now open_line l after.held count) (sym same) reading in
+          record {
+            met = None;
+            ends =
+                ends.written script_ends.ReadFault (output_of r.answered.told)
+                (ends.read_fault r.lines (output_of r.answered.told) risen (all_taken now open_line after.held count r) (runs_over r.lines now None r.answered.told r.answered.was) refl) (written_so_far now open_line count r);
+            goes_on = r.answered.was.goes_on;
+          }
 
       pub AnswersScript-too_long : (now : InterpreterView D) (open_line : List ℕ) (count : ℕ) → IsReading now open_line after.left after.held count → count ≡ 1073741824 → AnswersScript clock left_since image faults start before script_ends.InputTooLong now after
       AnswersScript-too_long now open_line count r all = record {

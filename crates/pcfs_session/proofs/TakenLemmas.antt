@@ -1,12 +1,12 @@
 -- The lines of what was taken of an input.
-use Rattle.std.proofs.Common.{◌≡◌, ◌≤◌, ◌+◌, ℕ, Bool, true, false, List, [], ◌∷◌, ◌++◌, length, Option, Some, None, refl, sym, ap, ◌∙◌, subst, append_assoc, append-nil, length-append, arith}
+use Rattle.std.proofs.Common.{◌≡◌, ◌<◌, ◌≤◌, ◌+◌, ℕ, Bool, true, false, List, [], ◌∷◌, ◌++◌, length, take, Option, Some, None, refl, sym, ap, ◌∙◌, subst, append_assoc, append-nil, length-append, arith}
 use Rattle.std.specs.Prelude.{◌==◌, if◌then◌else◌}
 use Rattle.std.specs.List.{AllByRecursion}
-use Rattle.std.proofs.lemmas.Bool.{eqb-true}
+use Rattle.std.proofs.lemmas.Bool.{eqb-true, false≢true}
 use Rattle.pcfs_ports.specs.Told.{with_front, IsAtEnd, ReadsToEnd}
 use Rattle.line_text.specs.Lines.{lines_of, with_byte}
 use Rattle.line_text.specs.Words.{HasNo}
-use Rattle.line_framer.specs.Framing.{ended, IsFirst, IsLine}
+use Rattle.line_framer.specs.Framing.{FramerState, ended, IsFirst, IsLine}
 use Rattle.line_framer.specs.Scanning.{HasLong}
 use Rattle.line_framer.specs.Feeding.{AreShort}
 use Rattle.line_framer.proofs.FramingLemmas.{last_line, one_more, ended-append, lines_of-whole, AllLines-append}
@@ -30,6 +30,10 @@ ReadsToEnd-taken bytes old (Some left) taken at_end =
     subst (λ (o : Option (List ℕ)). ReadsToEnd o (Some left) bytes) (sym taken)
     (record { all = ap (λ (l : List ℕ). bytes ++ l) at_end ∙ append-nil bytes; end = ap Some at_end })
 
+-- no byte was taken
+pub nothing_taken : (count : ℕ) (piece : List ℕ) (left left_after : Option (List ℕ)) → count ≡ 0 → left ≡ with_front (take count piece) left_after → left ≡ left_after
+nothing_taken count piece left left_after none taken = subst (λ (k : ℕ). left ≡ with_front (take k piece) left_after) none taken ∙ sym (with_front-nil left_after)
+
 -- ---- first lines
 
 pub AreFirst-none : (bytes : List ℕ) → AreFirst bytes [] bytes
@@ -50,6 +54,15 @@ AreFirst-then lines others bytes rest whole first = record {
       ap (λ (b : List ℕ). ended lines ++ b) first.parts ∙ sym (append_assoc (ended lines) (ended others) rest)
       ∙ ap (λ (b : List ℕ). b ++ rest) (sym (ended-append lines others));
 }
+
+-- fewer bytes are left after the first line
+pub fewer_left : (before after : FramerState) (line rest : List ℕ) → IsFirst before.left line rest → after ≡ record before { left = rest } → length after.left < length before.left
+fewer_left before after line rest first is = omega (arith, ap length first.parts, length-append line (10 ∷ rest), ap (λ (f : FramerState). length f.left) is)
+
+-- bytes without an end that are no last line are none
+pub none_left : (bytes : List ℕ) → HasNo 10 bytes → (HasNo 10 bytes → 1 ≤ length bytes → false ≡ true) → bytes ≡ []
+none_left [] one last = refl
+none_left (byte ∷ bytes) one last = absurd (false≢true (last one (omega arith)))
 
 -- ---- no line is too long
 

@@ -4,7 +4,7 @@ use Rattle.std.specs.List.{AllByRecursion}
 use Rattle.pcfs_ports.specs.Told.{with_back, HoldsSome}
 use Rattle.line_text.specs.Lines.{lines_of}
 use Rattle.line_text.specs.Words.{HasNo}
-use Rattle.line_framer.specs.Framing.{ended, IsLine}
+use Rattle.line_framer.specs.Framing.{ended}
 use Rattle.line_framer.specs.Scanning.{HasLong}
 use Rattle.line_framer.specs.Feeding.{AreShort}
 use Rattle.access_history.specs.declared.event.Event.{Event}

@@ -21,10 +21,17 @@ use line_framer::{FeedFault, Framer};
 use line_wire::LineReply;
 use pcfs_ports::{Disk, Failed, INPUT_LIMIT, Sink, Source};
 use pcfs_store::Store;
-use std::alloc::Global;
+use std::alloc::{AllocError, Global};
 
 /// How many bytes a source is asked for at once, at most.
 const PIECE_LEN: usize = 65_536;
+
+// The room for a piece.
+fn new_piece(alloc: Global) -> Result<Vec<u8>, AllocError>
+    ensures { IfOk result (λ piece. length piece.items ≡ 65536) }
+{
+    vec![in alloc; 0u8; PIECE_LEN]
+}
 
 // Takes bytes from the input into the front of the piece by one read, no more than this many, and returns how many: none
 // at the end.
@@ -158,7 +165,7 @@ fn read_pieces<D: Disk, I: Source, O: Sink>(
         (record { left = I.left input.new; read_faults = I.faults input.new; held = O.held output.new; write_faults = O.faults output.new }) }
     ensures never_falls { O.faults output.old ≤ O.faults output.new }
 {
-    let mut piece = match vec![in alloc; 0u8; PIECE_LEN] {
+    let mut piece = match new_piece(alloc) {
         Ok(piece) => piece,
         Err(_) => return ScriptEnd::NoMemory,
     };

@@ -2,6 +2,7 @@
 use Rattle.std.proofs.Common.{refl, sym, ap, subst, ◌∙◌, arith}
 use Rattle.line_framer.specs.Framing.{FramerState}
 use Rattle.pcfs_session.proofs.AnsweredLemmas.{IsAnswering, IsAnswering-start, IsAnswering-more, AnswersHeld-all, HaltsWithin-at, lawful_on, runs_on}
+use Rattle.pcfs_session.proofs.TakenLemmas.{fewer_left}
 use Rattle.pcfs_session.proofs.answering.answer_held.Goals as goal
 
 pub loop-line-init : goal.loop-line-init
@@ -20,6 +21,9 @@ answer_line-requires-clause-running g c = runs_on g.D.Disk.clock g.D.Disk.left_s
 pub returns-in-Err-clause-halts : goal.returns-in-Err-clause-halts
 returns-in-Err-clause-halts g c =
     HaltsWithin-at g.D.Disk.clock g.D.Disk.left_since g.D.Disk.image g.D.Disk.faults _ _ _ _ _ _ _ _ c.in-Some.ensures.line.0 _ _ _ c.in-Err.halt c.loop-line.invariant.so_far c.in-Some.ensures.line.1 c.in-Some.ensures.few c.in-Err.ensures.halts
+
+pub loop-line-smaller : goal.loop-line-smaller
+loop-line-smaller g c = fewer_left _ _ _ _ c.in-Some.ensures.line.1 (c.take_line.ensures.taken _ _ c.in-Some.ensures.line.1)
 
 pub loop-line-preserved : goal.loop-line-preserved
 loop-line-preserved g c =

@@ -1,4 +1,4 @@
-use Rattle.std.proofs.Common.{◌≡◌, ◌≤◌, ◌-◌, [], false, length, vec_len}
+use Rattle.std.proofs.Common.{◌≡◌, ◌≤◌, ◌-◌, [], false, length}
 use Rattle.pcfs_session.proofs.ScriptEndsLemmas.{IsReading}
 use Rattle.pcfs_session.proofs.script.read_pieces.Given as goal
 
@@ -8,7 +8,7 @@ invariant-loop-taken g l = record {
   not_long : l.framer.is_long ≡ false;
   nothing_waits : l.collected ≡ [];
   within : l.taken ≤ 1073741824;
-  room : vec_len l.piece ≡ 65536;
+  room : length l.piece.items ≡ 65536;
   read_never_falls : g.I.Source.faults l.fn.input ≤ g.I.Source.faults l.input;
   write_never_falls : g.O.Sink.faults l.fn.output ≤ g.O.Sink.faults l.output;
 }
