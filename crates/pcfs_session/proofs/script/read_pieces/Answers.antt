@@ -12,7 +12,7 @@ loop-taken-init g c = record {
   not_long = ap (λ (f : FramerState). f.is_long) c.new-framer.ensures;
   nothing_waits = c.new-collected.ensures;
   within = omega arith;
-  room = c.in-Ok-piece.ensures;
+  room = c.in-Ok.ensures;
   read_never_falls = omega arith;
   write_never_falls = omega arith;
 }
