@@ -15,5 +15,6 @@ mod script_end;
 mod signing;
 mod telling;
 
+pub use outbox::{SendFault, flush, send, send_all};
 pub use script::script_session;
 pub use script_end::ScriptEnd;
