@@ -4,7 +4,7 @@ use Rattle.std.specs.Prelude.{IsTrue, IsSome}
 use Rattle.std.specs.List.{AllByRecursion}
 use Rattle.pcfs_ports.specs.Told.{with_back, HoldsSome}
 use Rattle.line_text.specs.Words.{HasNo}
-use Rattle.line_framer.specs.Framing.{ended, IsFirst}
+use Rattle.line_framer.specs.Framing.{FramerState, ended, IsFirst}
 use Rattle.access_history.specs.declared.event.Event.{Event}
 use Rattle.line_wire.specs.declared.reply.LineReply.{LineReply}
 use Rattle.line_wire.specs.ReplyText.{reply_text, output_of}
@@ -181,6 +181,13 @@ module _ {D : Type 0} (clock : D → ℕ) (left_since : D → ℕ → List ℕ �
       first = AreFirst-more bytes so_far.lines left line rest so_far.first is few;
       answered = AreAnswered-then so_far.lines (line ∷ []) start now next held held_now held_next collected collected_now collected_next so_far.answered one;
     }
+
+    -- and the framer took that line
+    pub IsAnswering-taken : (now next : InterpreterView D) (before after : FramerState) (line rest : List ℕ) (held_now held_next : Option (List ℕ)) (collected_now collected_next : List ℕ) → IsAnswering now before.left held_now collected_now → IsFirst before.left line rest → length line ≤ 262144 →
+        after ≡ record before { left = rest } → Answered (line ∷ []) now next held_now collected_now held_next collected_next → IsAnswering next after.left held_next collected_next
+    IsAnswering-taken now next before after line rest held_now held_next collected_now collected_next so_far first few taken one =
+        subst (λ (f : FramerState). IsAnswering next f.left held_next collected_next) (sym taken)
+        (IsAnswering-more now next before.left line rest held_now held_next collected_now collected_next so_far first few one)
 
     pub AnswersHeld-all : (now : InterpreterView D) (left : List ℕ) (held_now : Option (List ℕ)) (collected_now : List ℕ) → IsAnswering now left held_now collected_now → HasNo 10 left → AnswersHeld clock left_since image faults bytes left start now held collected held_now collected_now
     AnswersHeld-all now left held_now collected_now so_far none = record { lines = so_far.lines; first = so_far.first; no_more = none; answered = so_far.answered }

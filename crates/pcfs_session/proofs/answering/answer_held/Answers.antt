@@ -1,7 +1,7 @@
 -- Each line that was answered and taken is one more of the first lines.
-use Rattle.std.proofs.Common.{refl, sym, ap, subst, ◌∙◌, arith}
+use Rattle.std.proofs.Common.{refl, ap, ◌∙◌, arith}
 use Rattle.line_framer.specs.Framing.{FramerState}
-use Rattle.pcfs_session.proofs.AnsweredLemmas.{IsAnswering, IsAnswering-start, IsAnswering-more, AnswersHeld-all, HaltsWithin-at, lawful_on, runs_on}
+use Rattle.pcfs_session.proofs.AnsweredLemmas.{IsAnswering-start, IsAnswering-taken, AnswersHeld-all, HaltsWithin-at, lawful_on, runs_on}
 use Rattle.pcfs_session.proofs.TakenLemmas.{fewer_left}
 use Rattle.pcfs_session.proofs.answering.answer_held.Goals as goal
 
@@ -30,8 +30,7 @@ loop-line-preserved g c =
     let next = c.take_line.ensures.taken _ _ c.in-Some.ensures.line.1 in
     record {
       so_far =
-          subst (λ (f : FramerState). IsAnswering g.D.Disk.clock g.D.Disk.left_since g.D.Disk.image g.D.Disk.faults _ _ _ _ c.answer_line.new.interpreter f.left _ _) (sym next)
-          (IsAnswering-more g.D.Disk.clock g.D.Disk.left_since g.D.Disk.image g.D.Disk.faults _ _ _ _ _ _ _ _ c.in-Some.ensures.line.0 _ _ _ _ c.loop-line.invariant.so_far c.in-Some.ensures.line.1 c.in-Some.ensures.few c.in-Ok.ensures.ok);
+          IsAnswering-taken g.D.Disk.clock g.D.Disk.left_since g.D.Disk.image g.D.Disk.faults _ _ _ _ _ _ _ _ _ c.in-Some.ensures.line.0 _ _ _ _ c.loop-line.invariant.so_far c.in-Some.ensures.line.1 c.in-Some.ensures.few next c.in-Ok.ensures.ok;
       long_stays = ap (λ (f : FramerState). f.is_long) next ∙ c.loop-line.invariant.long_stays;
       never_falls = omega (arith, c.in-Ok.ensures.never_falls);
     }
