@@ -8,7 +8,7 @@ use Rattle.line_text.specs.Lines.{lines_of}
 use Rattle.line_text.specs.Words.{HasNo}
 use Rattle.line_framer.specs.Framing.{FramerState, ended, IsLine}
 use Rattle.line_framer.specs.Scanning.{HasLong}
-use Rattle.line_framer.specs.Feeding.{AreShort, IsTooLong, already, with_piece, IsNotFed}
+use Rattle.line_framer.specs.Feeding.{AreShort, IsFed, IsTooLong, already, with_piece, IsNotFed}
 use Rattle.line_framer.specs.declared.framer.FeedFault.{FeedFault}
 use Rattle.line_framer.specs.declared.framer.FeedFault.TheVariants.{TooLong}
 use Rattle.line_framer.proofs.FramingLemmas.{last_line, lines_of-whole}
@@ -100,15 +100,15 @@ module _ {D : Type 0} (clock : D → ℕ) (left_since : D → ℕ → List ℕ �
   -- ---- a piece
 
   -- the lines that have their end after it were answered
-  pub AnswersPiece-held : (before piece bytes left : List ℕ) (old new : InterpreterView D) (held held_after : Option (List ℕ)) (collected kept : List ℕ) → bytes ≡ before ++ piece → collected ≡ [] → kept ≡ [] → AnswersHeld clock left_since image faults bytes left old new held collected held_after kept →
-      AnswersPiece clock left_since image faults before piece left old new held held_after
-  AnswersPiece-held before piece bytes left old new held held_after collected kept same empty none all =
-      subst (λ (b : List ℕ). AnswersHeld clock left_since image faults b left old new held [] held_after []) same
-      (subst (λ (c : List ℕ). AnswersHeld clock left_since image faults bytes left old new held c held_after []) empty
-      (subst (λ (k : List ℕ). AnswersHeld clock left_since image faults bytes left old new held collected held_after k) none all))
+  pub AnswersPiece-held : (before after : FramerState) (piece left : List ℕ) (old new : InterpreterView D) (held held_after : Option (List ℕ)) (collected kept : List ℕ) → IsFed before piece after → collected ≡ [] → kept ≡ [] → AnswersHeld clock left_since image faults after.left left old new held collected held_after kept →
+      AnswersPiece clock left_since image faults before.left piece left old new held held_after
+  AnswersPiece-held before after piece left old new held held_after collected kept fed empty none all =
+      subst (λ (f : FramerState). AnswersHeld clock left_since image faults f.left left old new held [] held_after []) fed.after_is
+      (subst (λ (c : List ℕ). AnswersHeld clock left_since image faults after.left left old new held c held_after []) empty
+      (subst (λ (k : List ℕ). AnswersHeld clock left_since image faults after.left left old new held collected held_after k) none all))
 
-  pub few_held : (before piece bytes left : List ℕ) (old new : InterpreterView D) (held held_after : Option (List ℕ)) (collected kept : List ℕ) → bytes ≡ before ++ piece → AreShort (before ++ piece) → AnswersHeld clock left_since image faults bytes left old new held collected held_after kept → length left ≤ 262144
-  few_held before piece bytes left old new held held_after collected kept same short all = few_left bytes left all.lines all.first all.no_more (subst AreShort (sym same) short)
+  pub few_held : (before after : FramerState) (piece left : List ℕ) (old new : InterpreterView D) (held held_after : Option (List ℕ)) (collected kept : List ℕ) → IsFed before piece after → AnswersHeld clock left_since image faults after.left left old new held collected held_after kept → length left ≤ 262144
+  few_held before after piece left old new held held_after collected kept fed all = few_left after.left left all.lines all.first all.no_more (subst (λ (f : FramerState). AreShort f.left) (sym fed.after_is) fed.short)
 
   -- the framer that took a piece has a line that is too long
   long_ends : (before after : FramerState) (piece : List ℕ) (old new : InterpreterView D) (held held_after : Option (List ℕ)) (how : ScriptEnd) → before.is_long ≡ false → IsTooLong before piece after →

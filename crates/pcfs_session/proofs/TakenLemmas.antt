@@ -1,8 +1,9 @@
 -- The lines of what was taken of an input.
-use Rattle.std.proofs.Common.{◌≡◌, ◌<◌, ◌≤◌, ◌+◌, ℕ, Bool, true, false, List, [], ◌∷◌, ◌++◌, length, take, Option, Some, None, refl, sym, ap, ◌∙◌, subst, append_assoc, append-nil, length-append, arith}
+use Rattle.std.proofs.Common.{◌≡◌, ◌<◌, ◌≤◌, ◌+◌, ℕ, Bool, true, false, List, [], ◌∷◌, ◌++◌, length, take, drop, Option, Some, None, refl, sym, ap, ◌∙◌, subst, append_assoc, append-nil, length-append, arith}
 use Rattle.std.specs.Prelude.{◌==◌, if◌then◌else◌}
 use Rattle.std.specs.List.{AllByRecursion}
 use Rattle.std.proofs.lemmas.Bool.{eqb-true, false≢true}
+use Rattle.std.proofs.lemmas.List.{take-take, take-append-le, length-take-le}
 use Rattle.pcfs_ports.specs.Told.{with_front, IsAtEnd, ReadsToEnd}
 use Rattle.line_text.specs.Lines.{lines_of, with_byte}
 use Rattle.line_text.specs.Words.{HasNo}
@@ -33,6 +34,28 @@ ReadsToEnd-taken bytes old (Some left) taken at_end =
 -- no byte was taken
 pub nothing_taken : (count : ℕ) (piece : List ℕ) (left left_after : Option (List ℕ)) → count ≡ 0 → left ≡ with_front (take count piece) left_after → left ≡ left_after
 nothing_taken count piece left left_after none taken = subst (λ (k : ℕ). left ≡ with_front (take k piece) left_after) none taken ∙ sym (with_front-nil left_after)
+
+-- ---- a piece
+
+-- what is shown of room that begins with the bytes that were given
+pub record IsShown (count : ℕ) (given shown : List ℕ) : Type 0 where
+  pub same : take count shown ≡ take count given
+  pub len : length (take count shown) ≡ count
+
+pub IsShown-front : (count len : ℕ) (given old shown : List ℕ) → shown ≡ take len (given ++ drop (length given) old) → count ≤ length given → length given ≤ len → IsShown count given shown
+IsShown-front count len given old shown is within fits =
+    let same : take count shown ≡ take count given =
+        ap (take count) is ∙ take-take count len (given ++ drop (length given) old) (omega arith) ∙ take-append-le count given (drop (length given) old) within in
+    record { same = same; len = ap length same ∙ length-take-le count given within }
+
+pub taken_shown : (count : ℕ) (given shown : List ℕ) (left left_after : Option (List ℕ)) → IsShown count given shown → left ≡ with_front (take count given) left_after → left ≡ with_front (take count shown) left_after
+taken_shown count given shown left left_after is taken = subst (λ (b : List ℕ). left ≡ with_front b left_after) (sym is.same) taken
+
+-- the room stays as long as it was
+pub room_stays : (len : ℕ) (given old : List ℕ) → length given ≡ length old → len ≡ length old → length (take len (given ++ drop (length given) old)) ≡ length old
+room_stays len given old same is =
+    let whole : length (given ++ drop (length given) old) ≡ length given + length (drop (length given) old) = length-append given (drop (length given) old) in
+    length-take-le len (given ++ drop (length given) old) (omega (arith, whole)) ∙ is
 
 -- ---- first lines
 

@@ -17,10 +17,10 @@ pub returns-in-Err-NoMemory-clause-ends : goal.returns-in-Err-NoMemory-clause-en
 returns-in-Err-NoMemory-clause-ends g c = PieceEnds-refused g.D.Disk.clock g.D.Disk.left_since g.D.Disk.image g.D.Disk.faults _ _ _ _ _ c.requires.running refl
 
 pub returns-in-Ok-answer_out-clause-ok : goal.returns-in-Ok-answer_out-clause-ok
-returns-in-Ok-answer_out-clause-ok g c = AnswersPiece-held g.D.Disk.clock g.D.Disk.left_since g.D.Disk.image g.D.Disk.faults _ _ _ _ _ _ _ _ _ _ (ap (λ (f : FramerState). f.left) c.in-Ok.ensures.after_is) c.requires.nothing_waits c.in-Ok-answer_out.ensures.empty c.in-Ok-answer_out.ensures.ok
+returns-in-Ok-answer_out-clause-ok g c = AnswersPiece-held g.D.Disk.clock g.D.Disk.left_since g.D.Disk.image g.D.Disk.faults _ _ _ _ _ _ _ _ _ _ c.in-Ok.ensures c.requires.nothing_waits c.in-Ok-answer_out.ensures.empty c.in-Ok-answer_out.ensures.ok
 
 pub returns-in-Ok-answer_out-clause-few : goal.returns-in-Ok-answer_out-clause-few
-returns-in-Ok-answer_out-clause-few g c = few_held g.D.Disk.clock g.D.Disk.left_since g.D.Disk.image g.D.Disk.faults _ _ _ _ _ _ _ _ _ _ (ap (λ (f : FramerState). f.left) c.in-Ok.ensures.after_is) c.in-Ok.ensures.short c.in-Ok-answer_out.ensures.ok
+returns-in-Ok-answer_out-clause-few g c = few_held g.D.Disk.clock g.D.Disk.left_since g.D.Disk.image g.D.Disk.faults _ _ _ _ _ _ _ _ _ _ c.in-Ok.ensures c.in-Ok-answer_out.ensures.ok
 
 pub returns-in-Ok-answer_out-clause-stays_so : goal.returns-in-Ok-answer_out-clause-stays_so
 returns-in-Ok-answer_out-clause-stays_so g c = c.in-Ok-answer_out.ensures.long_stays ∙ ap (λ (f : FramerState). f.is_long) c.in-Ok.ensures.after_is

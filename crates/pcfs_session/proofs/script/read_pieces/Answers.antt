@@ -1,9 +1,9 @@
 -- The lines that came with their ends are answered, piece by piece.
-use Rattle.std.proofs.Common.{◌≡◌, ◌≤◌, ap, refl, arith}
+use Rattle.std.proofs.Common.{◌≡◌, ◌≤◌, length, take, [], Err, ap, ◌∙◌, refl, arith}
 use Rattle.line_framer.specs.Framing.{FramerState}
 use Rattle.pcfs_session.proofs.ScriptEndsLemmas.{AnswersScript-unbegun, IsReading-start, running_now, lawful_now, IsReading-more, AnswersScript-read_fault, AnswersScript-too_long, AnswersScript-piece, AnswersScript-last}
 use Rattle.pcfs_session.proofs.StoredLemmas.{HasRisen-earlier}
-use Rattle.pcfs_session.proofs.TakenLemmas.{nothing_taken}
+use Rattle.pcfs_session.proofs.TakenLemmas.{nothing_taken, IsShown-front, taken_shown, room_stays}
 use Rattle.pcfs_session.proofs.script.read_pieces.Goals as goal
 
 pub loop-taken-init : goal.loop-taken-init
@@ -48,16 +48,23 @@ answer_piece-requires-clause-running g c = running_now g.D.Disk.clock g.D.Disk.l
 
 pub returns-in-Err-answer_piece-clause-ends : goal.returns-in-Err-answer_piece-clause-ends
 returns-in-Err-answer_piece-clause-ends g c =
-    AnswersScript-piece g.D.Disk.clock g.D.Disk.left_since g.D.Disk.image g.D.Disk.faults _ _ c.requires.lawful _ _ _ _ _ _ _ _ c.loop-taken.invariant.reading _ ? ?
+    let fits : length c.read_piece.new.piece ≤ c.loop-taken.piece.len = omega (arith, c.loop-taken.piece.ok.0, c.deref_mut.ensures.len, c.read_piece.auto.piece) in
+    let shown = IsShown-front c.in-Ok-read_piece.count c.loop-taken.piece.len c.read_piece.new.piece c.loop-taken.piece.items c.deref.result.now c.deref.ensures.value c.in-Ok-read_piece.ensures.bound fits in
+    let small : length (take c.in-Ok-read_piece.count c.deref.result.now) ≤ 65536 = omega (arith, shown.len, c.in-Ok-read_piece.ensures.bound, fits, c.loop-taken.piece.ok.0, c.loop-taken.invariant.room) in
+    AnswersScript-piece g.D.Disk.clock g.D.Disk.left_since g.D.Disk.image g.D.Disk.faults _ _ c.requires.lawful _ _ _ _ _ _ _ _ c.loop-taken.invariant.reading _ (taken_shown _ _ _ _ _ shown c.in-Ok-read_piece.ensures.taken) small
     (λ is. HasRisen-earlier _ _ _ c.loop-taken.invariant.write_never_falls (c.in-Err-answer_piece.ensures.risen (ap Err is))) c.in-Err-answer_piece.ensures.ends
 
 pub loop-taken-preserved : goal.loop-taken-preserved
-loop-taken-preserved g c = record {
-  reading = IsReading-more g.D.Disk.clock g.D.Disk.left_since g.D.Disk.image g.D.Disk.faults _ _ _ _ _ _ _ _ _ _ _ _ _ c.loop-taken.invariant.reading ? ? c.in-Ok-answer_piece.ensures.ok c.in-Ok-answer_piece.ensures.few;
+loop-taken-preserved g c =
+  let fits : length c.read_piece.new.piece ≤ c.loop-taken.piece.len = omega (arith, c.loop-taken.piece.ok.0, c.deref_mut.ensures.len, c.read_piece.auto.piece) in
+  let same : length c.read_piece.new.piece ≡ length c.loop-taken.piece.items = omega (arith, c.loop-taken.piece.ok.0, c.deref_mut.ensures.len, c.read_piece.auto.piece) in
+  let shown = IsShown-front c.in-Ok-read_piece.count c.loop-taken.piece.len c.read_piece.new.piece c.loop-taken.piece.items c.deref.result.now c.deref.ensures.value c.in-Ok-read_piece.ensures.bound fits in
+  record {
+  reading = IsReading-more g.D.Disk.clock g.D.Disk.left_since g.D.Disk.image g.D.Disk.faults _ _ _ _ _ _ _ _ _ _ _ _ _ c.loop-taken.invariant.reading (taken_shown _ _ _ _ _ shown c.in-Ok-read_piece.ensures.taken) shown.len c.in-Ok-answer_piece.ensures.ok c.in-Ok-answer_piece.ensures.few;
   not_long = c.in-Ok-answer_piece.ensures.stays_so;
   nothing_waits = c.in-Ok-answer_piece.ensures.empty;
   within = omega (arith, c.in-Ok-read_piece.ensures.few);
-  room = ?;
+  room = room_stays c.loop-taken.piece.len c.read_piece.new.piece c.loop-taken.piece.items same c.loop-taken.piece.ok.0 ∙ c.loop-taken.invariant.room;
   read_never_falls = omega (arith, c.in-Ok-read_piece.ensures.never_falls);
   write_never_falls = omega (arith, c.in-Ok-answer_piece.ensures.never_falls);
 }
