@@ -1,10 +1,9 @@
 -- Lines that are answered over a store, one after the other.
-use Rattle.std.proofs.Common.{◌≡◌, ◌↔◌, ℕ, ◌≤◌, List, ◌∷◌, [], ◌++◌, length, Bool, true, false, Option, Some, None, refl, sym, ap, subst, ◌∙◌, arith, append-nil}
+use Rattle.std.proofs.Common.{◌≡◌, ◌↔◌, ℕ, ◌≤◌, List, ◌∷◌, [], ◌++◌, length, true, false, Option, Some, None, refl, sym, subst, append-nil}
 use Rattle.std.specs.Prelude.{IsTrue, IsSome}
-use Rattle.std.specs.List.{AllByRecursion}
 use Rattle.pcfs_ports.specs.Told.{with_back, HoldsSome}
 use Rattle.line_text.specs.Words.{HasNo}
-use Rattle.line_framer.specs.Framing.{FramerState, ended, IsFirst}
+use Rattle.line_framer.specs.Framing.{FramerState, IsFirst}
 use Rattle.access_history.specs.declared.event.Event.{Event}
 use Rattle.line_wire.specs.declared.reply.LineReply.{LineReply}
 use Rattle.line_wire.specs.ReplyText.{reply_text, output_of}

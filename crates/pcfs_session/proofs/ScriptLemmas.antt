@@ -1,5 +1,5 @@
 -- Runs of a script, one after the other.
-use Rattle.std.proofs.Common.{◌≡◌, ℕ, List, [], ◌∷◌, ◌++◌, Option, None, refl, ap, subst, ◌∙◌, append-nil}
+use Rattle.std.proofs.Common.{◌≡◌, ℕ, List, [], ◌∷◌, ◌++◌, refl, subst, append-nil}
 use Rattle.std.proofs.lemmas.Grind.{flat_map-append}
 use Rattle.access_history.proofs.HeadlineLemmas.{Headline-lawful}
 use Rattle.line_wire.specs.declared.reply.LineReply.{LineReply}

@@ -45,7 +45,7 @@ pub record IsShown (count : ℕ) (given shown : List ℕ) : Type 0 where
 pub IsShown-front : (count len : ℕ) (given old shown : List ℕ) → shown ≡ take len (given ++ drop (length given) old) → count ≤ length given → length given ≤ len → IsShown count given shown
 IsShown-front count len given old shown is within fits =
     let same : take count shown ≡ take count given =
-        ap (take count) is ∙ take-take count len (given ++ drop (length given) old) (omega arith) ∙ take-append-le count given (drop (length given) old) within in
+    ap (take count) is ∙ take-take count len (given ++ drop (length given) old) (omega arith) ∙ take-append-le count given (drop (length given) old) within in
     record { same = same; len = ap length same ∙ length-take-le count given within }
 
 pub taken_shown : (count : ℕ) (given shown : List ℕ) (left left_after : Option (List ℕ)) → IsShown count given shown → left ≡ with_front (take count given) left_after → left ≡ with_front (take count shown) left_after
@@ -114,7 +114,7 @@ pub few_left : (bytes left : List ℕ) (lines : List (List ℕ)) → AreFirst by
 few_left bytes [] lines first none short = omega arith
 few_left bytes (byte ∷ behind) lines first none short =
     let is : lines_of bytes ≡ lines ++ (byte ∷ behind) ∷ [] =
-        ap lines_of first.parts ∙ lines_of-whole lines (byte ∷ behind) first.whole ∙ ap (λ (ls : List (List ℕ)). lines ++ ls) (last_line (byte ∷ behind) none (omega arith)) in
+    ap lines_of first.parts ∙ lines_of-whole lines (byte ∷ behind) first.whole ∙ ap (λ (ls : List (List ℕ)). lines ++ ls) (last_line (byte ∷ behind) none (omega arith)) in
     last_short lines (byte ∷ behind) (subst (AllByRecursion (λ (line : List ℕ). length line ≤ 262144)) is short)
 
 -- what is left after lines of a line and a piece has no more bytes than these

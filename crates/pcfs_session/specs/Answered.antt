@@ -1,6 +1,5 @@
 -- What calls do that answer lines, from one place of a script to a later one (this project's own).
-use Rattle.std.specs.Prelude.{◌≡◌, ◌⊎◌, ℕ, List, [], ◌∷◌, ◌++◌, Option, Some, None}
-use Rattle.std.specs.List.{AllByRecursion}
+use Rattle.std.specs.Prelude.{◌≡◌, ◌⊎◌, ℕ, List, [], ◌++◌, Option, Some, None}
 use Rattle.pcfs_ports.specs.Told.{with_back, HoldsSome}
 use Rattle.line_text.specs.Lines.{lines_of}
 use Rattle.line_text.specs.Words.{HasNo}

@@ -1,6 +1,6 @@
 -- How a script ends that is taken from an input and answered from a start: what was taken and what was written. If the input does not tell what it has, or the output what it holds,
 -- nothing is said of that (this project's own).
-use Rattle.std.specs.Prelude.{◌≡◌, ℕ, List, [], ◌∷◌, ◌++◌, Option, Some, None}
+use Rattle.std.specs.Prelude.{◌≡◌, ℕ, List, [], ◌∷◌, ◌++◌, Some, None}
 use Rattle.pcfs_ports.specs.Faults.{HasRisen}
 use Rattle.pcfs_ports.specs.Told.{with_back, ReadsToEnd, TakesFirst, HoldsSome}
 use Rattle.line_text.specs.Lines.{lines_of}

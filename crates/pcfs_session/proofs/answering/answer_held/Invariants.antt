@@ -1,4 +1,4 @@
-use Rattle.std.proofs.Common.{◌≡◌, ◌≤◌, length, None}
+use Rattle.std.proofs.Common.{◌≡◌, ◌≤◌, length}
 use Rattle.pcfs_session.proofs.AnsweredLemmas.{IsAnswering}
 use Rattle.pcfs_session.proofs.answering.answer_held.Given as goal
 

@@ -56,18 +56,18 @@ returns-in-Err-answer_piece-clause-ends g c =
 
 pub loop-taken-preserved : goal.loop-taken-preserved
 loop-taken-preserved g c =
-  let fits : length c.read_piece.new.piece ≤ c.loop-taken.piece.len = omega (arith, c.loop-taken.piece.ok.0, c.deref_mut.ensures.len, c.read_piece.auto.piece) in
-  let same : length c.read_piece.new.piece ≡ length c.loop-taken.piece.items = omega (arith, c.loop-taken.piece.ok.0, c.deref_mut.ensures.len, c.read_piece.auto.piece) in
-  let shown = IsShown-front c.in-Ok-read_piece.count c.loop-taken.piece.len c.read_piece.new.piece c.loop-taken.piece.items c.deref.result.now c.deref.ensures.value c.in-Ok-read_piece.ensures.bound fits in
-  record {
-  reading = IsReading-more g.D.Disk.clock g.D.Disk.left_since g.D.Disk.image g.D.Disk.faults _ _ _ _ _ _ _ _ _ _ _ _ _ c.loop-taken.invariant.reading (taken_shown _ _ _ _ _ shown c.in-Ok-read_piece.ensures.taken) shown.len c.in-Ok-answer_piece.ensures.ok c.in-Ok-answer_piece.ensures.few;
-  not_long = c.in-Ok-answer_piece.ensures.stays_so;
-  nothing_waits = c.in-Ok-answer_piece.ensures.empty;
-  within = omega (arith, c.in-Ok-read_piece.ensures.few);
-  room = room_stays c.loop-taken.piece.len c.read_piece.new.piece c.loop-taken.piece.items same c.loop-taken.piece.ok.0 ∙ c.loop-taken.invariant.room;
-  read_never_falls = omega (arith, c.in-Ok-read_piece.ensures.never_falls);
-  write_never_falls = omega (arith, c.in-Ok-answer_piece.ensures.never_falls);
-}
+    let fits : length c.read_piece.new.piece ≤ c.loop-taken.piece.len = omega (arith, c.loop-taken.piece.ok.0, c.deref_mut.ensures.len, c.read_piece.auto.piece) in
+    let same : length c.read_piece.new.piece ≡ length c.loop-taken.piece.items = omega (arith, c.loop-taken.piece.ok.0, c.deref_mut.ensures.len, c.read_piece.auto.piece) in
+    let shown = IsShown-front c.in-Ok-read_piece.count c.loop-taken.piece.len c.read_piece.new.piece c.loop-taken.piece.items c.deref.result.now c.deref.ensures.value c.in-Ok-read_piece.ensures.bound fits in
+    record {
+      reading = IsReading-more g.D.Disk.clock g.D.Disk.left_since g.D.Disk.image g.D.Disk.faults _ _ _ _ _ _ _ _ _ _ _ _ _ c.loop-taken.invariant.reading (taken_shown _ _ _ _ _ shown c.in-Ok-read_piece.ensures.taken) shown.len c.in-Ok-answer_piece.ensures.ok c.in-Ok-answer_piece.ensures.few;
+      not_long = c.in-Ok-answer_piece.ensures.stays_so;
+      nothing_waits = c.in-Ok-answer_piece.ensures.empty;
+      within = omega (arith, c.in-Ok-read_piece.ensures.few);
+      room = room_stays c.loop-taken.piece.len c.read_piece.new.piece c.loop-taken.piece.items same c.loop-taken.piece.ok.0 ∙ c.loop-taken.invariant.room;
+      read_never_falls = omega (arith, c.in-Ok-read_piece.ensures.never_falls);
+      write_never_falls = omega (arith, c.in-Ok-answer_piece.ensures.never_falls);
+    }
 
 pub returns-clause-ends : goal.returns-clause-ends
 returns-clause-ends g c =
