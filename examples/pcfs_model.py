@@ -905,6 +905,18 @@ def numbered(text):
     return [line.replace("%", str(one)) for one in range(int(low), int(high) + 1)]
 
 
+MOST_BYTES = 262_144
+
+
+def replies(server, lines):
+    """The replies to the lines, up to one that is too long."""
+    for line in lines:
+        if len(line) > MOST_BYTES:
+            yield "bad 3"
+            return
+        yield server.answer(line)
+
+
 def run_case(rows):
     """The replies to the case's lines, those that it wants, and whether it is a plain run of a script."""
     texts, given, wanted, secrets, plain, rest = {}, [], [], "", True, ""
@@ -928,11 +940,14 @@ def run_case(rows):
             secrets += text + "\n"
         elif kind == "words":
             plain &= text == "script"
+        elif kind == "status":
+            plain &= text in ("0", "2")
+        elif kind == "pieces":
+            pass  # the replies are those of the whole input
         elif kind not in ("", "#"):
             plain = False
     lines = "\n".join([*given, rest]).split("\n") if rest else "\n".join([*given, ""]).split("\n")[:-1]
-    server = Server(secrets)
-    return [server.answer(line) for line in lines] if plain else [], wanted, plain
+    return list(replies(Server(secrets), lines)) if plain else [], wanted, plain
 
 
 def compare_rows(path):
@@ -1065,8 +1080,8 @@ def main():
             with open(path, encoding="ascii") as file:
                 server = Server(file.read())
             lines = sys.stdin.buffer.read().decode("latin-1").split("\n")
-            for line in lines if lines[-1] else lines[:-1]:
-                print(server.answer(line))
+            for reply in replies(server, lines if lines[-1] else lines[:-1]):
+                print(reply)
         case ["rows", *paths]:
             agree = [compare_rows(path) for path in paths]
             sys.exit(0 if all(agree) else 1)

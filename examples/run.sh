@@ -80,6 +80,27 @@ else
     differ=$((differ + 1))
 fi
 
+# each reply is out before the next line is sent
+coproc served { "$program" script; }
+late=0
+for second in 1 2 3; do
+    echo "at $second" >&"${served[1]}"
+    read -r -t 20 reply <&"${served[0]}" && [ "$reply" = ok ] || late=1
+done
+input=${served[1]} pid=$served_PID
+exec {input}>&-
+wait "$pid" || late=1
+# a line that is too long ends the script, and the lines before it are answered
+long=0
+{ echo at 1; head -c 262145 /dev/zero | tr '\0' a; echo; echo at 2; } | "$program" script > replies || long=$?
+if [ "$late" -eq 0 ] && [ "$long" -eq 2 ] && cmp -s replies <(printf 'ok\nbad 3\n'); then
+    echo "agrees lines as they come"
+    agree=$((agree + 1))
+else
+    echo "differs lines as they come"
+    differ=$((differ + 1))
+fi
+
 # what the client signs is registered
 while read -r statement; do
     python3 "$here/pcfs_client.py" statement pcfs.secrets "$statement"

@@ -2,7 +2,7 @@
 //! store in memory, or with `--stored` over the one in the files `pcfs.a` and `pcfs.b` of the current folder, which
 //! `pcfs init` makes.
 //!
-//! It ends with the status that `pcfs_top::run::run` answers, or with 19, if the secrets file is bad or cannot be
+//! It ends with the status that `pcfs_top::run::run_alone` answers, or with 19, if the secrets file is bad or cannot be
 //! read. Where there is no memory for its words or its secrets, that is 9. Words that are not UTF-8 count as none. The
 //! secrets stand in the file `pcfs.secrets` of the current folder; if there is no such file, the key of the seal is
 //! empty and nobody has a key to sign with.
@@ -11,7 +11,7 @@
 use bl_syntax::Bytes;
 use pcfs_ports::{FileDisk, StdSink, StdSource, TakeFault, read_to_end};
 use pcfs_secrets::{SecretFault, Secrets};
-use pcfs_top::run::run;
+use pcfs_top::run::run_alone;
 use std::io::{self, ErrorKind};
 use std::process::ExitCode;
 use std::rt::Files;
@@ -114,7 +114,7 @@ fn main(rt: HostRuntime) -> ExitCode {
     let mut output = StdSink::new(io::writer(&rt));
     let a = FileDisk::new(&rt, FIRST_FILE);
     let b = FileDisk::new(&rt, SECOND_FILE);
-    let ended = run(
+    let ended = run_alone(
         &rt,
         rt.alloc(),
         &words,

@@ -1,13 +1,14 @@
 //! A case: what a run is given, and what is wanted of it.
 
+use crate::case_input::CaseInput;
 use crate::short_form::{RowFault, Texts, add_numbered, add_written_out, number_of, parts_at};
 use crate::values::add_value;
 use bl_syntax::decimal::put_counted;
 use bl_syntax::{Bytes, NoMemory, Numbers};
 use line_text::write_hex;
-use pcfs_ports::{MemoryDisk, MemorySink, MemorySource};
+use pcfs_ports::{MemoryDisk, MemorySink};
 use pcfs_secrets::Secrets;
-use pcfs_top::run::{Ended, run};
+use pcfs_top::run::{Ended, run_alone};
 use std::alloc::Global;
 use std::sync::Wait;
 use std::thread::Threads;
@@ -18,8 +19,7 @@ pub struct Case {
     texts: Texts,
     secrets: Bytes,
     words: Vec<String>,
-    input: Bytes,
-    failing_reads: Numbers,
+    input: CaseInput,
     failing_writes: Numbers,
     first: Area,
     second: Area,
@@ -107,6 +107,12 @@ fn set_numbers(words: &str, numbers: &mut Numbers) -> Result<(), RowFault> {
     Ok(())
 }
 
+// Sets the number to that of the word.
+fn set_number(word: &str, number: &mut u32) -> Result<(), RowFault> {
+    *number = number_of(word)?;
+    Ok(())
+}
+
 // Sets the words to those of the text.
 fn set_words(alloc: Global, text: &str, words: &mut Vec<String>) -> Result<(), RowFault> {
     words.clear();
@@ -189,8 +195,7 @@ impl Case {
             texts: Texts::new(alloc),
             secrets: Bytes::new(alloc),
             words: Vec::new(alloc),
-            input: Bytes::new(alloc),
-            failing_reads: Numbers::new(alloc),
+            input: CaseInput::new(alloc),
             failing_writes: Numbers::new(alloc),
             first: Area::new(alloc),
             second: Area::new(alloc),
@@ -243,7 +248,7 @@ impl Case {
         }
     }
 
-    // Adds what a row of a disk gives, or of a call.
+    // Adds what a row of a disk gives, of how the input is given, or of a call.
     fn add_other(
         &mut self,
         alloc: Global,
@@ -258,6 +263,8 @@ impl Case {
             "calls.b" => set_numbers(text, &mut self.second.failing),
             "again" => self.go_on(left, text),
             "shows" => self.set_shows(text),
+            "pieces" => set_number(text, &mut self.input.piece),
+            "times" => set_number(text, &mut self.input.times),
             "" | "#" => Ok(()),
             _ => self.add_found(alloc, kind, text),
         }
@@ -276,15 +283,15 @@ impl Case {
     pub fn add_row(&mut self, alloc: Global, left: &Left, row: &str) -> Result<(), RowFault> {
         let (kind, text) = row.split_once(' ').unwrap_or((row, ""));
         match kind {
-            ">" => add_line(alloc, &self.texts, text, &mut self.input),
+            ">" => add_line(alloc, &self.texts, text, &mut self.input.bytes),
             "<" => add_line(alloc, &self.texts, text, &mut self.wanted),
-            ">>" => add_lines(alloc, text, &mut self.input),
+            ">>" => add_lines(alloc, text, &mut self.input.bytes),
             "<<" => add_lines(alloc, text, &mut self.wanted),
-            ">." => add_written_out(alloc, &self.texts, text, &mut self.input),
+            ">." => add_written_out(alloc, &self.texts, text, &mut self.input.bytes),
             "let" => self.name_text(alloc, text),
             "secret" => add_line(alloc, &self.texts, text, &mut self.secrets),
             "words" => set_words(alloc, text, &mut self.words),
-            "reads" => set_numbers(text, &mut self.failing_reads),
+            "reads" => set_numbers(text, &mut self.input.failing),
             "writes" => set_numbers(text, &mut self.failing_writes),
             "status" => self.set_status(text),
             _ => self.add_other(alloc, left, kind, text),
@@ -302,8 +309,7 @@ impl Case {
             texts: _,
             secrets,
             words,
-            input,
-            failing_reads,
+            mut input,
             failing_writes,
             first,
             second,
@@ -312,13 +318,12 @@ impl Case {
             wanted,
             status: wanted_status,
         } = self;
-        let mut input = MemorySource::new(alloc, input, failing_reads);
         let mut output = MemorySink::new(alloc, failing_writes);
         let a = first.into_disk(alloc)?;
         let b = second.into_disk(alloc)?;
         let status = match Secrets::parse(alloc, secrets.as_slice()) {
             Ok(secrets) => {
-                let ended = run(rt, alloc, &words, &secrets, &mut input, &mut output, a, b);
+                let ended = run_alone(rt, alloc, &words, &secrets, &mut input, &mut output, a, b);
                 left.keep(ended)
             }
             Err(_) => Err(RowFault::BadRow),

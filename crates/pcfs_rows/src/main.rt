@@ -1,10 +1,12 @@
-//! Worked runs as data: each file of rows that a word names is read, and each of its cases is run through `pcfs_top::run`.
+//! Worked runs as data: each file of rows that a word names is read, and each of its cases is run through `pcfs_top::run_alone`.
 //!
 //! For each case it prints that it agrees, or the first reply that differs, and it ends with status 1 if any differs.
 //! `README.md` beside `src/` says what the rows are.
 #![tactic(auto)]
 
+mod asked;
 mod case;
+mod case_input;
 mod rows;
 mod short_form;
 mod values;

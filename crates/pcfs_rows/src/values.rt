@@ -1,5 +1,6 @@
 //! Rows that call the crates below directly, for what no line shows: written texts, and values that have no text.
 
+use crate::asked::add_read;
 use crate::short_form::{RowFault, parts_at};
 use bl_codec::{read_formula, read_statement};
 use bl_syntax::{Bytes, Goal, NoMemory, NodeId, Perm, Principal, Statement, Term};
@@ -15,8 +16,8 @@ use proof_text::{parse_proof, print_proof};
 use proof_verifier::{CheckFault, Checked, Cite, Cites, check, verdict};
 use std::alloc::Global;
 
-// The same outcome, as that of a row.
-fn value_end(outcome: Result<(), NoMemory>) -> Result<(), RowFault> {
+/// The same outcome, as that of a row.
+pub fn value_end(outcome: Result<(), NoMemory>) -> Result<(), RowFault> {
     match outcome {
         Ok(()) => Ok(()),
         Err(_) => Err(RowFault::NoMemory),
@@ -232,6 +233,6 @@ pub fn add_value(
         "written" => add_written(alloc, text, out),
         "judged" => add_judged(alloc, text, out),
         "nomemory" => value_end(write_reply(alloc, out, &LineReply::NoMemory)),
-        _ => Err(RowFault::BadRow),
+        _ => add_read(alloc, kind, written_out, out),
     }
 }

@@ -27,15 +27,17 @@ use Rattle.recover.specs.declared.fault.OpenFault.{OpenFault}
 use Rattle.recover.specs.declared.fault.OpenFault.TheVariants as opens
 use Rattle.recover.specs.Opening.{IsNotOpened, IsNewestClosed}
 use Rattle.recover.specs.Opening as opening
-use Rattle.pcfs_top.specs.Asker.{Asker, first_asker}
-use Rattle.pcfs_top.specs.InterpreterView.{standing_over}
-use Rattle.pcfs_top.specs.Ports.{Streams, Disks, Ports, Rests, AreBytesKept}
-use Rattle.pcfs_top.specs.Run.{AreKnown, IsScript, IsStored, IsInit, HasNoArea, IsNotLost, IsOpened, IsNewestOf, Returns, HasCause, EndsWith, MemoryEnds, IsTold, IsUntold, TellsUnopened, TellsUnmade, damaged_text}
+use Rattle.pcfs_session.specs.Asker.{Asker, first_asker}
+use Rattle.pcfs_session.specs.InterpreterView.{standing_over}
+use Rattle.pcfs_session.specs.Streams.{Streams}
+use Rattle.pcfs_top.specs.LastLine.{IsTold, IsUntold}
+use Rattle.pcfs_top.specs.Ports.{Disks, Ports, Rests, AreBytesKept}
+use Rattle.pcfs_top.specs.Run.{AreKnown, IsScript, IsStored, IsInit, HasNoArea, IsNotLost, IsOpened, IsNewestOf, Returns, HasCause, EndsWith, MemoryEnds, TellsUnopened, TellsUnmade, damaged_text}
 use Rattle.pcfs_top.specs.Run as run
-use Rattle.pcfs_top.specs.ScriptEnds.{ScriptEnds}
-use Rattle.pcfs_top.specs.ScriptRun.{Standing, IsLawfulStanding, fresh_start, script_pass}
-use Rattle.pcfs_top.specs.Stored.{StoreGoesOn, AnswersInput}
-use Rattle.pcfs_top.proofs.StoredLemmas.{HasRisen-earlier, none_some}
+use Rattle.pcfs_top.specs.ScriptStatus.{ScriptStatus, AnswersInput}
+use Rattle.pcfs_session.specs.ScriptRun.{Standing, IsLawfulStanding, fresh_start, script_pass}
+use Rattle.pcfs_session.specs.Stored.{StoreGoesOn}
+use Rattle.pcfs_session.proofs.StoredLemmas.{HasRisen-earlier, none_some}
 
 -- ---- where a script begins
 
@@ -335,10 +337,10 @@ module _ {D : Type 0} (clock : D → ℕ) (left_since : D → ℕ → List ℕ �
 
 -- ---- a script in memory
 
-pub MemoryEnds-ran : (secrets : Secrets) (before after : Streams) (start end : Standing) (status result : ℕ) → start ≡ fresh_start secrets → ScriptEnds start end before after status →
+pub MemoryEnds-ran : (secrets : Secrets) (before after : Streams) (start end : Standing) (status result : ℕ) → start ≡ fresh_start secrets → ScriptStatus start end before after status →
     ((status ≡ 5) × (result ≡ 9)) ⊎ ((status ≡ 5 → ⊥) × (result ≡ status)) → MemoryEnds secrets before after result
 MemoryEnds-ran secrets before after start end status result same ends (inl is) =
     subst (MemoryEnds secrets before after) (sym is.1)
-    (run.disk_failed end (subst (λ (n : ℕ). ScriptEnds (fresh_start secrets) end before after n) is.0 (subst (λ (s : Standing). ScriptEnds s end before after status) same ends)))
+    (run.disk_failed end (subst (λ (n : ℕ). ScriptStatus (fresh_start secrets) end before after n) is.0 (subst (λ (s : Standing). ScriptStatus s end before after status) same ends)))
 MemoryEnds-ran secrets before after start end status result same ends (inr is) =
-    subst (MemoryEnds secrets before after) (sym is.1) (run.ended status end is.0 (subst (λ (s : Standing). ScriptEnds s end before after status) same ends))
+    subst (MemoryEnds secrets before after) (sym is.1) (run.ended status end is.0 (subst (λ (s : Standing). ScriptStatus s end before after status) same ends))

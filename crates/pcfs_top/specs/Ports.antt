@@ -1,13 +1,7 @@
 -- What the ports of a run tell at one moment (this project's own).
 use Rattle.std.specs.Prelude.{◌≡◌, ◌⊎◌, ℕ, List, Option, Some}
 use Rattle.pcfs_ports.specs.Faults.{HasRisen}
-
--- the bytes that the input still has to give and those that the output holds, if they are told; and how many faults each has had
-pub record Streams : Type 0 where
-  pub left : Option (List ℕ)
-  pub read_faults : ℕ
-  pub held : Option (List ℕ)
-  pub write_faults : ℕ
+use Rattle.pcfs_session.specs.Streams.{Streams}
 
 -- the bytes of the two disks, if they are told; and how many faults each has had
 pub record Disks : Type 0 where

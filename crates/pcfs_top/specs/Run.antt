@@ -22,11 +22,14 @@ use Rattle.recover.specs.declared.fault.OpenFault.{OpenFault}
 use Rattle.recover.specs.declared.fault.OpenFault.TheVariants as opens
 use Rattle.recover.specs.Opening.{IsNewestHistory, IsNewestDamaged, IsNewestClosed}
 use Rattle.pcfs_secrets.specs.declared.secrets.Secrets.{Secrets}
-use Rattle.pcfs_top.specs.Asker.{first_asker}
-use Rattle.pcfs_top.specs.LineAnswer.{authority_under}
-use Rattle.pcfs_top.specs.Ports.{Streams, Disks, Ports, Rests, IfTold, HasDiskFailed, AreBytesKept}
-use Rattle.pcfs_top.specs.ScriptEnds.{ScriptEnds, with_line_end}
-use Rattle.pcfs_top.specs.ScriptRun.{Standing, IsLawfulStanding, fresh_start, script_pass}
+use Rattle.pcfs_session.specs.Asker.{first_asker}
+use Rattle.pcfs_session.specs.LineAnswer.{authority_under}
+use Rattle.pcfs_session.specs.ScriptEnds.{with_line_end}
+use Rattle.pcfs_session.specs.ScriptRun.{Standing, IsLawfulStanding, fresh_start, script_pass}
+use Rattle.pcfs_session.specs.Streams.{Streams}
+use Rattle.pcfs_top.specs.LastLine.{IsTold, IsUntold}
+use Rattle.pcfs_top.specs.Ports.{Disks, Ports, Rests, IfTold, HasDiskFailed, AreBytesKept}
+use Rattle.pcfs_top.specs.ScriptStatus.{ScriptStatus}
 
 -- the words are the one word `script`
 abbrev pub IsScript : List (String Global) → Type 0
@@ -92,8 +95,8 @@ pub record Returns (rests : Rests) (generation : ℕ) (before after : Disks) (st
 
 -- how a script in memory ends: its own disks fail only if memory runs out
 pub data MemoryEnds (secrets : Secrets) (before after : Streams) : ℕ → Type 0 where
-  ended : (status : ℕ) (end : Standing) → (status ≡ 5 → ⊥) → ScriptEnds (fresh_start secrets) end before after status → MemoryEnds secrets before after status
-  disk_failed : (end : Standing) → ScriptEnds (fresh_start secrets) end before after 5 → MemoryEnds secrets before after 9
+  ended : (status : ℕ) (end : Standing) → (status ≡ 5 → ⊥) → ScriptStatus (fresh_start secrets) end before after status → MemoryEnds secrets before after status
+  disk_failed : (end : Standing) → ScriptStatus (fresh_start secrets) end before after 5 → MemoryEnds secrets before after 9
 
 -- What is left where the making of a store met the fault of a disk: if an area was open, all bytes are as they were; if none was, none is, or the new one. The second disk is as it was.
 pub record IsNotLost (before after : Disks) : Type 0 where
@@ -110,15 +113,6 @@ pub data HasCause (secrets : Secrets) (words : List (String Global)) (rests : Re
   no_store : IsStored words → IfTold before HasNoArea → AreBytesKept before after → HasCause secrets words rests before after 4 (codes "nostore")
   damaged : (number : ℕ) (damage : Damage) → IsStored words → IfTold before (IsNewestDamaged (authority_under secrets) number damage) → AreBytesKept before after → HasCause secrets words rests before after 3 (damaged_text number damage)
   not_opened : IsStored words → HasDiskFailed before after → (rests.before → AreBytesKept before after) → HasCause secrets words rests before after 5 (codes "stopped")
-
--- a last line was written, and the run ends with this status; or the output failed, and holds some first part of it. `held` and `faults` are what the output held and the count of its faults
-abbrev pub IsTold : ℕ → List ℕ → Option (List ℕ) → ℕ → ℕ → Option (List ℕ) → ℕ → Type 0
-IsTold status line held faults result held_after faults_after =
-    ((result ≡ status) × (held_after ≡ with_back held (with_line_end line))) ⊎ ((result ≡ 7) × HasRisen faults faults_after × HoldsSome held held_after (with_line_end line))
-
--- memory ran out, and nothing was written
-abbrev pub IsUntold : Option (List ℕ) → ℕ → Option (List ℕ) → Type 0
-IsUntold held result held_after = (result ≡ 9) × (held_after ≡ held)
 
 -- what is reported of why no store was opened
 abbrev pub TellsUnopened : OpenFault → Option (List ℕ) → ℕ → ℕ → Option (List ℕ) → ℕ → Type 0
@@ -137,7 +131,7 @@ TellsUnmade formats.NoMemory held faults result held_after faults_after = IsUnto
 -- begins where they stand. Any other run writes its line, or the output failed and holds some first part of it. Memory may run out before a store is made or opened, and then nothing changes.
 pub data EndsWith (secrets : Secrets) (words : List (String Global)) (rests : Rests) (before after : Ports) : ℕ → Type 0 where
   in_memory : (status : ℕ) → IsScript words → after.disks ≡ before.disks → MemoryEnds secrets before.streams after.streams status → EndsWith secrets words rests before after status
-  stored : (status generation : ℕ) (start end : Standing) → IsStored words → IsOpened secrets generation before.disks start → Returns rests generation before.disks after.disks start end → ScriptEnds start end before.streams after.streams status →
+  stored : (status generation : ℕ) (start end : Standing) → IsStored words → IsOpened secrets generation before.disks start → Returns rests generation before.disks after.disks start end → ScriptStatus start end before.streams after.streams status →
       EndsWith secrets words rests before after status
   told : (status : ℕ) (line : List ℕ) → HasCause secrets words rests before.disks after.disks status line → after.streams.left ≡ before.streams.left → after.streams.held ≡ with_back before.streams.held (with_line_end line) →
       EndsWith secrets words rests before after status

@@ -1,21 +1,23 @@
-//! A script that is read from an input and answered over a store.
+//! A script over a store, and the status to end with.
 
-ghost use Rattle.std.specs.Prelude.{◌≡◌, ◌⊎◌, None};
+ghost use Rattle.std.specs.Prelude.{◌≡◌, ◌⊎◌, ◌≤◌, None};
 ghost use Rattle.pcfs_ports.specs.Faults.{HasRisen};
 ghost use Rattle.pcfs_ports.specs.Told.{with_back, HoldsSome};
-ghost use Rattle.pcfs_top.specs.Asker.{Asker, first_asker};
-ghost use Rattle.pcfs_top.specs.InterpreterView.{standing_of, standing_over};
-ghost use Rattle.pcfs_top.specs.ScriptRun.{IsLawfulStanding, script_pass};
-ghost use Rattle.pcfs_top.specs.Stored.{AnswersInput};
+ghost use Rattle.pcfs_session.specs.Asker.{Asker, first_asker};
+ghost use Rattle.pcfs_session.specs.InterpreterView.{standing_over};
+ghost use Rattle.pcfs_session.specs.ScriptRun.{IsLawfulStanding, script_pass};
+ghost use Rattle.pcfs_top.specs.ScriptStatus.{TellsEnd, AnswersInput};
 
-use crate::interpreter::Interpreter;
-use crate::script::{ScriptFault, answer_lines};
-use pcfs_ports::{Disk, Sink, Source, TakeFault, read_to_end, write_all};
+use pcfs_ports::{Disk, Sink, Source, write_all};
+use pcfs_session::{ScriptEnd, script_session};
 use pcfs_store::Store;
 use std::alloc::Global;
 
 /// Everything was done.
 pub const DONE: u8 = 0;
+
+/// A line was too long.
+const LINE_TOO_LONG: u8 = 2;
 
 /// A disk failed.
 pub const DISK_FAULT: u8 = 5;
@@ -43,36 +45,23 @@ pub fn tell<O: Sink>(output: &mut O, line: &[u8], status: u8) -> u8
     }
 }
 
-// Reads the input to its end and answers its lines, and returns the status to end with.
-fn answer_input<D: Disk, I: Source, O: Sink>(
-    alloc: Global,
-    interpreter: &mut Interpreter<D>,
-    input: &mut I,
-    enough: usize,
-    output: &mut O,
-) -> u8
-    requires lawful { IsLawfulStanding (standing_of interpreter.old None) }
-    requires running { interpreter.old.store.stop ≡ None }
-    ensures { AnswersInput D.clock D.left_since D.image D.faults interpreter.old
-        (record { left = I.left input.old; read_faults = I.faults input.old; held = O.held output.old; write_faults = O.faults output.old }) result interpreter.new
-        (record { left = I.left input.new; read_faults = I.faults input.new; held = O.held output.new; write_faults = O.faults output.new }) }
+// Writes the last line of a script that ended so, if it has one beside its replies, and returns the status to end with.
+fn tell_end<O: Sink>(output: &mut O, end: ScriptEnd) -> u8
+    ensures { TellsEnd end (O.held output.old) (O.faults output.old) result (O.held output.new) (O.faults output.new) }
 {
-    let bytes = match read_to_end(alloc, input) {
-        Ok(bytes) => bytes,
-        Err(TakeFault::Failed) => return tell(output, b"readfault\n", READ_FAULT),
-        Err(TakeFault::TooLong) => return tell(output, b"toolong\n", TOO_LONG),
-        Err(TakeFault::NoMemory) => return OUT_OF_MEMORY,
-    };
-    match answer_lines(alloc, interpreter, bytes.as_slice(), enough, output) {
-        Ok(()) => DONE,
-        Err(ScriptFault::Write) => WRITE_FAULT,
-        Err(ScriptFault::NoMemory) => OUT_OF_MEMORY,
-        Err(ScriptFault::Stopped) => DISK_FAULT,
+    match end {
+        ScriptEnd::Done => DONE,
+        ScriptEnd::LineTooLong => LINE_TOO_LONG,
+        ScriptEnd::ReadFault => tell(output, b"readfault\n", READ_FAULT),
+        ScriptEnd::WriteFault => WRITE_FAULT,
+        ScriptEnd::NoMemory => OUT_OF_MEMORY,
+        ScriptEnd::InputTooLong => tell(output, b"toolong\n", TOO_LONG),
+        ScriptEnd::Stopped => DISK_FAULT,
     }
 }
 
 /// Runs the script in the input over the store, and returns the status to end with, and the store. Replies are written
-/// once `enough` bytes of them were collected.
+/// once they have `enough` bytes, and before more of the input is taken.
 pub fn run_over<D: Disk, I: Source, O: Sink>(
     alloc: Global,
     store: Store<D>,
@@ -86,7 +75,6 @@ pub fn run_over<D: Disk, I: Source, O: Sink>(
         (record { left = I.left input.old; read_faults = I.faults input.old; held = O.held output.old; write_faults = O.faults output.old }) result.0 (record { store = result.1; asker = asker })
         (record { left = I.left input.new; read_faults = I.faults input.new; held = O.held output.new; write_faults = O.faults output.new }) }
 {
-    let mut interpreter = Interpreter::over(store);
-    let status = answer_input(alloc, &mut interpreter, input, enough, output);
-    (status, interpreter.into_store())
+    let (end, store) = script_session(alloc, store, input, enough, output);
+    (tell_end(output, end), store)
 }

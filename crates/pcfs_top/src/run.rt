@@ -4,7 +4,7 @@ ghost use Rattle.std.specs.Prelude.{◌≡◌, ◌⊎◌, ℕ, List, Option, Str
 ghost use Rattle.std.specs.declared.alloc.Global.{Global};
 ghost use Rattle.pcfs_ports.specs.Disk.{IsPinned};
 ghost use Rattle.pcfs_store.specs.Formats.{IsNewStore};
-ghost use Rattle.pcfs_top.specs.ScriptEnds.{with_line_end};
+ghost use Rattle.pcfs_session.specs.ScriptEnds.{with_line_end};
 ghost use Rattle.pcfs_top.specs.Run.{IsStored, IsInit, MemoryEnds, EndsWith, TellsUnopened, TellsUnmade, damage_number, damaged_text};
 
 use crate::answering::{DISK_FAULT, DONE, OUT_OF_MEMORY, run_over, tell};
@@ -32,7 +32,7 @@ const NO_STORE: u8 = 4;
 /// An area is open.
 const ALREADY_STORE: u8 = 10;
 
-/// Replies of a script in memory are written once this many bytes or more were collected.
+/// Replies of a script in memory are written once they have this many bytes or more, and before more of the input is taken.
 const ENOUGH: usize = 65_536;
 
 /// How a run ended: its status, and the disks as they came back.
@@ -219,11 +219,12 @@ fn init<O: Sink, D: Disk>(alloc: Global, secrets: &Secrets, output: &mut O, a: D
 /// the key of the secrets, and statements are accepted whose signature their ring accepts.
 ///
 /// Returns the disks and the status to end with: 0, all is done, and of `init` the last line is `ok`; 1, the words are
-/// others, and the last line is `usage`; 3, the newest area is damaged, and the last line is `damaged` with the number of
-/// the record and the cause; 4, neither area is open: `nostore`; 5, a disk failed: `stopped`; 6, the input failed:
-/// `readfault`; 7, the output failed, and may lack any of its end; 9, memory ran out, without a last line; 10, an area is
-/// open already: `exists`; 13, the input has 1 GiB or more: `toolong`.
-pub fn run<R: Threads + Wait + Sync, I: Source, O: Sink, D: Disk>(
+/// others, and the last line is `usage`; 2, a line has more than 262,144 bytes: `bad 3`; 3, the newest area is damaged, and
+/// the last line is `damaged` with the number of the record and the cause; 4, neither area is open: `nostore`; 5, a disk
+/// failed: `stopped`; 6, the input failed: `readfault`; 7, the output failed, and may lack any of its end; 9, memory ran out,
+/// without a last line; 10, an area is open already: `exists`; 13, the input has 1 GiB or more: `toolong`. At 2, 5, 6 and 13
+/// the replies to the lines before come before that line.
+pub fn run_alone<R: Threads + Wait + Sync, I: Source, O: Sink, D: Disk>(
     _rt: &R,
     alloc: Global,
     words: &Vec<String>,

@@ -1,10 +1,10 @@
 -- A script in memory begins before the first event.
 use Rattle.std.proofs.Common.{refl, subst, sym}
 use Rattle.pcfs_top.specs.Run as run
-use Rattle.pcfs_top.specs.ScriptRun.{IsLawfulStanding}
+use Rattle.pcfs_session.specs.ScriptRun.{IsLawfulStanding}
 use Rattle.pcfs_top.proofs.EndsWithLemmas.{MemoryEnds-ran, fresh_over}
-use Rattle.pcfs_top.proofs.LawfulRunLemmas.{IsLawfulStanding-fresh}
-use Rattle.pcfs_top.proofs.ScriptEndsLemmas.{ScriptEnds-unbegun}
+use Rattle.pcfs_session.proofs.LawfulRunLemmas.{IsLawfulStanding-fresh}
+use Rattle.pcfs_top.proofs.StatusLemmas.{ScriptStatus-unbegun}
 use Rattle.pcfs_top.proofs.run.run_in_memory.Goals as goal
 
 pub run_over-status-requires-clause-lawful : goal.run_over-status-requires-clause-lawful
@@ -14,4 +14,4 @@ pub returns-in-Ok : goal.returns-in-Ok
 returns-in-Ok g c = MemoryEnds-ran c.args.secrets.now _ _ _ _ _ _ (fresh_over c.args.secrets.now _ c.in-Ok.ensures) c.run_over-status.ensures.1.ends c.memory_status.ensures
 
 pub returns-in-Err : goal.returns-in-Err
-returns-in-Err g c = run.ended 9 _ (λ e. absurd cc) (ScriptEnds-unbegun c.args.secrets.now _ _ refl refl)
+returns-in-Err g c = run.ended 9 _ (λ e. absurd cc) (ScriptStatus-unbegun c.args.secrets.now _ _ refl refl refl)

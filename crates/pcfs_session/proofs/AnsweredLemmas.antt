@@ -1,0 +1,225 @@
+-- Lines that are answered over a store, one after the other.
+use Rattle.std.proofs.Common.{◌≡◌, ◌↔◌, ℕ, ◌≤◌, List, ◌∷◌, [], ◌++◌, length, true, false, Option, Some, None, refl, sym, subst, append-nil}
+use Rattle.std.specs.Prelude.{IsTrue, IsSome}
+use Rattle.pcfs_ports.specs.Told.{with_back, HoldsSome}
+use Rattle.line_text.specs.Words.{HasNo}
+use Rattle.line_framer.specs.Framing.{FramerState, IsFirst}
+use Rattle.access_history.specs.declared.event.Event.{Event}
+use Rattle.line_wire.specs.declared.reply.LineReply.{LineReply}
+use Rattle.line_wire.specs.ReplyText.{reply_text, output_of}
+use Rattle.pcfs_session.specs.Answered.{IsOutAt, WasRun, AreAnswered, HaltsAt, AnswersHeld, HaltsWithin}
+use Rattle.pcfs_session.specs.InterpreterView.{InterpreterView, standing_of}
+use Rattle.pcfs_session.specs.Outbox.{GoesOut}
+use Rattle.pcfs_session.specs.ScriptRun.{IsLawfulStanding, IsReplied}
+use Rattle.pcfs_session.specs.ScriptRun as script
+use Rattle.pcfs_session.specs.Stored.{IsStopFor, LeadsTo}
+use Rattle.pcfs_session.specs.Taken.{AreFirst}
+use Rattle.pcfs_session.specs.declared.outbox.SendFault.{SendFault}
+use Rattle.pcfs_session.specs.declared.script_end.Halt.{Halt}
+use Rattle.pcfs_session.specs.declared.script_end.Halt.TheVariants.{Unsent, Stopped}
+use Rattle.pcfs_session.proofs.LawfulRunLemmas.{IsLawfulStanding-run}
+use Rattle.pcfs_session.proofs.OutboxLemmas.{GoesOut-none, GoesOut-all, GoesOut-whole, GoesOut-part, GoesOut-then, out_then, some_then}
+use Rattle.pcfs_session.proofs.ScriptLemmas.{ScriptRun-then, output-append, output-one}
+use Rattle.pcfs_session.proofs.StoredLemmas.{StoreGoesOn-on, StoreGoesOn-same, runs_for}
+use Rattle.pcfs_session.proofs.TakenLemmas.{AreFirst-none, AreFirst-more}
+
+-- a store that did not stop met nothing
+met_nothing : (stop : Option ℕ) (met : Option Event) → IsStopFor stop met → stop ≡ None → met ≡ None
+met_nothing None None is running = refl
+met_nothing None (Some event) is running = absurd is
+met_nothing (Some pass) met is running = absurd cc
+
+-- a store that stopped met an event
+met_some : (stop : Option ℕ) (met : Option Event) → IsStopFor stop met → IsSome stop → (event : Event) × (met ≡ Some event)
+met_some None None is some = absurd cc
+met_some None (Some event) is some = absurd is
+met_some (Some pass) None is some = absurd is
+met_some (Some pass) (Some event) is some = (event, refl)
+
+not_some : (stop : Option ℕ) → (IsTrue false ↔ IsSome stop) → stop ≡ None
+not_some None tells = refl
+not_some (Some pass) tells = let is : IsTrue false = tells.1 refl in absurd cc
+
+-- ---- what is out
+
+-- of what was collected, told and told then
+out_at-then : (halt : Halt) (held between held_after : Option (List ℕ)) (collected told kept more : List ℕ) → GoesOut held (collected ++ told) between kept → IsOutAt halt between held_after (kept ++ more) → IsOutAt halt held held_after (collected ++ (told ++ more))
+out_at-then (Unsent fault) held between held_after collected told kept more first some = some_then held between held_after collected told kept more first some
+out_at-then Stopped held between held_after collected told kept more first all = out_then held between held_after collected told kept more first all
+
+module _ {D : Type 0} (clock : D → ℕ) (left_since : D → ℕ → List ℕ → Type 0) (image : D → Option (List ℕ)) (faults : D → ℕ) where
+  abbrev Was : List (List ℕ) → InterpreterView D → InterpreterView D → Option Event → List LineReply → Type 0
+  Was lines old new met told = WasRun clock left_since image faults lines old new met told
+
+  abbrev Answered : List (List ℕ) → InterpreterView D → InterpreterView D → Option (List ℕ) → List ℕ → Option (List ℕ) → List ℕ → Type 0
+  Answered lines old new held collected held_after after = AreAnswered clock left_since image faults lines old new held collected held_after after
+
+  abbrev Halts : List (List ℕ) → InterpreterView D → InterpreterView D → Option (List ℕ) → List ℕ → Halt → Option (List ℕ) → Type 0
+  Halts lines old new held collected halt held_after = HaltsAt clock left_since image faults lines old new held collected halt held_after
+
+  abbrev Leads : List ℕ → InterpreterView D → LineReply → InterpreterView D → Type 0
+  Leads line old reply new = LeadsTo clock left_since image faults (IsReplied line) old reply new
+
+  -- ---- where lines lead
+
+  pub WasRun-then : (lines others : List (List ℕ)) (old mid new : InterpreterView D) (met : Option Event) (told after : List LineReply) → Was lines old mid None told → Was others mid new met after → Was (lines ++ others) old new met (told ++ after)
+  WasRun-then lines others old mid new met told after one other = record {
+    run = ScriptRun-then (standing_of old None) (standing_of mid None) (standing_of new met) lines others told after one.run other.run;
+    goes_on = StoreGoesOn-on clock left_since image faults old.store mid.store new.store met one.goes_on other.goes_on;
+  }
+
+  pub WasRun-none : (i : InterpreterView D) → i.store.stop ≡ None → Was [] i i None []
+  WasRun-none i running = record { run = script.ended (standing_of i None); goes_on = StoreGoesOn-same clock left_since image faults i.store running }
+
+  -- where no disk failed the script goes on, lawfully
+  pub runs_on : (lines : List (List ℕ)) (old new : InterpreterView D) (told : List LineReply) → Was lines old new None told → new.store.stop ≡ None
+  runs_on lines old new told was = runs_for new.store.stop was.goes_on.stop_for
+
+  pub lawful_on : (lines : List (List ℕ)) (old new : InterpreterView D) (told : List LineReply) → IsLawfulStanding (standing_of old None) → Was lines old new None told → IsLawfulStanding (standing_of new None)
+  lawful_on lines old new told stands was = IsLawfulStanding-run (standing_of old None) (standing_of new None) lines told stands was.run
+
+  pub AreAnswered-none : (i : InterpreterView D) (held : Option (List ℕ)) (collected : List ℕ) → i.store.stop ≡ None → Answered [] i i held collected held collected
+  AreAnswered-none i held collected running = record { told = []; was = WasRun-none i running; out = subst (λ (b : List ℕ). GoesOut held b held collected) (sym (append-nil collected)) (GoesOut-none held collected) }
+
+  pub AreAnswered-then : (lines others : List (List ℕ)) (old mid new : InterpreterView D) (held between held_after : Option (List ℕ)) (collected kept after : List ℕ) → Answered lines old mid held collected between kept → Answered others mid new between kept held_after after →
+      Answered (lines ++ others) old new held collected held_after after
+  AreAnswered-then lines others old mid new held between held_after collected kept after one other = record {
+    told = one.told ++ other.told;
+    was = WasRun-then lines others old mid new None one.told other.told one.was other.was;
+    out =
+        subst (λ (b : List ℕ). GoesOut held (collected ++ b) held_after after) (sym (output-append one.told other.told))
+        (GoesOut-then held between held_after collected (output_of one.told) kept (output_of other.told) after one.out other.out);
+  }
+
+  pub HaltsAt-then : (lines others : List (List ℕ)) (old mid new : InterpreterView D) (held between held_after : Option (List ℕ)) (collected kept : List ℕ) (halt : Halt) → Answered lines old mid held collected between kept → Halts others mid new between kept halt held_after →
+      Halts (lines ++ others) old new held collected halt held_after
+  HaltsAt-then lines others old mid new held between held_after collected kept halt one other = record {
+    told = one.told ++ other.told;
+    met = other.met;
+    was = WasRun-then lines others old mid new other.met one.told other.told one.was other.was;
+    is_met = other.is_met;
+    out =
+        subst (λ (b : List ℕ). IsOutAt halt held held_after (collected ++ b)) (sym (output-append one.told other.told))
+        (out_at-then halt held between held_after collected (output_of one.told) kept (output_of other.told) one.out other.out);
+  }
+
+  -- no line more was answered, but the output failed
+  pub HaltsAt-unsent : (lines : List (List ℕ)) (old new : InterpreterView D) (held between held_after : Option (List ℕ)) (collected kept : List ℕ) (fault : SendFault) → Answered lines old new held collected between kept → HoldsSome between held_after kept →
+      Halts lines old new held collected (Unsent fault) held_after
+  HaltsAt-unsent lines old new held between held_after collected kept fault one some = record {
+    told = one.told;
+    met = None;
+    was = one.was;
+    is_met = tt;
+    out = GoesOut-part held between held_after (collected ++ output_of one.told) kept one.out some;
+  }
+
+  -- ---- one line
+
+  one_line : (line : List ℕ) (old new : InterpreterView D) (reply : LineReply) → (l : Leads line old reply new) → Was (line ∷ []) old new l.met (reply ∷ [])
+  one_line line old new reply l = record {
+    run = script.one_more (standing_of old None) line [] reply [] (standing_of new l.met) (standing_of new l.met) refl l.holds (script.ended (standing_of new l.met));
+    goes_on = l.goes_on;
+  }
+
+  one_out : (held held_after : Option (List ℕ)) (collected after : List ℕ) (reply : LineReply) → GoesOut held (collected ++ (reply_text reply ++ 10 ∷ [])) held_after after → GoesOut held (collected ++ output_of (reply ∷ [])) held_after after
+  one_out held held_after collected after reply out = subst (λ (b : List ℕ). GoesOut held (collected ++ b) held_after after) (sym (output-one reply)) out
+
+  pub AreAnswered-line : (line : List ℕ) (old new : InterpreterView D) (reply : LineReply) (held held_after : Option (List ℕ)) (collected after : List ℕ) → Leads line old reply new → (IsTrue false ↔ IsSome new.store.stop) →
+      GoesOut held (collected ++ (reply_text reply ++ 10 ∷ [])) held_after after → Answered (line ∷ []) old new held collected held_after after
+  AreAnswered-line line old new reply held held_after collected after l tells out = record {
+    told = reply ∷ [];
+    was = subst (λ (m : Option Event). Was (line ∷ []) old new m (reply ∷ [])) (met_nothing new.store.stop l.met l.goes_on.stop_for (not_some new.store.stop tells)) (one_line line old new reply l);
+    out = one_out held held_after collected after reply out;
+  }
+
+  pub HaltsAt-line : (line : List ℕ) (old new : InterpreterView D) (reply : LineReply) (held held_after : Option (List ℕ)) (collected : List ℕ) (fault : SendFault) → Leads line old reply new → HoldsSome held held_after (collected ++ (reply_text reply ++ 10 ∷ [])) →
+      Halts (line ∷ []) old new held collected (Unsent fault) held_after
+  HaltsAt-line line old new reply held held_after collected fault l some = record {
+    told = reply ∷ [];
+    met = l.met;
+    was = one_line line old new reply l;
+    is_met = tt;
+    out = subst (λ (b : List ℕ). HoldsSome held held_after (collected ++ b)) (sym (output-one reply)) some;
+  }
+
+  -- a disk failed for it
+  pub HaltsAt-stopped : (line : List ℕ) (old new : InterpreterView D) (reply : LineReply) (held between held_after : Option (List ℕ)) (collected after : List ℕ) (halt : Halt) → Leads line old reply new → (IsTrue true ↔ IsSome new.store.stop) →
+      GoesOut held (collected ++ (reply_text reply ++ 10 ∷ [])) between after → (halt ≡ Stopped → held_after ≡ with_back between after) → HoldsSome between held_after after → Halts (line ∷ []) old new held collected halt held_after
+  HaltsAt-stopped line old new reply held between held_after collected after (Unsent fault) l tells out all some = record {
+    told = reply ∷ [];
+    met = l.met;
+    was = one_line line old new reply l;
+    is_met = tt;
+    out = GoesOut-part held between held_after (collected ++ output_of (reply ∷ [])) after (one_out held between collected after reply out) some;
+  }
+  HaltsAt-stopped line old new reply held between held_after collected after Stopped l tells out all some = record {
+    told = reply ∷ [];
+    met = l.met;
+    was = one_line line old new reply l;
+    is_met = met_some new.store.stop l.met l.goes_on.stop_for (tells.0 refl);
+    out = GoesOut-whole held between held_after (collected ++ output_of (reply ∷ [])) after (one_out held between collected after reply out) (all refl);
+  }
+
+  -- ---- the lines that a framer holds
+
+  module _ (bytes : List ℕ) (start : InterpreterView D) (held : Option (List ℕ)) (collected : List ℕ) where
+    -- the first lines of the bytes were answered, and this is left
+    pub record IsAnswering (now : InterpreterView D) (left : List ℕ) (held_now : Option (List ℕ)) (collected_now : List ℕ) : Type 0 where
+      pub lines : List (List ℕ)
+      pub first : AreFirst bytes lines left
+      pub answered : Answered lines start now held collected held_now collected_now
+
+    pub IsAnswering-start : start.store.stop ≡ None → IsAnswering start bytes held collected
+    IsAnswering-start running = record { lines = []; first = AreFirst-none bytes; answered = AreAnswered-none start held collected running }
+
+    pub IsAnswering-more : (now next : InterpreterView D) (left line rest : List ℕ) (held_now held_next : Option (List ℕ)) (collected_now collected_next : List ℕ) → IsAnswering now left held_now collected_now → IsFirst left line rest → length line ≤ 262144 →
+        Answered (line ∷ []) now next held_now collected_now held_next collected_next → IsAnswering next rest held_next collected_next
+    IsAnswering-more now next left line rest held_now held_next collected_now collected_next so_far is few one = record {
+      lines = so_far.lines ++ line ∷ [];
+      first = AreFirst-more bytes so_far.lines left line rest so_far.first is few;
+      answered = AreAnswered-then so_far.lines (line ∷ []) start now next held held_now held_next collected collected_now collected_next so_far.answered one;
+    }
+
+    -- and the framer took that line
+    pub IsAnswering-taken : (now next : InterpreterView D) (before after : FramerState) (line rest : List ℕ) (held_now held_next : Option (List ℕ)) (collected_now collected_next : List ℕ) → IsAnswering now before.left held_now collected_now → IsFirst before.left line rest → length line ≤ 262144 →
+        after ≡ record before { left = rest } → Answered (line ∷ []) now next held_now collected_now held_next collected_next → IsAnswering next after.left held_next collected_next
+    IsAnswering-taken now next before after line rest held_now held_next collected_now collected_next so_far first few taken one =
+        subst (λ (f : FramerState). IsAnswering next f.left held_next collected_next) (sym taken)
+        (IsAnswering-more now next before.left line rest held_now held_next collected_now collected_next so_far first few one)
+
+    pub AnswersHeld-all : (now : InterpreterView D) (left : List ℕ) (held_now : Option (List ℕ)) (collected_now : List ℕ) → IsAnswering now left held_now collected_now → HasNo 10 left → AnswersHeld clock left_since image faults bytes left start now held collected held_now collected_now
+    AnswersHeld-all now left held_now collected_now so_far none = record { lines = so_far.lines; first = so_far.first; no_more = none; answered = so_far.answered }
+
+    pub HaltsWithin-at : (now next : InterpreterView D) (left line rest : List ℕ) (held_now held_after : Option (List ℕ)) (collected_now : List ℕ) (halt : Halt) → IsAnswering now left held_now collected_now → IsFirst left line rest → length line ≤ 262144 →
+        Halts (line ∷ []) now next held_now collected_now halt held_after → HaltsWithin clock left_since image faults bytes start next held collected halt held_after
+    HaltsWithin-at now next left line rest held_now held_after collected_now halt so_far is few one = record {
+      lines = so_far.lines ++ line ∷ [];
+      rest = rest;
+      first = AreFirst-more bytes so_far.lines left line rest so_far.first is few;
+      halts = HaltsAt-then so_far.lines (line ∷ []) start now next held held_now held_after collected collected_now halt so_far.answered one;
+    }
+
+  -- all were answered, and the output failed then
+  pub HaltsWithin-unsent : (bytes left : List ℕ) (old new : InterpreterView D) (held between held_after : Option (List ℕ)) (collected kept : List ℕ) (fault : SendFault) → AnswersHeld clock left_since image faults bytes left old new held collected between kept →
+      HoldsSome between held_after kept → HaltsWithin clock left_since image faults bytes old new held collected (Unsent fault) held_after
+  HaltsWithin-unsent bytes left old new held between held_after collected kept fault all some = record {
+    lines = all.lines;
+    rest = left;
+    first = all.first;
+    halts = HaltsAt-unsent all.lines old new held between held_after collected kept fault all.answered some;
+  }
+
+  -- and the replies that were collected went out
+  pub AnswersHeld-out : (bytes left : List ℕ) (old new : InterpreterView D) (held between held_after : Option (List ℕ)) (collected kept none : List ℕ) → AnswersHeld clock left_since image faults bytes left old new held collected between kept →
+      held_after ≡ with_back between kept → none ≡ [] → AnswersHeld clock left_since image faults bytes left old new held collected held_after none
+  AnswersHeld-out bytes left old new held between held_after collected kept none all written empty = record {
+    lines = all.lines;
+    first = all.first;
+    no_more = all.no_more;
+    answered = record {
+      told = all.answered.told;
+      was = all.answered.was;
+      out = GoesOut-all held held_after (collected ++ output_of all.answered.told) none (GoesOut-whole held between held_after (collected ++ output_of all.answered.told) kept all.answered.out written) empty;
+    };
+  }

@@ -1,0 +1,16 @@
+pub mod AllowedLemmas
+pub mod AnsweredLemmas
+pub mod BroughtLemmas
+pub mod ExactLemmas
+pub mod FormedLemmas
+pub mod InterpreterLemmas
+pub mod LawfulRunLemmas
+pub mod NoMemoryLemmas
+pub mod OneAnswerLemmas
+pub mod OneOutcomeLemmas
+pub mod OutboxLemmas
+pub mod ScriptEndsLemmas
+pub mod ScriptLemmas
+pub mod StoredLemmas
+pub mod TakenLemmas
+pub mod TotalLemmas

@@ -1,0 +1,196 @@
+-- A line has one answer at most, and so have the lines of a script.
+use Rattle.std.proofs.Common.{◌≡◌, ℕ, List, [], ◌∷◌, Option, Ok, Err, refl, sym, ap, subst, ◌∙◌}
+use Rattle.std.specs.List.{AllByRecursion}
+use Rattle.bl_syntax.specs.declared.grant.Goal.{Goal}
+use Rattle.bl_syntax.specs.Statement.{StatementView}
+use Rattle.bl_syntax.specs.Grant.{GrantView}
+use Rattle.procap.specs.declared.procap.Procap.{Procap as Sealed}
+use Rattle.proof_term.specs.Proof.{ProofView}
+use Rattle.proof_verifier.specs.declared.cites.Cite.{Cite}
+use Rattle.proof_verifier.specs.Cited.{statements_of}
+use Rattle.proof_verifier.specs.CheckedView.{checked_view}
+use Rattle.proof_verifier.specs.Verdict.{verdict}
+use Rattle.pcfs_secrets.specs.declared.secrets.Secrets.{Secrets}
+use Rattle.access_history.specs.declared.event.Event.{Event}
+use Rattle.access_history.specs.declared.event.Issue.{Issue}
+use Rattle.access_history.specs.declared.request.StepRequest.{StepRequest}
+use Rattle.access_history.specs.declared.request.StepRequest.TheVariants as requests
+use Rattle.access_history.specs.declared.reply.StepReply.{StepReply}
+use Rattle.access_history.specs.declared.reply.StepReply.TheVariants.{Absent}
+use Rattle.access_history.specs.Base.{BaseView}
+use Rattle.access_history.specs.Answer.{Answers}
+use Rattle.access_history.specs.Authority.{sayings, procap_of}
+use Rattle.access_history.specs.Citing.{StandsUnderNumber, AreFound, IsAbsent, numbers_of}
+use Rattle.access_history.specs.Lawful.{IsLawful}
+use Rattle.access_history.specs.Numbered.{IsNumbered, HasNumber}
+use Rattle.access_history.proofs.AnswerLemmas.{one_answer}
+use Rattle.access_history.proofs.NumberedLemmas.{HasNumber-item, numbered_item, none_fails, first_failing}
+use Rattle.line_words.specs.declared.procap_word.ProcapWord.{ProcapWord}
+use Rattle.line_words.specs.declared.procap_word.ProcapWord.TheVariants as words
+use Rattle.line_forms.specs.declared.command.Command.{Command}
+use Rattle.line_forms.proofs.LineLemmas.{IsLine-unique, command_or_fault, one_fault}
+use Rattle.line_wire.specs.declared.reply.LineReply.{LineReply}
+use Rattle.line_wire.specs.declared.reply.LineReply.TheVariants as replies
+use Rattle.pcfs_session.specs.Asker.{Asker, asker_after}
+use Rattle.pcfs_session.specs.Procaps.{BringsProcap, held, issued, NamesIssue, AreBrought, IsFirstUnissued}
+use Rattle.pcfs_session.specs.Proved.{IsUnproved, cites_none, proves_none, IsProved}
+use Rattle.pcfs_session.specs.LineAnswer.{authority_under, Look, replied, requested, ComesTo, AnswersCommand, at_once, decided, AnswersLine, faulty, asks}
+use Rattle.pcfs_session.specs.LineAnswer as line_answer
+use Rattle.pcfs_session.specs.ScriptRun.{Standing, state_of_standing}
+use Rattle.pcfs_session.proofs.BroughtLemmas.{NamesIssue-brought}
+
+-- ---- the statements of numbers, and what a proof from them comes to
+
+found_numbers : (statements : List StatementView) (cites : List Cite) → AllByRecursion (StandsUnderNumber statements) cites → AllByRecursion (HasNumber statements) (numbers_of cites)
+found_numbers statements [] stand = tt
+found_numbers statements (cite ∷ cites) stand = (HasNumber-item statements cite.number cite.statement stand.0, found_numbers statements cites stand.1)
+
+same_cite : (statements : List StatementView) (a b : Cite) → a.number ≡ b.number → StandsUnderNumber statements a → StandsUnderNumber statements b → a ≡ b
+same_cite statements a b number one other =
+    let there : IsNumbered statements b.number a.statement = subst (λ (n : ℕ). IsNumbered statements n a.statement) number one in
+    let statement : a.statement ≡ b.statement = numbered_item statements b.number a.statement b.statement there other in
+    ap (λ (n : ℕ). record { number = n; statement = a.statement }) number ∙ ap (λ (s : StatementView). record { number = b.number; statement = s }) statement
+
+same_cites : (statements : List StatementView) (xs ys : List Cite) → numbers_of xs ≡ numbers_of ys → AllByRecursion (StandsUnderNumber statements) xs → AllByRecursion (StandsUnderNumber statements) ys → xs ≡ ys
+same_cites statements [] [] numbers one other = refl
+same_cites statements [] (b ∷ ys) numbers one other = absurd cc
+same_cites statements (a ∷ xs) [] numbers one other = absurd cc
+same_cites statements (a ∷ xs) (b ∷ ys) numbers one other =
+    let first : a.number ≡ b.number = cc in
+    let others : numbers_of xs ≡ numbers_of ys = cc in
+    ap (λ (c : Cite). c ∷ xs) (same_cite statements a b first one.0 other.0) ∙ ap (λ (cs : List Cite). b ∷ cs) (same_cites statements xs ys others one.1 other.1)
+
+found_once : (statements : List StatementView) (numbers : List ℕ) (xs ys : List Cite) → AreFound statements numbers xs → AreFound statements numbers ys → xs ≡ ys
+found_once statements numbers xs ys one other = same_cites statements xs ys (one.numbers_are ∙ sym other.numbers_are) one.stand other.stand
+
+absent_or_found : (statements : List StatementView) (numbers : List ℕ) (number : ℕ) (cites : List Cite) → IsAbsent statements numbers number → AreFound statements numbers cites → ⊥
+absent_or_found statements numbers number cites absent found =
+    none_fails (HasNumber statements) numbers absent.place number (subst (AllByRecursion (HasNumber statements)) found.numbers_are (found_numbers statements cites found.stand)) absent.first
+
+module _ (statements : List StatementView) (goal : Goal) (numbers : List ℕ) (proof : ProofView) where
+  one_refusal : (first second : LineReply) → IsUnproved statements goal numbers proof first → IsUnproved statements goal numbers proof second → first ≡ second
+  one_refusal _ _ (cites_none number absent) (cites_none other absent') =
+      ap (λ (n : ℕ). replies.Step (Absent n)) (first_failing (HasNumber statements) numbers absent.place absent'.place number other absent.first absent'.first).1
+  one_refusal _ _ (cites_none number absent) (proves_none cites fault found is) = absurd (absent_or_found statements numbers number cites absent found)
+  one_refusal _ _ (proves_none cites fault found is) (cites_none number absent) = absurd (absent_or_found statements numbers number cites absent found)
+  one_refusal _ _ (proves_none cites fault found is) (proves_none others other found' is') =
+      let same : cites ≡ others = found_once statements numbers cites others found found' in
+      let faults : Err fault ≡ Err other = sym is ∙ (ap (λ (cs : List Cite). verdict (statements_of cs) goal proof) same ∙ is') in
+      let fault_is : fault ≡ other = cc in
+      ap replies.Unproved fault_is
+
+  refused_or_proved : (reply : LineReply) (cites : List Cite) (g : GrantView) → IsUnproved statements goal numbers proof reply → IsProved statements goal numbers proof cites g → ⊥
+  refused_or_proved _ cites g (cites_none number absent) proved = absent_or_found statements numbers number cites absent proved.found
+  refused_or_proved _ cites g (proves_none others fault found is) proved =
+      let same : others ≡ cites = found_once statements numbers others cites found proved.found in
+      let both : Err fault ≡ Ok g = sym is ∙ (ap (λ (cs : List Cite). verdict (statements_of cs) goal proof) same ∙ proved.verdict_is) in
+      cc
+
+  one_grant : (cites others : List Cite) (g h : GrantView) → IsProved statements goal numbers proof cites g → IsProved statements goal numbers proof others h → (cites ≡ others) × (g ≡ h)
+  one_grant cites others g h one other =
+      let same : cites ≡ others = found_once statements numbers cites others one.found other.found in
+      let both : Ok g ≡ Ok h = sym one.verdict_is ∙ (ap (λ (cs : List Cite). verdict (statements_of cs) goal proof) same ∙ other.verdict_is) in
+      let grant : g ≡ h = cc in
+      (same, grant)
+
+-- ---- the procaps that words bring
+
+all_named : (key : List ℕ) (issues : List Issue) (ws : List ProcapWord) (ps : List Sealed) → AreBrought key issues ws ps → AllByRecursion (NamesIssue issues) ws
+all_named key issues [] [] all = tt
+all_named key issues [] (p ∷ ps) all = absurd all
+all_named key issues (w ∷ ws) [] all = absurd all
+all_named key issues (w ∷ ws) (p ∷ ps) all = (NamesIssue-brought key issues w p all.0, all_named key issues ws ps all.1)
+
+one_procap : (key : List ℕ) (issues : List Issue) (w : ProcapWord) (p q : Sealed) → BringsProcap key issues w p → BringsProcap key issues w q → p ≡ q
+one_procap key issues _ _ _ (held p) (held _) = refl
+one_procap key issues _ _ _ (issued number issue numbered) (issued _ other numbered') =
+    ap (λ (i : Issue). procap_of key i.grant) (numbered_item issues number issue other numbered numbered')
+
+one_list : (key : List ℕ) (issues : List Issue) (ws : List ProcapWord) (ps qs : List Sealed) → AreBrought key issues ws ps → AreBrought key issues ws qs → ps ≡ qs
+one_list key issues [] [] [] one other = refl
+one_list key issues [] [] (q ∷ qs) one other = absurd other
+one_list key issues [] (p ∷ ps) qs one other = absurd one
+one_list key issues (w ∷ ws) [] qs one other = absurd one
+one_list key issues (w ∷ ws) (p ∷ ps) [] one other = absurd other
+one_list key issues (w ∷ ws) (p ∷ ps) (q ∷ qs) one other =
+    ap (λ (x : Sealed). x ∷ ps) (one_procap key issues w p q one.0 other.0) ∙ ap (λ (xs : List Sealed). q ∷ xs) (one_list key issues ws ps qs one.1 other.1)
+
+unissued_or_brought : (key : List ℕ) (issues : List Issue) (ws : List ProcapWord) (number : ℕ) (ps : List Sealed) → IsFirstUnissued issues ws number → AreBrought key issues ws ps → ⊥
+unissued_or_brought key issues ws number ps first all = none_fails (NamesIssue issues) ws first.place (words.Issue number) (all_named key issues ws ps all) first.first
+
+one_unissued : (issues : List Issue) (ws : List ProcapWord) (number other : ℕ) → IsFirstUnissued issues ws number → IsFirstUnissued issues ws other → number ≡ other
+one_unissued issues ws number other one two =
+    let same : words.Issue number ≡ words.Issue other = (first_failing (NamesIssue issues) ws one.place two.place (words.Issue number) (words.Issue other) one.first two.first).1 in
+    cc
+
+-- ---- what a command comes to
+
+module _ (secrets : Secrets) (state : BaseView) (asker : Asker) where
+  -- a look at the state makes one thing of a command
+  one_look : (command : Command) (first second : Look) → ComesTo secrets state asker command first → ComesTo secrets state asker command second → first ≡ second
+  one_look _ _ _ (line_answer.sets_clock second) (line_answer.sets_clock _) = refl
+  one_look _ _ _ (line_answer.sets_caller who) (line_answer.sets_caller _) = refl
+  one_look _ _ _ (line_answer.registers signature statement) (line_answer.registers _ _) = refl
+  one_look _ _ _ (line_answer.shows number) (line_answer.shows _) = refl
+  one_look _ _ _ (line_answer.verifies_nothing goal numbers proof first refused) (line_answer.verifies_nothing _ _ _ second refused') =
+      ap replied (one_refusal (sayings state.statements) goal numbers proof first second refused refused')
+  one_look _ _ _ (line_answer.verifies_nothing goal numbers proof first refused) (line_answer.verifies _ _ _ cites g proved) =
+      absurd (refused_or_proved (sayings state.statements) goal numbers proof first cites g refused proved)
+  one_look _ _ _ (line_answer.verifies goal numbers proof cites g proved) (line_answer.verifies_nothing _ _ _ second refused) =
+      absurd (refused_or_proved (sayings state.statements) goal numbers proof second cites g refused proved)
+  one_look _ _ _ (line_answer.verifies goal numbers proof cites g proved) (line_answer.verifies _ _ _ others h proved') =
+      let same = one_grant (sayings state.statements) goal numbers proof cites others g h proved proved' in
+      ap (λ (cs : List Cite). requested (requests.Issue (checked_view cs goal proof g))) same.0 ∙ ap (λ (k : GrantView). requested (requests.Issue (checked_view others goal proof k))) same.1
+  one_look _ _ _ (line_answer.checks_nothing goal numbers proof first refused) (line_answer.checks_nothing _ _ _ second refused') =
+      ap replied (one_refusal (sayings state.statements) goal numbers proof first second refused refused')
+  one_look _ _ _ (line_answer.checks_nothing goal numbers proof first refused) (line_answer.checks _ _ _ cites g proved) =
+      absurd (refused_or_proved (sayings state.statements) goal numbers proof first cites g refused proved)
+  one_look _ _ _ (line_answer.checks goal numbers proof cites g proved) (line_answer.checks_nothing _ _ _ second refused) =
+      absurd (refused_or_proved (sayings state.statements) goal numbers proof second cites g refused proved)
+  one_look _ _ _ (line_answer.checks goal numbers proof cites g proved) (line_answer.checks _ _ _ others h proved') =
+      ap (λ (k : GrantView). replied (replies.Checked k)) (one_grant (sayings state.statements) goal numbers proof cites others g h proved proved').1
+  one_look _ _ _ (line_answer.acts_under_none op ws number none) (line_answer.acts_under_none _ _ other none') =
+      ap (λ (n : ℕ). replied (replies.Step (Absent n))) (one_unissued state.issues ws number other none none')
+  one_look _ _ _ (line_answer.acts_under_none op ws number none) (line_answer.acts _ _ procaps brought) = absurd (unissued_or_brought secrets.seal_key state.issues ws number procaps none brought)
+  one_look _ _ _ (line_answer.acts op ws procaps brought) (line_answer.acts_under_none _ _ number none) = absurd (unissued_or_brought secrets.seal_key state.issues ws number procaps none brought)
+  one_look _ _ _ (line_answer.acts op ws procaps brought) (line_answer.acts _ _ others brought') =
+      ap (λ (ps : List Sealed). requested (requests.Act asker.caller op ps)) (one_list secrets.seal_key state.issues ws procaps others brought brought')
+
+  -- it is no reply at once and a request too
+  reply_or_request : (command : Command) (reply : LineReply) (request : StepRequest) → ComesTo secrets state asker command (replied reply) → ComesTo secrets state asker command (requested request) → ⊥
+  reply_or_request command reply request one other = let same = one_look command (replied reply) (requested request) one other in cc
+
+-- the same reply, and the same event to keep
+abbrev AreSame : LineReply → LineReply → Option Event → Option Event → Type 0
+AreSame first second one other = (first ≡ second) × (one ≡ other)
+
+module _ (s : Standing) (lawful : IsLawful (authority_under s.secrets) s.base s.events) where
+  told_once : (request : StepRequest) (first second : StepReply) (one other : Option Event) → Answers (authority_under s.secrets) (state_of_standing s) s.asker.pass s.asker.clock request first one
+      → Answers (authority_under s.secrets) (state_of_standing s) s.asker.pass s.asker.clock request second other → AreSame (replies.Step first) (replies.Step second) one other
+  told_once request first second one other told told' =
+      let same = one_answer (authority_under s.secrets) s.base s.events s.asker.pass s.asker.clock request first second one other lawful told told' in
+      (ap replies.Step same.0, same.1)
+
+  -- a command has one answer
+  answer_once : (command : Command) (first second : LineReply) (one other : Option Event) → AnswersCommand s.secrets (state_of_standing s) s.asker command first one → AnswersCommand s.secrets (state_of_standing s) s.asker command second other → AreSame first second one other
+  answer_once command _ _ _ _ (at_once first look) (at_once second look') =
+      let same = one_look s.secrets (state_of_standing s) s.asker command (replied first) (replied second) look look' in
+      let told : first ≡ second = cc in
+      (told, refl)
+  answer_once command _ _ _ _ (at_once first look) (decided request second event look' told) = absurd (reply_or_request s.secrets (state_of_standing s) s.asker command first request look look')
+  answer_once command _ _ _ _ (decided request first event look told) (at_once second look') = absurd (reply_or_request s.secrets (state_of_standing s) s.asker command second request look' look)
+  answer_once command _ _ _ _ (decided request first one look told) (decided request' second other look' told') =
+      let same = one_look s.secrets (state_of_standing s) s.asker command (requested request) (requested request') look look' in
+      let request_is : request ≡ request' = cc in
+      told_once request' first second one other (subst (λ (r : StepRequest). Answers (authority_under s.secrets) (state_of_standing s) s.asker.pass s.asker.clock r first one) request_is told) told'
+
+  -- and so has a line
+  pub line_once : (line : List ℕ) (first second : LineReply) (one other : Option Event) (after later : Asker) → AnswersLine s.secrets (state_of_standing s) s.asker line first one after → AnswersLine s.secrets (state_of_standing s) s.asker line second other later
+      → (first ≡ second) × (one ≡ other) × (after ≡ later)
+  line_once line _ _ _ _ _ _ (faulty fault bad) (faulty other bad') = (ap replies.Faulty (one_fault bad other bad'), refl, refl)
+  line_once line _ _ _ _ _ _ (faulty fault bad) (asks command reply event is answer) = absurd (command_or_fault is bad)
+  line_once line _ _ _ _ _ _ (asks command reply event is answer) (faulty fault bad) = absurd (command_or_fault is bad)
+  line_once line _ _ _ _ _ _ (asks command first one is answer) (asks command' second other is' answer') =
+      let same : command ≡ command' = IsLine-unique is is' in
+      let both = answer_once command' first second one other (subst (λ (c : Command). AnswersCommand s.secrets (state_of_standing s) s.asker c first one) same answer) answer' in
+      (both.0, both.1, ap (asker_after s.asker) same)

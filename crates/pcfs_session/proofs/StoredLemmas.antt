@@ -1,0 +1,238 @@
+-- A store while a script goes on.
+use Rattle.std.proofs.Common.{◌≡◌, ◌⊎◌, inl, inr, ℕ, ℤ, ◌≤◌, Bool, true, false, List, Option, Some, None, refl, sym, ap, subst, ◌∙◌, arith}
+use Rattle.std.specs.Prelude.{◌≢◌}
+use Rattle.pcfs_ports.specs.Faults.{HasRisen}
+use Rattle.access_history.specs.declared.event.Event.{Event}
+use Rattle.access_history.specs.declared.request.StepRequest.{StepRequest}
+use Rattle.access_history.specs.declared.reply.StepReply.{StepReply}
+use Rattle.access_history.specs.Lawful.{IsLawful}
+use Rattle.access_history.proofs.AnswerLemmas.{one_answer}
+use Rattle.line_wire.specs.declared.reply.LineReply.{LineReply}
+use Rattle.line_wire.specs.declared.reply.LineReply.TheVariants as replies
+use Rattle.pcfs_store.specs.declared.reply.StoreReply.{StoreReply}
+use Rattle.pcfs_store.specs.declared.reply.StoreReply.TheVariants as stores
+use Rattle.pcfs_store.specs.Newest.{one_of}
+use Rattle.pcfs_store.specs.StoreView.{StoreView, first_disk, second_disk, authority_of_store, AnswersIn}
+use Rattle.pcfs_store.specs.Ready.{IsReady, IsCurrent, StopsNow, SurvivesWithOrWithout}
+use Rattle.pcfs_store.specs.Steps.{Steps}
+use Rattle.pcfs_store.specs.Steps as steps
+use Rattle.pcfs_session.specs.Asker.{Asker}
+use Rattle.pcfs_session.specs.Interpreter.{IsDecidedAs, IsToldAs}
+use Rattle.pcfs_session.specs.InterpreterView.{InterpreterView, standing_of}
+use Rattle.pcfs_session.specs.ScriptRun.{Standing, IsLawfulStanding, kept, full, stopped}
+use Rattle.pcfs_session.specs.Stored.{IsStopFor, StoreGoesOn, LeadsTo}
+
+pub none_some : {A P : Type 0} (x : A) → None ≡ Some x → P
+none_some x is = absurd cc
+
+some_same : {A : Type 0} (x y : A) → Some x ≡ Some y → x ≡ y
+some_same x y is = cc
+
+-- a count that rose and then did not fall has risen
+pub HasRisen-earlier : (before mid after : ℕ) → before ≤ mid → HasRisen mid after → HasRisen before after
+HasRisen-earlier before mid after later risen below = let r = risen below in omega (arith, r, later)
+
+-- a store that did not stop
+pub running_for : (stop : Option ℕ) → stop ≡ None → IsStopFor stop None
+running_for stop is = subst (λ (s : Option ℕ). IsStopFor s None) (sym is) tt
+
+pub runs_for : (stop : Option ℕ) → IsStopFor stop None → stop ≡ None
+runs_for None is = refl
+runs_for (Some pass) is = absurd is
+
+-- the count of the disk in its place
+risen_at : {D : Type 0} (faults : D → ℕ) (old active other : D) (second_active : Bool) → HasRisen (faults old) (faults active) →
+    HasRisen (faults (one_of old other second_active)) (faults (one_of active other second_active)) ⊎ HasRisen (faults (one_of other old second_active)) (faults (one_of other active second_active))
+risen_at faults old active other false risen = inl risen
+risen_at faults old active other true risen = inr risen
+
+-- no disk failed in a step that is answered otherwise
+still_runs : {D : Type 0} (faults : D → ℕ) (old new : StoreView D) (pass : ℕ) (clock : ℤ) (request : StepRequest) (reply : StoreReply) → reply ≢ stores.Stopped → Steps faults old pass clock request reply new → new.stop ≡ None
+still_runs faults old _ pass clock request _ going (steps.answered reply is answer) = is
+still_runs faults old _ pass clock request _ going (steps.kept reply event active is answer room) = is
+still_runs faults old _ pass clock request _ going (steps.full reply event is answer is_full) = is
+still_runs faults old _ pass clock request _ going (steps.failed reply event active is answer room risen) = absurd (going refl)
+still_runs faults old _ pass clock request _ going (steps.stopped earlier is) = absurd (going refl)
+still_runs faults old _ pass clock request _ going (steps.without_memory is) = is
+
+-- the area stays in its place, and the other disk is not touched
+record StaysInPlace {D : Type 0} (old new : StoreView D) : Type 0 where
+  generation : new.generation ≡ old.generation
+  place : new.second_active ≡ old.second_active
+  other : new.other ≡ old.other
+
+stays_in_place : {D : Type 0} (faults : D → ℕ) (old new : StoreView D) (pass : ℕ) (clock : ℤ) (request : StepRequest) (reply : StoreReply) → Steps faults old pass clock request reply new → StaysInPlace old new
+stays_in_place faults old _ pass clock request _ (steps.answered reply is answer) = record { generation = refl; place = refl; other = refl }
+stays_in_place faults old _ pass clock request _ (steps.kept reply event active is answer room) = record { generation = refl; place = refl; other = refl }
+stays_in_place faults old _ pass clock request _ (steps.full reply event is answer is_full) = record { generation = refl; place = refl; other = refl }
+stays_in_place faults old _ pass clock request _ (steps.failed reply event active is answer room risen) = record { generation = refl; place = refl; other = refl }
+stays_in_place faults old _ pass clock request _ (steps.stopped earlier is) = record { generation = refl; place = refl; other = refl }
+stays_in_place faults old _ pass clock request _ (steps.without_memory is) = record { generation = refl; place = refl; other = refl }
+
+abbrev seen : {D : Type 0} → StoreView D → Asker → InterpreterView D
+seen store asker = record { store = store; asker = asker }
+
+module _ {D : Type 0} (clock : D → ℕ) (left_since : D → ℕ → List ℕ → Type 0) (image : D → Option (List ℕ)) (faults : D → ℕ) where
+  -- what a step of a store says
+  pub record Stepped (old : StoreView D) (asker : Asker) (request : StepRequest) (result : StoreReply) (new : StoreView D) : Type 0 where
+    pub answer : Steps faults old asker.pass asker.clock request result new
+    pub stays_ready : IsReady clock left_since image old → result ≢ stores.Stopped → IsReady clock left_since image new
+    pub stays_current : IsCurrent clock left_since image old → result ≢ stores.Stopped → IsCurrent clock left_since image new
+    pub met : IsReady clock left_since image old → result ≡ stores.Stopped →
+        (reply : StepReply) × (event : Event) × AnswersIn old asker.pass asker.clock request reply (Some event) × StopsNow clock left_since image new (SurvivesWithOrWithout old.base old.events event)
+    pub first_never_falls : faults (first_disk old) ≤ faults (first_disk new)
+    pub second_never_falls : faults (second_disk old) ≤ faults (second_disk new)
+
+  -- the same of the moment that was given, which is the one that the clock shows
+  pub Stepped-shown : (old new : StoreView D) (pass : ℕ) (at shown : ℤ) (caller : List ℕ) (sees : Option (List ℕ)) (request : StepRequest) (result : StoreReply) → shown ≡ at → Stepped old (record { pass = pass; clock = shown; caller = caller; sees = sees }) request result new →
+      Stepped old (record { pass = pass; clock = at; caller = caller; sees = sees }) request result new
+  Stepped-shown old new pass at shown caller sees request result same stepped =
+      subst (λ (z : ℤ). Stepped old (record { pass = pass; clock = z; caller = caller; sees = sees }) request result new) same stepped
+
+  goes_running : (old new : StoreView D) (asker : Asker) (request : StepRequest) (result : StoreReply) → result ≢ stores.Stopped → Stepped old asker request result new → StoreGoesOn clock left_since image faults old new None
+  goes_running old new asker request result going s = record {
+    generation_stays = (stays_in_place faults old new asker.pass asker.clock request result s.answer).generation;
+    place_stays = (stays_in_place faults old new asker.pass asker.clock request result s.answer).place;
+    other_stays = (stays_in_place faults old new asker.pass asker.clock request result s.answer).other;
+    stop_for = running_for new.stop (still_runs faults old new asker.pass asker.clock request result going s.answer);
+    ready = λ is none. s.stays_ready is going;
+    halts = λ is event same. none_some event same;
+    current = λ is none. s.stays_current is going;
+    first_never_falls = s.first_never_falls;
+    second_never_falls = s.second_never_falls;
+    failed = λ event same. none_some event same;
+  }
+
+  -- a step is answered
+  decided_step : (old new : StoreView D) (asker : Asker) (request : StepRequest) (reply : StepReply) → Steps faults old asker.pass asker.clock request (stores.Step reply) new → IsDecidedAs request (standing_of (seen old asker) None) (replies.Step reply) (standing_of (seen new asker) None)
+  decided_step old _ asker request _ (steps.answered reply running answer) = record { told = reply; event = None; answer = answer; becomes = kept None tt }
+  decided_step old _ asker request _ (steps.kept reply event active running answer room) = record { told = reply; event = Some event; answer = answer; becomes = kept (Some event) room }
+
+  pub LeadsTo-step : (old new : StoreView D) (asker : Asker) (request : StepRequest) (reply : StepReply) → Stepped old asker request (stores.Step reply) new → LeadsTo clock left_since image faults (IsDecidedAs request) (seen old asker) (replies.Step reply) (seen new asker)
+  LeadsTo-step old new asker request reply s = record {
+    met = None;
+    holds = decided_step old new asker request reply s.answer;
+    goes_on = goes_running old new asker request (stores.Step reply) (λ is. absurd cc) s;
+  }
+
+  -- there is no room
+  decided_full : (old new : StoreView D) (asker : Asker) (request : StepRequest) → Steps faults old asker.pass asker.clock request stores.Full new → IsDecidedAs request (standing_of (seen old asker) None) replies.Full (standing_of (seen new asker) None)
+  decided_full old _ asker request (steps.full reply event running answer is_full) = record { told = reply; event = Some event; answer = answer; becomes = full event is_full }
+
+  pub LeadsTo-full : (old new : StoreView D) (asker : Asker) (request : StepRequest) → Stepped old asker request stores.Full new → LeadsTo clock left_since image faults (IsDecidedAs request) (seen old asker) replies.Full (seen new asker)
+  LeadsTo-full old new asker request s = record {
+    met = None;
+    holds = decided_full old new asker request s.answer;
+    goes_on = goes_running old new asker request stores.Full (λ is. absurd cc) s;
+  }
+
+  -- a disk failed
+  same_event : (old : StoreView D) (asker : Asker) (request : StepRequest) → IsLawful (authority_of_store old) old.base old.events → (reply other : StepReply) (event found : Event) → AnswersIn old asker.pass asker.clock request reply (Some event) →
+      AnswersIn old asker.pass asker.clock request other (Some found) → found ≡ event
+  same_event old asker request lawful reply other event found answer answer' =
+      some_same found event (sym (one_answer (authority_of_store old) old.base old.events asker.pass asker.clock request reply other (Some event) (Some found) lawful answer answer').1)
+
+  by_fault : (old new : StoreView D) (asker : Asker) (request : StepRequest) → IsLawful (authority_of_store old) old.base old.events → old.stop ≡ None → Stepped old asker request stores.Stopped new → Steps faults old asker.pass asker.clock request stores.Stopped new →
+      LeadsTo clock left_since image faults (IsDecidedAs request) (seen old asker) replies.Stopped (seen new asker)
+  by_fault old _ asker request lawful running s (steps.failed reply event active is answer room risen) = record {
+    met = Some event;
+    holds = record { told = reply; event = Some event; answer = answer; becomes = stopped event room };
+    goes_on = record {
+      stop_for = tt;
+      generation_stays = refl;
+      place_stays = refl;
+      other_stays = refl;
+      ready = λ is_ready none. none_some event (sym none);
+      halts = λ is_ready e same.
+          let m = s.met is_ready refl in
+          let it : m.1 ≡ e = same_event old asker request lawful reply m.0 event m.1 answer m.2 ∙ some_same event e same in
+          subst (λ (x : Event). StopsNow clock left_since image (record old { active = active; stop = Some asker.pass }) (SurvivesWithOrWithout old.base old.events x)) it m.3;
+      current = λ is_current none. none_some event (sym none);
+      first_never_falls = s.first_never_falls;
+      second_never_falls = s.second_never_falls;
+      failed = λ e same. risen_at faults old.active active old.other old.second_active risen;
+    };
+  }
+  by_fault old _ asker request lawful running s (steps.stopped earlier is) = none_some earlier (sym running ∙ is)
+
+  pub LeadsTo-stopped : (old new : StoreView D) (asker : Asker) (request : StepRequest) → IsLawful (authority_of_store old) old.base old.events → old.stop ≡ None → Stepped old asker request stores.Stopped new →
+      LeadsTo clock left_since image faults (IsDecidedAs request) (seen old asker) replies.Stopped (seen new asker)
+  LeadsTo-stopped old new asker request lawful running s = by_fault old new asker request lawful running s s.answer
+
+  -- whatever the store says
+  by_told : (old new : StoreView D) (asker : Asker) (request : StepRequest) (reply : StoreReply) (told : LineReply) → IsLawful (authority_of_store old) old.base old.events → old.stop ≡ None → IsToldAs reply told → Stepped old asker request reply new →
+      LeadsTo clock left_since image faults (IsDecidedAs request) (seen old asker) told (seen new asker)
+  by_told old new asker request (stores.Step reply) told lawful running is s = subst (λ (t : LineReply). LeadsTo clock left_since image faults (IsDecidedAs request) (seen old asker) t (seen new asker)) (sym is) (LeadsTo-step old new asker request reply s)
+  by_told old new asker request stores.Full told lawful running is s = subst (λ (t : LineReply). LeadsTo clock left_since image faults (IsDecidedAs request) (seen old asker) t (seen new asker)) (sym is) (LeadsTo-full old new asker request s)
+  by_told old new asker request stores.Stopped told lawful running is s = subst (λ (t : LineReply). LeadsTo clock left_since image faults (IsDecidedAs request) (seen old asker) t (seen new asker)) (sym is) (LeadsTo-stopped old new asker request lawful running s)
+  by_told old new asker request stores.NoMemory told lawful running is s = absurd is
+
+  pub LeadsTo-told : (inside seated : InterpreterView D) (new : StoreView D) (request : StepRequest) (reply : StoreReply) (told : LineReply) → inside ≡ seated → IsLawfulStanding (standing_of seated None) → seated.store.stop ≡ None → IsToldAs reply told → Stepped inside.store inside.asker request reply new →
+      LeadsTo clock left_since image faults (IsDecidedAs request) seated told (seen new inside.asker)
+  LeadsTo-told inside seated new request reply told same stands running is s =
+      subst (λ (i : InterpreterView D). LeadsTo clock left_since image faults (IsDecidedAs request) i told (seen new inside.asker)) same
+      (by_told inside.store new inside.asker request reply told (subst (λ (i : InterpreterView D). IsLawfulStanding (standing_of i None)) (sym same) stands).lawful (ap (λ (i : InterpreterView D). i.store.stop) same ∙ running) is s)
+
+  -- memory ran out in a step
+  no_memory : (old new : StoreView D) (asker : Asker) (request : StepRequest) → Steps faults old asker.pass asker.clock request stores.NoMemory new → new ≡ old
+  no_memory old _ asker request (steps.without_memory running) = refl
+
+  pub same-without_memory : (inside seated : InterpreterView D) (new : StoreView D) (request : StepRequest) (reply : StoreReply) → inside ≡ seated → reply ≡ stores.NoMemory → Stepped inside.store inside.asker request reply new → seen new inside.asker ≡ seated
+  same-without_memory inside seated new request reply same is s =
+      ap (λ (n : StoreView D). seen n inside.asker) (no_memory inside.store new inside.asker request (subst (λ (r : StoreReply). Steps faults inside.store inside.asker.pass inside.asker.clock request r new) is s.answer)) ∙ same
+
+  -- nothing happened
+  pub StoreGoesOn-same : (s : StoreView D) → s.stop ≡ None → StoreGoesOn clock left_since image faults s s None
+  StoreGoesOn-same s running = record {
+    stop_for = running_for s.stop running;
+    generation_stays = refl;
+    place_stays = refl;
+    other_stays = refl;
+    ready = λ is none. is;
+    halts = λ is event same. none_some event same;
+    current = λ is none. is;
+    first_never_falls = omega arith;
+    second_never_falls = omega arith;
+    failed = λ event same. none_some event same;
+  }
+
+  pub LeadsTo-same : (R : Standing → LineReply → Standing → Type 0) (i : InterpreterView D) (reply : LineReply) → i.store.stop ≡ None → R (standing_of i None) reply (standing_of i None) → LeadsTo clock left_since image faults R i reply i
+  LeadsTo-same R i reply running holds = record { met = None; holds = holds; goes_on = StoreGoesOn-same i.store running }
+
+  pub LeadsTo-unchanged : (R : Standing → LineReply → Standing → Type 0) (i new : InterpreterView D) (reply : LineReply) → new ≡ i → i.store.stop ≡ None → R (standing_of i None) reply (standing_of i None) → LeadsTo clock left_since image faults R i reply new
+  LeadsTo-unchanged R i new reply same running holds = subst (λ (n : InterpreterView D). LeadsTo clock left_since image faults R i reply n) (sym same) (LeadsTo-same R i reply running holds)
+
+  -- the store is as it was, and another asks, or at another moment
+  pub LeadsTo-changed : (R : Standing → LineReply → Standing → Type 0) (inside seated : InterpreterView D) (asker : Asker) (reply : LineReply) → inside ≡ seated → seated.store.stop ≡ None → R (standing_of seated None) reply (standing_of (seen inside.store asker) None) →
+      LeadsTo clock left_since image faults R seated reply (seen inside.store asker)
+  LeadsTo-changed R inside seated asker reply same running holds = record {
+    met = None;
+    holds = holds;
+    goes_on = subst (λ (i : InterpreterView D). StoreGoesOn clock left_since image faults i.store inside.store None) same (StoreGoesOn-same inside.store (ap (λ (i : InterpreterView D). i.store.stop) same ∙ running));
+  }
+
+  pub LeadsTo-seated : (R : Standing → LineReply → Standing → Type 0) (inside seated new : InterpreterView D) (reply : LineReply) → inside ≡ seated → LeadsTo clock left_since image faults R inside reply new → LeadsTo clock left_since image faults R seated reply new
+  LeadsTo-seated R inside seated new reply same l = subst (λ (i : InterpreterView D). LeadsTo clock left_since image faults R i reply new) same l
+
+  -- a call that says more of where it leads
+  pub LeadsTo-also : (R Q : Standing → LineReply → Standing → Type 0) (old new : InterpreterView D) (reply : LineReply) → ((met : Option Event) → R (standing_of old None) reply (standing_of new met) → Q (standing_of old None) reply (standing_of new met)) →
+      LeadsTo clock left_since image faults R old reply new → LeadsTo clock left_since image faults Q old reply new
+  LeadsTo-also R Q old new reply says l = record { met = l.met; holds = says l.met l.holds; goes_on = l.goes_on }
+
+  -- from one moment to a later one, and to a later one still, while no disk fails before it
+  pub StoreGoesOn-on : (old mid new : StoreView D) (met : Option Event) → StoreGoesOn clock left_since image faults old mid None → StoreGoesOn clock left_since image faults mid new met → StoreGoesOn clock left_since image faults old new met
+  StoreGoesOn-on old mid new met one other = record {
+    stop_for = other.stop_for;
+    generation_stays = other.generation_stays ∙ one.generation_stays;
+    place_stays = other.place_stays ∙ one.place_stays;
+    other_stays = other.other_stays ∙ one.other_stays;
+    ready = λ is none. other.ready (one.ready is refl) none;
+    halts = λ is event same. other.halts (one.ready is refl) event same;
+    current = λ is none. other.current (one.current is refl) none;
+    first_never_falls = omega (arith, one.first_never_falls, other.first_never_falls);
+    second_never_falls = omega (arith, one.second_never_falls, other.second_never_falls);
+    failed = λ event same. elim (other.failed event same) [
+      | inl first ↦ inl (HasRisen-earlier (faults (first_disk old)) (faults (first_disk mid)) (faults (first_disk new)) one.first_never_falls first)
+      | inr second ↦ inr (HasRisen-earlier (faults (second_disk old)) (faults (second_disk mid)) (faults (second_disk new)) one.second_never_falls second)
+    ];
+  }

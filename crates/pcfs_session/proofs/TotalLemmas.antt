@@ -1,0 +1,252 @@
+-- Each line has an answer, and the lines of a script have an outcome.
+use Rattle.std.proofs.Common.{◌≡◌, ◌⊎◌, inl, inr, ◌+◌, ◌-◌, ◌^◌, ◌≤◌, ◌<◌, ℕ, List, [], ◌∷◌, Option, Some, None, length, Result, Ok, Err, refl, ap, arith}
+use Rattle.std.proofs.lemmas.Bool.{cases_lt}
+use Rattle.journal_core.specs.Area.{area_limit}
+use Rattle.std.specs.List.{AllByRecursion}
+use Rattle.bl_syntax.specs.declared.grant.Goal.{Goal}
+use Rattle.bl_syntax.specs.FirstFailing.{IsFirstFailing}
+use Rattle.bl_syntax.specs.Statement.{StatementView, IsStatement}
+use Rattle.bl_syntax.specs.Grant.{GrantView}
+use Rattle.procap.specs.declared.procap.Procap.{Procap as Sealed}
+use Rattle.proof_term.specs.Proof.{ProofView}
+use Rattle.proof_verifier.specs.declared.cites.Cite.{Cite}
+use Rattle.proof_verifier.specs.declared.fault.CheckFault.{CheckFault}
+use Rattle.proof_verifier.specs.Cited.{statements_of}
+use Rattle.proof_verifier.specs.CheckedView.{checked_view}
+use Rattle.proof_verifier.specs.Verdict.{verdict}
+use Rattle.pcfs_secrets.specs.declared.secrets.Secrets.{Secrets}
+use Rattle.file_world.specs.declared.operation.Op.{Op}
+use Rattle.access_history.specs.declared.event.Event.{Event}
+use Rattle.access_history.specs.declared.event.Issue.{Issue}
+use Rattle.access_history.specs.declared.request.StepRequest.TheVariants as requests
+use Rattle.access_history.specs.declared.reply.StepReply.TheVariants.{Absent}
+use Rattle.access_history.specs.Authority.{sayings, procap_of}
+use Rattle.access_history.specs.Base.{BaseView}
+use Rattle.access_history.specs.Citing.{AreFound, IsAbsent}
+use Rattle.access_history.specs.Numbered.{HasNumber, IsNumbered}
+use Rattle.access_history.proofs.AnswerableLemmas.{has_answer}
+use Rattle.access_history.proofs.EitherLemmas.{OrNot, HasFailing, all_or_failing, HasItem, item_or_none, item_of_number}
+use Rattle.access_history.proofs.LawfulLemmas.{IsLawfulBase-lawful}
+use Rattle.access_history.proofs.NumberedLemmas.{HasNumber-item}
+use Rattle.line_words.specs.declared.procap_word.ProcapWord.{ProcapWord}
+use Rattle.line_words.specs.declared.procap_word.ProcapWord.TheVariants as words
+use Rattle.line_forms.specs.declared.command.Command.{Command}
+use Rattle.line_forms.specs.declared.command.Command.TheVariants.{At, As, Register, Procap, Verify, Check, Do}
+use Rattle.line_forms.specs.declared.fault.LineFault.{LineFault}
+use Rattle.line_forms.specs.Lines.{IsLine, IsLineFault}
+use Rattle.line_forms.proofs.TotalLemmas.{command_or_a_fault}
+use Rattle.line_wire.specs.declared.reply.LineReply.{LineReply}
+use Rattle.line_wire.specs.declared.reply.LineReply.TheVariants as replies
+use Rattle.pcfs_session.specs.Asker.{Asker, IsAsker, asker_after}
+use Rattle.pcfs_session.specs.Procaps.{BringsProcap, held, issued, NamesIssue, AreBrought, IsFirstUnissued}
+use Rattle.pcfs_session.specs.Proved.{IsUnproved, cites_none, proves_none, IsProved}
+use Rattle.pcfs_session.specs.LineAnswer.{authority_under, signature_under, Look, replied, requested, ComesTo, AnswersCommand, at_once, decided, AnswersLine, faulty, asks}
+use Rattle.pcfs_session.specs.LineAnswer as line_answer
+use Rattle.pcfs_store.specs.StoredHistory.{IsFull}
+use Rattle.journal_records.specs.EventSpelling.{event_spelling}
+use Rattle.pcfs_session.specs.ScriptRun.{Standing, state_of_standing, standing_after, IsLawfulStanding, HasRoom, Becomes, kept, full, IsReplied, answered, ScriptRun, ended, one_more, IsUndisturbed, AreUndisturbed}
+use Rattle.pcfs_session.proofs.FormedLemmas.{IsWellFormed-line}
+use Rattle.pcfs_session.proofs.LawfulRunLemmas.{IsLawfulStanding-replied}
+
+-- ---- the statements of numbers
+
+-- the statements of the numbers, or the first number that has none
+abbrev IsToldOfNumbers : List StatementView → List ℕ → Type 0
+IsToldOfNumbers statements numbers = ((cites : List Cite) × AreFound statements numbers cites) ⊎ ((number : ℕ) × IsAbsent statements numbers number)
+
+has_of_item : (statements : List StatementView) (number : ℕ) → HasItem statements number ⊎ ((s : StatementView) → IsNumbered statements number s → ⊥) → OrNot (HasNumber statements number)
+has_of_item statements number (inl found) = inl (HasNumber-item statements number found.item found.numbered)
+has_of_item statements number (inr none) = inr (λ has. let found = item_of_number statements number has.0 has.1 in none found.item found.numbered)
+
+has_or_not : (statements : List StatementView) (number : ℕ) → OrNot (HasNumber statements number)
+has_or_not statements number = has_of_item statements number (item_or_none statements number)
+
+all_found : (statements : List StatementView) (numbers : List ℕ) → AllByRecursion (HasNumber statements) numbers → (cites : List Cite) × AreFound statements numbers cites
+all_found statements [] all = ([], record { numbers_are = refl; stand = tt })
+all_found statements (number ∷ numbers) all =
+    let first = item_of_number statements number all.0.0 all.0.1 in
+    let rest = all_found statements numbers all.1 in
+    (record { number = number; statement = first.item } ∷ rest.0, record { numbers_are = ap (λ (ns : List ℕ). number ∷ ns) rest.1.numbers_are; stand = (first.numbered, rest.1.stand) })
+
+told_of : (statements : List StatementView) (numbers : List ℕ) → AllByRecursion (HasNumber statements) numbers ⊎ HasFailing (HasNumber statements) numbers → IsToldOfNumbers statements numbers
+told_of statements numbers (inl all) = inl (all_found statements numbers all)
+told_of statements numbers (inr failing) = inr (failing.item, record { place = failing.place; first = failing.first })
+
+told_of_numbers : (statements : List StatementView) (numbers : List ℕ) → IsToldOfNumbers statements numbers
+told_of_numbers statements numbers = told_of statements numbers (all_or_failing (HasNumber statements) (has_or_not statements) numbers)
+
+-- ---- a proof from the statements of numbers
+
+-- what it proves, or why it proves nothing
+abbrev IsToldOfProof : List StatementView → Goal → List ℕ → ProofView → Type 0
+IsToldOfProof statements goal numbers proof = ((cites : List Cite) × (g : GrantView) × IsProved statements goal numbers proof cites g) ⊎ ((reply : LineReply) × IsUnproved statements goal numbers proof reply)
+
+by_verdict : (statements : List StatementView) (goal : Goal) (numbers : List ℕ) (proof : ProofView) (cites : List Cite) → AreFound statements numbers cites → (r : Result GrantView CheckFault) → verdict (statements_of cites) goal proof ≡ r → IsToldOfProof statements goal numbers proof
+by_verdict statements goal numbers proof cites found (Ok g) is = inl (cites, g, record { found = found; verdict_is = is })
+by_verdict statements goal numbers proof cites found (Err fault) is = inr (replies.Unproved fault, proves_none cites fault found is)
+
+by_numbers : (statements : List StatementView) (goal : Goal) (numbers : List ℕ) (proof : ProofView) → IsToldOfNumbers statements numbers → IsToldOfProof statements goal numbers proof
+by_numbers statements goal numbers proof (inl found) = by_verdict statements goal numbers proof found.0 found.1 (verdict (statements_of found.0) goal proof) refl
+by_numbers statements goal numbers proof (inr absent) = inr (replies.Step (Absent absent.0), cites_none absent.0 absent.1)
+
+told_of_proof : (statements : List StatementView) (goal : Goal) (numbers : List ℕ) (proof : ProofView) → IsToldOfProof statements goal numbers proof
+told_of_proof statements goal numbers proof = by_numbers statements goal numbers proof (told_of_numbers statements numbers)
+
+-- ---- the procaps that words bring
+
+named_of_item : (issues : List Issue) (number : ℕ) → HasItem issues number ⊎ ((issue : Issue) → IsNumbered issues number issue → ⊥) → OrNot (NamesIssue issues (words.Issue number))
+named_of_item issues number (inl found) = inl (found.item, found.numbered)
+named_of_item issues number (inr none) = inr (λ names. none names.0 names.1)
+
+named_or_not : (issues : List Issue) (word : ProcapWord) → OrNot (NamesIssue issues word)
+named_or_not issues (words.Procap p) = inl tt
+named_or_not issues (words.Issue number) = named_of_item issues number (item_or_none issues number)
+
+bring : (key : List ℕ) (issues : List Issue) (word : ProcapWord) → NamesIssue issues word → (p : Sealed) × BringsProcap key issues word p
+bring key issues (words.Procap p) names = (p, held p)
+bring key issues (words.Issue number) names = (procap_of key names.0.grant, issued number names.0 names.1)
+
+bring_all : (key : List ℕ) (issues : List Issue) (given : List ProcapWord) → AllByRecursion (NamesIssue issues) given → (procaps : List Sealed) × AreBrought key issues given procaps
+bring_all key issues [] all = ([], tt)
+bring_all key issues (word ∷ given) all =
+    let first = bring key issues word all.0 in
+    let rest = bring_all key issues given all.1 in
+    (first.0 ∷ rest.0, (first.1, rest.1))
+
+-- the procaps of the words, or the first issue that is not there
+abbrev IsToldOfWords : List ℕ → List Issue → List ProcapWord → Type 0
+IsToldOfWords key issues given = ((procaps : List Sealed) × AreBrought key issues given procaps) ⊎ ((number : ℕ) × IsFirstUnissued issues given number)
+
+unissued : (issues : List Issue) (given : List ProcapWord) (place : ℕ) (word : ProcapWord) → IsFirstFailing (NamesIssue issues) given place word → (number : ℕ) × IsFirstUnissued issues given number
+unissued issues given place (words.Procap p) first = absurd (first.fails tt)
+unissued issues given place (words.Issue number) first = (number, record { place = place; first = first })
+
+by_words : (key : List ℕ) (issues : List Issue) (given : List ProcapWord) → AllByRecursion (NamesIssue issues) given ⊎ HasFailing (NamesIssue issues) given → IsToldOfWords key issues given
+by_words key issues given (inl all) = inl (bring_all key issues given all)
+by_words key issues given (inr failing) = inr (unissued issues given failing.place failing.item failing.first)
+
+told_of_words : (key : List ℕ) (issues : List Issue) (given : List ProcapWord) → IsToldOfWords key issues given
+told_of_words key issues given = by_words key issues given (all_or_failing (NamesIssue issues) (named_or_not issues) given)
+
+-- ---- a command
+
+-- something is made of it
+abbrev IsLooked : Secrets → BaseView → Asker → Command → Type 0
+IsLooked secrets state asker command = (look : Look) × ComesTo secrets state asker command look
+
+module _ (secrets : Secrets) (state : BaseView) (asker : Asker) where
+  verified : (goal : Goal) (numbers : List ℕ) (proof : ProofView) → IsToldOfProof (sayings state.statements) goal numbers proof → IsLooked secrets state asker (Verify goal numbers proof)
+  verified goal numbers proof (inl proved) = (requested (requests.Issue (checked_view proved.0 goal proof proved.1)), line_answer.verifies goal numbers proof proved.0 proved.1 proved.2)
+  verified goal numbers proof (inr refused) = (replied refused.0, line_answer.verifies_nothing goal numbers proof refused.0 refused.1)
+
+  checked : (goal : Goal) (numbers : List ℕ) (proof : ProofView) → IsToldOfProof (sayings state.statements) goal numbers proof → IsLooked secrets state asker (Check goal numbers proof)
+  checked goal numbers proof (inl proved) = (replied (replies.Checked proved.1), line_answer.checks goal numbers proof proved.0 proved.1 proved.2)
+  checked goal numbers proof (inr refused) = (replied refused.0, line_answer.checks_nothing goal numbers proof refused.0 refused.1)
+
+  done : (op : Op) (given : List ProcapWord) → IsToldOfWords secrets.seal_key state.issues given → IsLooked secrets state asker (Do op given)
+  done op given (inl brought) = (requested (requests.Act asker.caller op brought.0), line_answer.acts op given brought.0 brought.1)
+  done op given (inr none) = (replied (replies.Step (Absent none.0)), line_answer.acts_under_none op given none.0 none.1)
+
+  look_at : (command : Command) → IsLooked secrets state asker command
+  look_at (At second) = (replied replies.Done, line_answer.sets_clock second)
+  look_at (As who) = (replied replies.Done, line_answer.sets_caller who)
+  look_at (Register signature statement) = (requested (requests.Register statement (signature_under secrets.ring statement signature)), line_answer.registers signature statement)
+  look_at (Verify goal numbers proof) = verified goal numbers proof (told_of_proof (sayings state.statements) goal numbers proof)
+  look_at (Check goal numbers proof) = checked goal numbers proof (told_of_proof (sayings state.statements) goal numbers proof)
+  look_at (Procap number) = (requested (requests.ShowProcap number asker.sees), line_answer.shows number)
+  look_at (Do op given) = done op given (told_of_words secrets.seal_key state.issues given)
+
+  module _ (is_asker : IsAsker asker) (are : AllByRecursion IsStatement (sayings state.statements)) (line : List ℕ) where
+    answer_after : (command : Command) → IsLine line command → (look : Look) → ComesTo secrets state asker command look → (reply : LineReply) × (event : Option Event) × AnswersCommand secrets state asker command reply event
+    answer_after command is (replied reply) comes = (reply, None, at_once reply comes)
+    answer_after command is (requested request) comes =
+        let answer = has_answer (authority_under secrets) state asker.pass asker.clock request (IsWellFormed-line secrets state asker line command request is_asker are is comes) in
+        (replies.Step answer.0, answer.1, decided request answer.0 answer.1 comes answer.2)
+
+    line_answered : ((command : Command) × IsLine line command) ⊎ ((fault : LineFault) × IsLineFault line fault) → (reply : LineReply) × (event : Option Event) × (after : Asker) × AnswersLine secrets state asker line reply event after
+    line_answered (inl one) =
+        let look = look_at one.0 in
+        let answer = answer_after one.0 one.1 look.0 look.1 in
+        (answer.0, answer.1, asker_after asker one.0, asks one.0 answer.0 answer.1 one.1 answer.2)
+    line_answered (inr bad) = (replies.Faulty bad.0, None, asker, faulty bad.0 bad.1)
+
+    -- each line has an answer
+    answer_of_line : (reply : LineReply) × (event : Option Event) × (after : Asker) × AnswersLine secrets state asker line reply event after
+    answer_of_line = line_answered (command_or_a_fault line)
+
+-- over the state of a lawful history each line has an answer
+pub line_has_answer : (s : Standing) (line : List ℕ) → IsLawfulStanding s → (reply : LineReply) × (event : Option Event) × (after : Asker) × AnswersLine s.secrets (state_of_standing s) s.asker line reply event after
+line_has_answer s line stands = answer_of_line s.secrets (state_of_standing s) s.asker stands.asker (IsLawfulBase-lawful (authority_under s.secrets) s.base s.events stands.lawful).statements_formed line
+
+-- ---- a run
+
+-- a reply at once is not that memory ran out, or that a disk failed
+abbrev IsCalm : Look → Type 0
+IsCalm (replied reply) = IsUndisturbed reply
+IsCalm (requested request) = Unit {0}
+
+unproved_calm : (statements : List StatementView) (goal : Goal) (numbers : List ℕ) (proof : ProofView) (reply : LineReply) → IsUnproved statements goal numbers proof reply → IsUndisturbed reply
+unproved_calm statements goal numbers proof _ (cites_none number absent) = record { had_memory = λ is. absurd cc; not_stopped = λ is. absurd cc }
+unproved_calm statements goal numbers proof _ (proves_none cites fault found verdict_is) = record { had_memory = λ is. absurd cc; not_stopped = λ is. absurd cc }
+
+looked_calm : (secrets : Secrets) (state : BaseView) (asker : Asker) (command : Command) (look : Look) → ComesTo secrets state asker command look → IsCalm look
+looked_calm secrets state asker _ _ (line_answer.sets_clock second) = record { had_memory = λ is. absurd cc; not_stopped = λ is. absurd cc }
+looked_calm secrets state asker _ _ (line_answer.sets_caller who) = record { had_memory = λ is. absurd cc; not_stopped = λ is. absurd cc }
+looked_calm secrets state asker _ _ (line_answer.registers signature statement) = tt
+looked_calm secrets state asker _ _ (line_answer.shows number) = tt
+looked_calm secrets state asker _ _ (line_answer.verifies_nothing goal numbers proof reply refused) = unproved_calm (sayings state.statements) goal numbers proof reply refused
+looked_calm secrets state asker _ _ (line_answer.verifies goal numbers proof cites g proved) = tt
+looked_calm secrets state asker _ _ (line_answer.checks_nothing goal numbers proof reply refused) = unproved_calm (sayings state.statements) goal numbers proof reply refused
+looked_calm secrets state asker _ _ (line_answer.checks goal numbers proof cites g proved) = record { had_memory = λ is. absurd cc; not_stopped = λ is. absurd cc }
+looked_calm secrets state asker _ _ (line_answer.acts_under_none op given number none) = record { had_memory = λ is. absurd cc; not_stopped = λ is. absurd cc }
+looked_calm secrets state asker _ _ (line_answer.acts op given procaps brought) = tt
+
+at_once_calm : (secrets : Secrets) (state : BaseView) (asker : Asker) (command : Command) (reply : LineReply) → ComesTo secrets state asker command (replied reply) → IsUndisturbed reply
+at_once_calm secrets state asker command reply comes = looked_calm secrets state asker command (replied reply) comes
+
+-- no answer is that memory ran out, or that a disk failed
+calm_reply : (s : Standing) (line : List ℕ) (reply : LineReply) (event : Option Event) (after : Asker) → AnswersLine s.secrets (state_of_standing s) s.asker line reply event after → IsUndisturbed reply
+calm_reply s line _ _ _ (faulty fault bad) = record { had_memory = λ is. absurd cc; not_stopped = λ is. absurd cc }
+calm_reply s line _ _ _ (asks command _ _ is_line (decided request reply event look answer)) = record { had_memory = λ is. absurd cc; not_stopped = λ is. absurd cc }
+calm_reply s line _ _ _ (asks command _ _ is_line (at_once reply look)) = at_once_calm s.secrets (state_of_standing s) s.asker command reply look
+
+-- ---- what becomes of it
+
+-- something becomes of an answer, and no disk fails
+record GoesWell (s : Standing) (told : LineReply) (asker : Asker) (event : Option Event) : Type 0 where
+  reply : LineReply
+  after : Standing
+  becomes : Becomes s told asker event reply after
+  calm : IsUndisturbed reply
+  going : after.met ≡ None
+
+within : (s : Standing) (event : Event) → (area_limit < s.used + length (event_spelling event) + 6 → ⊥) → (2 ^ 48 - 1 ≤ (state_of_standing s).count → ⊥) → IsFull s.used (state_of_standing s).count event → ⊥
+within s event fits numbered (inl long) = fits long
+within s event fits numbered (inr many) = numbered many
+
+full_or_not : (s : Standing) (event : Event) → (area_limit < s.used + length (event_spelling event) + 6) ⊎ (s.used + length (event_spelling event) + 6 ≤ area_limit) → ((state_of_standing s).count < 2 ^ 48 - 1) ⊎ (2 ^ 48 - 1 ≤ (state_of_standing s).count) →
+    IsFull s.used (state_of_standing s).count event ⊎ HasRoom s (Some event)
+full_or_not s event (inl long) numbers = inl (inl long)
+full_or_not s event (inr short) (inr many) = inl (inr many)
+full_or_not s event (inr short) (inl few) = inr (within s event (λ long. absurd (omega (arith, long, short))) (λ many. absurd (omega (arith, few, many))))
+
+full_calm : IsUndisturbed replies.Full
+full_calm = record { had_memory = λ is. absurd cc; not_stopped = λ is. absurd cc }
+
+event_goes : (s : Standing) (told : LineReply) (asker : Asker) (event : Event) → s.met ≡ None → IsUndisturbed told → IsFull s.used (state_of_standing s).count event ⊎ HasRoom s (Some event) → GoesWell s told asker (Some event)
+event_goes s told asker event going calm (inl is_full) = record { reply = replies.Full; after = s; becomes = full event is_full; calm = full_calm; going = going }
+event_goes s told asker event going calm (inr room) = record { reply = told; after = standing_after s (Some event) asker; becomes = kept (Some event) room; calm = calm; going = going }
+
+goes_well : (s : Standing) (told : LineReply) (asker : Asker) (event : Option Event) → s.met ≡ None → IsUndisturbed told → GoesWell s told asker event
+goes_well s told asker None going calm = record { reply = told; after = standing_after s None asker; becomes = kept None tt; calm = calm; going = going }
+goes_well s told asker (Some event) going calm = event_goes s told asker event going calm (full_or_not s event (cases_lt area_limit (s.used + length (event_spelling event) + 6)) (cases_lt (state_of_standing s).count (2 ^ 48 - 1)))
+
+-- a run that does not run out of memory, and meets no fault of a disk
+pub has_outcome : (start : Standing) (lines : List (List ℕ)) → IsLawfulStanding start → start.met ≡ None → (told : List LineReply) × (end : Standing) × ScriptRun start lines told end × AreUndisturbed told
+has_outcome start [] stands going = ([], start, ended start, tt)
+has_outcome start (line ∷ lines) stands going =
+    let first = line_has_answer start line stands in
+    let goes = goes_well start first.0 first.2 first.1 going (calm_reply start line first.0 first.1 first.2 first.3) in
+    let step : IsReplied line start goes.reply goes.after = answered first.0 first.1 first.2 goes.reply goes.after first.3 goes.becomes in
+    let rest = has_outcome goes.after lines (IsLawfulStanding-replied start goes.after line goes.reply stands step) goes.going in
+    (goes.reply ∷ rest.0, rest.1, one_more start line lines goes.reply rest.0 goes.after rest.1 going step rest.2, (goes.calm, rest.3))

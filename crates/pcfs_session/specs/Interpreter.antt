@@ -1,0 +1,62 @@
+-- What an interpreter does with requests and commands.
+use Rattle.std.specs.Prelude.{◌≡◌, ◌≤◌, length, Option, IsTrue}
+use Rattle.bl_syntax.specs.Names.{is_principal_name}
+use Rattle.bl_syntax.specs.Statement.{IsStatement}
+use Rattle.bl_syntax.specs.TimeOrder.{IsMoment}
+use Rattle.file_world.specs.Effect.{IsOperation}
+use Rattle.file_world.specs.Needs.{slots, bytes_to_write}
+use Rattle.access_history.specs.declared.event.Event.{Event}
+use Rattle.access_history.specs.declared.request.StepRequest.{StepRequest}
+use Rattle.access_history.specs.declared.reply.StepReply.{StepReply}
+use Rattle.access_history.specs.Answer.{Answers}
+use Rattle.bl_syntax.specs.Citable.{AreCitable}
+use Rattle.line_forms.specs.declared.command.Command.{Command}
+use Rattle.line_forms.specs.declared.command.Command.TheVariants.{At, As, Register, Procap, Verify, Check, Do}
+use Rattle.line_forms.specs.declared.fault.LineFault.{LineFault}
+use Rattle.line_forms.specs.declared.fault.LineFault.TheVariants as line_faults
+use Rattle.line_wire.specs.declared.reply.LineReply.{LineReply}
+use Rattle.line_wire.specs.declared.reply.LineReply.TheVariants as replies
+use Rattle.pcfs_store.specs.declared.reply.StoreReply.{StoreReply}
+use Rattle.pcfs_store.specs.declared.reply.StoreReply.TheVariants as stores
+use Rattle.pcfs_session.specs.Asker.{asker_after}
+use Rattle.pcfs_session.specs.LineAnswer.{authority_under, AnswersCommand}
+use Rattle.pcfs_session.specs.ScriptRun.{Standing, state_of_standing, Becomes}
+
+-- the request is answered, and this becomes of the answer
+pub record IsDecidedAs (request : StepRequest) (before : Standing) (reply : LineReply) (after : Standing) : Type 0 where
+  pub told : StepReply
+  pub event : Option Event
+  pub answer : Answers (authority_under before.secrets) (state_of_standing before) before.asker.pass before.asker.clock request told event
+  pub becomes : Becomes before (replies.Step told) before.asker event reply after
+
+-- the command is answered, and this becomes of the answer
+pub record IsFollowed (command : Command) (before : Standing) (reply : LineReply) (after : Standing) : Type 0 where
+  pub told : LineReply
+  pub event : Option Event
+  pub answer : AnswersCommand before.secrets (state_of_standing before) before.asker command told event
+  pub becomes : Becomes before told (asker_after before.asker command) event reply after
+
+-- what is returned to a line for which the store says this; nothing is, if memory ran out
+abbrev pub IsToldAs : StoreReply → LineReply → Type 0
+IsToldAs (stores.Step reply) told = told ≡ replies.Step reply
+IsToldAs stores.Full told = told ≡ replies.Full
+IsToldAs stores.Stopped told = told ≡ replies.Stopped
+IsToldAs stores.NoMemory told = ⊥
+
+-- what is returned to a line that was not read: its fault, or that memory ran out
+abbrev pub unread_reply : LineFault → LineReply
+unread_reply line_faults.NoMemory = replies.NoMemory
+unread_reply (line_faults.BadWord place) = replies.Faulty (line_faults.BadWord place)
+unread_reply line_faults.BadCount = replies.Faulty line_faults.BadCount
+unread_reply (line_faults.BadText fault) = replies.Faulty (line_faults.BadText fault)
+
+-- what a line can ask for: a moment for the clock, a principal for the caller, a statement within its rules, numbers that can be cited, and an operation with a procap for each place of its needs and not too many
+-- bytes
+abbrev pub IsAllowed : Command → Type 0
+IsAllowed (At second) = IsMoment second
+IsAllowed (As who) = IsTrue (is_principal_name who)
+IsAllowed (Register signature statement) = IsStatement statement
+IsAllowed (Verify goal numbers proof) = AreCitable numbers
+IsAllowed (Check goal numbers proof) = AreCitable numbers
+IsAllowed (Procap number) = Unit {0}
+IsAllowed (Do op words) = IsOperation op × (length words ≡ slots op) × (bytes_to_write op ≤ 65536)

@@ -1,0 +1,80 @@
+-- The answer to a line over a state (this project's own). What a look at the state makes of a command, and what is decided of it then, stand apart: another may have its turn between them. That somebody may
+-- set the clock and the caller, or leave a signature to the ring, is a matter of the lines that they have; what they may see is said by who asks.
+use Rattle.std.specs.Prelude.{ℕ, ℤ, List, [], Option, Some, None, unwrap_or}
+use Rattle.bl_syntax.specs.declared.grant.Goal.{Goal}
+use Rattle.bl_syntax.specs.Statement.{StatementView}
+use Rattle.bl_syntax.specs.Grant.{GrantView}
+use Rattle.policy_statement.specs.Messages.{statement_message}
+use Rattle.policy_statement.specs.Ring.{KeyView, tag_of}
+use Rattle.procap.specs.declared.procap.Procap.{Procap as Sealed}
+use Rattle.proof_term.specs.Proof.{ProofView}
+use Rattle.proof_verifier.specs.declared.cites.Cite.{Cite}
+use Rattle.proof_verifier.specs.CheckedView.{checked_view}
+use Rattle.pcfs_secrets.specs.declared.secrets.Secrets.{Secrets}
+use Rattle.file_world.specs.declared.operation.Op.{Op}
+use Rattle.access_history.specs.declared.event.Event.{Event}
+use Rattle.access_history.specs.declared.request.StepRequest.{StepRequest}
+use Rattle.access_history.specs.declared.request.StepRequest.TheVariants as requests
+use Rattle.access_history.specs.declared.reply.StepReply.{StepReply}
+use Rattle.access_history.specs.declared.reply.StepReply.TheVariants.{Absent}
+use Rattle.access_history.specs.Base.{BaseView}
+use Rattle.access_history.specs.Answer.{Answers}
+use Rattle.access_history.specs.Authority.{Authority, sayings}
+use Rattle.access_history.specs.History.{authority_with}
+use Rattle.line_words.specs.declared.procap_word.ProcapWord.{ProcapWord}
+use Rattle.line_forms.specs.declared.command.Command.{Command}
+use Rattle.line_forms.specs.declared.command.Command.TheVariants.{At, As, Register, Procap, Verify, Check, Do}
+use Rattle.line_forms.specs.declared.fault.LineFault.{LineFault}
+use Rattle.line_forms.specs.Lines.{IsLine, IsLineFault}
+use Rattle.line_wire.specs.declared.reply.LineReply.{LineReply}
+use Rattle.line_wire.specs.declared.reply.LineReply.TheVariants as replies
+use Rattle.pcfs_session.specs.Asker.{Asker, asker_after}
+use Rattle.pcfs_session.specs.Procaps.{AreBrought, IsFirstUnissued}
+use Rattle.pcfs_session.specs.Proved.{IsUnproved, IsProved}
+
+-- the authority of these secrets: their key, and what their ring accepts
+abbrev pub authority_under : Secrets → Authority
+authority_under secrets = authority_with secrets.seal_key secrets.ring
+
+-- the signature under which a statement is registered: the one that the line gives, or the tag of its message under the key of who says it. If that name has no key there is none,
+-- and no bytes stand for it, which are not accepted
+abbrev pub signature_under : List KeyView → StatementView → Option (List ℕ) → List ℕ
+signature_under ring statement (Some signature) = signature
+signature_under ring statement None = unwrap_or (tag_of ring statement.who (statement_message statement)) []
+
+-- what a look at the state makes of a command: a reply, or a request that is to be decided
+pub data Look : Type 0 where
+  replied : LineReply → Look
+  requested : StepRequest → Look
+
+-- what a look at the state makes of the command
+pub data ComesTo (secrets : Secrets) (state : BaseView) (asker : Asker) : Command → Look → Type 0 where
+  sets_clock : (second : ℤ) → ComesTo secrets state asker (At second) (replied replies.Done)
+  sets_caller : (who : List ℕ) → ComesTo secrets state asker (As who) (replied replies.Done)
+  registers : (signature : Option (List ℕ)) (statement : StatementView) →
+      ComesTo secrets state asker (Register signature statement) (requested (requests.Register statement (signature_under secrets.ring statement signature)))
+  shows : (number : ℕ) → ComesTo secrets state asker (Procap number) (requested (requests.ShowProcap number asker.sees))
+  verifies_nothing : (goal : Goal) (numbers : List ℕ) (proof : ProofView) (reply : LineReply) → IsUnproved (sayings state.statements) goal numbers proof reply →
+      ComesTo secrets state asker (Verify goal numbers proof) (replied reply)
+  verifies : (goal : Goal) (numbers : List ℕ) (proof : ProofView) (cites : List Cite) (g : GrantView) → IsProved (sayings state.statements) goal numbers proof cites g →
+      ComesTo secrets state asker (Verify goal numbers proof) (requested (requests.Issue (checked_view cites goal proof g)))
+  checks_nothing : (goal : Goal) (numbers : List ℕ) (proof : ProofView) (reply : LineReply) → IsUnproved (sayings state.statements) goal numbers proof reply →
+      ComesTo secrets state asker (Check goal numbers proof) (replied reply)
+  checks : (goal : Goal) (numbers : List ℕ) (proof : ProofView) (cites : List Cite) (g : GrantView) → IsProved (sayings state.statements) goal numbers proof cites g →
+      ComesTo secrets state asker (Check goal numbers proof) (replied (replies.Checked g))
+  acts_under_none : (op : Op) (words : List ProcapWord) (number : ℕ) → IsFirstUnissued state.issues words number →
+      ComesTo secrets state asker (Do op words) (replied (replies.Step (Absent number)))
+  acts : (op : Op) (words : List ProcapWord) (procaps : List Sealed) → AreBrought secrets.seal_key state.issues words procaps →
+      ComesTo secrets state asker (Do op words) (requested (requests.Act asker.caller op procaps))
+
+-- the answer to a command over a state, and the event to keep if there is one
+pub data AnswersCommand (secrets : Secrets) (state : BaseView) (asker : Asker) (command : Command) : LineReply → Option Event → Type 0 where
+  at_once : (reply : LineReply) → ComesTo secrets state asker command (replied reply) → AnswersCommand secrets state asker command reply None
+  decided : (request : StepRequest) (reply : StepReply) (event : Option Event) → ComesTo secrets state asker command (requested request) →
+      Answers (authority_under secrets) state asker.pass asker.clock request reply event → AnswersCommand secrets state asker command (replies.Step reply) event
+
+-- how the bytes of a line are answered, the event to keep if there is one, and who asks then: the line has a fault, or asks for a command
+pub data AnswersLine (secrets : Secrets) (state : BaseView) (asker : Asker) (line : List ℕ) : LineReply → Option Event → Asker → Type 0 where
+  faulty : (fault : LineFault) → IsLineFault line fault → AnswersLine secrets state asker line (replies.Faulty fault) None asker
+  asks : (command : Command) (reply : LineReply) (event : Option Event) → IsLine line command → AnswersCommand secrets state asker command reply event →
+      AnswersLine secrets state asker line reply event (asker_after asker command)

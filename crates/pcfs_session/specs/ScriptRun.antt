@@ -1,0 +1,85 @@
+-- The run of a script: its lines in order, each answered over the state that the lines before it left (this project's own).
+use Rattle.std.specs.Prelude.{◌≡◌, ◌≢◌, ℕ, List, [], ◌∷◌, ◌++◌, Option, Some, None}
+use Rattle.std.specs.List.{AllByRecursion}
+use Rattle.access_history.specs.declared.event.Event.{Event}
+use Rattle.access_history.specs.Base.{BaseView}
+use Rattle.access_history.specs.Lawful.{IsLawful}
+use Rattle.access_history.specs.Replay.{replay, fresh}
+use Rattle.line_wire.specs.declared.reply.LineReply.{LineReply}
+use Rattle.line_wire.specs.declared.reply.LineReply.TheVariants as replies
+use Rattle.pcfs_secrets.specs.declared.secrets.Secrets.{Secrets}
+use Rattle.pcfs_session.specs.Asker.{Asker, IsAsker, first_asker}
+use Rattle.pcfs_session.specs.LineAnswer.{authority_under, AnswersLine}
+use Rattle.pcfs_store.specs.StoredHistory.{IsFull}
+use Rattle.pcfs_session.specs.Room.{used_with}
+
+-- where a line is answered: under which secrets, over which base and the events since, and for whom. The area has so many bytes before its closed gate. Once a disk failed for an event, nothing more is kept
+pub record Standing : Type 0 where
+  pub secrets : Secrets
+  pub base : BaseView
+  pub events : List Event
+  pub used : ℕ
+  pub met : Option Event
+  pub asker : Asker
+
+-- the state to which the events lead
+abbrev pub state_of_standing : Standing → BaseView
+state_of_standing s = replay s.base s.events
+
+-- the history so far is lawful under these secrets
+abbrev pub IsLawfulUnder : Secrets → Standing → Type 0
+IsLawfulUnder secrets s = IsLawful (authority_under secrets) s.base s.events
+
+-- the history so far is lawful, and a principal asks at a moment
+pub record IsLawfulStanding (s : Standing) : Type 0 where
+  pub lawful : IsLawfulUnder s.secrets s
+  pub asker : IsAsker s.asker
+
+-- the event has room and a number here, if there is one
+abbrev pub HasRoom : Standing → Option Event → Type 0
+HasRoom s None = Unit {0}
+HasRoom s (Some event) = IsFull s.used (state_of_standing s).count event → ⊥
+
+-- after an answer: its event is kept
+abbrev pub standing_after : Standing → Option Event → Asker → Standing
+standing_after s None asker = record s { asker = asker }
+standing_after s (Some event) asker = record s { events = s.events ++ event ∷ []; used = used_with s.used event; asker = asker }
+
+-- what becomes of an answer: it is reported, and its event kept; or its event has no room, and nothing changes; or a disk fails for it
+pub data Becomes (before : Standing) (told : LineReply) (asker : Asker) : Option Event → LineReply → Standing → Type 0 where
+  kept : (event : Option Event) → HasRoom before event → Becomes before told asker event told (standing_after before event asker)
+  full : (event : Event) → IsFull before.used (state_of_standing before).count event → Becomes before told asker (Some event) replies.Full before
+  stopped : (event : Event) → HasRoom before (Some event) → Becomes before told asker (Some event) replies.Stopped (record before { met = Some event })
+
+-- a line is answered; or memory runs out instead of its reply, and nothing changes
+pub data IsReplied (line : List ℕ) (before : Standing) : LineReply → Standing → Type 0 where
+  answered : (told : LineReply) (event : Option Event) (asker : Asker) (reply : LineReply) (after : Standing) → AnswersLine before.secrets (state_of_standing before) before.asker line told event asker →
+      Becomes before told asker event reply after → IsReplied line before reply after
+  without_memory : IsReplied line before replies.NoMemory before
+
+-- a run of these lines from a start: a reply for each, and where it ends. After a disk failed no line is answered
+pub data ScriptRun : Standing → List (List ℕ) → List LineReply → Standing → Type 0 where
+  ended : (start : Standing) → ScriptRun start [] [] start
+  one_more : (start : Standing) (line : List ℕ) (lines : List (List ℕ)) (reply : LineReply) (others : List LineReply) (next end : Standing) → start.met ≡ None →
+      IsReplied line start reply next → ScriptRun next lines others end → ScriptRun start (line ∷ lines) (reply ∷ others) end
+
+-- the line was answered, and not with that memory ran out or a disk failed
+pub record IsUndisturbed (reply : LineReply) : Type 0 where
+  pub had_memory : reply ≢ replies.NoMemory
+  pub not_stopped : reply ≢ replies.Stopped
+
+-- memory did not run out for any of these replies, and no disk failed
+abbrev pub AreUndisturbed : List LineReply → Type 0
+AreUndisturbed told = AllByRecursion IsUndisturbed told
+
+-- the events of an operator's script carry this number
+abbrev pub script_pass : ℕ
+script_pass = 1
+
+-- where the closed gate of an area without an event stands, after its image
+abbrev pub fresh_used : ℕ
+fresh_used = 89
+
+-- where a script over a store before its first event begins, under these secrets
+abbrev pub fresh_start : Secrets → Standing
+fresh_start secrets = record { secrets = secrets; base = fresh; events = []; used = fresh_used; met = None; asker = first_asker script_pass }

@@ -1,0 +1,117 @@
+//! Lines that are answered, with their replies on their way.
+
+ghost use Rattle.std.specs.Prelude.{◌≡◌, ◌≤◌, ◌∷◌, [], None, OnOk, IfErr, IsErrOf};
+ghost use Rattle.pcfs_ports.specs.Faults.{HasRisen};
+ghost use Rattle.pcfs_ports.specs.Told.{with_back, HoldsSome};
+ghost use Rattle.pcfs_session.specs.Answered.{AreAnswered, HaltsAt, AnswersHeld, HaltsWithin};
+ghost use Rattle.pcfs_session.specs.InterpreterView.{standing_of};
+ghost use Rattle.pcfs_session.specs.ScriptRun.{IsLawfulStanding};
+
+use crate::interpreter::Interpreter;
+use crate::outbox::{SendFault, flush, send};
+use crate::script_end::Halt;
+use bl_syntax::Bytes;
+use line_framer::Framer;
+use pcfs_ports::{Disk, Sink};
+use std::alloc::Global;
+
+// Writes all replies that were collected, after a disk failed.
+fn stop<O: Sink>(collected: &mut Bytes, output: &mut O) -> Halt
+    ensures out { (result ≡ Halt.Stopped) → O.held output.new ≡ with_back (O.held output.old) collected.old }
+    ensures some { HoldsSome (O.held output.old) (O.held output.new) collected.old }
+    ensures risen { (result ≡ Halt.Unsent SendFault.Write) → HasRisen (O.faults output.old) (O.faults output.new) }
+    ensures never_falls { O.faults output.old ≤ O.faults output.new }
+{
+    match flush(collected, output) {
+        Ok(()) => Halt::Stopped,
+        Err(_) => Halt::Unsent(SendFault::Write),
+    }
+}
+
+/// Answers a line, and collects its reply; replies are written once they have `enough` bytes.
+///
+/// It halts if a disk failed, and then all replies are out, or if the reply could not be sent, and then some first part of
+/// the replies is. `Write` comes only if the output's count of faults rose, and `NoMemory` if there was no memory for the
+/// text of the reply.
+pub fn answer_line<D: Disk, O: Sink>(
+    alloc: Global,
+    interpreter: &mut Interpreter<D>,
+    line: &[u8],
+    collected: &mut Bytes,
+    enough: usize,
+    output: &mut O,
+) -> Result<(), Halt>
+    requires lawful { IsLawfulStanding (standing_of interpreter.old None) }
+    requires running { interpreter.old.store.stop ≡ None }
+    ensures ok { OnOk result (AreAnswered D.clock D.left_since D.image D.faults (line.now ∷ []) interpreter.old interpreter.new (O.held output.old) collected.old (O.held output.new) collected.new) }
+    ensures halts { IfErr result (λ halt. HaltsAt D.clock D.left_since D.image D.faults (line.now ∷ []) interpreter.old interpreter.new (O.held output.old) collected.old halt (O.held output.new)) }
+    ensures risen { IsErrOf result (Halt.Unsent SendFault.Write) → HasRisen (O.faults output.old) (O.faults output.new) }
+    ensures never_falls { O.faults output.old ≤ O.faults output.new }
+{
+    let reply = interpreter.reply_to(alloc, line);
+    let sent = send(alloc, collected, &reply, enough, output);
+    drop(reply);
+    match sent {
+        Ok(()) => {}
+        Err(fault) => return Err(Halt::Unsent(fault)),
+    }
+    if interpreter.is_stopped() {
+        return Err(stop(collected, output));
+    }
+    Ok(())
+}
+
+/// Answers the lines that a framer holds with their ends, as `answer_line` does each, and takes them.
+pub fn answer_held<D: Disk, O: Sink>(
+    alloc: Global,
+    interpreter: &mut Interpreter<D>,
+    framer: &mut Framer,
+    collected: &mut Bytes,
+    enough: usize,
+    output: &mut O,
+) -> Result<(), Halt>
+    requires lawful { IsLawfulStanding (standing_of interpreter.old None) }
+    requires running { interpreter.old.store.stop ≡ None }
+    ensures ok { OnOk result (AnswersHeld D.clock D.left_since D.image D.faults framer.old.left framer.new.left interpreter.old interpreter.new (O.held output.old) collected.old (O.held output.new) collected.new) }
+    ensures halts { IfErr result (λ halt. HaltsWithin D.clock D.left_since D.image D.faults framer.old.left interpreter.old interpreter.new (O.held output.old) collected.old halt (O.held output.new)) }
+    ensures risen { IsErrOf result (Halt.Unsent SendFault.Write) → HasRisen (O.faults output.old) (O.faults output.new) }
+    ensures never_falls { O.faults output.old ≤ O.faults output.new }
+    ensures long_stays { OnOk result (framer.new.is_long ≡ framer.old.is_long) }
+{
+    while let Some(line) = framer.next_line() {
+        match answer_line(alloc, interpreter, line, collected, enough, output) {
+            Ok(()) => {}
+            Err(halt) => return Err(halt),
+        }
+        framer.take_line();
+    }
+    Ok(())
+}
+
+/// Answers the lines that a framer holds with their ends, and writes all replies.
+pub fn answer_out<D: Disk, O: Sink>(
+    alloc: Global,
+    interpreter: &mut Interpreter<D>,
+    framer: &mut Framer,
+    collected: &mut Bytes,
+    enough: usize,
+    output: &mut O,
+) -> Result<(), Halt>
+    requires lawful { IsLawfulStanding (standing_of interpreter.old None) }
+    requires running { interpreter.old.store.stop ≡ None }
+    ensures ok { OnOk result (AnswersHeld D.clock D.left_since D.image D.faults framer.old.left framer.new.left interpreter.old interpreter.new (O.held output.old) collected.old (O.held output.new) collected.new) }
+    ensures empty { OnOk result (collected.new ≡ []) }
+    ensures halts { IfErr result (λ halt. HaltsWithin D.clock D.left_since D.image D.faults framer.old.left interpreter.old interpreter.new (O.held output.old) collected.old halt (O.held output.new)) }
+    ensures risen { IsErrOf result (Halt.Unsent SendFault.Write) → HasRisen (O.faults output.old) (O.faults output.new) }
+    ensures never_falls { O.faults output.old ≤ O.faults output.new }
+    ensures long_stays { OnOk result (framer.new.is_long ≡ framer.old.is_long) }
+{
+    match answer_held(alloc, interpreter, framer, collected, enough, output) {
+        Ok(()) => {}
+        Err(halt) => return Err(halt),
+    }
+    match flush(collected, output) {
+        Ok(()) => Ok(()),
+        Err(_) => Err(Halt::Unsent(SendFault::Write)),
+    }
+}

@@ -1,0 +1,20 @@
+//! A script over a store: its lines, as they come in pieces, and their answers.
+//!
+//! The lines that are answered are those of the pieces joined, whatever the pieces are, and each reply is out before more
+//! of the input is taken. What is answered to a line is a definition without scripts. Laws say that a line and a script
+//! have exactly one outcome, unless memory runs out or a disk fails.
+#![tactic(auto)]
+
+mod answering;
+mod brought;
+mod interpreter;
+pub mod laws;
+mod outbox;
+mod script;
+mod script_end;
+mod signing;
+mod telling;
+
+pub use outbox::{SendFault, flush, send, send_all};
+pub use script::script_session;
+pub use script_end::ScriptEnd;

@@ -1,5 +1,0 @@
-use Rattle.pcfs_top.proofs.NoMemoryLemmas.{answer_memory}
-use Rattle.pcfs_top.proofs.laws.answers_are_not_out_of_memory.Goals as goal
-
-pub returns : goal.returns
-returns c = answer_memory

@@ -1,5 +1,0 @@
-use Rattle.pcfs_top.proofs.OneAnswerLemmas.{line_once}
-use Rattle.pcfs_top.proofs.laws.lines_have_one_answer.Goals as goal
-
-pub returns : goal.returns
-returns c s line first second one other after later lawful = line_once s lawful line first second one other after later

@@ -1,5 +1,0 @@
-use Rattle.pcfs_top.proofs.LawfulRunLemmas.{runs_lawfully}
-use Rattle.pcfs_top.proofs.laws.runs_are_lawful.Goals as goal
-
-pub returns : goal.returns
-returns c = runs_lawfully

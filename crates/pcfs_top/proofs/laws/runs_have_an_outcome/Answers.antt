@@ -1,5 +1,0 @@
-use Rattle.pcfs_top.proofs.TotalLemmas.{has_outcome}
-use Rattle.pcfs_top.proofs.laws.runs_have_an_outcome.Goals as goal
-
-pub returns : goal.returns
-returns c = has_outcome

@@ -1,0 +1,18 @@
+-- Each command ends as it should.
+use Rattle.std.proofs.Common.{refl, subst}
+use Rattle.pcfs_top.specs.Run as run
+use Rattle.pcfs_top.specs.Words.{AsksFor}
+use Rattle.pcfs_top.proofs.EndsWithLemmas.{EndsWith-usage}
+use Rattle.pcfs_top.proofs.run.run_alone.Goals as goal
+
+pub returns-in-Some-Script : goal.returns-in-Some-Script
+returns-in-Some-Script g c = run.in_memory _ (subst (AsksFor c.args.words.now.items) c.in-Some-Script.field-0-is c.in-Some-Script.ensures) refl c.run_in_memory.ensures
+
+pub returns-in-None : goal.returns-in-None
+returns-in-None g c = EndsWith-usage c.args.words.now.items c.args.secrets.now _ _ _ _ c.in-None.ensures refl refl c.tell.ensures
+
+pub returns-in-Some-Stored : goal.returns-in-Some-Stored
+returns-in-Some-Stored g c = c.run_stored.ensures c.args.words.now.items (subst (AsksFor c.args.words.now.items) c.in-Some-Stored.field-0-is c.in-Some-Stored.ensures)
+
+pub returns-in-Some-Init : goal.returns-in-Some-Init
+returns-in-Some-Init g c = c.init.ensures c.args.words.now.items _ _ (subst (AsksFor c.args.words.now.items) c.in-Some-Init.field-0-is c.in-Some-Init.ensures)
