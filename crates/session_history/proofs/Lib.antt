@@ -1,0 +1,6 @@
+pub mod AskingLemmas
+pub mod CitationLemmas
+pub mod GivenLemmas
+pub mod GrowthLemmas
+pub mod StopLemmas
+pub mod TurnLemmas

@@ -1,0 +1,113 @@
+-- A line is told that the store is stopped only where a Stop is among the entries up to its place.
+use Rattle.std.proofs.Common.{◌≡◌, ◌∙◌, ◌+◌, ℕ, List, [], ◌∷◌, ◌++◌, true, Option, Some, None, length, take, refl, sym, ap, append_assoc, length-append}
+use Rattle.std.specs.Prelude.{ℤ}
+use Rattle.std.proofs.Math.Seq.{take-append_seam}
+use Rattle.access_history.specs.declared.event.Event.{Event}
+use Rattle.access_history.specs.Base.{BaseView}
+use Rattle.line_forms.specs.declared.asked.Line.{Line}
+use Rattle.line_forms.specs.declared.asked.Line.TheVariants as lines
+use Rattle.line_forms.specs.declared.command.Command.{Command}
+use Rattle.line_forms.specs.declared.command.Command.TheVariants.{At, As, Register, Procap, Verify, Check, Do}
+use Rattle.access_history.specs.declared.request.StepRequest.TheVariants as requests
+use Rattle.line_wire.specs.declared.reply.LineReply.{LineReply}
+use Rattle.line_wire.specs.declared.reply.LineReply.TheVariants as told
+use Rattle.pcfs_store.specs.Entries.{Root, StoreEntry, happened, stopped, state_of_entries}
+use Rattle.session_history.specs.declared.request.TurnRequest.{TurnRequest}
+use Rattle.session_history.specs.declared.request.TurnRequest.TheVariants.{Step, Login}
+use Rattle.session_history.specs.declared.reply.TurnReply.{TurnReply}
+use Rattle.session_history.specs.declared.reply.TurnReply.TheVariants as replies
+use Rattle.session_history.specs.Passes.{has_stop}
+use Rattle.session_history.specs.Turn.{StorePass, AnswersTurn, steps, cites, cites_none, logs_in, rejects, Turn, was_stopped, answered, full, kept, failed, TakesTurn}
+use Rattle.session_history.specs.Turn as turns
+use Rattle.session_history.specs.SessionState.{SessionState}
+use Rattle.session_history.specs.Asks.{Asked, says, asks, verifies, IsUserAsked, IsCommandAsked, IsReadAsked, Asks, too_long, faulty, read}
+use Rattle.session_history.specs.Placed.{IsTold, PlacedAs, at_once, in_a_turn, proves_none, issues}
+use Rattle.session_history.specs.Placed as places
+
+-- ---- entries with a Stop
+
+stop_before : (xs ys : List StoreEntry) → has_stop xs ≡ true → has_stop (xs ++ ys) ≡ true
+stop_before [] ys is = absurd cc
+stop_before (happened event ∷ xs) ys is = stop_before xs ys is
+stop_before (stopped pass ∷ xs) ys is = refl
+
+stop_within : (xs ys : List StoreEntry) (pass : ℕ) → has_stop (xs ++ stopped pass ∷ ys) ≡ true
+stop_within [] ys pass = refl
+stop_within (happened event ∷ xs) ys pass = stop_within xs ys pass
+stop_within (stopped other ∷ xs) ys pass = refl
+
+-- ---- turns
+
+-- no answer is that the store is stopped
+answer_goes : (root : Root) (state : BaseView) (pass : ℕ) (clock : ℤ) (request : TurnRequest) (reply : TurnReply) (event : Option Event) → AnswersTurn root state pass clock request reply event → reply ≡ replies.Stopped → ⊥
+answer_goes root state pass clock _ _ _ (steps request reply event answers) is = cc
+answer_goes root state pass clock _ _ _ (cites numbers cited found) is = cc
+answer_goes root state pass clock _ _ _ (cites_none numbers number absent) is = cc
+answer_goes root state pass clock _ _ _ (logs_in who nonce signature accepted) is = cc
+answer_goes root state pass clock _ _ _ (rejects who nonce signature refused) is = cc
+
+stop_there : (gives : ℤ → Type 0) (p : StorePass) (before : List StoreEntry) (request : TurnRequest) (reply : TurnReply) (given : List StoreEntry) → Turn gives p before request reply given → reply ≡ replies.Stopped → has_stop (before ++ given) ≡ true
+stop_there gives p before request _ _ (was_stopped stop) is = stop_before before [] stop
+stop_there gives p before request _ _ (answered clock reply running shown answers) is = absurd (answer_goes p.root (state_of_entries p.root before) p.number clock request reply None answers is)
+stop_there gives p before request _ _ (full clock reply event running shown answers is_full) is = absurd cc
+stop_there gives p before request _ _ (kept clock reply event running shown answers room) is = absurd (answer_goes p.root (state_of_entries p.root before) p.number clock request reply (Some event) answers is)
+stop_there gives p before request _ _ (failed clock reply event running shown answers room) is = stop_within before [] p.number
+stop_there gives p before request _ _ turns.without_memory is = absurd cc
+
+-- the entries up to where a turn came
+front_of : (history before given after : List StoreEntry) (to : ℕ) → history ≡ before ++ (given ++ after) → to ≡ length before + length given → take to history ≡ before ++ given
+front_of history before given after to parts place =
+    ap (take to) (parts ∙ sym (append_assoc before given after)) ∙ ap (λ (n : ℕ). take n ((before ++ given) ++ after)) (place ∙ sym (length-append before given)) ∙ take-append_seam (before ++ given) after
+
+turn_stopped : (gives : ℤ → Type 0) (p : StorePass) (history : List StoreEntry) (from : ℕ) (request : TurnRequest) (reply : TurnReply) (to : ℕ) (given : List StoreEntry) →
+    TakesTurn gives p history from request reply to given → reply ≡ replies.Stopped → has_stop (take to history) ≡ true
+turn_stopped gives p history from request reply to given t is = ap has_stop (front_of history t.before given t.after to t.parts t.place) ∙ stop_there gives p t.before request reply given t.turn is
+
+-- ---- lines
+
+stopped_turn : (found : TurnReply) (reply : LineReply) → IsTold found reply → reply ≡ told.Stopped → found ≡ replies.Stopped
+stopped_turn (replies.Step answer) reply is same = let both : told.Step answer ≡ told.Stopped = sym is ∙ same in absurd cc
+stopped_turn (replies.Cited cites) reply is same = absurd is
+stopped_turn replies.LoggedIn reply is same = let both : told.Done ≡ told.Stopped = sym is ∙ same in absurd cc
+stopped_turn replies.Full reply is same = let both : told.Full ≡ told.Stopped = sym is ∙ same in absurd cc
+stopped_turn replies.Stopped reply is same = refl
+stopped_turn replies.NoMemory reply is same = let both : told.NoMemory ≡ told.Stopped = sym is ∙ same in absurd cc
+
+-- nothing that is said at once is that the store is stopped
+user_goes : (who : List ℕ) (command : Command) (asked : Asked) → IsUserAsked who command asked → asked ≡ says told.Stopped → ⊥
+user_goes who (At second) asked is same = is
+user_goes who (As other) asked is same = is
+user_goes who (Register None statement) asked is same = is
+user_goes who (Register (Some signature) statement) asked is same = let both : asks (Step (requests.Register statement signature)) ≡ says told.Stopped = sym is ∙ same in cc
+user_goes who (Procap number) asked is same = let both : asks (Step (requests.ShowProcap number (Some who))) ≡ says told.Stopped = sym is ∙ same in cc
+user_goes who (Verify goal numbers proof) asked is same = let both : verifies goal numbers proof ≡ says told.Stopped = sym is ∙ same in cc
+user_goes who (Check goal numbers proof) asked is same = is
+user_goes who (Do op words) asked is same = let both : asks (Step (requests.Act who op is.0)) ≡ says told.Stopped = sym is.2 ∙ same in cc
+
+command_goes : (caller : Option (List ℕ)) (command : Command) (asked : Asked) → IsCommandAsked caller command asked → asked ≡ says told.Stopped → ⊥
+command_goes None command asked is same = let both : says told.NotLoggedIn ≡ says told.Stopped = sym is ∙ same in cc
+command_goes (Some who) command asked is same = user_goes who command asked is same
+
+read_goes : (s : SessionState) (said : Line) (asked : Asked) → IsReadAsked s said asked → asked ≡ says told.Stopped → ⊥
+read_goes s (lines.Command command) asked is same = command_goes s.caller command asked is same
+read_goes s (lines.Login who signature) asked is same = let both : asks (Login who s.nonce signature) ≡ says told.Stopped = sym is ∙ same in cc
+read_goes s (lines.Statement statement) asked is same = is
+read_goes s (lines.Goal goal proof) asked is same = is
+
+asks_goes : (s : SessionState) (line : List ℕ) (asked : Asked) → Asks s line asked → asked ≡ says told.Stopped → ⊥
+asks_goes s line _ (too_long long) same = cc
+asks_goes s line _ (faulty fault short bad) same = cc
+asks_goes s line _ (read said asked short is reads) same = read_goes s said asked reads same
+
+by_place : (gives : ℤ → Type 0) (p : StorePass) (history : List StoreEntry) (s : SessionState) (from : ℕ) (line : List ℕ) (asked : Asked) (reply : LineReply) (to : ℕ) (given : List StoreEntry) →
+    Asks s line asked → PlacedAs gives p history from asked reply to given → reply ≡ told.Stopped → has_stop (take to history) ≡ true
+by_place gives p history s from line _ _ _ _ asks_for (at_once reply) same = absurd (asks_goes s line (says reply) asks_for (ap says same))
+by_place gives p history s from line _ _ _ _ asks_for (in_a_turn request found reply to given turn is) same = turn_stopped gives p history from request found to given turn (stopped_turn found reply is same)
+by_place gives p history s from line _ _ _ _ asks_for (places.cites_none goal numbers proof found reply to given turn is) same = turn_stopped gives p history from _ found to given turn (stopped_turn found reply is same)
+by_place gives p history s from line _ _ _ _ asks_for (proves_none goal numbers proof cites fault to turn verdict_is) same = absurd cc
+by_place gives p history s from line _ _ _ _ asks_for (issues goal numbers proof cites g at found reply to given turn verdict_is second is) same = turn_stopped gives p history at _ found to given second (stopped_turn found reply is same)
+by_place gives p history s from line _ _ _ _ asks_for (places.without_memory asked) same = absurd cc
+
+pub line_stopped : (gives : ℤ → Type 0) (p : StorePass) (history : List StoreEntry) (s : SessionState) (from : ℕ) (line : List ℕ) (asked : Asked) (to : ℕ) (given : List StoreEntry) →
+    Asks s line asked → PlacedAs gives p history from asked told.Stopped to given → has_stop (take to history) ≡ true
+line_stopped gives p history s from line asked to given asks_for placed = by_place gives p history s from line asked told.Stopped to given asks_for placed refl
