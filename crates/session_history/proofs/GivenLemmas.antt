@@ -15,7 +15,7 @@ use Rattle.session_history.specs.Passes.{event_pass, AllOfPass}
 use Rattle.session_history.specs.Turn.{StorePass, authority_of_root, AnswersTurn, steps, cites, cites_none, logs_in, rejects, Turn, was_stopped, answered, full, kept, failed}
 use Rattle.session_history.specs.Turn as turns
 use Rattle.session_history.specs.SessionState.{SessionState}
-use Rattle.session_history.specs.Asks.{Asked}
+use Rattle.session_history.specs.declared.task.LineTask.{LineTask}
 use Rattle.session_history.specs.Placed.{PlacedAs, at_once, in_a_turn, proves_none, issues, Placed, no_line, one_more}
 use Rattle.session_history.specs.Placed as places
 
@@ -48,13 +48,13 @@ turn_given gives p before request _ _ (kept clock reply event running shown answ
 turn_given gives p before request _ _ (failed clock reply event running shown answers room) = (refl, tt)
 turn_given gives p before request _ _ turns.without_memory = tt
 
-line_given : (gives : ℤ → Type 0) (p : StorePass) (history : List StoreEntry) (from : ℕ) (asked : Asked) (reply : LineReply) (to : ℕ) (given : List StoreEntry) → PlacedAs gives p history from asked reply to given → AllOfPass p.number given
+line_given : (gives : ℤ → Type 0) (p : StorePass) (history : List StoreEntry) (from : ℕ) (task : LineTask) (reply : LineReply) (to : ℕ) (given : List StoreEntry) → PlacedAs gives p history from task reply to given → AllOfPass p.number given
 line_given gives p history from _ _ _ _ (at_once reply) = tt
 line_given gives p history from _ _ _ _ (in_a_turn request found reply to given turn is) = turn_given gives p turn.before _ found given turn.turn
 line_given gives p history from _ _ _ _ (places.cites_none goal numbers proof found reply to given turn is) = turn_given gives p turn.before _ found given turn.turn
 line_given gives p history from _ _ _ _ (proves_none goal numbers proof cites fault to turn verdict_is) = tt
 line_given gives p history from _ _ _ _ (issues goal numbers proof cites g at found reply to given turn verdict_is second is) = turn_given gives p second.before _ found given second.turn
-line_given gives p history from _ _ _ _ (places.without_memory asked) = tt
+line_given gives p history from _ _ _ _ (places.without_memory task) = tt
 
 all_of_both : (pass : ℕ) (xs ys : List StoreEntry) → AllOfPass pass xs → AllOfPass pass ys → AllOfPass pass (xs ++ ys)
 all_of_both pass [] ys one other = other
@@ -63,5 +63,5 @@ all_of_both pass (x ∷ xs) ys one other = (one.0, all_of_both pass xs ys one.1 
 pub session_given : (gives : ℤ → Type 0) (p : StorePass) (history : List StoreEntry) (start : SessionState) (from : ℕ) (lines : List (List ℕ)) (answers : List LineReply) (end : SessionState) (to : ℕ) (given : List StoreEntry) →
     Placed gives p history start from lines answers end to given → AllOfPass p.number given
 session_given gives p history start from _ _ _ _ _ no_line = tt
-session_given gives p history start from _ _ _ _ _ (one_more lines answers s at given line asked reply to others placed asks_for here) =
-    all_of_both p.number given others (session_given gives p history start from lines answers s at given placed) (line_given gives p history at asked reply to others here)
+session_given gives p history start from _ _ _ _ _ (one_more lines answers s at given line task reply to others placed asks_for here) =
+    all_of_both p.number given others (session_given gives p history start from lines answers s at given placed) (line_given gives p history at task reply to others here)

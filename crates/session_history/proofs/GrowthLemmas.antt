@@ -7,7 +7,7 @@ use Rattle.session_history.specs.declared.request.TurnRequest.{TurnRequest}
 use Rattle.session_history.specs.declared.reply.TurnReply.{TurnReply}
 use Rattle.session_history.specs.Turn.{StorePass, TakesTurn}
 use Rattle.session_history.specs.SessionState.{SessionState}
-use Rattle.session_history.specs.Asks.{Asked}
+use Rattle.session_history.specs.declared.task.LineTask.{LineTask}
 use Rattle.session_history.specs.Placed.{PlacedAs, at_once, in_a_turn, cites_none, proves_none, issues, without_memory, Placed, no_line, one_more}
 
 -- ---- growth
@@ -23,21 +23,21 @@ turn_longer gives p history more from request reply to given t = record {
   turn = t.turn;
 }
 
-pub line_longer : (gives : ℤ → Type 0) (p : StorePass) (history more : List StoreEntry) (from : ℕ) (asked : Asked) (reply : LineReply) (to : ℕ) (given : List StoreEntry) →
-    PlacedAs gives p history from asked reply to given → PlacedAs gives p (history ++ more) from asked reply to given
+pub line_longer : (gives : ℤ → Type 0) (p : StorePass) (history more : List StoreEntry) (from : ℕ) (task : LineTask) (reply : LineReply) (to : ℕ) (given : List StoreEntry) →
+    PlacedAs gives p history from task reply to given → PlacedAs gives p (history ++ more) from task reply to given
 line_longer gives p history more from _ _ _ _ (at_once reply) = at_once reply
 line_longer gives p history more from _ _ _ _ (in_a_turn request found reply to given turn is) = in_a_turn request found reply to given (turn_longer gives p history more from _ found to given turn) is
 line_longer gives p history more from _ _ _ _ (cites_none goal numbers proof found reply to given turn is) = cites_none goal numbers proof found reply to given (turn_longer gives p history more from _ found to given turn) is
 line_longer gives p history more from _ _ _ _ (proves_none goal numbers proof cites fault to turn verdict_is) = proves_none goal numbers proof cites fault to (turn_longer gives p history more from _ _ to [] turn) verdict_is
 line_longer gives p history more from _ _ _ _ (issues goal numbers proof cites g at found reply to given turn verdict_is second is) =
     issues goal numbers proof cites g at found reply to given (turn_longer gives p history more from _ _ at [] turn) verdict_is (turn_longer gives p history more at _ found to given second) is
-line_longer gives p history more from _ _ _ _ (without_memory asked) = without_memory asked
+line_longer gives p history more from _ _ _ _ (without_memory task) = without_memory task
 
 pub session_longer : (gives : ℤ → Type 0) (p : StorePass) (history more : List StoreEntry) (start : SessionState) (from : ℕ) (lines : List (List ℕ)) (answers : List LineReply) (end : SessionState) (to : ℕ) (given : List StoreEntry) →
     Placed gives p history start from lines answers end to given → Placed gives p (history ++ more) start from lines answers end to given
 session_longer gives p history more start from _ _ _ _ _ no_line = no_line
-session_longer gives p history more start from _ _ _ _ _ (one_more lines answers s at given line asked reply to others placed asks_for here) =
-    one_more lines answers s at given line asked reply to others (session_longer gives p history more start from lines answers s at given placed) asks_for (line_longer gives p history more at asked reply to others here)
+session_longer gives p history more start from _ _ _ _ _ (one_more lines answers s at given line task reply to others placed asks_for here) =
+    one_more lines answers s at given line task reply to others (session_longer gives p history more start from lines answers s at given placed) asks_for (line_longer gives p history more at task reply to others here)
 
 -- ---- places
 
@@ -47,8 +47,8 @@ turn_places gives p history from request reply to given t =
     let whole : length history ≡ length t.before + (length given + length t.after) = ap length t.parts ∙ length-append t.before (given ++ t.after) ∙ ap (λ (n : ℕ). length t.before + n) (length-append given t.after) in
     (omega (arith, t.not_earlier, t.place), omega (arith, whole, t.place))
 
-pub line_places : (gives : ℤ → Type 0) (p : StorePass) (history : List StoreEntry) (from : ℕ) (asked : Asked) (reply : LineReply) (to : ℕ) (given : List StoreEntry) →
-    from ≤ length history → PlacedAs gives p history from asked reply to given → (from ≤ to) × (to ≤ length history)
+pub line_places : (gives : ℤ → Type 0) (p : StorePass) (history : List StoreEntry) (from : ℕ) (task : LineTask) (reply : LineReply) (to : ℕ) (given : List StoreEntry) →
+    from ≤ length history → PlacedAs gives p history from task reply to given → (from ≤ to) × (to ≤ length history)
 line_places gives p history from _ _ _ _ within (at_once reply) = (omega arith, within)
 line_places gives p history from _ _ _ _ within (in_a_turn request found reply to given turn is) = turn_places gives p history from _ found to given turn
 line_places gives p history from _ _ _ _ within (cites_none goal numbers proof found reply to given turn is) = turn_places gives p history from _ found to given turn
@@ -57,12 +57,12 @@ line_places gives p history from _ _ _ _ within (issues goal numbers proof cites
     let one = turn_places gives p history from _ _ at [] turn in
     let other = turn_places gives p history at _ found to given second in
     (omega (arith, one.0, other.0), other.1)
-line_places gives p history from _ _ _ _ within (without_memory asked) = (omega arith, within)
+line_places gives p history from _ _ _ _ within (without_memory task) = (omega arith, within)
 
 pub session_places : (gives : ℤ → Type 0) (p : StorePass) (history : List StoreEntry) (start : SessionState) (from : ℕ) (lines : List (List ℕ)) (answers : List LineReply) (end : SessionState) (to : ℕ) (given : List StoreEntry) →
     from ≤ length history → Placed gives p history start from lines answers end to given → (from ≤ to) × (to ≤ length history)
 session_places gives p history start from _ _ _ _ _ within no_line = (omega arith, within)
-session_places gives p history start from _ _ _ _ _ within (one_more lines answers s at given line asked reply to others placed asks_for here) =
+session_places gives p history start from _ _ _ _ _ within (one_more lines answers s at given line task reply to others placed asks_for here) =
     let before = session_places gives p history start from lines answers s at given within placed in
-    let now = line_places gives p history at asked reply to others before.1 here in
+    let now = line_places gives p history at task reply to others before.1 here in
     (omega (arith, before.0, now.0), now.1)

@@ -20,7 +20,9 @@ use Rattle.session_history.specs.Passes.{has_stop}
 use Rattle.session_history.specs.Turn.{StorePass, AnswersTurn, steps, cites, cites_none, logs_in, rejects, Turn, was_stopped, answered, full, kept, failed, TakesTurn}
 use Rattle.session_history.specs.Turn as turns
 use Rattle.session_history.specs.SessionState.{SessionState}
-use Rattle.session_history.specs.Asks.{Asked, says, asks, verifies, IsUserAsked, IsCommandAsked, IsReadAsked, Asks, too_long, faulty, read}
+use Rattle.session_history.specs.declared.task.LineTask.{LineTask}
+use Rattle.session_history.specs.declared.task.LineTask.TheVariants as tasks
+use Rattle.session_history.specs.Asks.{IsUserTask, IsCommandTask, IsReadTask, Asks, too_long, faulty, read}
 use Rattle.session_history.specs.Placed.{IsTold, PlacedAs, at_once, in_a_turn, proves_none, issues}
 use Rattle.session_history.specs.Placed as places
 
@@ -74,40 +76,40 @@ stopped_turn replies.Stopped reply is same = refl
 stopped_turn replies.NoMemory reply is same = let both : told.NoMemory ≡ told.Stopped = sym is ∙ same in absurd cc
 
 -- nothing that is said at once is that the store is stopped
-user_goes : (who : List ℕ) (command : Command) (asked : Asked) → IsUserAsked who command asked → asked ≡ says told.Stopped → ⊥
-user_goes who (At second) asked is same = is
-user_goes who (As other) asked is same = is
-user_goes who (Register None statement) asked is same = is
-user_goes who (Register (Some signature) statement) asked is same = let both : asks (Step (requests.Register statement signature)) ≡ says told.Stopped = sym is ∙ same in cc
-user_goes who (Procap number) asked is same = let both : asks (Step (requests.ShowProcap number (Some who))) ≡ says told.Stopped = sym is ∙ same in cc
-user_goes who (Verify goal numbers proof) asked is same = let both : verifies goal numbers proof ≡ says told.Stopped = sym is ∙ same in cc
-user_goes who (Check goal numbers proof) asked is same = is
-user_goes who (Do op words) asked is same = let both : asks (Step (requests.Act who op is.0)) ≡ says told.Stopped = sym is.2 ∙ same in cc
+user_goes : (who : List ℕ) (command : Command) (task : LineTask) → IsUserTask who command task → task ≡ tasks.Reply told.Stopped → ⊥
+user_goes who (At second) task is same = is
+user_goes who (As other) task is same = is
+user_goes who (Register None statement) task is same = is
+user_goes who (Register (Some signature) statement) task is same = let both : tasks.Turn (Step (requests.Register statement signature)) ≡ tasks.Reply told.Stopped = sym is ∙ same in cc
+user_goes who (Procap number) task is same = let both : tasks.Turn (Step (requests.ShowProcap number (Some who))) ≡ tasks.Reply told.Stopped = sym is ∙ same in cc
+user_goes who (Verify goal numbers proof) task is same = let both : tasks.Proof goal numbers proof ≡ tasks.Reply told.Stopped = sym is ∙ same in cc
+user_goes who (Check goal numbers proof) task is same = is
+user_goes who (Do op words) task is same = let both : tasks.Turn (Step (requests.Act who op is.0)) ≡ tasks.Reply told.Stopped = sym is.2 ∙ same in cc
 
-command_goes : (caller : Option (List ℕ)) (command : Command) (asked : Asked) → IsCommandAsked caller command asked → asked ≡ says told.Stopped → ⊥
-command_goes None command asked is same = let both : says told.NotLoggedIn ≡ says told.Stopped = sym is ∙ same in cc
-command_goes (Some who) command asked is same = user_goes who command asked is same
+command_goes : (caller : Option (List ℕ)) (command : Command) (task : LineTask) → IsCommandTask caller command task → task ≡ tasks.Reply told.Stopped → ⊥
+command_goes None command task is same = let both : tasks.Reply told.NotLoggedIn ≡ tasks.Reply told.Stopped = sym is ∙ same in cc
+command_goes (Some who) command task is same = user_goes who command task is same
 
-read_goes : (s : SessionState) (said : Line) (asked : Asked) → IsReadAsked s said asked → asked ≡ says told.Stopped → ⊥
-read_goes s (lines.Command command) asked is same = command_goes s.caller command asked is same
-read_goes s (lines.Login who signature) asked is same = let both : asks (Login who s.nonce signature) ≡ says told.Stopped = sym is ∙ same in cc
-read_goes s (lines.Statement statement) asked is same = is
-read_goes s (lines.Goal goal proof) asked is same = is
+read_goes : (s : SessionState) (said : Line) (task : LineTask) → IsReadTask s said task → task ≡ tasks.Reply told.Stopped → ⊥
+read_goes s (lines.Command command) task is same = command_goes s.caller command task is same
+read_goes s (lines.Login who signature) task is same = let both : tasks.Turn (Login who s.nonce signature) ≡ tasks.Reply told.Stopped = sym is ∙ same in cc
+read_goes s (lines.Statement statement) task is same = is
+read_goes s (lines.Goal goal proof) task is same = is
 
-asks_goes : (s : SessionState) (line : List ℕ) (asked : Asked) → Asks s line asked → asked ≡ says told.Stopped → ⊥
+asks_goes : (s : SessionState) (line : List ℕ) (task : LineTask) → Asks s line task → task ≡ tasks.Reply told.Stopped → ⊥
 asks_goes s line _ (too_long long) same = cc
 asks_goes s line _ (faulty fault short bad) same = cc
-asks_goes s line _ (read said asked short is reads) same = read_goes s said asked reads same
+asks_goes s line _ (read said task short is reads) same = read_goes s said task reads same
 
-by_place : (gives : ℤ → Type 0) (p : StorePass) (history : List StoreEntry) (s : SessionState) (from : ℕ) (line : List ℕ) (asked : Asked) (reply : LineReply) (to : ℕ) (given : List StoreEntry) →
-    Asks s line asked → PlacedAs gives p history from asked reply to given → reply ≡ told.Stopped → has_stop (take to history) ≡ true
-by_place gives p history s from line _ _ _ _ asks_for (at_once reply) same = absurd (asks_goes s line (says reply) asks_for (ap says same))
+by_place : (gives : ℤ → Type 0) (p : StorePass) (history : List StoreEntry) (s : SessionState) (from : ℕ) (line : List ℕ) (task : LineTask) (reply : LineReply) (to : ℕ) (given : List StoreEntry) →
+    Asks s line task → PlacedAs gives p history from task reply to given → reply ≡ told.Stopped → has_stop (take to history) ≡ true
+by_place gives p history s from line _ _ _ _ asks_for (at_once reply) same = absurd (asks_goes s line (tasks.Reply reply) asks_for (ap tasks.Reply same))
 by_place gives p history s from line _ _ _ _ asks_for (in_a_turn request found reply to given turn is) same = turn_stopped gives p history from request found to given turn (stopped_turn found reply is same)
 by_place gives p history s from line _ _ _ _ asks_for (places.cites_none goal numbers proof found reply to given turn is) same = turn_stopped gives p history from _ found to given turn (stopped_turn found reply is same)
 by_place gives p history s from line _ _ _ _ asks_for (proves_none goal numbers proof cites fault to turn verdict_is) same = absurd cc
 by_place gives p history s from line _ _ _ _ asks_for (issues goal numbers proof cites g at found reply to given turn verdict_is second is) same = turn_stopped gives p history at _ found to given second (stopped_turn found reply is same)
-by_place gives p history s from line _ _ _ _ asks_for (places.without_memory asked) same = absurd cc
+by_place gives p history s from line _ _ _ _ asks_for (places.without_memory task) same = absurd cc
 
-pub line_stopped : (gives : ℤ → Type 0) (p : StorePass) (history : List StoreEntry) (s : SessionState) (from : ℕ) (line : List ℕ) (asked : Asked) (to : ℕ) (given : List StoreEntry) →
-    Asks s line asked → PlacedAs gives p history from asked told.Stopped to given → has_stop (take to history) ≡ true
-line_stopped gives p history s from line asked to given asks_for placed = by_place gives p history s from line asked told.Stopped to given asks_for placed refl
+pub line_stopped : (gives : ℤ → Type 0) (p : StorePass) (history : List StoreEntry) (s : SessionState) (from : ℕ) (line : List ℕ) (task : LineTask) (to : ℕ) (given : List StoreEntry) →
+    Asks s line task → PlacedAs gives p history from task told.Stopped to given → has_stop (take to history) ≡ true
+line_stopped gives p history s from line task to given asks_for placed = by_place gives p history s from line task told.Stopped to given asks_for placed refl

@@ -10,7 +10,8 @@ use Rattle.session_history.specs.declared.reply.TurnReply.TheVariants as replies
 use Rattle.session_history.specs.Passes.{AllOfPass, has_stop}
 use Rattle.session_history.specs.Turn.{StorePass, authority_of_root, Turn, TakesTurn, IsTurnFormed}
 use Rattle.session_history.specs.SessionState.{SessionState}
-use Rattle.session_history.specs.Asks.{Asked, Asks}
+use Rattle.session_history.specs.declared.task.LineTask.{LineTask}
+use Rattle.session_history.specs.Asks.{Asks}
 use Rattle.session_history.specs.Placed.{PlacedAs, Placed}
 
 -- ---- histories that grow: `gives` says which moments the clock gives
@@ -22,8 +23,8 @@ TurnsStayPlaced gives = (p : StorePass) (history more : List StoreEntry) (from :
 
 -- so does a line
 abbrev pub LinesStayPlaced : (ℤ → Type 0) → Type 0
-LinesStayPlaced gives = (p : StorePass) (history more : List StoreEntry) (from : ℕ) (asked : Asked) (reply : LineReply) (to : ℕ) (given : List StoreEntry) →
-    PlacedAs gives p history from asked reply to given → PlacedAs gives p (history ++ more) from asked reply to given
+LinesStayPlaced gives = (p : StorePass) (history more : List StoreEntry) (from : ℕ) (task : LineTask) (reply : LineReply) (to : ℕ) (given : List StoreEntry) →
+    PlacedAs gives p history from task reply to given → PlacedAs gives p (history ++ more) from task reply to given
 
 -- and so do the lines of a session
 abbrev pub SessionsStayPlaced : (ℤ → Type 0) → Type 0
@@ -44,18 +45,18 @@ PlacesGoOn gives = (p : StorePass) (history : List StoreEntry) (start : SessionS
 
 -- a line is told that the store is stopped only where a Stop is among the entries up to its place
 abbrev pub StoppedAfterStop : (ℤ → Type 0) → Type 0
-StoppedAfterStop gives = (p : StorePass) (history : List StoreEntry) (s : SessionState) (from : ℕ) (line : List ℕ) (asked : Asked) (to : ℕ) (given : List StoreEntry) →
-    Asks s line asked → PlacedAs gives p history from asked told.Stopped to given → has_stop (take to history) ≡ true
+StoppedAfterStop gives = (p : StorePass) (history : List StoreEntry) (s : SessionState) (from : ℕ) (line : List ℕ) (task : LineTask) (to : ℕ) (given : List StoreEntry) →
+    Asks s line task → PlacedAs gives p history from task told.Stopped to given → has_stop (take to history) ≡ true
 
 -- ---- one outcome
 
 -- each line of a session asks for something
 abbrev pub LinesAsk : Type 0
-LinesAsk = (s : SessionState) (line : List ℕ) → (asked : Asked) × Asks s line asked
+LinesAsk = (s : SessionState) (line : List ℕ) → (task : LineTask) × Asks s line task
 
 -- and for one thing alone
 abbrev pub LinesAskOnce : Type 0
-LinesAskOnce = (s : SessionState) (line : List ℕ) (first second : Asked) → Asks s line first → Asks s line second → first ≡ second
+LinesAskOnce = (s : SessionState) (line : List ℕ) (first second : LineTask) → Asks s line first → Asks s line second → first ≡ second
 
 -- a turn that is not disturbed: memory did not run out, and no disk failed
 pub record IsUndisturbed (reply : TurnReply) : Type 0 where

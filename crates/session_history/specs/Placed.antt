@@ -18,7 +18,9 @@ use Rattle.session_history.specs.declared.reply.TurnReply.{TurnReply}
 use Rattle.session_history.specs.declared.reply.TurnReply.TheVariants as replies
 use Rattle.session_history.specs.Turn.{StorePass, TakesTurn}
 use Rattle.session_history.specs.SessionState.{SessionState, with_caller}
-use Rattle.session_history.specs.Asks.{Asked, says, asks, verifies, Asks}
+use Rattle.session_history.specs.declared.task.LineTask.{LineTask}
+use Rattle.session_history.specs.declared.task.LineTask.TheVariants as tasks
+use Rattle.session_history.specs.Asks.{Asks}
 
 -- What a line is told for which its turn replies this. Statements are told to nobody.
 abbrev pub IsTold : TurnReply → LineReply → Type 0
@@ -31,25 +33,25 @@ IsTold replies.NoMemory line = line ≡ told.NoMemory
 
 -- The reply to what a line asks, from the first `from` entries of the history on; how many there are after its last turn, and the entries that it was given. Between the two turns of a proof others may have theirs, and the second is
 -- answered over what is there then: the issue stands only if the statements still do. If memory runs out instead of a reply, the next line goes on from where this one began.
-pub data PlacedAs (gives : ℤ → Type 0) (p : StorePass) (history : List StoreEntry) (from : ℕ) : Asked → LineReply → ℕ → List StoreEntry → Type 0 where
+pub data PlacedAs (gives : ℤ → Type 0) (p : StorePass) (history : List StoreEntry) (from : ℕ) : LineTask → LineReply → ℕ → List StoreEntry → Type 0 where
   -- no turn is taken
-  at_once : (reply : LineReply) → PlacedAs gives p history from (says reply) reply from []
+  at_once : (reply : LineReply) → PlacedAs gives p history from (tasks.Reply reply) reply from []
   -- one turn
   in_a_turn : (request : TurnRequest) (found : TurnReply) (reply : LineReply) (to : ℕ) (given : List StoreEntry) → TakesTurn gives p history from request found to given → IsTold found reply →
-      PlacedAs gives p history from (asks request) reply to given
+      PlacedAs gives p history from (tasks.Turn request) reply to given
   -- the turn for the statements gives none
   cites_none : (goal : Goal) (numbers : List ℕ) (proof : ProofView) (found : TurnReply) (reply : LineReply) (to : ℕ) (given : List StoreEntry) → TakesTurn gives p history from (CiteOf numbers) found to given → IsTold found reply →
-      PlacedAs gives p history from (verifies goal numbers proof) reply to given
+      PlacedAs gives p history from (tasks.Proof goal numbers proof) reply to given
   -- it gives them, and the proof from them has a fault
   proves_none : (goal : Goal) (numbers : List ℕ) (proof : ProofView) (cites : List Cite) (fault : CheckFault) (to : ℕ) → TakesTurn gives p history from (CiteOf numbers) (replies.Cited cites) to [] →
-      verdict (statements_of cites) goal proof ≡ Err fault → PlacedAs gives p history from (verifies goal numbers proof) (told.Unproved fault) to []
+      verdict (statements_of cites) goal proof ≡ Err fault → PlacedAs gives p history from (tasks.Proof goal numbers proof) (told.Unproved fault) to []
   -- it gives them, the proof grants its goal, and a second turn issues that
   issues : (goal : Goal) (numbers : List ℕ) (proof : ProofView) (cites : List Cite) (g : GrantView) (at : ℕ) (found : TurnReply) (reply : LineReply) (to : ℕ) (given : List StoreEntry) →
       TakesTurn gives p history from (CiteOf numbers) (replies.Cited cites) at [] → verdict (statements_of cites) goal proof ≡ Ok g →
       TakesTurn gives p history at (Step (Issue (checked_view cites goal proof g))) found to given → IsTold found reply →
-      PlacedAs gives p history from (verifies goal numbers proof) reply to given
+      PlacedAs gives p history from (tasks.Proof goal numbers proof) reply to given
   -- memory ran out
-  without_memory : (asked : Asked) → PlacedAs gives p history from asked told.NoMemory from []
+  without_memory : (task : LineTask) → PlacedAs gives p history from task told.NoMemory from []
 
 -- the line was done
 abbrev pub is_done : LineReply → Bool
@@ -70,15 +72,15 @@ after_turn s (CiteOf numbers) reply = s
 after_turn s (Login who nonce signature) reply = if is_done reply then with_caller s who else s
 
 -- who is logged in after a reply: a login that was accepted changes it, and nothing else does
-abbrev pub state_after : SessionState → Asked → LineReply → SessionState
-state_after s (says at_once) reply = s
-state_after s (asks request) reply = after_turn s request reply
-state_after s (verifies goal numbers proof) reply = s
+abbrev pub state_after : SessionState → LineTask → LineReply → SessionState
+state_after s (tasks.Reply at_once) reply = s
+state_after s (tasks.Turn request) reply = after_turn s request reply
+state_after s (tasks.Proof goal numbers proof) reply = s
 
 -- The lines of a session are placed in a history, from the first `from` entries on and from this state: each line from where the one before it came to. Then the session has this state, it came to the first `to` entries, and the
 -- history has the given entries in this order among those of others.
 pub data Placed (gives : ℤ → Type 0) (p : StorePass) (history : List StoreEntry) (start : SessionState) (from : ℕ) : List (List ℕ) → List LineReply → SessionState → ℕ → List StoreEntry → Type 0 where
   no_line : Placed gives p history start from [] [] start from []
-  one_more : (lines : List (List ℕ)) (answers : List LineReply) (s : SessionState) (at : ℕ) (given : List StoreEntry) (line : List ℕ) (asked : Asked) (reply : LineReply) (to : ℕ) (more : List StoreEntry) →
-      Placed gives p history start from lines answers s at given → Asks s line asked → PlacedAs gives p history at asked reply to more →
-      Placed gives p history start from (lines ++ line ∷ []) (answers ++ reply ∷ []) (state_after s asked reply) to (given ++ more)
+  one_more : (lines : List (List ℕ)) (answers : List LineReply) (s : SessionState) (at : ℕ) (given : List StoreEntry) (line : List ℕ) (task : LineTask) (reply : LineReply) (to : ℕ) (more : List StoreEntry) →
+      Placed gives p history start from lines answers s at given → Asks s line task → PlacedAs gives p history at task reply to more →
+      Placed gives p history start from (lines ++ line ∷ []) (answers ++ reply ∷ []) (state_after s task reply) to (given ++ more)

@@ -8,6 +8,8 @@
 pub mod laws;
 mod reply;
 mod request;
+mod task;
 
 pub use reply::TurnReply;
 pub use request::TurnRequest;
+pub use task::LineTask;
