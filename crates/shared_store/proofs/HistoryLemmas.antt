@@ -1,0 +1,52 @@
+-- Entries under their numbers, and without them.
+use Rattle.std.proofs.Common.{◌≡◌, ◌∙◌, ℕ, List, [], ◌∷◌, ◌++◌, refl, sym, ap}
+use Rattle.std.proofs.lemmas.List.{map-append}
+use mathlib.Core.List.{IsPrefix}
+use Rattle.tree_lock.specs.Entries.{AllOfNumber}
+use Rattle.pcfs_store.specs.Entries.{StoreEntry, happened, stopped}
+use Rattle.pcfs_store.specs.StoreView.{StoreView}
+use Rattle.session_history.specs.Passes.{AllOfPass}
+use Rattle.shared_store.specs.declared.entry.LockEntry.{LockEntry}
+use Rattle.shared_store.specs.declared.entry.LockEntry.TheVariants.{Opened, Happened, Stopped}
+use Rattle.shared_store.specs.LockHistory.{numbered_entry, numbered, lock_history, bare}
+
+module _ {D : Type 0} where
+  bare_all : (entries : List StoreEntry) → bare (numbered {D} entries) ≡ entries
+  bare_all [] = refl
+  bare_all (happened event ∷ entries) = ap (λ (l : List StoreEntry). happened event ∷ l) (bare_all entries)
+  bare_all (stopped pass ∷ entries) = ap (λ (l : List StoreEntry). stopped pass ∷ l) (bare_all entries)
+
+  bare_front : (entries : List StoreEntry) (rest : List (ℕ × LockEntry D)) → bare (numbered entries ++ rest) ≡ entries ++ bare rest
+  bare_front [] rest = refl
+  bare_front (happened event ∷ entries) rest = ap (λ (l : List StoreEntry). happened event ∷ l) (bare_front entries rest)
+  bare_front (stopped pass ∷ entries) rest = ap (λ (l : List StoreEntry). stopped pass ∷ l) (bare_front entries rest)
+
+  pub numbered_both : (xs ys : List StoreEntry) → numbered {D} (xs ++ ys) ≡ numbered xs ++ numbered ys
+  numbered_both xs ys = map-append numbered_entry xs ys
+
+  pub all_numbered : (pass : ℕ) (entries : List StoreEntry) → AllOfPass pass entries → AllOfNumber pass (numbered {D} entries)
+  all_numbered pass [] all = tt
+  all_numbered pass (happened event ∷ entries) all = (all.0, all_numbered pass entries all.1)
+  all_numbered pass (stopped other ∷ entries) all = (all.0, all_numbered pass entries all.1)
+
+  -- ---- how a history begins
+
+  abbrev opened_in : StoreView D → LockEntry D → StoreView D
+  opened_in default (Opened opening) = opening
+  opened_in default (Happened event) = default
+  opened_in default (Stopped pass) = default
+
+  abbrev opened_of : StoreView D → List (ℕ × LockEntry D) → StoreView D
+  opened_of default [] = default
+  opened_of default (e ∷ es) = opened_in default e.1
+
+  abbrev tail_of : List (ℕ × LockEntry D) → List (ℕ × LockEntry D)
+  tail_of [] = []
+  tail_of (e ∷ es) = es
+
+  -- a history that begins with another was opened alike, and has its entries first
+  pub opened_alike : (first opening : StoreView D) (seen entries : List StoreEntry) → IsPrefix (lock_history first seen) (lock_history opening entries) → first ≡ opening
+  opened_alike first opening seen entries begins = ap (opened_of first) begins.1
+
+  pub entries_after : (first opening : StoreView D) (seen entries : List StoreEntry) → (begins : IsPrefix (lock_history first seen) (lock_history opening entries)) → entries ≡ seen ++ bare begins.0
+  entries_after first opening seen entries begins = sym (bare_all entries) ∙ sym (ap (λ (l : List (ℕ × LockEntry D)). bare (tail_of l)) begins.1) ∙ bare_front seen begins.0
