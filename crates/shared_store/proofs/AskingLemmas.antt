@@ -68,6 +68,9 @@ module _ {D : Type 0} where
         record {
           given = w.given;
           goes_on = record { lock = t.lock; number = t.number; seen = seen_grew lock_entries Done old new reply t; own = t.own ∙ ap (λ (l : List (ℕ × LockEntry D)). old.own ++ l) added };
+          root = first;
+          found = found;
+          turn = w.turn;
           placed = λ opening entries begins.
               let longer = subst (λ (l : List (ℕ × LockEntry D)). IsPrefix l (lock_history opening entries)) seen begins in
               record {

@@ -6,7 +6,7 @@ use Rattle.pcfs_store.specs.Entries.{StoreEntry}
 use Rattle.pcfs_store.specs.StoreView.{StoreView}
 use Rattle.session_history.specs.declared.request.TurnRequest.{TurnRequest}
 use Rattle.session_history.specs.declared.reply.TurnReply.{TurnReply}
-use Rattle.session_history.specs.Turn.{TakesTurn}
+use Rattle.session_history.specs.Turn.{Turn, TakesTurn}
 use Rattle.shared_store.specs.declared.entry.LockEntry.{LockEntry}
 use Rattle.shared_store.specs.LockHistory.{numbered, lock_history}
 use Rattle.shared_store.specs.Turning.{pass_at}
@@ -31,4 +31,7 @@ module _ {D : Type 0} where
   pub record HasAsked (gives : ℤ → Type 0) (request : TurnRequest) (old new : PassView (LockEntry D)) (reply : TurnReply) : Type 0 where
     pub given : List StoreEntry
     pub goes_on : PassGoesOn old new given
+    pub root : StoreView D
+    pub found : List StoreEntry
+    pub turn : Turn gives (pass_at root old.number) found request reply given
     pub placed : InEachHistory new (λ opening entries. TakesTurn gives (pass_at opening old.number) entries (entries_seen old) request reply (entries_seen new) given)
