@@ -16,7 +16,7 @@ use Rattle.session_history.specs.Turn.{StorePass, authority_of_root, AnswersTurn
 use Rattle.session_history.specs.Turn as turns
 use Rattle.session_history.specs.SessionState.{SessionState}
 use Rattle.session_history.specs.declared.task.LineTask.{LineTask}
-use Rattle.session_history.specs.Placed.{PlacedAs, at_once, in_a_turn, proves_none, issues, Placed, no_line, one_more}
+use Rattle.session_history.specs.Placed.{LinePlaced, at_once, in_a_turn, proves_none, issues, LinesPlaced, no_line, one_more}
 use Rattle.session_history.specs.Placed as places
 
 -- if there is an event, it carries the number
@@ -48,7 +48,7 @@ turn_given gives p before request _ _ (kept clock reply event running shown answ
 turn_given gives p before request _ _ (failed clock reply event running shown answers room) = (refl, tt)
 turn_given gives p before request _ _ turns.without_memory = tt
 
-line_given : (gives : ℤ → Type 0) (p : StorePass) (history : List StoreEntry) (from : ℕ) (task : LineTask) (reply : LineReply) (to : ℕ) (given : List StoreEntry) → PlacedAs gives p history from task reply to given → AllOfPass p.number given
+line_given : (gives : ℤ → Type 0) (p : StorePass) (history : List StoreEntry) (from : ℕ) (task : LineTask) (reply : LineReply) (to : ℕ) (given : List StoreEntry) → LinePlaced gives p history from task reply to given → AllOfPass p.number given
 line_given gives p history from _ _ _ _ (at_once reply) = tt
 line_given gives p history from _ _ _ _ (in_a_turn request found reply to given turn is) = turn_given gives p turn.before _ found given turn.turn
 line_given gives p history from _ _ _ _ (places.cites_none goal numbers proof found reply to given turn is) = turn_given gives p turn.before _ found given turn.turn
@@ -61,7 +61,7 @@ all_of_both pass [] ys one other = other
 all_of_both pass (x ∷ xs) ys one other = (one.0, all_of_both pass xs ys one.1 other)
 
 pub session_given : (gives : ℤ → Type 0) (p : StorePass) (history : List StoreEntry) (start : SessionState) (from : ℕ) (lines : List (List ℕ)) (answers : List LineReply) (end : SessionState) (to : ℕ) (given : List StoreEntry) →
-    Placed gives p history start from lines answers end to given → AllOfPass p.number given
+    LinesPlaced gives p history start from lines answers end to given → AllOfPass p.number given
 session_given gives p history start from _ _ _ _ _ no_line = tt
 session_given gives p history start from _ _ _ _ _ (one_more lines answers s at given line task reply to others placed asks_for here) =
     all_of_both p.number given others (session_given gives p history start from lines answers s at given placed) (line_given gives p history at task reply to others here)

@@ -1,4 +1,5 @@
 pub mod AskingLemmas
+pub mod CallerLemmas
 pub mod CitationLemmas
 pub mod GivenLemmas
 pub mod GrowthLemmas

@@ -10,20 +10,20 @@ use Rattle.line_forms.specs.declared.command.Command.{Command}
 use Rattle.line_forms.specs.declared.command.Command.TheVariants.{At, As, Register, Procap, Verify, Check, Do}
 use Rattle.access_history.specs.declared.request.StepRequest.TheVariants as requests
 use Rattle.line_wire.specs.declared.reply.LineReply.{LineReply}
-use Rattle.line_wire.specs.declared.reply.LineReply.TheVariants as told
+use Rattle.line_wire.specs.declared.reply.LineReply.TheVariants as replies
 use Rattle.pcfs_store.specs.Entries.{Root, StoreEntry, happened, stopped, state_of_entries}
 use Rattle.session_history.specs.declared.request.TurnRequest.{TurnRequest}
 use Rattle.session_history.specs.declared.request.TurnRequest.TheVariants.{Step, Login}
 use Rattle.session_history.specs.declared.reply.TurnReply.{TurnReply}
-use Rattle.session_history.specs.declared.reply.TurnReply.TheVariants as replies
+use Rattle.session_history.specs.declared.reply.TurnReply.TheVariants as turn_replies
 use Rattle.session_history.specs.Passes.{has_stop}
-use Rattle.session_history.specs.Turn.{StorePass, AnswersTurn, steps, cites, cites_none, logs_in, rejects, Turn, was_stopped, answered, full, kept, failed, TakesTurn}
+use Rattle.session_history.specs.Turn.{StorePass, AnswersTurn, steps, cites, cites_none, logs_in, rejects, Turn, was_stopped, answered, full, kept, failed, TurnPlaced}
 use Rattle.session_history.specs.Turn as turns
 use Rattle.session_history.specs.SessionState.{SessionState}
 use Rattle.session_history.specs.declared.task.LineTask.{LineTask}
 use Rattle.session_history.specs.declared.task.LineTask.TheVariants as tasks
-use Rattle.session_history.specs.Asks.{IsUserTask, IsCommandTask, IsReadTask, Asks, too_long, faulty, read}
-use Rattle.session_history.specs.Placed.{IsTold, PlacedAs, at_once, in_a_turn, proves_none, issues}
+use Rattle.session_history.specs.Tasks.{IsUserTask, IsCommandTask, IsReadTask, IsTaskOf, faulty, read}
+use Rattle.session_history.specs.Placed.{IsTold, LinePlaced, at_once, in_a_turn, proves_none, issues}
 use Rattle.session_history.specs.Placed as places
 
 -- ---- entries with a Stop
@@ -41,14 +41,14 @@ stop_within (stopped other ∷ xs) ys pass = refl
 -- ---- turns
 
 -- no answer is that the store is stopped
-answer_goes : (root : Root) (state : BaseView) (pass : ℕ) (clock : ℤ) (request : TurnRequest) (reply : TurnReply) (event : Option Event) → AnswersTurn root state pass clock request reply event → reply ≡ replies.Stopped → ⊥
+answer_goes : (root : Root) (state : BaseView) (pass : ℕ) (clock : ℤ) (request : TurnRequest) (reply : TurnReply) (event : Option Event) → AnswersTurn root state pass clock request reply event → reply ≡ turn_replies.Stopped → ⊥
 answer_goes root state pass clock _ _ _ (steps request reply event answers) is = cc
 answer_goes root state pass clock _ _ _ (cites numbers cited found) is = cc
 answer_goes root state pass clock _ _ _ (cites_none numbers number absent) is = cc
 answer_goes root state pass clock _ _ _ (logs_in who nonce signature accepted) is = cc
 answer_goes root state pass clock _ _ _ (rejects who nonce signature refused) is = cc
 
-stop_there : (gives : ℤ → Type 0) (p : StorePass) (before : List StoreEntry) (request : TurnRequest) (reply : TurnReply) (given : List StoreEntry) → Turn gives p before request reply given → reply ≡ replies.Stopped → has_stop (before ++ given) ≡ true
+stop_there : (gives : ℤ → Type 0) (p : StorePass) (before : List StoreEntry) (request : TurnRequest) (reply : TurnReply) (given : List StoreEntry) → Turn gives p before request reply given → reply ≡ turn_replies.Stopped → has_stop (before ++ given) ≡ true
 stop_there gives p before request _ _ (was_stopped stop) is = stop_before before [] stop
 stop_there gives p before request _ _ (answered clock reply running shown answers) is = absurd (answer_goes p.root (state_of_entries p.root before) p.number clock request reply None answers is)
 stop_there gives p before request _ _ (full clock reply event running shown answers is_full) is = absurd cc
@@ -62,47 +62,46 @@ front_of history before given after to parts place =
     ap (take to) (parts ∙ sym (append_assoc before given after)) ∙ ap (λ (n : ℕ). take n ((before ++ given) ++ after)) (place ∙ sym (length-append before given)) ∙ take-append_seam (before ++ given) after
 
 turn_stopped : (gives : ℤ → Type 0) (p : StorePass) (history : List StoreEntry) (from : ℕ) (request : TurnRequest) (reply : TurnReply) (to : ℕ) (given : List StoreEntry) →
-    TakesTurn gives p history from request reply to given → reply ≡ replies.Stopped → has_stop (take to history) ≡ true
+    TurnPlaced gives p history from request reply to given → reply ≡ turn_replies.Stopped → has_stop (take to history) ≡ true
 turn_stopped gives p history from request reply to given t is = ap has_stop (front_of history t.before given t.after to t.parts t.place) ∙ stop_there gives p t.before request reply given t.turn is
 
 -- ---- lines
 
-stopped_turn : (found : TurnReply) (reply : LineReply) → IsTold found reply → reply ≡ told.Stopped → found ≡ replies.Stopped
-stopped_turn (replies.Step answer) reply is same = let both : told.Step answer ≡ told.Stopped = sym is ∙ same in absurd cc
-stopped_turn (replies.Cited cites) reply is same = absurd is
-stopped_turn replies.LoggedIn reply is same = let both : told.Done ≡ told.Stopped = sym is ∙ same in absurd cc
-stopped_turn replies.Full reply is same = let both : told.Full ≡ told.Stopped = sym is ∙ same in absurd cc
-stopped_turn replies.Stopped reply is same = refl
-stopped_turn replies.NoMemory reply is same = let both : told.NoMemory ≡ told.Stopped = sym is ∙ same in absurd cc
+stopped_turn : (found : TurnReply) (reply : LineReply) → IsTold found reply → reply ≡ replies.Stopped → found ≡ turn_replies.Stopped
+stopped_turn (turn_replies.Step answer) reply is same = let both : replies.Step answer ≡ replies.Stopped = sym is ∙ same in absurd cc
+stopped_turn (turn_replies.Cited cites) reply is same = absurd is
+stopped_turn turn_replies.LoggedIn reply is same = let both : replies.Done ≡ replies.Stopped = sym is ∙ same in absurd cc
+stopped_turn turn_replies.Full reply is same = let both : replies.Full ≡ replies.Stopped = sym is ∙ same in absurd cc
+stopped_turn turn_replies.Stopped reply is same = refl
+stopped_turn turn_replies.NoMemory reply is same = let both : replies.NoMemory ≡ replies.Stopped = sym is ∙ same in absurd cc
 
 -- nothing that is said at once is that the store is stopped
-user_goes : (who : List ℕ) (command : Command) (task : LineTask) → IsUserTask who command task → task ≡ tasks.Reply told.Stopped → ⊥
+user_goes : (who : List ℕ) (command : Command) (task : LineTask) → IsUserTask who command task → task ≡ tasks.Reply replies.Stopped → ⊥
 user_goes who (At second) task is same = is
 user_goes who (As other) task is same = is
 user_goes who (Register None statement) task is same = is
-user_goes who (Register (Some signature) statement) task is same = let both : tasks.Turn (Step (requests.Register statement signature)) ≡ tasks.Reply told.Stopped = sym is ∙ same in cc
-user_goes who (Procap number) task is same = let both : tasks.Turn (Step (requests.ShowProcap number (Some who))) ≡ tasks.Reply told.Stopped = sym is ∙ same in cc
-user_goes who (Verify goal numbers proof) task is same = let both : tasks.Proof goal numbers proof ≡ tasks.Reply told.Stopped = sym is ∙ same in cc
+user_goes who (Register (Some signature) statement) task is same = let both : tasks.Turn (Step (requests.Register statement signature)) ≡ tasks.Reply replies.Stopped = sym is ∙ same in cc
+user_goes who (Procap number) task is same = let both : tasks.Turn (Step (requests.ShowProcap number (Some who))) ≡ tasks.Reply replies.Stopped = sym is ∙ same in cc
+user_goes who (Verify goal numbers proof) task is same = let both : tasks.Proof goal numbers proof ≡ tasks.Reply replies.Stopped = sym is ∙ same in cc
 user_goes who (Check goal numbers proof) task is same = is
-user_goes who (Do op words) task is same = let both : tasks.Turn (Step (requests.Act who op is.0)) ≡ tasks.Reply told.Stopped = sym is.2 ∙ same in cc
+user_goes who (Do op words) task is same = let both : tasks.Turn (Step (requests.Act who op is.0)) ≡ tasks.Reply replies.Stopped = sym is.2 ∙ same in cc
 
-command_goes : (caller : Option (List ℕ)) (command : Command) (task : LineTask) → IsCommandTask caller command task → task ≡ tasks.Reply told.Stopped → ⊥
-command_goes None command task is same = let both : tasks.Reply told.NotLoggedIn ≡ tasks.Reply told.Stopped = sym is ∙ same in cc
+command_goes : (caller : Option (List ℕ)) (command : Command) (task : LineTask) → IsCommandTask caller command task → task ≡ tasks.Reply replies.Stopped → ⊥
+command_goes None command task is same = let both : tasks.Reply replies.NotLoggedIn ≡ tasks.Reply replies.Stopped = sym is ∙ same in cc
 command_goes (Some who) command task is same = user_goes who command task is same
 
-read_goes : (s : SessionState) (said : Line) (task : LineTask) → IsReadTask s said task → task ≡ tasks.Reply told.Stopped → ⊥
+read_goes : (s : SessionState) (said : Line) (task : LineTask) → IsReadTask s said task → task ≡ tasks.Reply replies.Stopped → ⊥
 read_goes s (lines.Command command) task is same = command_goes s.caller command task is same
-read_goes s (lines.Login who signature) task is same = let both : tasks.Turn (Login who s.nonce signature) ≡ tasks.Reply told.Stopped = sym is ∙ same in cc
+read_goes s (lines.Login who signature) task is same = let both : tasks.Turn (Login who s.nonce signature) ≡ tasks.Reply replies.Stopped = sym is ∙ same in cc
 read_goes s (lines.Statement statement) task is same = is
 read_goes s (lines.Goal goal proof) task is same = is
 
-asks_goes : (s : SessionState) (line : List ℕ) (task : LineTask) → Asks s line task → task ≡ tasks.Reply told.Stopped → ⊥
-asks_goes s line _ (too_long long) same = cc
-asks_goes s line _ (faulty fault short bad) same = cc
-asks_goes s line _ (read said task short is reads) same = read_goes s said task reads same
+asks_goes : (s : SessionState) (line : List ℕ) (task : LineTask) → IsTaskOf s line task → task ≡ tasks.Reply replies.Stopped → ⊥
+asks_goes s line _ (faulty fault bad) same = cc
+asks_goes s line _ (read said task is reads) same = read_goes s said task reads same
 
 by_place : (gives : ℤ → Type 0) (p : StorePass) (history : List StoreEntry) (s : SessionState) (from : ℕ) (line : List ℕ) (task : LineTask) (reply : LineReply) (to : ℕ) (given : List StoreEntry) →
-    Asks s line task → PlacedAs gives p history from task reply to given → reply ≡ told.Stopped → has_stop (take to history) ≡ true
+    IsTaskOf s line task → LinePlaced gives p history from task reply to given → reply ≡ replies.Stopped → has_stop (take to history) ≡ true
 by_place gives p history s from line _ _ _ _ asks_for (at_once reply) same = absurd (asks_goes s line (tasks.Reply reply) asks_for (ap tasks.Reply same))
 by_place gives p history s from line _ _ _ _ asks_for (in_a_turn request found reply to given turn is) same = turn_stopped gives p history from request found to given turn (stopped_turn found reply is same)
 by_place gives p history s from line _ _ _ _ asks_for (places.cites_none goal numbers proof found reply to given turn is) same = turn_stopped gives p history from _ found to given turn (stopped_turn found reply is same)
@@ -111,5 +110,5 @@ by_place gives p history s from line _ _ _ _ asks_for (issues goal numbers proof
 by_place gives p history s from line _ _ _ _ asks_for (places.without_memory task) same = absurd cc
 
 pub line_stopped : (gives : ℤ → Type 0) (p : StorePass) (history : List StoreEntry) (s : SessionState) (from : ℕ) (line : List ℕ) (task : LineTask) (to : ℕ) (given : List StoreEntry) →
-    Asks s line task → PlacedAs gives p history from task told.Stopped to given → has_stop (take to history) ≡ true
-line_stopped gives p history s from line task to given asks_for placed = by_place gives p history s from line task told.Stopped to given asks_for placed refl
+    IsTaskOf s line task → LinePlaced gives p history from task replies.Stopped to given → has_stop (take to history) ≡ true
+line_stopped gives p history s from line task to given asks_for placed = by_place gives p history s from line task replies.Stopped to given asks_for placed refl

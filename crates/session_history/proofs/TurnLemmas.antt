@@ -20,7 +20,7 @@ use Rattle.pcfs_store.specs.Entries.{Root, StoreEntry, happened, events_among, s
 use Rattle.session_history.specs.declared.request.TurnRequest.{TurnRequest}
 use Rattle.session_history.specs.declared.request.TurnRequest.TheVariants as requests
 use Rattle.session_history.specs.declared.reply.TurnReply.{TurnReply}
-use Rattle.session_history.specs.declared.reply.TurnReply.TheVariants as replies
+use Rattle.session_history.specs.declared.reply.TurnReply.TheVariants as turn_replies
 use Rattle.session_history.specs.Passes.{has_stop}
 use Rattle.session_history.specs.Turn.{StorePass, authority_of_root, AnswersTurn, steps, cites, cites_none, logs_in, rejects, IsFullAfter, Turn, was_stopped, answered, full, kept, failed, without_memory, IsTurnFormed}
 use Rattle.session_history.specs.Laws.{IsUndisturbed}
@@ -28,25 +28,27 @@ use Rattle.session_history.proofs.CitationLemmas.{found_or_absent, found_once, a
 
 -- ---- some answer
 
--- what a turn asks has an answer, which is not that memory ran out
+-- what a turn asks has an answer, which is neither that memory ran out nor that the store is stopped
 record HasTurnAnswer (root : Root) (state : BaseView) (pass : ℕ) (clock : ℤ) (request : TurnRequest) : Type 0 where
-  reply : TurnReply
+  answer : TurnReply
   event : Option Event
-  answers : AnswersTurn root state pass clock request reply event
-  had_memory : reply ≢ replies.NoMemory
+  answers : AnswersTurn root state pass clock request answer event
+  calm : IsUndisturbed answer
 
 module _ (root : Root) (state : BaseView) (pass : ℕ) (clock : ℤ) where
   cite_answer : (numbers : List ℕ) → ((cited : List Cite) × AreFound (sayings state.statements) numbers cited) ⊎ ((number : ℕ) × IsAbsent (sayings state.statements) numbers number) → HasTurnAnswer root state pass clock (requests.Cite numbers)
-  cite_answer numbers (inl found) = record { reply = replies.Cited found.0; event = None; answers = cites numbers found.0 found.1; had_memory = λ is. cc }
-  cite_answer numbers (inr absent) = record { reply = replies.Step (Absent absent.0); event = None; answers = cites_none numbers absent.0 absent.1; had_memory = λ is. cc }
+  cite_answer numbers (inl found) = record { answer = turn_replies.Cited found.0; event = None; answers = cites numbers found.0 found.1; calm = record { had_memory = λ is. cc; not_stopped = λ is. cc } }
+  cite_answer numbers (inr absent) = record { answer = turn_replies.Step (Absent absent.0); event = None; answers = cites_none numbers absent.0 absent.1; calm = record { had_memory = λ is. cc; not_stopped = λ is. cc } }
 
   login_answer : (who nonce signature : List ℕ) (accepted : Bool) → is_accepted root.ring who (login_message who nonce) signature ≡ accepted → HasTurnAnswer root state pass clock (requests.Login who nonce signature)
-  login_answer who nonce signature true is = record { reply = replies.LoggedIn; event = None; answers = logs_in who nonce signature is; had_memory = λ same. cc }
-  login_answer who nonce signature false is = record { reply = _; event = None; answers = rejects who nonce signature is; had_memory = λ same. cc }
+  login_answer who nonce signature true is = record { answer = turn_replies.LoggedIn; event = None; answers = logs_in who nonce signature is; calm = record { had_memory = λ same. cc; not_stopped = λ same. cc } }
+  login_answer who nonce signature false is =
+      record { answer = turn_replies.Step (Rejected BadSignature); event = None; answers = rejects who nonce signature is; calm = record { had_memory = λ same. cc; not_stopped = λ same. cc } }
 
   turn_answer : (request : TurnRequest) → IsTurnFormed request → HasTurnAnswer root state pass clock request
   turn_answer (requests.Step request) formed =
-      let answer = has_answer (authority_of_root root) state pass clock request formed in record { reply = replies.Step answer.0; event = answer.1; answers = steps request answer.0 answer.1 answer.2; had_memory = λ is. cc }
+      let some = has_answer (authority_of_root root) state pass clock request formed in
+      record { answer = turn_replies.Step some.0; event = some.1; answers = steps request some.0 some.1 some.2; calm = record { had_memory = λ is. cc; not_stopped = λ is. cc } }
   turn_answer (requests.Cite numbers) formed = cite_answer numbers (found_or_absent (sayings state.statements) numbers)
   turn_answer (requests.Login who nonce signature) formed = login_answer who nonce signature (is_accepted root.ring who (login_message who nonce) signature) refl
 
@@ -68,39 +70,49 @@ is_full_or_not root before event =
 
 -- ---- some end
 
-module _ (gives : ℤ → Type 0) (p : StorePass) (before : List StoreEntry) (request : TurnRequest) (clock : ℤ) (shown : gives clock) where
+module _ (gives : ℤ → Type 0) (p : StorePass) (before : List StoreEntry) (request : TurnRequest) (clock : ℤ) (shown : gives clock) (running : has_stop before ≡ false) where
   abbrev HasEnd : Type 0
-  HasEnd = (reply : TurnReply) × (given : List StoreEntry) × Turn gives p before request reply given × (reply ≢ replies.NoMemory)
+  HasEnd = (reply : TurnReply) × (given : List StoreEntry) × Turn gives p before request reply given × IsUndisturbed reply
 
-  event_ends : (reply : TurnReply) (event : Event) → has_stop before ≡ false → reply ≢ replies.NoMemory → AnswersTurn p.root (state_of_entries p.root before) p.number clock request reply (Some event) →
+  event_ends : (answer : TurnReply) (event : Event) → IsUndisturbed answer → AnswersTurn p.root (state_of_entries p.root before) p.number clock request answer (Some event) →
       IsFullAfter p.root before event ⊎ (IsFullAfter p.root before event → ⊥) → HasEnd
-  event_ends reply event running had_memory answers (inl is_full) = (replies.Full, [], full clock reply event running shown answers is_full, λ is. cc)
-  event_ends reply event running had_memory answers (inr room) = (reply, happened event ∷ [], kept clock reply event running shown answers room, had_memory)
+  event_ends answer event calm answers (inl is_full) = (turn_replies.Full, [], full clock answer event running shown answers is_full, record { had_memory = λ is. cc; not_stopped = λ is. cc })
+  event_ends answer event calm answers (inr room) = (answer, happened event ∷ [], kept clock answer event running shown answers room, calm)
 
-  answer_ends : (reply : TurnReply) (event : Option Event) → has_stop before ≡ false → reply ≢ replies.NoMemory → AnswersTurn p.root (state_of_entries p.root before) p.number clock request reply event → HasEnd
-  answer_ends reply None running had_memory answers = (reply, [], answered clock reply running shown answers, had_memory)
-  answer_ends reply (Some event) running had_memory answers = event_ends reply event running had_memory answers (is_full_or_not p.root before event)
+  answer_ends : (answer : TurnReply) (event : Option Event) → IsUndisturbed answer → AnswersTurn p.root (state_of_entries p.root before) p.number clock request answer event → HasEnd
+  answer_ends answer None calm answers = (answer, [], answered clock answer running shown answers, calm)
+  answer_ends answer (Some event) calm answers = event_ends answer event calm answers (is_full_or_not p.root before event)
 
-  ends_by : (stop : Bool) → has_stop before ≡ stop → IsTurnFormed request → HasEnd
-  ends_by true is formed = (replies.Stopped, [], was_stopped is, λ same. cc)
-  ends_by false is formed = let some = turn_answer p.root (state_of_entries p.root before) p.number clock request formed in answer_ends some.reply some.event is some.had_memory some.answers
+  some_end : IsTurnFormed request → HasEnd
+  some_end formed = let some = turn_answer p.root (state_of_entries p.root before) p.number clock request formed in answer_ends some.answer some.event some.calm some.answers
 
-pub turn_ends : (gives : ℤ → Type 0) (p : StorePass) (before : List StoreEntry) (request : TurnRequest) (clock : ℤ) → gives clock → IsTurnFormed request →
-    (reply : TurnReply) × (given : List StoreEntry) × Turn gives p before request reply given × (reply ≢ replies.NoMemory)
-turn_ends gives p before request clock shown formed = ends_by gives p before request clock shown (has_stop before) refl formed
+pub turn_ends : (gives : ℤ → Type 0) (p : StorePass) (before : List StoreEntry) (request : TurnRequest) (clock : ℤ) → gives clock → IsTurnFormed request → has_stop before ≡ false →
+    (reply : TurnReply) × (given : List StoreEntry) × Turn gives p before request reply given × IsUndisturbed reply
+turn_ends gives p before request clock shown formed running = some_end gives p before request clock shown running formed
+
+-- ---- no end but one where the store is stopped
+
+pub nothing_after_stop : (gives : ℤ → Type 0) (p : StorePass) (before : List StoreEntry) (request : TurnRequest) (reply : TurnReply) (given : List StoreEntry) → has_stop before ≡ true → Turn gives p before request reply given →
+    (given ≡ []) × ((reply ≡ turn_replies.Stopped) ⊎ (reply ≡ turn_replies.NoMemory))
+nothing_after_stop gives p before request _ _ stop (was_stopped is) = (refl, inl refl)
+nothing_after_stop gives p before request _ _ stop (answered clock answer running shown answers) = absurd (true≢false (sym stop ∙ running))
+nothing_after_stop gives p before request _ _ stop (full clock answer event running shown answers is_full) = absurd (true≢false (sym stop ∙ running))
+nothing_after_stop gives p before request _ _ stop (kept clock answer event running shown answers room) = absurd (true≢false (sym stop ∙ running))
+nothing_after_stop gives p before request _ _ stop (failed clock answer event running shown answers room) = absurd (true≢false (sym stop ∙ running))
+nothing_after_stop gives p before request _ _ stop without_memory = (refl, inr refl)
 
 -- ---- one answer
 
 one_turn_answer : (root : Root) (base : BaseView) (events : List Event) (pass : ℕ) (clock : ℤ) (request : TurnRequest) (first second : TurnReply) (event other : Option Event) → IsLawful (authority_of_root root) base events →
     AnswersTurn root (replay base events) pass clock request first event → AnswersTurn root (replay base events) pass clock request second other → (first ≡ second) × (event ≡ other)
 one_turn_answer root base events pass clock _ _ _ _ _ lawful (steps request reply event answers) (steps _ reply' event' answers') =
-    let same = one_answer (authority_of_root root) base events pass clock request reply reply' event event' lawful answers answers' in (ap replies.Step same.0, same.1)
+    let same = one_answer (authority_of_root root) base events pass clock request reply reply' event event' lawful answers answers' in (ap turn_replies.Step same.0, same.1)
 one_turn_answer root base events pass clock _ _ _ _ _ lawful (cites numbers cited found) (cites _ others found') =
-    (ap replies.Cited (found_once (sayings (replay base events).statements) numbers cited others found found'), refl)
+    (ap turn_replies.Cited (found_once (sayings (replay base events).statements) numbers cited others found found'), refl)
 one_turn_answer root base events pass clock _ _ _ _ _ lawful (cites numbers cited found) (cites_none _ number absent) = absurd (absent_not_found (sayings (replay base events).statements) numbers number cited absent found)
 one_turn_answer root base events pass clock _ _ _ _ _ lawful (cites_none numbers number absent) (cites _ cited found) = absurd (absent_not_found (sayings (replay base events).statements) numbers number cited absent found)
 one_turn_answer root base events pass clock _ _ _ _ _ lawful (cites_none numbers number absent) (cites_none _ other absent') =
-    (ap (λ (n : ℕ). replies.Step (Absent n)) (absent_once (sayings (replay base events).statements) numbers number other absent absent'), refl)
+    (ap (λ (n : ℕ). turn_replies.Step (Absent n)) (absent_once (sayings (replay base events).statements) numbers number other absent absent'), refl)
 one_turn_answer root base events pass clock _ _ _ _ _ lawful (logs_in who nonce signature is) (logs_in _ _ _ is') = (refl, refl)
 one_turn_answer root base events pass clock _ _ _ _ _ lawful (logs_in who nonce signature is) (rejects _ _ _ is') = absurd (true≢false (sym is ∙ is'))
 one_turn_answer root base events pass clock _ _ _ _ _ lawful (rejects who nonce signature is) (logs_in _ _ _ is') = absurd (true≢false (sym is' ∙ is))
@@ -112,7 +124,7 @@ one_turn_answer root base events pass clock _ _ _ _ _ lawful (rejects who nonce 
 abbrev Comes : Root → List StoreEntry → TurnReply → Option Event → TurnReply → List StoreEntry → Type 0
 Comes root before answer None reply given = (reply ≡ answer) × (given ≡ [])
 Comes root before answer (Some event) reply given =
-    (IsFullAfter root before event × (reply ≡ replies.Full) × (given ≡ [])) ⊎ ((IsFullAfter root before event → ⊥) × (reply ≡ answer) × (given ≡ happened event ∷ []))
+    (IsFullAfter root before event × (reply ≡ turn_replies.Full) × (given ≡ [])) ⊎ ((IsFullAfter root before event → ⊥) × (reply ≡ answer) × (given ≡ happened event ∷ []))
 
 record ComesOf (p : StorePass) (before : List StoreEntry) (request : TurnRequest) (clock : ℤ) (reply : TurnReply) (given : List StoreEntry) : Type 0 where
   answer : TurnReply

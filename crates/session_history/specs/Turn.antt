@@ -21,7 +21,7 @@ use Rattle.session_history.specs.Passes.{has_stop}
 use Rattle.session_history.specs.declared.request.TurnRequest.{TurnRequest}
 use Rattle.session_history.specs.declared.request.TurnRequest.TheVariants as requests
 use Rattle.session_history.specs.declared.reply.TurnReply.{TurnReply}
-use Rattle.session_history.specs.declared.reply.TurnReply.TheVariants as replies
+use Rattle.session_history.specs.declared.reply.TurnReply.TheVariants as turn_replies
 
 -- whose turn it is: a pass with this number, at a store that was opened with this root
 pub record StorePass : Type 0 where
@@ -36,15 +36,15 @@ authority_of_root root = authority_with root.key root.ring
 -- the ring accepts the signature over the login message, which has the nonce in it.
 pub data AnswersTurn (root : Root) (state : BaseView) (pass : ℕ) (clock : ℤ) : TurnRequest → TurnReply → Option Event → Type 0 where
   steps : (request : StepRequest) (reply : StepReply) (event : Option Event) → Answers (authority_of_root root) state pass clock request reply event →
-      AnswersTurn root state pass clock (requests.Step request) (replies.Step reply) event
+      AnswersTurn root state pass clock (requests.Step request) (turn_replies.Step reply) event
   cites : (numbers : List ℕ) (cited : List Cite) → AreFound (sayings state.statements) numbers cited →
-      AnswersTurn root state pass clock (requests.Cite numbers) (replies.Cited cited) None
+      AnswersTurn root state pass clock (requests.Cite numbers) (turn_replies.Cited cited) None
   cites_none : (numbers : List ℕ) (number : ℕ) → IsAbsent (sayings state.statements) numbers number →
-      AnswersTurn root state pass clock (requests.Cite numbers) (replies.Step (Absent number)) None
+      AnswersTurn root state pass clock (requests.Cite numbers) (turn_replies.Step (Absent number)) None
   logs_in : (who nonce signature : List ℕ) → is_accepted root.ring who (login_message who nonce) signature ≡ true →
-      AnswersTurn root state pass clock (requests.Login who nonce signature) replies.LoggedIn None
+      AnswersTurn root state pass clock (requests.Login who nonce signature) turn_replies.LoggedIn None
   rejects : (who nonce signature : List ℕ) → is_accepted root.ring who (login_message who nonce) signature ≡ false →
-      AnswersTurn root state pass clock (requests.Login who nonce signature) (replies.Step (Rejected BadSignature)) None
+      AnswersTurn root state pass clock (requests.Login who nonce signature) (turn_replies.Step (Rejected BadSignature)) None
 
 -- after these entries there is no room in the area for the record of the event, or no number for it
 abbrev pub IsFullAfter : Root → List StoreEntry → Event → Type 0
@@ -54,24 +54,24 @@ IsFullAfter root before event = IsFull (used_by root before) (state_of_entries r
 -- clock gives, of which the turn reads one.
 pub data Turn (gives : ℤ → Type 0) (p : StorePass) (before : List StoreEntry) (request : TurnRequest) : TurnReply → List StoreEntry → Type 0 where
   -- the store was stopped, and nothing is decided
-  was_stopped : has_stop before ≡ true → Turn gives p before request replies.Stopped []
+  was_stopped : has_stop before ≡ true → Turn gives p before request turn_replies.Stopped []
   -- the answer keeps nothing
-  answered : (clock : ℤ) (reply : TurnReply) → has_stop before ≡ false → gives clock → AnswersTurn p.root (state_of_entries p.root before) p.number clock request reply None →
-      Turn gives p before request reply []
+  answered : (clock : ℤ) (answer : TurnReply) → has_stop before ≡ false → gives clock → AnswersTurn p.root (state_of_entries p.root before) p.number clock request answer None →
+      Turn gives p before request answer []
   -- the answer's event does not fit
-  full : (clock : ℤ) (reply : TurnReply) (event : Event) → has_stop before ≡ false → gives clock → AnswersTurn p.root (state_of_entries p.root before) p.number clock request reply (Some event) →
-      IsFullAfter p.root before event → Turn gives p before request replies.Full []
+  full : (clock : ℤ) (answer : TurnReply) (event : Event) → has_stop before ≡ false → gives clock → AnswersTurn p.root (state_of_entries p.root before) p.number clock request answer (Some event) →
+      IsFullAfter p.root before event → Turn gives p before request turn_replies.Full []
   -- the answer's event is kept
-  kept : (clock : ℤ) (reply : TurnReply) (event : Event) → has_stop before ≡ false → gives clock → AnswersTurn p.root (state_of_entries p.root before) p.number clock request reply (Some event) →
-      (IsFullAfter p.root before event → ⊥) → Turn gives p before request reply (happened event ∷ [])
+  kept : (clock : ℤ) (answer : TurnReply) (event : Event) → has_stop before ≡ false → gives clock → AnswersTurn p.root (state_of_entries p.root before) p.number clock request answer (Some event) →
+      (IsFullAfter p.root before event → ⊥) → Turn gives p before request answer (happened event ∷ [])
   -- a disk fails under the answer's event
-  failed : (clock : ℤ) (reply : TurnReply) (event : Event) → has_stop before ≡ false → gives clock → AnswersTurn p.root (state_of_entries p.root before) p.number clock request reply (Some event) →
-      (IsFullAfter p.root before event → ⊥) → Turn gives p before request replies.Stopped (stopped p.number ∷ [])
+  failed : (clock : ℤ) (answer : TurnReply) (event : Event) → has_stop before ≡ false → gives clock → AnswersTurn p.root (state_of_entries p.root before) p.number clock request answer (Some event) →
+      (IsFullAfter p.root before event → ⊥) → Turn gives p before request turn_replies.Stopped (stopped p.number ∷ [])
   -- memory ran out
-  without_memory : Turn gives p before request replies.NoMemory []
+  without_memory : Turn gives p before request turn_replies.NoMemory []
 
 -- The turn has its place in a history, not before the first `from` entries: it found those before it, and added the given ones. `to` is how many entries there are then. What the history has after them may be of others.
-pub record TakesTurn (gives : ℤ → Type 0) (p : StorePass) (history : List StoreEntry) (from : ℕ) (request : TurnRequest) (reply : TurnReply) (to : ℕ) (given : List StoreEntry) : Type 0 where
+pub record TurnPlaced (gives : ℤ → Type 0) (p : StorePass) (history : List StoreEntry) (from : ℕ) (request : TurnRequest) (reply : TurnReply) (to : ℕ) (given : List StoreEntry) : Type 0 where
   pub before : List StoreEntry
   pub after : List StoreEntry
   pub parts : history ≡ before ++ (given ++ after)

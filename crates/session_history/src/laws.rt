@@ -1,7 +1,7 @@
 //! Laws of the definitions. The functions do nothing: each contract is a law. Where the moments of a clock occur, it holds
 //! of each clock.
 
-ghost use Rattle.session_history.specs.Laws.{TurnsStayPlaced, LinesStayPlaced, SessionsStayPlaced, GivenAreOfPass, PlacesGoOn, StoppedAfterStop, LinesAsk, LinesAskOnce, TurnsHaveAnEnd, TurnsHaveOneEnd};
+ghost use Rattle.session_history.specs.Laws.{TurnsStayPlaced, LinesStayPlaced, SessionsStayPlaced, GivenAreOfPass, PlacesGoOn, StoppedAfterStop, CallersAreAccepted, LinesAreAnswered, LinesHaveATask, LinesHaveOneTask, TasksAreFormed, TurnsHaveAnEnd, NothingAfterStop, TurnsHaveOneEnd};
 
 use pcfs_ports::Clock;
 
@@ -14,34 +14,39 @@ pub fn what_is_placed_stays_placed<C: Clock>(clock: &C)
     let _ = clock;
 }
 
-/// The entries that a session is given are of its own pass.
-pub fn given_entries_are_of_the_pass<C: Clock>(clock: &C)
-    ensures { GivenAreOfPass (C.gives clock.now) }
+/// The entries that a session is given are of its own pass, and each operation among them is by somebody who logged in over
+/// the session's nonce.
+pub fn given_entries_are_of_the_session<C: Clock>(clock: &C)
+    ensures pass { GivenAreOfPass (C.gives clock.now) }
+    ensures callers { CallersAreAccepted (C.gives clock.now) }
 {
     let _ = clock;
 }
 
-/// The places of a session's lines do not go back, and stay within the history.
+/// The places of a session's lines do not go back, and stay within the history; each line has a reply.
 pub fn places_go_on<C: Clock>(clock: &C)
-    ensures { PlacesGoOn (C.gives clock.now) }
+    ensures places { PlacesGoOn (C.gives clock.now) }
+    ensures answered { LinesAreAnswered (C.gives clock.now) }
 {
     let _ = clock;
 }
 
-/// A line is told that the store is stopped only if a disk failed before.
-pub fn stopped_comes_after_a_stop<C: Clock>(clock: &C)
-    ensures { StoppedAfterStop (C.gives clock.now) }
+/// A line is told that the store is stopped only if a disk failed before, and then no turn decides anything.
+pub fn a_stop_is_the_end<C: Clock>(clock: &C)
+    ensures told { StoppedAfterStop (C.gives clock.now) }
+    ensures nothing { NothingAfterStop (C.gives clock.now) }
 {
     let _ = clock;
 }
 
-/// Each line of a session asks for exactly one thing.
-pub fn lines_ask_for_one_thing()
-    ensures something { LinesAsk }
-    ensures one { LinesAskOnce }
+/// Each line of a session has exactly one task, and what it asks may be asked.
+pub fn lines_have_one_task()
+    ensures some { LinesHaveATask }
+    ensures one { LinesHaveOneTask }
+    ensures formed { TasksAreFormed }
 {}
 
-/// A turn has an end for which memory does not run out, whatever it finds.
+/// At a store that is not stopped a turn has an end that is not disturbed, whatever it finds.
 pub fn turns_have_an_end<C: Clock>(clock: &C)
     ensures { TurnsHaveAnEnd (C.gives clock.now) }
 {

@@ -2,7 +2,7 @@
 //!
 //! A turn finds the entries of a store and adds some at their end. A line takes no turn, one, or two, at places that do not go
 //! back, and its reply is the answer over what it found there. What is placed stays placed when the history grows. The
-//! definitions are in `specs/`: `Passes`, `Turn`, `SessionState`, `Asks`, `Placed`, `Output`.
+//! definitions are in `specs/`: `Passes`, `Turn`, `SessionState`, `IsTaskOf`, `LinesPlaced`, `Output`.
 #![tactic(auto)]
 
 pub mod laws;

@@ -8,17 +8,17 @@ use Rattle.bl_syntax.specs.declared.grant.Goal.{Goal}
 use Rattle.proof_term.specs.Proof.{ProofView}
 use Rattle.proof_verifier.specs.declared.cites.Cite.{Cite as CiteOf}
 use Rattle.line_wire.specs.declared.reply.LineReply.{LineReply}
-use Rattle.line_wire.specs.declared.reply.LineReply.TheVariants as answers
+use Rattle.line_wire.specs.declared.reply.LineReply.TheVariants as replies
 use Rattle.pcfs_store.specs.Entries.{StoreEntry}
 use Rattle.pcfs_store.specs.StoreView.{StoreView}
 use Rattle.session_history.specs.declared.request.TurnRequest.{TurnRequest}
 use Rattle.session_history.specs.declared.request.TurnRequest.TheVariants.{Cite}
 use Rattle.session_history.specs.declared.reply.TurnReply.{TurnReply}
-use Rattle.session_history.specs.declared.reply.TurnReply.TheVariants as replies
+use Rattle.session_history.specs.declared.reply.TurnReply.TheVariants as turn_replies
 use Rattle.session_history.specs.declared.task.LineTask.{LineTask}
 use Rattle.session_history.specs.declared.task.LineTask.TheVariants as tasks
 use Rattle.session_history.specs.SessionState.{SessionState}
-use Rattle.session_history.specs.Turn.{StorePass, TakesTurn}
+use Rattle.session_history.specs.Turn.{StorePass, TurnPlaced}
 use Rattle.session_history.specs.Placed.{IsTold, at_once, in_a_turn, cites_none, proves_none, issues}
 use Rattle.session_history.specs.Placed as places
 use Rattle.session_history.proofs.AskingLemmas.{asks_something}
@@ -28,7 +28,7 @@ use Rattle.shared_store.specs.Turning.{pass_at}
 use Rattle.shared_store.specs.Asking.{entries_seen, PassGoesOn, HasAsked}
 use Rattle.shared_store.proofs.HistoryLemmas.{numbered_both}
 use Rattle.session_lines.specs.Replied.{HasTold, HasIssued, refuted, granted, without_memory, HasDone, HasReplied}
-use Rattle.session_lines.proofs.TaskLemmas.{cites_nothing_more, state_without_memory}
+use Rattle.session_lines.proofs.ReplyLemmas.{cites_nothing_more, state_without_memory}
 
 -- a beginning is not longer than the whole
 shorter : {A : Type 0} (xs ys : List A) → IsPrefix xs ys → length xs ≤ length ys
@@ -38,13 +38,14 @@ module _ {D : Type 0} where
   -- ---- passes
 
   pub stays : (pass : PassView (LockEntry D)) → PassGoesOn pass pass []
-  stays pass = record { lock = refl; number = refl; seen = prefix_refl pass.seen; own = sym (append-nil pass.own) }
+  stays pass = record { lock = refl; number = refl; seen = prefix_refl pass.seen; history = λ opening h. h; own = sym (append-nil pass.own) }
 
   pub goes_further : (old mid new : PassView (LockEntry D)) (given more : List StoreEntry) → PassGoesOn old mid given → PassGoesOn mid new more → PassGoesOn old new (given ++ more)
   goes_further old mid new given more one other = record {
     lock = other.lock ∙ one.lock;
     number = other.number ∙ one.number;
     seen = prefix_trans old.seen mid.seen new.seen one.seen other.seen;
+    history = λ opening h. other.history opening (one.history opening h);
     own = other.own ∙ ap (λ (l : List (ℕ × LockEntry D)). l ++ numbered more) one.own ∙ append_assoc old.own (numbered given) (numbered more) ∙ ap (λ (l : List (ℕ × LockEntry D)). old.own ++ l) (sym (numbered_both given more));
   }
 
@@ -57,7 +58,7 @@ module _ {D : Type 0} where
 
 module _ {D : Type 0} (gives : ℤ → Type 0) where
   -- a turn is not before an earlier place
-  earlier : (p : StorePass) (history : List StoreEntry) (from at : ℕ) (request : TurnRequest) (reply : TurnReply) (to : ℕ) (given : List StoreEntry) → from ≤ at → TakesTurn gives p history at request reply to given → TakesTurn gives p history from request reply to given
+  earlier : (p : StorePass) (history : List StoreEntry) (from at : ℕ) (request : TurnRequest) (reply : TurnReply) (to : ℕ) (given : List StoreEntry) → from ≤ at → TurnPlaced gives p history at request reply to given → TurnPlaced gives p history from request reply to given
   earlier p history from at request reply to given before t =
       record { before = t.before; after = t.after; parts = t.parts; not_earlier = omega (arith, before, t.not_earlier); place = t.place; turn = t.turn }
 
@@ -67,7 +68,7 @@ module _ {D : Type 0} (gives : ℤ → Type 0) where
   done_at_once old reply =
       record { given = []; goes_on = stays old; placed = λ from within. record { to = from; within = within; placed = λ opening entries begins. at_once reply } }
 
-  pub done_without_memory : (old : PassView (LockEntry D)) (task : LineTask) → HasDone gives task old old answers.NoMemory
+  pub done_without_memory : (old : PassView (LockEntry D)) (task : LineTask) → HasDone gives task old old replies.NoMemory
   done_without_memory old task =
       record { given = []; goes_on = stays old; placed = λ from within. record { to = from; within = within; placed = λ opening entries begins. places.without_memory task } }
 
@@ -80,7 +81,7 @@ module _ {D : Type 0} (gives : ℤ → Type 0) where
         placed = λ from within. record {
           to = entries_seen new;
           within = omega arith;
-          placed = λ opening entries begins. in_a_turn request t.found reply (entries_seen new) a.given (earlier (pass_at opening old.number) entries from (entries_seen old) request t.found (entries_seen new) a.given within (a.placed opening entries begins)) t.says;
+          placed = λ opening entries begins. in_a_turn request t.replied reply (entries_seen new) a.given (earlier (pass_at opening old.number) entries from (entries_seen old) request t.replied (entries_seen new) a.given within (a.placed opening entries begins)) t.says;
         };
       }
 
@@ -97,20 +98,20 @@ module _ {D : Type 0} (gives : ℤ → Type 0) where
           };
         }
 
-    module _ (cites : List CiteOf) (old mid : PassView (LockEntry D)) (a : HasAsked gives (Cite numbers) old mid (replies.Cited cites)) where
+    module _ (cites : List CiteOf) (old mid : PassView (LockEntry D)) (a : HasAsked gives (Cite numbers) old mid (turn_replies.Cited cites)) where
       none_given : a.given ≡ []
-      none_given = cites_nothing_more gives (pass_at a.root old.number) a.found numbers (replies.Cited cites) a.given a.turn
+      none_given = cites_nothing_more gives (pass_at a.root old.number) a.found numbers (turn_replies.Cited cites) a.given a.turn
 
       -- the turn for the statements, in a history that begins with what was seen after it
       cited_in : (opening : StoreView D) (entries : List StoreEntry) (from : ℕ) → from ≤ entries_seen old → IsPrefix mid.seen (lock_history opening entries) →
-          TakesTurn gives (pass_at opening old.number) entries from (Cite numbers) (replies.Cited cites) (entries_seen mid) []
+          TurnPlaced gives (pass_at opening old.number) entries from (Cite numbers) (turn_replies.Cited cites) (entries_seen mid) []
       cited_in opening entries from within begins =
-          subst (TakesTurn gives (pass_at opening old.number) entries from (Cite numbers) (replies.Cited cites) (entries_seen mid)) none_given
-          (earlier (pass_at opening old.number) entries from (entries_seen old) (Cite numbers) (replies.Cited cites) (entries_seen mid) a.given within (a.placed opening entries begins))
+          subst (TurnPlaced gives (pass_at opening old.number) entries from (Cite numbers) (turn_replies.Cited cites) (entries_seen mid)) none_given
+          (earlier (pass_at opening old.number) entries from (entries_seen old) (Cite numbers) (turn_replies.Cited cites) (entries_seen mid) a.given within (a.placed opening entries begins))
 
       by_check : (new : PassView (LockEntry D)) (reply : LineReply) → HasIssued gives cites goal proof mid new reply → HasDone gives (tasks.Proof goal numbers proof) old new reply
       by_check new _ (refuted fault same is) =
-          subst (λ (n : PassView (LockEntry D)). HasDone gives (tasks.Proof goal numbers proof) old n (answers.Unproved fault)) (sym same)
+          subst (λ (n : PassView (LockEntry D)). HasDone gives (tasks.Proof goal numbers proof) old n (replies.Unproved fault)) (sym same)
           (record {
             given = [];
             goes_on = goes_by_nothing old mid a.given none_given a.goes_on;
@@ -125,13 +126,13 @@ module _ {D : Type 0} (gives : ℤ → Type 0) where
               to = entries_seen new;
               within = omega arith;
               placed = λ opening entries begins.
-                  issues goal numbers proof cites g (entries_seen mid) t.found reply (entries_seen new) b.given
+                  issues goal numbers proof cites g (entries_seen mid) t.replied reply (entries_seen new) b.given
                   (cited_in opening entries from within (prefix_trans mid.seen new.seen (lock_history opening entries) b.goes_on.seen begins)) is
-                  (subst (λ (n : ℕ). TakesTurn gives (pass_at opening n) entries (entries_seen mid) _ t.found (entries_seen new) b.given) a.goes_on.number (b.placed opening entries begins)) t.says;
+                  (subst (λ (n : ℕ). TurnPlaced gives (pass_at opening n) entries (entries_seen mid) _ t.replied (entries_seen new) b.given) a.goes_on.number (b.placed opening entries begins)) t.says;
             };
           }
       by_check new _ (without_memory same) =
-          subst (λ (n : PassView (LockEntry D)). HasDone gives (tasks.Proof goal numbers proof) old n answers.NoMemory) (sym same)
+          subst (λ (n : PassView (LockEntry D)). HasDone gives (tasks.Proof goal numbers proof) old n replies.NoMemory) (sym same)
           (record {
             given = [];
             goes_on = goes_by_nothing old mid a.given none_given a.goes_on;
@@ -141,12 +142,12 @@ module _ {D : Type 0} (gives : ℤ → Type 0) where
           seen_more : (from : ℕ) → from ≤ entries_seen old → from ≤ entries_seen mid
           seen_more from within = let more = shorter old.seen mid.seen a.goes_on.seen in omega (arith, within, more)
 
-    pub done_proof : (cites : List CiteOf) (old mid new : PassView (LockEntry D)) (reply : LineReply) → HasAsked gives (Cite numbers) old mid (replies.Cited cites) → HasIssued gives cites goal proof mid new reply → HasDone gives (tasks.Proof goal numbers proof) old new reply
+    pub done_proof : (cites : List CiteOf) (old mid new : PassView (LockEntry D)) (reply : LineReply) → HasAsked gives (Cite numbers) old mid (turn_replies.Cited cites) → HasIssued gives cites goal proof mid new reply → HasDone gives (tasks.Proof goal numbers proof) old new reply
     done_proof cites old mid new reply a i = by_check cites old mid a new reply i
 
   -- ---- lines
 
-  pub replied_without_memory : (state : SessionState) (line : List ℕ) (old : PassView (LockEntry D)) → HasReplied gives state line old old state answers.NoMemory
+  pub replied_without_memory : (state : SessionState) (line : List ℕ) (old : PassView (LockEntry D)) → HasReplied gives state line old old state replies.NoMemory
   replied_without_memory state line old =
       let some = asks_something state line in
-      record { task = some.0; asks = some.1; after_is = state_without_memory state some.0; done = done_without_memory old some.0 }
+      record { task = some.0; is_task = some.1; after_is = state_without_memory state some.0; done = done_without_memory old some.0 }

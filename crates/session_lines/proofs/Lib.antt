@@ -1,2 +1,2 @@
-pub mod TaskLemmas
+pub mod ReplyLemmas
 pub mod DoneLemmas

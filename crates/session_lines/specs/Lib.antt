@@ -1,2 +1,2 @@
-pub mod Tasks
+pub mod Logins
 pub mod Replied

@@ -11,15 +11,15 @@ use Rattle.proof_verifier.specs.CheckedView.{checked_view}
 use Rattle.proof_verifier.specs.Verdict.{verdict}
 use Rattle.access_history.specs.declared.request.StepRequest.TheVariants.{Issue}
 use Rattle.line_wire.specs.declared.reply.LineReply.{LineReply}
-use Rattle.line_wire.specs.declared.reply.LineReply.TheVariants as answers
+use Rattle.line_wire.specs.declared.reply.LineReply.TheVariants as replies
 use Rattle.pcfs_store.specs.Entries.{StoreEntry}
 use Rattle.session_history.specs.declared.request.TurnRequest.{TurnRequest}
 use Rattle.session_history.specs.declared.request.TurnRequest.TheVariants.{Step}
 use Rattle.session_history.specs.declared.reply.TurnReply.{TurnReply}
 use Rattle.session_history.specs.declared.task.LineTask.{LineTask}
 use Rattle.session_history.specs.SessionState.{SessionState}
-use Rattle.session_history.specs.Asks.{Asks}
-use Rattle.session_history.specs.Placed.{IsTold, PlacedAs, state_after}
+use Rattle.session_history.specs.Tasks.{IsTaskOf}
+use Rattle.session_history.specs.Placed.{IsTold, LinePlaced, state_after}
 use Rattle.shared_store.specs.declared.entry.LockEntry.{LockEntry}
 use Rattle.shared_store.specs.Turning.{pass_at}
 use Rattle.shared_store.specs.Asking.{entries_seen, PassGoesOn, InEachHistory, HasAsked}
@@ -27,21 +27,21 @@ use Rattle.shared_store.specs.Asking.{entries_seen, PassGoesOn, InEachHistory, H
 module _ {D : Type 0} (gives : ℤ → Type 0) where
   -- the pass took a turn, and this is told of it
   pub record HasTold (request : TurnRequest) (old new : PassView (LockEntry D)) (reply : LineReply) : Type 0 where
-    pub found : TurnReply
-    pub asked : HasAsked gives request old new found
-    pub says : IsTold found reply
+    pub replied : TurnReply
+    pub asked : HasAsked gives request old new replied
+    pub says : IsTold replied reply
 
   -- The proof was checked from these statements: it has a fault; or it grants its goal, and the pass took a turn to issue that; or memory ran out.
   pub data HasIssued (cites : List Cite) (goal : Goal) (proof : ProofView) (old new : PassView (LockEntry D)) : LineReply → Type 0 where
-    refuted : (fault : CheckFault) → new ≡ old → verdict (statements_of cites) goal proof ≡ Err fault → HasIssued cites goal proof old new (answers.Unproved fault)
+    refuted : (fault : CheckFault) → new ≡ old → verdict (statements_of cites) goal proof ≡ Err fault → HasIssued cites goal proof old new (replies.Unproved fault)
     granted : (g : GrantView) (reply : LineReply) → verdict (statements_of cites) goal proof ≡ Ok g → HasTold (Step (Issue (checked_view cites goal proof g))) old new reply → HasIssued cites goal proof old new reply
-    without_memory : new ≡ old → HasIssued cites goal proof old new answers.NoMemory
+    without_memory : new ≡ old → HasIssued cites goal proof old new replies.NoMemory
 
   -- where a task is placed in each history that begins with what the pass has seen, from a place up to which it had seen all before
   pub record IsPlacedFrom (task : LineTask) (old new : PassView (LockEntry D)) (reply : LineReply) (given : List StoreEntry) (from : ℕ) : Type 0 where
     pub to : ℕ
     pub within : to ≤ entries_seen new
-    pub placed : InEachHistory new (λ opening entries. PlacedAs gives (pass_at opening old.number) entries from task reply to given)
+    pub placed : InEachHistory new (λ opening entries. LinePlaced gives (pass_at opening old.number) entries from task reply to given)
 
   -- the task was done: the pass goes on, and the reply is placed
   pub record HasDone (task : LineTask) (old new : PassView (LockEntry D)) (reply : LineReply) : Type 0 where
@@ -52,6 +52,6 @@ module _ {D : Type 0} (gives : ℤ → Type 0) where
   -- The line was answered: it asks for a task, which was done, and the session is in the state after it.
   pub record HasReplied (state : SessionState) (line : List ℕ) (old new : PassView (LockEntry D)) (after : SessionState) (reply : LineReply) : Type 0 where
     pub task : LineTask
-    pub asks : Asks state line task
+    pub is_task : IsTaskOf state line task
     pub after_is : after ≡ state_after state task reply
     pub done : HasDone task old new reply

@@ -1,8 +1,9 @@
 //! A line of a session, and its reply.
 
-ghost use Rattle.std.specs.Prelude.{◌≡◌, ◌≤◌, length};
+ghost use Rattle.std.specs.Prelude.{◌≡◌};
 ghost use Rattle.session_history.specs.Turn.{IsTurnFormed};
-ghost use Rattle.session_lines.specs.Tasks.{IsSingle, caller_after};
+ghost use Rattle.session_history.specs.Tasks.{IsSingle};
+ghost use Rattle.session_lines.specs.Logins.{caller_after};
 ghost use Rattle.session_lines.specs.Replied.{HasTold, HasReplied};
 
 use crate::checker::Checker;
@@ -57,8 +58,7 @@ pub fn answer_line<R: Wait, D: Disk, C: Clock, K: Checker>(
     line: &[u8],
     checker: &mut K,
 ) -> LineReply
-    requires lock { pass.old.lock ≡ lock.now }
-    requires few { length line.now ≤ 262144 }
+    requires { pass.old.lock ≡ lock.now }
     ensures { HasReplied (C.gives clock.now) (record { nonce = nonce.now; caller = caller.old }) line.now pass.old pass.new (record { nonce = nonce.now; caller = caller.new }) result }
 {
     match task_of(alloc, nonce, caller, line) {

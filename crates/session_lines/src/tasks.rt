@@ -1,12 +1,11 @@
 //! How a line is to be answered.
 
-ghost use Rattle.std.specs.Prelude.{◌≡◌, ◌≤◌, length, map, Some, None, IfOk, IsTrue};
+ghost use Rattle.std.specs.Prelude.{◌≡◌, map, Some, None, IfOk, IsTrue};
 ghost use Rattle.bl_syntax.specs.Names.{is_principal_name};
 ghost use Rattle.std.specs.List.{AllByRecursion};
 ghost use Rattle.line_words.specs.declared.procap_word.ProcapWord.TheVariants as words;
 ghost use Rattle.line_forms.specs.Said.{IsWrittenOut, IsOfSession, IsWithin};
-ghost use Rattle.session_history.specs.Asks.{IsUserTask, Asks};
-ghost use Rattle.session_lines.specs.Tasks.{IsTaskFormed};
+ghost use Rattle.session_history.specs.Tasks.{IsUserTask, IsTaskOf, IsTaskFormed};
 
 use access_history::{Procaps, StepRequest};
 use bl_syntax::{NoMemory, Principal};
@@ -73,8 +72,7 @@ fn user_line_task(
     who: Principal,
     line: &[u8],
 ) -> Result<LineTask, NoMemory>
-    requires { length line.now ≤ 262144 }
-    ensures ok { IfOk result (λ task. Asks (record { nonce = nonce.now; caller = Some who }) line.now task) }
+    ensures ok { IfOk result (λ task. IsTaskOf (record { nonce = nonce.now; caller = Some who }) line.now task) }
     ensures formed { IfOk result IsTaskFormed }
 {
     match read_line_in(alloc, &Mode::User(who), line) {
@@ -91,8 +89,7 @@ fn user_line_task(
 
 // How a line is to be answered before a login.
 fn guest_line_task(alloc: Global, nonce: &[u8; 16], line: &[u8]) -> Result<LineTask, NoMemory>
-    requires { length line.now ≤ 262144 }
-    ensures ok { IfOk result (λ task. Asks (record { nonce = nonce.now; caller = None }) line.now task) }
+    ensures ok { IfOk result (λ task. IsTaskOf (record { nonce = nonce.now; caller = None }) line.now task) }
     ensures formed { IfOk result IsTaskFormed }
 {
     match read_guest_line(alloc, line) {
@@ -112,8 +109,7 @@ pub fn task_of(
     caller: &Option<Principal>,
     line: &[u8],
 ) -> Result<LineTask, NoMemory>
-    requires { length line.now ≤ 262144 }
-    ensures ok { IfOk result (λ task. Asks (record { nonce = nonce.now; caller = caller.now }) line.now task) }
+    ensures ok { IfOk result (λ task. IsTaskOf (record { nonce = nonce.now; caller = caller.now }) line.now task) }
     ensures formed { IfOk result IsTaskFormed }
 {
     match caller {

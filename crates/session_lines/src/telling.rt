@@ -3,7 +3,8 @@
 ghost use Rattle.std.specs.Prelude.{◌≡◌};
 ghost use Rattle.session_history.specs.Placed.{IsTold, is_done};
 ghost use Rattle.session_history.specs.Turn.{IsTurnFormed};
-ghost use Rattle.session_lines.specs.Tasks.{IsTellable, IsSingle, login_name};
+ghost use Rattle.session_history.specs.Tasks.{IsSingle};
+ghost use Rattle.session_lines.specs.Logins.{IsTellable, login_name};
 ghost use Rattle.session_lines.specs.Replied.{HasTold};
 
 use bl_syntax::Principal;

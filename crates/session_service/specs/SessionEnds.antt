@@ -5,12 +5,13 @@ use Rattle.pcfs_ports.specs.Told.{with_back, ReadsToEnd, TakesFirst, HoldsSome}
 use Rattle.line_text.specs.Lines.{lines_of}
 use Rattle.line_framer.specs.Feeding.{AreShort}
 use Rattle.line_wire.specs.declared.reply.LineReply.{LineReply}
+use Rattle.line_wire.specs.declared.reply.LineReply.TheVariants.{TooLong}
 use Rattle.line_wire.specs.ReplyText.{output_of}
 use Rattle.tree_lock.specs.Seen.{PassView}
 use Rattle.pcfs_store.specs.Entries.{StoreEntry}
 use Rattle.session_history.specs.Output.{session_output}
 use Rattle.session_history.specs.SessionState.{SessionState, guest_with}
-use Rattle.session_history.specs.Placed.{Placed}
+use Rattle.session_history.specs.Placed.{LinesPlaced}
 use Rattle.shared_store.specs.declared.entry.LockEntry.{LockEntry}
 use Rattle.shared_store.specs.Turning.{pass_at}
 use Rattle.shared_store.specs.Asking.{entries_seen, PassGoesOn, InEachHistory}
@@ -30,17 +31,17 @@ module _ {D : Type 0} (gives : ℤ → Type 0) (nonce : List ℕ) where
     pub to : ℕ
     pub given : List StoreEntry
     pub goes_on : PassGoesOn old new given
-    pub placed : InEachHistory new (λ opening entries. Placed gives (pass_at opening old.number) entries (guest_with nonce) (entries_seen old) lines answers end to given)
+    pub placed : InEachHistory new (λ opening entries. LinesPlaced gives (pass_at opening old.number) entries (guest_with nonce) (entries_seen old) lines answers end to given)
 
   -- how far a session is: it answered lines that were taken, each with its end; or the input was read to its end, and it answered all its lines, of which none is too long
   pub data IsUnderWay (old new : PassView (LockEntry D)) (before after : Streams) (answers : List LineReply) : Type 0 where
     while_reading : (lines : List (List ℕ)) → AreTaken before.left after.left lines → Speaks old new lines answers → IsUnderWay old new before after answers
     all_read : (bytes : List ℕ) → ReadsToEnd before.left after.left bytes → AreShort bytes → Speaks old new (lines_of bytes) answers → IsUnderWay old new before after answers
 
-  -- The replies of a session that ends so: to all lines of the input; to all lines that were taken with their ends; or to these and the line after them, which is too long.
+  -- What a session replies that ends so: to all lines of the input; to all lines that were taken with their ends; or to these, and that the line after them is too long, which is the last reply.
   pub data SessionReplies (old new : PassView (LockEntry D)) (before after : Streams) : SessionEnd → List LineReply → Type 0 where
     done : (bytes : List ℕ) (answers : List LineReply) → ReadsToEnd before.left after.left bytes → AreShort bytes → Speaks old new (lines_of bytes) answers → SessionReplies old new before after Done answers
-    line_too_long : (lines : List (List ℕ)) (answers : List LineReply) (cut : IsCutAtLong before.left after.left lines) → Speaks old new (lines ++ cut.has_long.long ∷ []) answers → SessionReplies old new before after LineTooLong answers
+    line_too_long : (lines : List (List ℕ)) (answers : List LineReply) → IsCutAtLong before.left after.left lines → Speaks old new lines answers → SessionReplies old new before after LineTooLong (answers ++ TooLong ∷ [])
     read_fault : (lines : List (List ℕ)) (answers : List LineReply) → HasRisen before.read_faults after.read_faults → AreAllTaken before.left after.left lines → Speaks old new lines answers → SessionReplies old new before after ReadFault answers
     input_too_long : (lines : List (List ℕ)) (answers : List LineReply) → TakesFirst 1073741824 before.left after.left → AreAllTaken before.left after.left lines → Speaks old new lines answers → SessionReplies old new before after InputTooLong answers
 

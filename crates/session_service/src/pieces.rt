@@ -1,19 +1,18 @@
 //! Pieces of a session's input, and how a session ends at them.
 
-ghost use Rattle.std.specs.Prelude.{◌≡◌, ◌≤◌, [], ℕ, List, false, OnOk, IfErr, IsErrOf};
+ghost use Rattle.std.specs.Prelude.{◌≡◌, ◌≤◌, ℕ, List, false, OnOk, IfErr, IsErrOf};
 ghost use Rattle.std.specs.List.{AllByRecursion};
 ghost use Rattle.line_framer.specs.Framing.{ended, IsLine};
 ghost use Rattle.line_text.specs.Words.{HasNo};
 ghost use Rattle.pcfs_ports.specs.Faults.{HasRisen};
 ghost use Rattle.session_service.specs.Spoken.{SpeaksPiece, EndsAtLong, EndsAtPiece, EndsAtLast};
 
-use crate::lines::{speak, speak_held, speak_out};
+use crate::lines::{speak, speak_held, tell};
 use crate::session_end::{SessionEnd, unsent_end};
-use bl_syntax::{Bytes, Principal};
+use bl_syntax::Principal;
 use line_framer::{FeedFault, Framer};
 use line_wire::LineReply;
 use pcfs_ports::{Clock, Disk, Sink};
-use pcfs_session::{flush, send_all};
 use session_lines::Checker;
 use shared_store::OpenedStore;
 use std::alloc::Global;
@@ -31,11 +30,9 @@ fn end_at_long_line<R: Wait, D: Disk, C: Clock, K: Checker, O: Sink>(
     caller: &mut Option<Principal>,
     framer: &mut Framer,
     checker: &mut K,
-    collected: &mut Bytes,
     output: &mut O,
 ) -> SessionEnd
-    requires lock { pass.old.lock ≡ lock.now }
-    requires nothing_waits { collected.old ≡ [] }
+    requires { pass.old.lock ≡ lock.now }
     ensures ends { (lines : List (List ℕ)) → AllByRecursion IsLine lines → framer.old.left ≡ ended lines →
         EndsAtLong (C.gives clock.now) nonce.now lines caller.old pass.old pass.new caller.new (O.held output.old) (O.held output.new) result }
     ensures risen { (result ≡ SessionEnd.WriteFault) → HasRisen (O.faults output.old) (O.faults output.new) }
@@ -43,18 +40,18 @@ fn end_at_long_line<R: Wait, D: Disk, C: Clock, K: Checker, O: Sink>(
     ensures same_lock { pass.new.lock ≡ lock.now }
 {
     match speak_held(
-        rt, alloc, lock, pass, clock, nonce, caller, framer, checker, collected, output,
+        rt, alloc, lock, pass, clock, nonce, caller, framer, checker, output,
     ) {
         Ok(()) => {}
         Err(fault) => return unsent_end(fault),
     }
-    match send_all(alloc, collected, &LineReply::TooLong, output) {
+    match tell(alloc, &LineReply::TooLong, output) {
         Ok(()) => SessionEnd::LineTooLong,
         Err(fault) => unsent_end(fault),
     }
 }
 
-/// Answers the lines that a piece ends, and writes all replies; or returns how the session ends.
+/// Answers the lines that a piece ends, or returns how the session ends.
 pub fn speak_piece<R: Wait, D: Disk, C: Clock, K: Checker, O: Sink>(
     rt: &R,
     alloc: Global,
@@ -66,15 +63,12 @@ pub fn speak_piece<R: Wait, D: Disk, C: Clock, K: Checker, O: Sink>(
     framer: &mut Framer,
     piece: &[u8],
     checker: &mut K,
-    collected: &mut Bytes,
     output: &mut O,
 ) -> Result<(), SessionEnd>
     requires lock { pass.old.lock ≡ lock.now }
     requires not_long { framer.old.is_long ≡ false }
-    requires nothing_waits { collected.old ≡ [] }
     ensures ok { OnOk result (SpeaksPiece (C.gives clock.now) nonce.now framer.old.left piece.now framer.new.left caller.old pass.old pass.new caller.new (O.held output.old) (O.held output.new)) }
     ensures stays_so { OnOk result (framer.new.is_long ≡ false) }
-    ensures empty { OnOk result (collected.new ≡ []) }
     ensures ends { IfErr result (EndsAtPiece (C.gives clock.now) nonce.now framer.old.left piece.now caller.old pass.old pass.new caller.new (O.held output.old) (O.held output.new)) }
     ensures risen { IsErrOf result SessionEnd.WriteFault → HasRisen (O.faults output.old) (O.faults output.new) }
     ensures never_falls { O.faults output.old ≤ O.faults output.new }
@@ -84,20 +78,20 @@ pub fn speak_piece<R: Wait, D: Disk, C: Clock, K: Checker, O: Sink>(
         Ok(()) => {}
         Err(FeedFault::TooLong) => {
             return Err(end_at_long_line(
-                rt, alloc, lock, pass, clock, nonce, caller, framer, checker, collected, output,
+                rt, alloc, lock, pass, clock, nonce, caller, framer, checker, output,
             ));
         }
         Err(FeedFault::NoMemory) => return Err(SessionEnd::NoMemory),
     }
-    match speak_out(
-        rt, alloc, lock, pass, clock, nonce, caller, framer, checker, collected, output,
+    match speak_held(
+        rt, alloc, lock, pass, clock, nonce, caller, framer, checker, output,
     ) {
         Ok(()) => Ok(()),
         Err(fault) => Err(unsent_end(fault)),
     }
 }
 
-/// Answers the last line, if the input ended without an end of it, writes all replies, and returns how the session ends.
+/// Answers the last line, if the input ended without an end of it, and returns how the session ends.
 pub fn speak_last<R: Wait, D: Disk, C: Clock, K: Checker, O: Sink>(
     rt: &R,
     alloc: Global,
@@ -108,27 +102,22 @@ pub fn speak_last<R: Wait, D: Disk, C: Clock, K: Checker, O: Sink>(
     caller: &mut Option<Principal>,
     framer: &Framer,
     checker: &mut K,
-    collected: &mut Bytes,
     output: &mut O,
 ) -> SessionEnd
     requires lock { pass.old.lock ≡ lock.now }
     requires one { HasNo 10 framer.now.left }
-    requires nothing_waits { collected.old ≡ [] }
     ensures ends { EndsAtLast (C.gives clock.now) nonce.now framer.now.left caller.old pass.old pass.new caller.new (O.held output.old) (O.held output.new) result }
     ensures risen { (result ≡ SessionEnd.WriteFault) → HasRisen (O.faults output.old) (O.faults output.new) }
     ensures never_falls { O.faults output.old ≤ O.faults output.new }
     ensures same_lock { pass.new.lock ≡ lock.now }
 {
-    if let Some(line) = framer.last_line() {
-        match speak(
-            rt, alloc, lock, pass, clock, nonce, caller, line, checker, collected, output,
+    match framer.last_line() {
+        None => SessionEnd::Done,
+        Some(line) => match speak(
+            rt, alloc, lock, pass, clock, nonce, caller, line, checker, output,
         ) {
-            Ok(()) => {}
-            Err(fault) => return unsent_end(fault),
-        }
-    }
-    match flush(collected, output) {
-        Ok(()) => SessionEnd::Done,
-        Err(_) => SessionEnd::WriteFault,
+            Ok(()) => SessionEnd::Done,
+            Err(fault) => unsent_end(fault),
+        },
     }
 }

@@ -8,7 +8,7 @@ ghost use Rattle.session_service.specs.SessionEnds.{SessionEnds, GoesOnToEnd};
 use crate::greeting::greet;
 use crate::pieces::{speak_last, speak_piece};
 use crate::session_end::{SessionEnd, unsent_end};
-use bl_syntax::{Bytes, Principal};
+use bl_syntax::Principal;
 use line_framer::Framer;
 use pcfs_ports::{Clock, Disk, Failed, INPUT_LIMIT, Sink, Source};
 use session_lines::{Checker, PlainChecker};
@@ -60,7 +60,6 @@ fn speak_pieces<R: Wait, I: Source, O: Sink, D: Disk, C: Clock, K: Checker>(
         Err(_) => return SessionEnd::NoMemory,
     };
     let mut framer = Framer::new(alloc);
-    let mut collected = Bytes::new(alloc);
     let mut caller: Option<Principal> = None;
     let mut taken: usize = 0;
     while taken < INPUT_LIMIT {
@@ -79,7 +78,6 @@ fn speak_pieces<R: Wait, I: Source, O: Sink, D: Disk, C: Clock, K: Checker>(
                 &mut caller,
                 &framer,
                 checker,
-                &mut collected,
                 output,
             );
         }
@@ -94,7 +92,6 @@ fn speak_pieces<R: Wait, I: Source, O: Sink, D: Disk, C: Clock, K: Checker>(
             &mut framer,
             &piece[..count],
             checker,
-            &mut collected,
             output,
         ) {
             Ok(()) => {}

@@ -18,7 +18,7 @@ use Rattle.shared_store.specs.declared.entry.LockEntry.TheVariants.{Opened}
 use Rattle.shared_store.specs.OpenedView.{OpenedView}
 use Rattle.shared_store.specs.LockHistory.{numbered_entry, numbered, lock_history, lock_entries, bare}
 use Rattle.shared_store.specs.Turning.{pass_at, HasTurned}
-use Rattle.shared_store.specs.Asking.{HasAsked}
+use Rattle.shared_store.specs.Asking.{HasHistory, HasAsked}
 use Rattle.shared_store.proofs.HistoryLemmas.{numbered_both, all_numbered, opened_alike, entries_after}
 use Rattle.shared_store.proofs.TurningLemmas.{turn_shown}
 
@@ -56,6 +56,13 @@ module _ {D : Type 0} where
         let same : length (numbered {D} (entries ++ given)) ≡ length (entries ++ given) = length-map (entries ++ given) numbered_entry in
         omega (arith, long, same, length-append entries given)
 
+    -- what has been seen of a store is of the same one later
+    same_store : (old new : PassView (LockEntry D)) (opening first : StoreView D) (entries : List StoreEntry) → IsPrefix old.seen new.seen → new.seen ≡ lock_history first entries → HasHistory opening old → HasHistory opening new
+    same_store old new opening first entries grew seen h =
+        let longer = subst (λ (l : List (ℕ × LockEntry D)). IsPrefix (lock_history opening h.entries) l) seen (subst (λ (l : List (ℕ × LockEntry D)). IsPrefix l new.seen) h.seen_is grew) in
+        let same : opening ≡ first = opened_alike opening first h.entries entries longer in
+        record { entries = entries; seen_is = seen ∙ ap (λ (o : StoreView D). lock_history o entries) (sym same) }
+
     pub asked : (old new : PassView (LockEntry D)) (reply : TurnReply) → Turned lock_entries Done old new reply → HasAsked gives request old new reply
     asked old new reply t =
         let w = t.worked in
@@ -65,11 +72,19 @@ module _ {D : Type 0} where
         let both : lock_history first (found ++ w.given) ≡ lock_history first found ++ numbered w.given = ap (λ (l : List (ℕ × LockEntry D)). (0, Opened first) ∷ l) (numbered_both found w.given) in
         let added : t.added ≡ numbered w.given = append_cancel_left (lock_history first found) t.added (numbered w.given) (sym t.left ∙ left ∙ both) in
         let seen : new.seen ≡ lock_history first (found ++ w.given) = t.seen ∙ left in
+        let grew : IsPrefix old.seen new.seen = seen_grew lock_entries Done old new reply t in
         record {
           given = w.given;
-          goes_on = record { lock = t.lock; number = t.number; seen = seen_grew lock_entries Done old new reply t; own = t.own ∙ ap (λ (l : List (ℕ × LockEntry D)). old.own ++ l) added };
+          goes_on = record {
+            lock = t.lock;
+            number = t.number;
+            seen = grew;
+            history = λ opening h. same_store old new opening first (found ++ w.given) grew seen h;
+            own = t.own ∙ ap (λ (l : List (ℕ × LockEntry D)). old.own ++ l) added;
+          };
           root = first;
           found = found;
+          seen_is = seen;
           turn = w.turn;
           placed = λ opening entries begins.
               let longer = subst (λ (l : List (ℕ × LockEntry D)). IsPrefix l (lock_history opening entries)) seen begins in

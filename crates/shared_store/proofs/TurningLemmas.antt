@@ -26,7 +26,7 @@ use Rattle.pcfs_store.proofs.EntryLemmas.{events-entries, used-entries}
 use Rattle.session_history.specs.declared.request.TurnRequest.{TurnRequest}
 use Rattle.session_history.specs.declared.request.TurnRequest.TheVariants as requests
 use Rattle.session_history.specs.declared.reply.TurnReply.{TurnReply}
-use Rattle.session_history.specs.declared.reply.TurnReply.TheVariants as replies
+use Rattle.session_history.specs.declared.reply.TurnReply.TheVariants as turn_replies
 use Rattle.session_history.specs.Passes.{has_stop}
 use Rattle.session_history.specs.Turn.{StorePass, authority_of_root, IsFullAfter, Turn}
 use Rattle.session_history.specs.Turn as turns
@@ -91,25 +91,25 @@ module _ {D : Type 0} (clock : D → ℕ) (left_since : D → ℕ → List ℕ �
     given = [];
     opening_stays = refl;
     grows = sym (append-nil (entries_of now));
-    turn = turns.answered moment (replies.Step reply) (runs now (ap is_some running)) refl (turns.steps request reply None (there pass moment request reply None answers));
+    turn = turns.answered moment (turn_replies.Step reply) (runs now (ap is_some running)) refl (turns.steps request reply None (there pass moment request reply None answers));
   }
   by_step _ pass moment request _ store (steps.kept reply event active running answers room) = record {
     given = happened event ∷ [];
     opening_stays = refl;
     grows = event_more now.events event now.stop running;
-    turn = turns.kept moment (replies.Step reply) event (runs now (ap is_some running)) refl (turns.steps request reply (Some event) (there pass moment request reply (Some event) answers)) (λ is_full. room (full_here event store is_full));
+    turn = turns.kept moment (turn_replies.Step reply) event (runs now (ap is_some running)) refl (turns.steps request reply (Some event) (there pass moment request reply (Some event) answers)) (λ is_full. room (full_here event store is_full));
   }
   by_step _ pass moment request _ store (steps.full reply event running answers is_full) = record {
     given = [];
     opening_stays = refl;
     grows = sym (append-nil (entries_of now));
-    turn = turns.full moment (replies.Step reply) event (runs now (ap is_some running)) refl (turns.steps request reply (Some event) (there pass moment request reply (Some event) answers)) (full_there event store is_full);
+    turn = turns.full moment (turn_replies.Step reply) event (runs now (ap is_some running)) refl (turns.steps request reply (Some event) (there pass moment request reply (Some event) answers)) (full_there event store is_full);
   }
   by_step _ pass moment request _ store (steps.failed reply event active running answers room risen) = record {
     given = stopped pass ∷ [];
     opening_stays = refl;
     grows = stop_more now.events now.stop pass running;
-    turn = turns.failed moment (replies.Step reply) event (runs now (ap is_some running)) refl (turns.steps request reply (Some event) (there pass moment request reply (Some event) answers)) (λ is_full. room (full_here event store is_full));
+    turn = turns.failed moment (turn_replies.Step reply) event (runs now (ap is_some running)) refl (turns.steps request reply (Some event) (there pass moment request reply (Some event) answers)) (λ is_full. room (full_here event store is_full));
   }
   by_step _ pass moment request _ store (steps.stopped earlier is) = record {
     given = [];
@@ -123,30 +123,30 @@ module _ {D : Type 0} (clock : D → ℕ) (left_since : D → ℕ → List ℕ �
   abbrev Looks : TurnRequest → TurnReply → Type 0
   Looks request reply = (pass : ℕ) (moment : ℤ) → Turn (λ m. m ≡ moment) (pass_at opening pass) (entries_of now) request reply []
 
-  pub look_stopped : (request : TurnRequest) → is_some now.stop ≡ true → Looks request replies.Stopped
+  pub look_stopped : (request : TurnRequest) → is_some now.stop ≡ true → Looks request turn_replies.Stopped
   look_stopped request stop pass moment = turns.was_stopped (stands now stop)
 
-  pub look_no_memory : (request : TurnRequest) → Looks request replies.NoMemory
+  pub look_no_memory : (request : TurnRequest) → Looks request turn_replies.NoMemory
   look_no_memory request pass moment = turns.without_memory
 
-  pub look_cited : (numbers : List ℕ) (cited : List Cite) → is_some now.stop ≡ false → AreFound (sayings (replay now.base now.events).statements) numbers cited → Looks (requests.Cite numbers) (replies.Cited cited)
+  pub look_cited : (numbers : List ℕ) (cited : List Cite) → is_some now.stop ≡ false → AreFound (sayings (replay now.base now.events).statements) numbers cited → Looks (requests.Cite numbers) (turn_replies.Cited cited)
   look_cited numbers cited running found pass moment =
-      turns.answered moment (replies.Cited cited) (runs now running) refl (turns.cites numbers cited (subst (λ (s : BaseView). AreFound (sayings s.statements) numbers cited) (sym state_is) found))
+      turns.answered moment (turn_replies.Cited cited) (runs now running) refl (turns.cites numbers cited (subst (λ (s : BaseView). AreFound (sayings s.statements) numbers cited) (sym state_is) found))
 
-  pub look_absent : (numbers : List ℕ) (number : ℕ) → is_some now.stop ≡ false → IsAbsent (sayings (replay now.base now.events).statements) numbers number → Looks (requests.Cite numbers) (replies.Step (Absent number))
+  pub look_absent : (numbers : List ℕ) (number : ℕ) → is_some now.stop ≡ false → IsAbsent (sayings (replay now.base now.events).statements) numbers number → Looks (requests.Cite numbers) (turn_replies.Step (Absent number))
   look_absent numbers number running absent pass moment =
-      turns.answered moment (replies.Step (Absent number)) (runs now running) refl (turns.cites_none numbers number (subst (λ (s : BaseView). IsAbsent (sayings s.statements) numbers number) (sym state_is) absent))
+      turns.answered moment (turn_replies.Step (Absent number)) (runs now running) refl (turns.cites_none numbers number (subst (λ (s : BaseView). IsAbsent (sayings s.statements) numbers number) (sym state_is) absent))
 
   accepted_there : (who nonce signature : List ℕ) (accepted : Bool) → is_accepted now.ring who (login_message who nonce) signature ≡ accepted → is_accepted (root_of opening).ring who (login_message who nonce) signature ≡ accepted
   accepted_there who nonce signature accepted is = ap (λ (r : List KeyView). is_accepted r who (login_message who nonce) signature) (sym g.ring_stays) ∙ is
 
-  pub look_logged_in : (who nonce signature : List ℕ) → is_some now.stop ≡ false → is_accepted now.ring who (login_message who nonce) signature ≡ true → Looks (requests.Login who nonce signature) replies.LoggedIn
+  pub look_logged_in : (who nonce signature : List ℕ) → is_some now.stop ≡ false → is_accepted now.ring who (login_message who nonce) signature ≡ true → Looks (requests.Login who nonce signature) turn_replies.LoggedIn
   look_logged_in who nonce signature running is pass moment =
-      turns.answered moment replies.LoggedIn (runs now running) refl (turns.logs_in who nonce signature (accepted_there who nonce signature true is))
+      turns.answered moment turn_replies.LoggedIn (runs now running) refl (turns.logs_in who nonce signature (accepted_there who nonce signature true is))
 
-  pub look_rejected : (who nonce signature : List ℕ) → is_some now.stop ≡ false → is_accepted now.ring who (login_message who nonce) signature ≡ false → Looks (requests.Login who nonce signature) (replies.Step (Rejected BadSignature))
+  pub look_rejected : (who nonce signature : List ℕ) → is_some now.stop ≡ false → is_accepted now.ring who (login_message who nonce) signature ≡ false → Looks (requests.Login who nonce signature) (turn_replies.Step (Rejected BadSignature))
   look_rejected who nonce signature running is pass moment =
-      turns.answered moment (replies.Step (Rejected BadSignature)) (runs now running) refl (turns.rejects who nonce signature (accepted_there who nonce signature false is))
+      turns.answered moment (turn_replies.Step (Rejected BadSignature)) (runs now running) refl (turns.rejects who nonce signature (accepted_there who nonce signature false is))
 
 pub turned_by_step : {D : Type 0} (clock : D → ℕ) (left_since : D → ℕ → List ℕ → Type 0) (image : D → Option (List ℕ)) (faults : D → ℕ) (opening old new : StoreView D) (pass : ℕ) (moment : ℤ) (request : StepRequest) (reply : StoreReply) (told : TurnReply) →
     HasGoneOn clock left_since image faults opening old → IsStore old → Steps faults old pass moment request reply new → told ≡ turn_reply reply →

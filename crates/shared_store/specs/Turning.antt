@@ -6,16 +6,16 @@ use Rattle.pcfs_store.specs.Entries.{StoreEntry, root_of, entries_of}
 use Rattle.pcfs_store.specs.StoreView.{StoreView}
 use Rattle.session_history.specs.declared.request.TurnRequest.{TurnRequest}
 use Rattle.session_history.specs.declared.reply.TurnReply.{TurnReply}
-use Rattle.session_history.specs.declared.reply.TurnReply.TheVariants as replies
+use Rattle.session_history.specs.declared.reply.TurnReply.TheVariants as turn_replies
 use Rattle.session_history.specs.Turn.{StorePass, Turn}
 use Rattle.shared_store.specs.OpenedView.{OpenedView}
 
 -- what a turn replies for which the store says this
 abbrev pub turn_reply : StoreReply → TurnReply
-turn_reply (stores.Step reply) = replies.Step reply
-turn_reply stores.Full = replies.Full
-turn_reply stores.Stopped = replies.Stopped
-turn_reply stores.NoMemory = replies.NoMemory
+turn_reply (stores.Step reply) = turn_replies.Step reply
+turn_reply stores.Full = turn_replies.Full
+turn_reply stores.Stopped = turn_replies.Stopped
+turn_reply stores.NoMemory = turn_replies.NoMemory
 
 -- the pass of this number at a store that was opened so
 abbrev pub pass_at : {D : Type 0} → StoreView D → ℕ → StorePass

@@ -1,5 +1,7 @@
 -- How a line of a session is to be answered: at once, in a turn, or as a proof (this project's own). It is read in the mode of who is logged in; before a login every line that is in its grammar is answered that nobody is, but a login.
-use Rattle.std.specs.Prelude.{◌≡◌, ◌<◌, ◌≤◌, ℕ, List, length, map, Option, Some, None}
+use Rattle.std.specs.Prelude.{◌≡◌, ℕ, List, map, Option, Some, None, IsTrue}
+use Rattle.bl_syntax.specs.Citable.{AreCitable}
+use Rattle.bl_syntax.specs.Names.{is_principal_name}
 use Rattle.bl_syntax.specs.declared.grant.Goal.{Goal}
 use Rattle.procap.specs.declared.procap.Procap.{Procap as Sealed}
 use Rattle.access_history.specs.declared.request.StepRequest.TheVariants as steps
@@ -11,9 +13,11 @@ use Rattle.line_forms.specs.declared.command.Command.TheVariants.{At, As, Regist
 use Rattle.line_forms.specs.declared.fault.LineFault.{LineFault}
 use Rattle.line_forms.specs.Lines.{IsLineIn, IsLineFaultIn}
 use Rattle.line_wire.specs.declared.reply.LineReply.TheVariants as replies
-use Rattle.session_history.specs.declared.request.TurnRequest.TheVariants.{Step, Login}
+use Rattle.session_history.specs.declared.request.TurnRequest.{TurnRequest}
+use Rattle.session_history.specs.declared.request.TurnRequest.TheVariants.{Step, Cite, Login}
 use Rattle.session_history.specs.declared.task.LineTask.{LineTask}
 use Rattle.session_history.specs.declared.task.LineTask.TheVariants as tasks
+use Rattle.session_history.specs.Turn.{IsTurnFormed}
 use Rattle.session_history.specs.SessionState.{SessionState, mode_of}
 
 -- How a command of a user is to be answered: in one turn, or as a proof. A procap is shown to whom it names. A line of a session brings its signature and its procaps themselves, and sets neither clock nor caller, so other commands are
@@ -40,8 +44,24 @@ IsReadTask s (lines.Login who signature) task = task ≡ tasks.Turn (Login who s
 IsReadTask s (lines.Statement statement) task = ⊥
 IsReadTask s (lines.Goal goal proof) task = ⊥
 
--- How the bytes of a line are to be answered in a session: the line is too long; it has a first fault; or it is read.
-pub data Asks (s : SessionState) (line : List ℕ) : LineTask → Type 0 where
-  too_long : 262144 < length line → Asks s line (tasks.Reply replies.TooLong)
-  faulty : (fault : LineFault) → length line ≤ 262144 → IsLineFaultIn (mode_of s) line fault → Asks s line (tasks.Reply (replies.Faulty fault))
-  read : (said : Line) (task : LineTask) → length line ≤ 262144 → IsLineIn (mode_of s) line said → IsReadTask s said task → Asks s line task
+-- How the bytes of a line are to be answered in a session: the line has a first fault, or it is read.
+pub data IsTaskOf (s : SessionState) (line : List ℕ) : LineTask → Type 0 where
+  faulty : (fault : LineFault) → IsLineFaultIn (mode_of s) line fault → IsTaskOf s line (tasks.Reply (replies.Faulty fault))
+  read : (said : Line) (task : LineTask) → IsLineIn (mode_of s) line said → IsReadTask s said task → IsTaskOf s line task
+
+-- a turn that is a line's only one: it asks for no statements
+abbrev pub IsSingle : TurnRequest → Type 0
+IsSingle (Step request) = Unit {0}
+IsSingle (Cite numbers) = ⊥
+IsSingle (Login who nonce signature) = Unit {0}
+
+-- what a task asks may be asked
+abbrev pub IsTaskFormed : LineTask → Type 0
+IsTaskFormed (tasks.Reply reply) = Unit {0}
+IsTaskFormed (tasks.Turn request) = IsTurnFormed request × IsSingle request
+IsTaskFormed (tasks.Proof goal numbers proof) = AreCitable numbers
+
+-- who is logged in has a name
+abbrev pub IsNamed : Option (List ℕ) → Type 0
+IsNamed None = Unit {0}
+IsNamed (Some who) = IsTrue (is_principal_name who)

@@ -1,64 +1,51 @@
--- What lines ask may be asked, and who is logged in after them.
-use Rattle.std.proofs.Common.{◌≡◌, ◌∙◌, ℕ, List, [], map, length, Bool, true, false, Option, Some, None, refl, sym, ap}
-use Rattle.std.specs.Prelude.{ℤ, IsTrue, if◌then◌else◌}
-use Rattle.std.proofs.lemmas.List.{length-map}
-use Rattle.bl_syntax.specs.Names.{is_principal_name}
-use Rattle.procap.specs.declared.procap.Procap.{Procap as Sealed}
+-- What a turn replies, and who is logged in after it.
+use Rattle.std.proofs.Common.{◌≡◌, ℕ, List, [], Bool, true, false, Option, Some, None, refl}
+use Rattle.std.specs.Prelude.{ℤ, if◌then◌else◌}
 use Rattle.proof_verifier.specs.declared.cites.Cite.{Cite as CiteOf}
-use Rattle.file_world.specs.declared.operation.Op.{Op}
-use Rattle.access_history.specs.WellFormed.{IsWellFormedAct}
-use Rattle.line_words.specs.declared.procap_word.ProcapWord.{ProcapWord}
-use Rattle.line_words.specs.declared.procap_word.ProcapWord.TheVariants as words
-use Rattle.line_forms.specs.Said.{IsOperationAsked}
 use Rattle.line_wire.specs.declared.reply.LineReply.{LineReply}
-use Rattle.line_wire.specs.declared.reply.LineReply.TheVariants as answers
+use Rattle.line_wire.specs.declared.reply.LineReply.TheVariants as replies
 use Rattle.access_history.specs.declared.event.Event.{Event}
 use Rattle.access_history.specs.Base.{BaseView}
 use Rattle.pcfs_store.specs.Entries.{Root, StoreEntry, state_of_entries}
 use Rattle.session_history.specs.declared.request.TurnRequest.{TurnRequest}
 use Rattle.session_history.specs.declared.request.TurnRequest.TheVariants.{Step, Cite, Login}
 use Rattle.session_history.specs.declared.reply.TurnReply.{TurnReply}
-use Rattle.session_history.specs.declared.reply.TurnReply.TheVariants as replies
+use Rattle.session_history.specs.declared.reply.TurnReply.TheVariants as turn_replies
 use Rattle.session_history.specs.declared.task.LineTask.{LineTask}
 use Rattle.session_history.specs.declared.task.LineTask.TheVariants as tasks
 use Rattle.session_history.specs.Turn.{StorePass, AnswersTurn, Turn}
 use Rattle.session_history.specs.Turn as turns
-use Rattle.session_history.specs.SessionState.{SessionState, with_caller}
-use Rattle.session_history.specs.Placed.{is_done, after_turn, state_after}
-use Rattle.session_lines.specs.Tasks.{IsSingle, IsTellable, caller_after}
-
--- an operation of a line, with the procaps that it brings
-pub formed_act : (who : List ℕ) (op : Op) (given : List ProcapWord) (procaps : List Sealed) → IsTrue (is_principal_name who) → IsOperationAsked op given → given ≡ map words.Procap procaps → IsWellFormedAct who op procaps
-formed_act who op given procaps named within is = record {
-  named = named;
-  operation = within.operation;
-  slots = sym (length-map procaps words.Procap) ∙ sym (ap length is) ∙ within.one_each;
-  few_bytes = within.few_bytes;
-}
+use Rattle.session_history.specs.SessionState.{SessionState}
+use Rattle.session_history.specs.Placed.{is_done, after_login, after_turn, state_after}
+use Rattle.session_lines.specs.Logins.{IsTellable, caller_after}
+use Rattle.session_history.specs.Tasks.{IsSingle}
 
 -- ---- what a turn replies
+
+answer_tellable : (root : Root) (state : BaseView) (pass : ℕ) (clock : ℤ) (request : TurnRequest) (answer : TurnReply) (event : Option Event) → IsSingle request → AnswersTurn root state pass clock request answer event → IsTellable answer
+answer_tellable root state pass clock _ _ _ single (turns.steps request reply event answers) = tt
+answer_tellable root state pass clock _ _ _ single (turns.cites numbers cited found) = single
+answer_tellable root state pass clock _ _ _ single (turns.cites_none numbers number absent) = tt
+answer_tellable root state pass clock _ _ _ single (turns.logs_in who nonce signature is) = tt
+answer_tellable root state pass clock _ _ _ single (turns.rejects who nonce signature is) = tt
 
 -- a turn that asks for no statements is given none
 pub tellable : (gives : ℤ → Type 0) (p : StorePass) (before : List StoreEntry) (request : TurnRequest) (reply : TurnReply) (given : List StoreEntry) → IsSingle request → Turn gives p before request reply given → IsTellable reply
 tellable gives p before request _ _ single (turns.was_stopped is) = tt
-tellable gives p before _ _ _ single (turns.answered clock _ running shown (turns.steps request reply _ answers)) = tt
-tellable gives p before _ _ _ single (turns.answered clock _ running shown (turns.cites numbers cited found)) = single
-tellable gives p before _ _ _ single (turns.answered clock _ running shown (turns.cites_none numbers number absent)) = single
-tellable gives p before _ _ _ single (turns.answered clock _ running shown (turns.logs_in who nonce signature is)) = tt
-tellable gives p before _ _ _ single (turns.answered clock _ running shown (turns.rejects who nonce signature is)) = tt
-tellable gives p before request _ _ single (turns.full clock reply event running shown answers is_full) = tt
-tellable gives p before _ _ _ single (turns.kept clock _ event running shown (turns.steps request reply _ answers) room) = tt
-tellable gives p before request _ _ single (turns.failed clock reply event running shown answers room) = tt
+tellable gives p before request _ _ single (turns.answered clock answer running shown answers) = answer_tellable p.root (state_of_entries p.root before) p.number clock request answer None single answers
+tellable gives p before request _ _ single (turns.full clock answer event running shown answers is_full) = tt
+tellable gives p before request _ _ single (turns.kept clock answer event running shown answers room) = answer_tellable p.root (state_of_entries p.root before) p.number clock request answer (Some event) single answers
+tellable gives p before request _ _ single (turns.failed clock answer event running shown answers room) = tt
 tellable gives p before request _ _ single turns.without_memory = tt
 
 -- what is no statements can be told
-pub tellable_else : (reply : TurnReply) → ((cites : List CiteOf) → reply ≡ replies.Cited cites → ⊥) → IsTellable reply
-tellable_else (replies.Step reply) other = tt
-tellable_else (replies.Cited cites) other = other cites refl
-tellable_else replies.LoggedIn other = tt
-tellable_else replies.Full other = tt
-tellable_else replies.Stopped other = tt
-tellable_else replies.NoMemory other = tt
+pub tellable_else : (reply : TurnReply) → ((cites : List CiteOf) → reply ≡ turn_replies.Cited cites → ⊥) → IsTellable reply
+tellable_else (turn_replies.Step reply) other = tt
+tellable_else (turn_replies.Cited cites) other = other cites refl
+tellable_else turn_replies.LoggedIn other = tt
+tellable_else turn_replies.Full other = tt
+tellable_else turn_replies.Stopped other = tt
+tellable_else turn_replies.NoMemory other = tt
 
 -- only a step keeps an event
 keeps_none : (root : Root) (state : BaseView) (pass : ℕ) (clock : ℤ) (numbers : List ℕ) (reply : TurnReply) (event : Option Event) → AnswersTurn root state pass clock (Cite numbers) reply event → event ≡ None
@@ -86,7 +73,7 @@ no_login : (s : SessionState) (done : Bool) → named s.nonce (if done then s.ca
 no_login s true = refl
 no_login s false = refl
 
-with_login : (s : SessionState) (who : List ℕ) (done : Bool) → named s.nonce (if done then Some who else s.caller) ≡ (if done then with_caller s who else s)
+with_login : (s : SessionState) (who : List ℕ) (done : Bool) → named s.nonce (if done then Some who else s.caller) ≡ after_login s who done
 with_login s who true = refl
 with_login s who false = refl
 
@@ -96,7 +83,7 @@ state_turn s (Cite numbers) reply = no_login s (is_done reply)
 state_turn s (Login who nonce signature) reply = with_login s who (is_done reply)
 
 -- if memory runs out, nobody else is logged in
-pub state_without_memory : (s : SessionState) (task : LineTask) → s ≡ state_after s task answers.NoMemory
+pub state_without_memory : (s : SessionState) (task : LineTask) → s ≡ state_after s task replies.NoMemory
 state_without_memory s (tasks.Reply reply) = refl
 state_without_memory s (tasks.Turn (Step request)) = refl
 state_without_memory s (tasks.Turn (Cite numbers)) = refl
