@@ -126,7 +126,7 @@ user_formed who (As other) task named within is = absurd is
 user_formed who (Register None statement) task named within is = absurd is
 user_formed who (Register (Some signature) statement) task named within is = subst IsTaskFormed (sym is) (within, tt)
 user_formed who (Procap number) task named within is = subst IsTaskFormed (sym is) (tt, tt)
-user_formed who (Verify goal numbers proof) task named within is = subst IsTaskFormed (sym is) within.0
+user_formed who (Verify goal numbers proof) task named within is = subst IsTaskFormed (sym is) within
 user_formed who (Check goal numbers proof) task named within is = absurd is
 user_formed who (Do op given) task named within is = subst IsTaskFormed (sym is.2) (formed_act who op given is.0 named within is.1, tt)
 

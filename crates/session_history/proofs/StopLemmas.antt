@@ -1,5 +1,5 @@
 -- A line is told that the store is stopped only where a Stop is among the entries up to its place.
-use Rattle.std.proofs.Common.{◌≡◌, ◌∙◌, ◌+◌, ℕ, List, [], ◌∷◌, ◌++◌, true, Option, Some, None, length, take, refl, sym, ap, append_assoc, length-append}
+use Rattle.std.proofs.Common.{◌≡◌, ◌∙◌, ◌+◌, ◌⊎◌, inl, inr, ℕ, List, [], ◌∷◌, ◌++◌, true, Option, Some, None, length, take, refl, sym, ap, append_assoc, length-append}
 use Rattle.std.specs.Prelude.{ℤ}
 use Rattle.std.proofs.Math.Seq.{take-append_seam}
 use Rattle.access_history.specs.declared.event.Event.{Event}
@@ -9,6 +9,7 @@ use Rattle.line_forms.specs.declared.asked.Line.TheVariants as lines
 use Rattle.line_forms.specs.declared.command.Command.{Command}
 use Rattle.line_forms.specs.declared.command.Command.TheVariants.{At, As, Register, Procap, Verify, Check, Do}
 use Rattle.access_history.specs.declared.request.StepRequest.TheVariants as requests
+use Rattle.line_forms.specs.declared.fault.LineFault.{LineFault}
 use Rattle.line_wire.specs.declared.reply.LineReply.{LineReply}
 use Rattle.line_wire.specs.declared.reply.LineReply.TheVariants as replies
 use Rattle.pcfs_store.specs.Entries.{Root, StoreEntry, happened, stopped, state_of_entries}
@@ -75,34 +76,46 @@ stopped_turn turn_replies.Full reply is same = let both : replies.Full ≡ repli
 stopped_turn turn_replies.Stopped reply is same = refl
 stopped_turn turn_replies.NoMemory reply is same = let both : replies.NoMemory ≡ replies.Stopped = sym is ∙ same in absurd cc
 
--- nothing that is said at once is that the store is stopped
-user_goes : (who : List ℕ) (command : Command) (task : LineTask) → IsUserTask who command task → task ≡ tasks.Reply replies.Stopped → ⊥
-user_goes who (At second) task is same = is
-user_goes who (As other) task is same = is
-user_goes who (Register None statement) task is same = is
-user_goes who (Register (Some signature) statement) task is same = let both : tasks.Turn (Step (requests.Register statement signature)) ≡ tasks.Reply replies.Stopped = sym is ∙ same in cc
-user_goes who (Procap number) task is same = let both : tasks.Turn (Step (requests.ShowProcap number (Some who))) ≡ tasks.Reply replies.Stopped = sym is ∙ same in cc
-user_goes who (Verify goal numbers proof) task is same = let both : tasks.Proof goal numbers proof ≡ tasks.Reply replies.Stopped = sym is ∙ same in cc
-user_goes who (Check goal numbers proof) task is same = is
-user_goes who (Do op words) task is same = let both : tasks.Turn (Step (requests.Act who op is.0)) ≡ tasks.Reply replies.Stopped = sym is.2 ∙ same in cc
+-- what is said at once: that nobody is logged in, or the line's fault
+abbrev pub IsSaidAtOnce : LineReply → Type 0
+IsSaidAtOnce reply = (reply ≡ replies.NotLoggedIn) ⊎ ((fault : LineFault) × (reply ≡ replies.Faulty fault))
 
-command_goes : (caller : Option (List ℕ)) (command : Command) (task : LineTask) → IsCommandTask caller command task → task ≡ tasks.Reply replies.Stopped → ⊥
-command_goes None command task is same = let both : tasks.Reply replies.NotLoggedIn ≡ tasks.Reply replies.Stopped = sym is ∙ same in cc
-command_goes (Some who) command task is same = user_goes who command task is same
+user_said : (who : List ℕ) (command : Command) (task : LineTask) (reply : LineReply) → IsUserTask who command task → task ≡ tasks.Reply reply → IsSaidAtOnce reply
+user_said who (At second) task reply is same = absurd is
+user_said who (As other) task reply is same = absurd is
+user_said who (Register None statement) task reply is same = absurd is
+user_said who (Register (Some signature) statement) task reply is same = let both : tasks.Turn (Step (requests.Register statement signature)) ≡ tasks.Reply reply = sym is ∙ same in absurd cc
+user_said who (Procap number) task reply is same = let both : tasks.Turn (Step (requests.ShowProcap number (Some who))) ≡ tasks.Reply reply = sym is ∙ same in absurd cc
+user_said who (Verify goal numbers proof) task reply is same = let both : tasks.Proof goal numbers proof ≡ tasks.Reply reply = sym is ∙ same in absurd cc
+user_said who (Check goal numbers proof) task reply is same = absurd is
+user_said who (Do op words) task reply is same = let both : tasks.Turn (Step (requests.Act who op is.0)) ≡ tasks.Reply reply = sym is.2 ∙ same in absurd cc
 
-read_goes : (s : SessionState) (said : Line) (task : LineTask) → IsReadTask s said task → task ≡ tasks.Reply replies.Stopped → ⊥
-read_goes s (lines.Command command) task is same = command_goes s.caller command task is same
-read_goes s (lines.Login who signature) task is same = let both : tasks.Turn (Login who s.nonce signature) ≡ tasks.Reply replies.Stopped = sym is ∙ same in cc
-read_goes s (lines.Statement statement) task is same = is
-read_goes s (lines.Goal goal proof) task is same = is
+command_said : (caller : Option (List ℕ)) (command : Command) (task : LineTask) (reply : LineReply) → IsCommandTask caller command task → task ≡ tasks.Reply reply → IsSaidAtOnce reply
+command_said None command task reply is same = let both : tasks.Reply replies.NotLoggedIn ≡ tasks.Reply reply = sym is ∙ same in let it : replies.NotLoggedIn ≡ reply = cc in inl (sym it)
+command_said (Some who) command task reply is same = user_said who command task reply is same
 
-asks_goes : (s : SessionState) (line : List ℕ) (task : LineTask) → IsTaskOf s line task → task ≡ tasks.Reply replies.Stopped → ⊥
-asks_goes s line _ (faulty fault bad) same = cc
-asks_goes s line _ (read said task is reads) same = read_goes s said task reads same
+read_said : (s : SessionState) (said : Line) (task : LineTask) (reply : LineReply) → IsReadTask s said task → task ≡ tasks.Reply reply → IsSaidAtOnce reply
+read_said s (lines.Command command) task reply is same = command_said s.caller command task reply is same
+read_said s (lines.Login who signature) task reply is same = let both : tasks.Turn (Login who s.nonce signature) ≡ tasks.Reply reply = sym is ∙ same in absurd cc
+read_said s (lines.Statement statement) task reply is same = absurd is
+read_said s (lines.Goal goal proof) task reply is same = absurd is
+
+pub said_at_once : (s : SessionState) (line : List ℕ) (task : LineTask) (reply : LineReply) → IsTaskOf s line task → task ≡ tasks.Reply reply → IsSaidAtOnce reply
+said_at_once s line _ reply (faulty fault bad) same = let it : replies.Faulty fault ≡ reply = cc in inr (fault, sym it)
+said_at_once s line _ reply (read said task is reads) same = read_said s said task reply reads same
+
+-- that is neither that the store is stopped nor that memory ran out
+pub not_stopped_at_once : (reply : LineReply) → IsSaidAtOnce reply → reply ≡ replies.Stopped → ⊥
+not_stopped_at_once reply (inl is) same = let both : replies.NotLoggedIn ≡ replies.Stopped = sym is ∙ same in cc
+not_stopped_at_once reply (inr bad) same = let both : replies.Faulty bad.0 ≡ replies.Stopped = sym bad.1 ∙ same in cc
+
+pub had_memory_at_once : (reply : LineReply) → IsSaidAtOnce reply → reply ≡ replies.NoMemory → ⊥
+had_memory_at_once reply (inl is) same = let both : replies.NotLoggedIn ≡ replies.NoMemory = sym is ∙ same in cc
+had_memory_at_once reply (inr bad) same = let both : replies.Faulty bad.0 ≡ replies.NoMemory = sym bad.1 ∙ same in cc
 
 by_place : (gives : ℤ → Type 0) (p : StorePass) (history : List StoreEntry) (s : SessionState) (from : ℕ) (line : List ℕ) (task : LineTask) (reply : LineReply) (to : ℕ) (given : List StoreEntry) →
     IsTaskOf s line task → LinePlaced gives p history from task reply to given → reply ≡ replies.Stopped → has_stop (take to history) ≡ true
-by_place gives p history s from line _ _ _ _ asks_for (at_once reply) same = absurd (asks_goes s line (tasks.Reply reply) asks_for (ap tasks.Reply same))
+by_place gives p history s from line _ _ _ _ asks_for (at_once reply) same = absurd (not_stopped_at_once reply (said_at_once s line (tasks.Reply reply) reply asks_for refl) same)
 by_place gives p history s from line _ _ _ _ asks_for (in_a_turn request found reply to given turn is) same = turn_stopped gives p history from request found to given turn (stopped_turn found reply is same)
 by_place gives p history s from line _ _ _ _ asks_for (places.cites_none goal numbers proof found reply to given turn is) same = turn_stopped gives p history from _ found to given turn (stopped_turn found reply is same)
 by_place gives p history s from line _ _ _ _ asks_for (proves_none goal numbers proof cites fault to turn verdict_is) same = absurd cc

@@ -1,5 +1,5 @@
 -- Laws of turns, lines and sessions: what is placed stays placed, what is given is the pass's own, places do not go back, and each line and each turn has one outcome.
-use Rattle.std.specs.Prelude.{◌⊎◌, [], false, ◌≡◌, ◌≢◌, ℕ, ℤ, ◌≤◌, List, ◌++◌, length, take, true}
+use Rattle.std.specs.Prelude.{◌+◌, ◌⊎◌, [], false, ◌≡◌, ◌≢◌, ℕ, ℤ, ◌≤◌, List, ◌++◌, length, take, true}
 use Rattle.std.specs.List.{AllByRecursion}
 use Rattle.policy_statement.specs.Messages.{login_message}
 use Rattle.policy_statement.specs.Ring.{KeyView, is_accepted}
@@ -92,6 +92,12 @@ pub record IsUndisturbed (reply : TurnReply) : Type 0 where
 abbrev pub TurnsHaveAnEnd : (ℤ → Type 0) → Type 0
 TurnsHaveAnEnd gives = (p : StorePass) (before : List StoreEntry) (request : TurnRequest) (clock : ℤ) → gives clock → IsTurnFormed request → has_stop before ≡ false →
     (reply : TurnReply) × (given : List StoreEntry) × Turn gives p before request reply given × IsUndisturbed reply
+
+-- so does a line: after the entries of a lawful history, at a store that is not stopped, it has a reply and entries which place it there
+abbrev pub LinesHaveAnEnd : (ℤ → Type 0) → Type 0
+LinesHaveAnEnd gives = (p : StorePass) (s : SessionState) (line : List ℕ) (task : LineTask) (before : List StoreEntry) (clock : ℤ) → gives clock → IsNamed s.caller → IsLawful (authority_of_root p.root) p.root.base (events_among before) →
+    has_stop before ≡ false → IsTaskOf s line task →
+    (reply : LineReply) × (given : List StoreEntry) × LinePlaced gives p (before ++ given) (length before) task reply (length before + length given) given × (reply ≢ replies.NoMemory) × (reply ≢ replies.Stopped)
 
 -- at one that is stopped nothing is decided
 abbrev pub NothingAfterStop : (ℤ → Type 0) → Type 0

@@ -4,6 +4,7 @@ use Rattle.bl_syntax.specs.Citable.{AreCitable}
 use Rattle.bl_syntax.specs.Names.{is_principal_name}
 use Rattle.bl_syntax.specs.declared.grant.Goal.{Goal}
 use Rattle.procap.specs.declared.procap.Procap.{Procap as Sealed}
+use Rattle.proof_term.specs.Limits.{HasTimesInRange}
 use Rattle.access_history.specs.declared.request.StepRequest.TheVariants as steps
 use Rattle.line_words.specs.declared.procap_word.ProcapWord.TheVariants as words
 use Rattle.line_forms.specs.declared.asked.Line.{Line}
@@ -59,7 +60,7 @@ IsSingle (Login who nonce signature) = Unit {0}
 abbrev pub IsTaskFormed : LineTask → Type 0
 IsTaskFormed (tasks.Reply reply) = Unit {0}
 IsTaskFormed (tasks.Turn request) = IsTurnFormed request × IsSingle request
-IsTaskFormed (tasks.Proof goal numbers proof) = AreCitable numbers
+IsTaskFormed (tasks.Proof goal numbers proof) = AreCitable numbers × HasTimesInRange proof
 
 -- who is logged in has a name
 abbrev pub IsNamed : Option (List ℕ) → Type 0

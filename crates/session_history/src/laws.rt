@@ -1,7 +1,7 @@
 //! Laws of the definitions. The functions do nothing: each contract is a law. Where the moments of a clock occur, it holds
 //! of each clock.
 
-ghost use Rattle.session_history.specs.Laws.{TurnsStayPlaced, LinesStayPlaced, SessionsStayPlaced, GivenAreOfPass, PlacesGoOn, StoppedAfterStop, CallersAreAccepted, LinesAreAnswered, LinesHaveATask, LinesHaveOneTask, TasksAreFormed, TurnsHaveAnEnd, NothingAfterStop, TurnsHaveOneEnd};
+ghost use Rattle.session_history.specs.Laws.{TurnsStayPlaced, LinesStayPlaced, SessionsStayPlaced, GivenAreOfPass, PlacesGoOn, StoppedAfterStop, CallersAreAccepted, LinesAreAnswered, LinesHaveATask, LinesHaveOneTask, TasksAreFormed, TurnsHaveAnEnd, LinesHaveAnEnd, NothingAfterStop, TurnsHaveOneEnd};
 
 use pcfs_ports::Clock;
 
@@ -46,9 +46,11 @@ pub fn lines_have_one_task()
     ensures formed { TasksAreFormed }
 {}
 
-/// At a store that is not stopped a turn has an end that is not disturbed, whatever it finds.
-pub fn turns_have_an_end<C: Clock>(clock: &C)
-    ensures { TurnsHaveAnEnd (C.gives clock.now) }
+/// At a store that is not stopped a turn has an end that is not disturbed, whatever it finds; and so has a line, after a
+/// lawful history.
+pub fn turns_and_lines_have_an_end<C: Clock>(clock: &C)
+    ensures turns { TurnsHaveAnEnd (C.gives clock.now) }
+    ensures lines { LinesHaveAnEnd (C.gives clock.now) }
 {
     let _ = clock;
 }

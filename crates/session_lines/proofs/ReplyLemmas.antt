@@ -17,26 +17,11 @@ use Rattle.session_history.specs.Turn.{StorePass, AnswersTurn, Turn}
 use Rattle.session_history.specs.Turn as turns
 use Rattle.session_history.specs.SessionState.{SessionState}
 use Rattle.session_history.specs.Placed.{is_done, after_login, after_turn, state_after}
+use Rattle.session_history.proofs.EndLemmas.{single_not_cited}
 use Rattle.session_lines.specs.Logins.{IsTellable, caller_after}
 use Rattle.session_history.specs.Tasks.{IsSingle}
 
 -- ---- what a turn replies
-
-answer_tellable : (root : Root) (state : BaseView) (pass : ℕ) (clock : ℤ) (request : TurnRequest) (answer : TurnReply) (event : Option Event) → IsSingle request → AnswersTurn root state pass clock request answer event → IsTellable answer
-answer_tellable root state pass clock _ _ _ single (turns.steps request reply event answers) = tt
-answer_tellable root state pass clock _ _ _ single (turns.cites numbers cited found) = single
-answer_tellable root state pass clock _ _ _ single (turns.cites_none numbers number absent) = tt
-answer_tellable root state pass clock _ _ _ single (turns.logs_in who nonce signature is) = tt
-answer_tellable root state pass clock _ _ _ single (turns.rejects who nonce signature is) = tt
-
--- a turn that asks for no statements is given none
-pub tellable : (gives : ℤ → Type 0) (p : StorePass) (before : List StoreEntry) (request : TurnRequest) (reply : TurnReply) (given : List StoreEntry) → IsSingle request → Turn gives p before request reply given → IsTellable reply
-tellable gives p before request _ _ single (turns.was_stopped is) = tt
-tellable gives p before request _ _ single (turns.answered clock answer running shown answers) = answer_tellable p.root (state_of_entries p.root before) p.number clock request answer None single answers
-tellable gives p before request _ _ single (turns.full clock answer event running shown answers is_full) = tt
-tellable gives p before request _ _ single (turns.kept clock answer event running shown answers room) = answer_tellable p.root (state_of_entries p.root before) p.number clock request answer (Some event) single answers
-tellable gives p before request _ _ single (turns.failed clock answer event running shown answers room) = tt
-tellable gives p before request _ _ single turns.without_memory = tt
 
 -- what is no statements can be told
 pub tellable_else : (reply : TurnReply) → ((cites : List CiteOf) → reply ≡ turn_replies.Cited cites → ⊥) → IsTellable reply
@@ -46,6 +31,10 @@ tellable_else turn_replies.LoggedIn other = tt
 tellable_else turn_replies.Full other = tt
 tellable_else turn_replies.Stopped other = tt
 tellable_else turn_replies.NoMemory other = tt
+
+-- a turn that asks for no statements is given none
+pub tellable : (gives : ℤ → Type 0) (p : StorePass) (before : List StoreEntry) (request : TurnRequest) (reply : TurnReply) (given : List StoreEntry) → IsSingle request → Turn gives p before request reply given → IsTellable reply
+tellable gives p before request reply given single turn = tellable_else reply (single_not_cited gives p before request reply given single turn)
 
 -- only a step keeps an event
 keeps_none : (root : Root) (state : BaseView) (pass : ℕ) (clock : ℤ) (numbers : List ℕ) (reply : TurnReply) (event : Option Event) → AnswersTurn root state pass clock (Cite numbers) reply event → event ≡ None
