@@ -14,7 +14,7 @@ use Rattle.shared_store.specs.declared.entry.LockEntry.{LockEntry}
 use Rattle.pcfs_session.specs.Taken.{AreFirst}
 use Rattle.pcfs_session.specs.declared.outbox.SendFault.{SendFault}
 use Rattle.session_service.specs.declared.session_end.SessionEnd.{SessionEnd}
-use Rattle.session_service.specs.declared.session_end.SessionEnd.TheVariants.{Done, LineTooLong, NoMemory}
+use Rattle.session_service.specs.declared.session_end.SessionEnd.TheVariants.{Done, LineTooLong}
 use Rattle.session_service.specs.Ends.{unsent_end}
 use Rattle.session_service.specs.Said.{session_of, HasSaid}
 
@@ -57,10 +57,9 @@ module _ {D : Type 0} (gives : ℤ → Type 0) (nonce : List ℕ) where
         EndsAtLong lines caller old new caller_after held held_after (unsent_end fault)
     cut_before : (fault : SendFault) → IsCutWithin (ended lines) caller old new caller_after held held_after → EndsAtLong lines caller old new caller_after held held_after (unsent_end fault)
 
-  -- how a session ends at a piece after the bytes that were left: a line is too long; there is no memory for the piece, and nothing happened; or a reply to one of the lines that have their end was not written
+  -- how a session ends at a piece after the bytes that were left: a line is too long; or a reply to one of the lines that have their end was not written, or there was no memory for the piece
   pub data EndsAtPiece (before piece : List ℕ) (caller : Option (List ℕ)) (old new : PassView (LockEntry D)) (caller_after : Option (List ℕ)) (held held_after : Option (List ℕ)) : SessionEnd → Type 0 where
     at_long_line : (how : SessionEnd) (lines : List (List ℕ)) → HasLong (before ++ piece) lines → EndsAtLong lines caller old new caller_after held held_after how → EndsAtPiece before piece caller old new caller_after held held_after how
-    not_taken : new ≡ old → caller_after ≡ caller → held_after ≡ held → EndsAtPiece before piece caller old new caller_after held held_after NoMemory
     cut_short : (fault : SendFault) → IsCutWithin (before ++ piece) caller old new caller_after held held_after → EndsAtPiece before piece caller old new caller_after held held_after (unsent_end fault)
 
   -- how a session ends at the end of its input, where these bytes were left: they are the last line, if there are any, and it was answered

@@ -1,6 +1,6 @@
 //! Pieces of a session's input, and how a session ends at them.
 
-ghost use Rattle.std.specs.Prelude.{◌≡◌, ◌≤◌, ℕ, List, false, OnOk, IfErr, IsErrOf};
+ghost use Rattle.std.specs.Prelude.{◌≡◌, ◌≤◌, ℕ, List, false, OnOk, IfErr, IsErrOf, length};
 ghost use Rattle.std.specs.List.{AllByRecursion};
 ghost use Rattle.line_framer.specs.Framing.{ended, IsLine};
 ghost use Rattle.line_text.specs.Words.{HasNo};
@@ -68,6 +68,7 @@ pub fn speak_piece<R: Wait, D: Disk, C: Clock, K: Checker, O: Sink>(
     requires lock { pass.old.lock ≡ lock.now }
     requires not_long { framer.old.is_long ≡ false }
     ensures ok { OnOk result (SpeaksPiece (C.gives clock.now) nonce.now framer.old.left piece.now framer.new.left caller.old pass.old pass.new caller.new (O.held output.old) (O.held output.new)) }
+    ensures few { OnOk result (length framer.new.left ≤ 262144) }
     ensures stays_so { OnOk result (framer.new.is_long ≡ false) }
     ensures ends { IfErr result (EndsAtPiece (C.gives clock.now) nonce.now framer.old.left piece.now caller.old pass.old pass.new caller.new (O.held output.old) (O.held output.new)) }
     ensures risen { IsErrOf result SessionEnd.WriteFault → HasRisen (O.faults output.old) (O.faults output.new) }

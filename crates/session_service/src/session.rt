@@ -13,12 +13,19 @@ use line_framer::Framer;
 use pcfs_ports::{Clock, Disk, Failed, INPUT_LIMIT, Sink, Source};
 use session_lines::{Checker, PlainChecker};
 use shared_store::OpenedStore;
-use std::alloc::Global;
+use std::alloc::{AllocError, Global};
 use std::sync::Wait;
 use tree_lock::{Pass, TreeLock};
 
 /// How many bytes a source is asked for at once, at most.
 const PIECE_LEN: usize = 65_536;
+
+// The room for a piece.
+fn new_piece(alloc: Global) -> Result<Vec<u8>, AllocError>
+    ensures { IfOk result (λ piece. length piece.items ≡ 65536) }
+{
+    vec![in alloc; 0u8; PIECE_LEN]
+}
 
 // Takes bytes from the input into the front of the piece by one read, no more than this many, and returns how many: none
 // at the end.
@@ -55,7 +62,7 @@ fn speak_pieces<R: Wait, I: Source, O: Sink, D: Disk, C: Clock, K: Checker>(
         (record { left = I.left input.new; read_faults = I.faults input.new; held = O.held output.new; write_faults = O.faults output.new }) }
     ensures same_lock { pass.new.lock ≡ lock.now }
 {
-    let mut piece = match vec![in alloc; 0u8; PIECE_LEN] {
+    let mut piece = match new_piece(alloc) {
         Ok(piece) => piece,
         Err(_) => return SessionEnd::NoMemory,
     };

@@ -1,0 +1,3 @@
+pub mod SaidLemmas
+pub mod SpokenLemmas
+pub mod SessionEndsLemmas
