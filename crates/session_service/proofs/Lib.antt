@@ -1,3 +1,0 @@
-pub mod SaidLemmas
-pub mod SpokenLemmas
-pub mod SessionEndsLemmas

@@ -1,4 +1,0 @@
-pub mod Ends
-pub mod Said
-pub mod Spoken
-pub mod SessionEnds
