@@ -1,15 +1,26 @@
 -- A store goes on from its opening by steps.
-use Rattle.std.proofs.Common.{◌≡◌, ◌∙◌, ◌⊎◌, inl, inr, ⊎_elim, ℕ, ◌≤◌, Bool, true, false, List, [], ◌∷◌, ◌++◌, Option, Some, None, refl, sym, arith, append_assoc, append-nil}
+use Rattle.std.proofs.Common.{◌≡◌, ◌∙◌, ◌⊎◌, inl, inr, ⊎_elim, ℕ, ◌≤◌, ◌<◌, ◌+◌, ◌-◌, ◌^◌, length, length-append, Bool, true, false, List, [], ◌∷◌, ◌++◌, Option, Some, None, refl, sym, arith, append_assoc, append-nil}
 use Rattle.std.specs.Prelude.{ℤ, ◌≢◌, is_some}
+use Rattle.std.proofs.lemmas.Bool.{cases_lt}
 use mathlib.Core.List.{IsPrefix}
 use Rattle.pcfs_ports.specs.Faults.{HasRisen}
+use Rattle.bl_syntax.specs.TimeOrder.{IsMoment}
+use Rattle.access_history.specs.Answer.{Answers}
+use Rattle.access_history.specs.Authority.{Authority}
+use Rattle.access_history.specs.Base.{BaseView}
+use Rattle.access_history.specs.Lawful.{IsLawful, one_more}
+use Rattle.access_history.specs.Replay.{replay}
+use Rattle.access_history.specs.WellFormed.{IsWellFormed}
+use Rattle.access_history.proofs.LawfulLemmas.{IsLawfulBase-lawful}
+use Rattle.access_history.proofs.MayFollowLemmas.{MayFollow-answered}
+use Rattle.access_history.proofs.ReplayLemmas.{count-replay}
 use Rattle.access_history.specs.declared.event.Event.{Event}
 use Rattle.access_history.specs.declared.request.StepRequest.{StepRequest}
 use Rattle.access_history.specs.declared.reply.StepReply.{StepReply}
 use Rattle.pcfs_store.specs.declared.reply.StoreReply.{StoreReply}
 use Rattle.pcfs_store.specs.declared.reply.StoreReply.TheVariants as stores
 use Rattle.pcfs_store.specs.Newest.{one_of}
-use Rattle.pcfs_store.specs.StoreView.{StoreView, AnswersIn, first_disk, second_disk}
+use Rattle.pcfs_store.specs.StoreView.{StoreView, authority_of_store, AnswersIn, first_disk, second_disk}
 use Rattle.pcfs_store.specs.Ready.{IsReady, IsCurrent, StopsNow, SurvivesWithOrWithout}
 use Rattle.pcfs_store.specs.Steps.{Steps}
 use Rattle.pcfs_store.specs.Steps as steps
@@ -34,6 +45,21 @@ events_stay opening events begins event = (begins.0 ++ event ∷ [], sym (append
     ap_push : opening ++ begins.0 ≡ events → (opening ++ begins.0) ++ event ∷ [] ≡ events ++ event ∷ []
     ap_push is = λ i. is i ++ event ∷ []
 
+-- an event that has a number is the next of a lawful history
+numbered : (base : BaseView) (events : List Event) → ((replay base events).count < 2 ^ 48 - 1) ⊎ (2 ^ 48 - 1 ≤ (replay base events).count) → (2 ^ 48 - 1 ≤ (replay base events).count → ⊥) → base.count + (length events + 1) ≤ 2 ^ 48 - 1
+numbered base events (inl few) below = omega (arith, few, count-replay base events)
+numbered base events (inr many) below = absurd (below many)
+
+lawful_more : (authority : Authority) (base : BaseView) (events : List Event) (pass : ℕ) (moment : ℤ) (request : StepRequest) (reply : StepReply) (event : Event) → IsMoment moment → IsWellFormed request → (2 ^ 48 - 1 ≤ (replay base events).count → ⊥) →
+    Answers authority (replay base events) pass moment request reply (Some event) → IsLawful authority base events → IsLawful authority base (events ++ event ∷ [])
+lawful_more authority base events pass moment request reply event at formed below answers lawful =
+    let few = numbered base events (cases_lt (replay base events).count (2 ^ 48 - 1)) below in
+    record {
+      lawful_base = lawful.lawful_base;
+      counted = omega (arith, few, length-append events (event ∷ []));
+      each = one_more events event lawful.each (MayFollow-answered authority (replay base events) pass moment request reply event (IsLawfulBase-lawful authority base events lawful) at formed answers);
+    }
+
 module _ {D : Type 0} (clock : D → ℕ) (left_since : D → ℕ → List ℕ → Type 0) (image : D → Option (List ℕ)) (faults : D → ℕ) where
   -- nothing happened
   pub goes_on_same : (s : StoreView D) → s.stop ≡ None → HasGoneOn clock left_since image faults s s
@@ -43,6 +69,7 @@ module _ {D : Type 0} (clock : D → ℕ) (left_since : D → ℕ → List ℕ �
     ring_stays = refl;
     base_stays = refl;
     events_go_on = ([], append-nil s.events);
+    lawful = λ lawful. lawful;
     generation_stays = refl;
     place_stays = refl;
     other_stays = refl;
@@ -71,14 +98,16 @@ module _ {D : Type 0} (clock : D → ℕ) (left_since : D → ℕ → List ℕ �
   module _ (opening : StoreView D) where
     -- the store did not change but in its active disk and its events, and is not stopped
     running_on : (old new : StoreView D) (pass : ℕ) (moment : ℤ) (request : StepRequest) (result : StoreReply) → HasGoneOn clock left_since image faults opening old → Stepped old pass moment request result new → old.stop ≡ None → new.stop ≡ None →
-        result ≢ stores.Stopped → new.key ≡ old.key → new.ring ≡ old.ring → new.base ≡ old.base → IsPrefix opening.events new.events → new.generation ≡ old.generation → new.second_active ≡ old.second_active → new.other ≡ old.other →
+        result ≢ stores.Stopped → new.key ≡ old.key → new.ring ≡ old.ring → new.base ≡ old.base → IsPrefix opening.events new.events →
+        (IsLawful (authority_of_store opening) opening.base opening.events → IsLawful (authority_of_store new) new.base new.events) → new.generation ≡ old.generation → new.second_active ≡ old.second_active → new.other ≡ old.other →
         HasGoneOn clock left_since image faults opening new
-    running_on old new pass moment request result g s was is going key ring base events generation place other = record {
+    running_on old new pass moment request result g s was is going key ring base events lawful generation place other = record {
       began = g.began;
       key_stays = key ∙ g.key_stays;
       ring_stays = ring ∙ g.ring_stays;
       base_stays = base ∙ g.base_stays;
       events_go_on = events;
+      lawful = lawful;
       generation_stays = generation ∙ g.generation_stays;
       place_stays = place ∙ g.place_stays;
       other_stays = other ∙ g.other_stays;
@@ -92,20 +121,22 @@ module _ {D : Type 0} (clock : D → ℕ) (left_since : D → ℕ → List ℕ �
       second_never_falls = omega (arith, s.second_never_falls, g.second_never_falls);
     }
 
-    by_step : (old new : StoreView D) (pass : ℕ) (moment : ℤ) (request : StepRequest) (result : StoreReply) → HasGoneOn clock left_since image faults opening old → Steps faults old pass moment request result new → Stepped old pass moment request result new →
+    by_step : (old new : StoreView D) (pass : ℕ) (moment : ℤ) (request : StepRequest) (result : StoreReply) → IsMoment moment → IsWellFormed request → HasGoneOn clock left_since image faults opening old → Steps faults old pass moment request result new → Stepped old pass moment request result new →
         HasGoneOn clock left_since image faults opening new
-    by_step old _ pass moment request _ g (steps.answered reply running goes) s =
-        running_on old old pass moment request (stores.Step reply) g s running running (λ is. cc) refl refl refl g.events_go_on refl refl refl
-    by_step old _ pass moment request _ g (steps.kept reply event active running goes room) s =
-        running_on old (steps.with_event old event active) pass moment request (stores.Step reply) g s running running (λ is. cc) refl refl refl (events_stay opening.events old.events g.events_go_on event) refl refl refl
-    by_step old _ pass moment request _ g (steps.full reply event running goes is_full) s =
-        running_on old old pass moment request stores.Full g s running running (λ is. cc) refl refl refl g.events_go_on refl refl refl
-    by_step old _ pass moment request _ g (steps.failed reply event active running goes room risen) s = record {
+    by_step old _ pass moment request _ at formed g (steps.answered reply running goes) s =
+        running_on old old pass moment request (stores.Step reply) g s running running (λ is. cc) refl refl refl g.events_go_on g.lawful refl refl refl
+    by_step old _ pass moment request _ at formed g (steps.kept reply event active running goes room) s =
+        running_on old (steps.with_event old event active) pass moment request (stores.Step reply) g s running running (λ is. cc) refl refl refl (events_stay opening.events old.events g.events_go_on event)
+        (λ first. lawful_more (authority_of_store old) old.base old.events pass moment request reply event at formed (λ many. room (inr many)) goes (g.lawful first)) refl refl refl
+    by_step old _ pass moment request _ at formed g (steps.full reply event running goes is_full) s =
+        running_on old old pass moment request stores.Full g s running running (λ is. cc) refl refl refl g.events_go_on g.lawful refl refl refl
+    by_step old _ pass moment request _ at formed g (steps.failed reply event active running goes room risen) s = record {
       began = g.began;
       key_stays = g.key_stays;
       ring_stays = g.ring_stays;
       base_stays = g.base_stays;
       events_go_on = g.events_go_on;
+      lawful = g.lawful;
       generation_stays = g.generation_stays;
       place_stays = g.place_stays;
       other_stays = g.other_stays;
@@ -121,9 +152,9 @@ module _ {D : Type 0} (clock : D → ℕ) (left_since : D → ℕ → List ℕ �
       first_never_falls = omega (arith, s.first_never_falls, g.first_never_falls);
       second_never_falls = omega (arith, s.second_never_falls, g.second_never_falls);
     }
-    by_step old _ pass moment request _ g (steps.stopped earlier is) s = g
-    by_step old _ pass moment request _ g (steps.without_memory running) s = g
+    by_step old _ pass moment request _ at formed g (steps.stopped earlier is) s = g
+    by_step old _ pass moment request _ at formed g (steps.without_memory running) s = g
 
-  pub goes_on_step : (opening old new : StoreView D) (pass : ℕ) (moment : ℤ) (request : StepRequest) (result : StoreReply) → HasGoneOn clock left_since image faults opening old → Stepped old pass moment request result new →
+  pub goes_on_step : (opening old new : StoreView D) (pass : ℕ) (moment : ℤ) (request : StepRequest) (result : StoreReply) → IsMoment moment → IsWellFormed request → HasGoneOn clock left_since image faults opening old → Stepped old pass moment request result new →
       HasGoneOn clock left_since image faults opening new
-  goes_on_step opening old new pass moment request result g s = by_step opening old new pass moment request result g s.answer s
+  goes_on_step opening old new pass moment request result at formed g s = by_step opening old new pass moment request result at formed g s.answer s

@@ -3,13 +3,14 @@ use Rattle.std.specs.Prelude.{◌≡◌, ◌⊎◌, ℕ, ◌≤◌, List, Option
 use mathlib.Core.List.{IsPrefix}
 use Rattle.pcfs_ports.specs.Faults.{HasRisen}
 use Rattle.access_history.specs.declared.event.Event.{Event}
-use Rattle.pcfs_store.specs.StoreView.{StoreView, first_disk, second_disk}
+use Rattle.access_history.specs.Lawful.{IsLawful}
+use Rattle.pcfs_store.specs.StoreView.{StoreView, authority_of_store, first_disk, second_disk}
 use Rattle.pcfs_store.specs.Ready.{IsReady, IsCurrent, StopsNow, SurvivesWithOrWithout}
 
 -- Below, of a disk d `clock d` is the present moment, `left_since d t bytes` says that a crash at some moment since t may have left these bytes, `image d` is what a read gives, if d tells it, and `faults d`
 -- counts its faults.
 module _ {D : Type 0} (clock : D → ℕ) (left_since : D → ℕ → List ℕ → Type 0) (image : D → Option (List ℕ)) (faults : D → ℕ) where
-  -- The store was opened as `opening`, and is `now`. Key, ring and base are the same, and the events are those of the opening with others after them. The area that counts has the same generation on the same disk, and the
+  -- The store was opened as `opening`, and is `now`. Key, ring and base are the same, and the events are those of the opening with others after them; if the former are lawful, so are all. The area that counts has the same generation on the same disk, and the
   -- other disk is not touched. While no disk has failed, a store that was ready is ready, and what a read gives stands for its history. If one has, a count rose above the one at the opening; and of a store that was ready a
   -- crash leaves the history, or with it the event that met the fault.
   pub record HasGoneOn (opening now : StoreView D) : Type 0 where
@@ -18,6 +19,7 @@ module _ {D : Type 0} (clock : D → ℕ) (left_since : D → ℕ → List ℕ �
     pub ring_stays : now.ring ≡ opening.ring
     pub base_stays : now.base ≡ opening.base
     pub events_go_on : IsPrefix opening.events now.events
+    pub lawful : IsLawful (authority_of_store opening) opening.base opening.events → IsLawful (authority_of_store now) now.base now.events
     pub generation_stays : now.generation ≡ opening.generation
     pub place_stays : now.second_active ≡ opening.second_active
     pub other_stays : now.other ≡ opening.other

@@ -6,7 +6,7 @@ use Rattle.shared_store.proofs.opened.OpenedStore.step.Goals as goal
 
 pub invariant_of-self : goal.invariant_of-self
 invariant_of-self g c =
-    goes_on_step g.D.Disk.clock g.D.Disk.left_since g.D.Disk.image g.D.Disk.faults c.self.inside.opening.value c.self.inside.store c.step-reply.new.self c.args.pass c.args.clock c.args.request c.step-reply.result c.self.invariant
+    goes_on_step g.D.Disk.clock g.D.Disk.left_since g.D.Disk.image g.D.Disk.faults c.self.inside.opening.value c.self.inside.store c.step-reply.new.self c.args.pass c.args.clock c.args.request c.step-reply.result c.requires.in_range c.requires.well_formed c.self.invariant
     (record {
       answer = c.step-reply.ensures.answer;
       stays_ready = c.step-reply.ensures.ready;
