@@ -8,7 +8,8 @@ use Rattle.proof_verifier.specs.declared.cites.Cite.{Cite}
 use Rattle.journal_core.specs.Area.{area_limit}
 use Rattle.journal_records.specs.EventSpelling.{event_spelling}
 use Rattle.access_history.specs.declared.event.Event.{Event}
-use Rattle.access_history.specs.declared.reply.StepReply.TheVariants.{Absent}
+use Rattle.access_history.specs.declared.reply.StepReply.TheVariants.{Rejected, Absent}
+use Rattle.access_history.specs.declared.reply.Rejection.TheVariants.{BadSignature}
 use Rattle.access_history.specs.Authority.{sayings}
 use Rattle.access_history.specs.Base.{BaseView}
 use Rattle.access_history.specs.Citing.{AreFound, IsAbsent}
