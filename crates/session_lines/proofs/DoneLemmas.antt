@@ -1,18 +1,25 @@
 -- What becomes of a task, from its turns.
-use Rattle.std.proofs.Common.{◌≡◌, ◌∙◌, ◌≤◌, ℕ, List, [], ◌++◌, length, refl, sym, ap, subst, arith, append-nil, append_assoc, length-append}
-use Rattle.std.specs.Prelude.{ℤ}
+use Rattle.std.proofs.Common.{◌≡◌, ◌∙◌, ◌⊎◌, inl, inr, ◌≤◌, ℕ, List, [], ◌++◌, length, refl, sym, ap, subst, arith, append-nil, append_assoc, length-append}
+use Rattle.std.specs.Prelude.{ℤ, ◌≢◌}
 use mathlib.Core.List.{IsPrefix}
 use Rattle.tree_lock.specs.Seen.{PassView}
 use Rattle.tree_lock.proofs.EntryLemmas.{prefix_refl, prefix_trans}
 use Rattle.bl_syntax.specs.declared.grant.Goal.{Goal}
 use Rattle.proof_term.specs.Proof.{ProofView}
 use Rattle.proof_verifier.specs.declared.cites.Cite.{Cite as CiteOf}
+use Rattle.proof_verifier.specs.declared.fault.CheckFault.{CheckFault}
+use Rattle.proof_verifier.specs.declared.fault.CheckFault.TheVariants as check_faults
+use Rattle.proof_verifier.specs.Cited.{statements_of}
+use Rattle.proof_verifier.specs.CheckedView.{CheckedView, checked_view, IsChecked}
+use Rattle.proof_verifier.specs.Run.{IsFault}
+use Rattle.proof_verifier.specs.Verdict.{verdict}
+use Rattle.access_history.specs.declared.request.StepRequest.TheVariants.{Issue}
 use Rattle.line_wire.specs.declared.reply.LineReply.{LineReply}
 use Rattle.line_wire.specs.declared.reply.LineReply.TheVariants as replies
 use Rattle.pcfs_store.specs.Entries.{StoreEntry}
 use Rattle.pcfs_store.specs.StoreView.{StoreView}
 use Rattle.session_history.specs.declared.request.TurnRequest.{TurnRequest}
-use Rattle.session_history.specs.declared.request.TurnRequest.TheVariants.{Cite}
+use Rattle.session_history.specs.declared.request.TurnRequest.TheVariants.{Step, Cite}
 use Rattle.session_history.specs.declared.reply.TurnReply.{TurnReply}
 use Rattle.session_history.specs.declared.reply.TurnReply.TheVariants as turn_replies
 use Rattle.session_history.specs.declared.task.LineTask.{LineTask}
@@ -61,6 +68,21 @@ module _ {D : Type 0} (gives : ℤ → Type 0) where
   earlier : (p : StorePass) (history : List StoreEntry) (from at : ℕ) (request : TurnRequest) (reply : TurnReply) (to : ℕ) (given : List StoreEntry) → from ≤ at → TurnPlaced gives p history at request reply to given → TurnPlaced gives p history from request reply to given
   earlier p history from at request reply to given before t =
       record { before = t.before; after = t.after; parts = t.parts; not_earlier = omega (arith, before, t.not_earlier); place = t.place; turn = t.turn }
+
+  -- ---- a check
+
+  -- it refused the proof, or memory ran out
+  pub issued_refused : (cites : List CiteOf) (goal : Goal) (proof : ProofView) (pass : PassView (LockEntry D)) (fault : CheckFault) (reply : LineReply) → IsFault fault (verdict (statements_of cites) goal proof) →
+      (reply ≡ replies.NoMemory) ⊎ ((reply ≡ replies.Unproved fault) × (fault ≢ check_faults.NoMemory)) → HasIssued gives cites goal proof pass pass reply
+  issued_refused cites goal proof pass fault reply refused (inl told) = subst (HasIssued gives cites goal proof pass pass) (sym told) (without_memory refl)
+  issued_refused cites goal proof pass fault reply (inl none) (inr told) = absurd (told.1 none)
+  issued_refused cites goal proof pass fault reply (inr is) (inr told) = subst (HasIssued gives cites goal proof pass pass) (sym told.0) (refuted fault refl is)
+
+  -- it granted the goal, and the turn came after
+  pub issued_granted : (cites : List CiteOf) (goal : Goal) (proof : ProofView) (old new : PassView (LockEntry D)) (checked : CheckedView) (reply : LineReply) → checked ≡ checked_view cites goal proof checked.grant → IsChecked checked → HasTold gives (Step (Issue checked)) old new reply →
+      HasIssued gives cites goal proof old new reply
+  issued_granted cites goal proof old new checked reply same is told =
+      granted checked.grant reply (subst IsChecked same is).verdict_is (subst (λ (c : CheckedView). HasTold gives (Step (Issue c)) old new reply) same told)
 
   -- ---- tasks
 

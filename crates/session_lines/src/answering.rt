@@ -1,9 +1,10 @@
 //! A line of a session, and its reply.
 
-ghost use Rattle.std.specs.Prelude.{◌≡◌};
+ghost use Rattle.std.specs.Prelude.{◌≡◌, if◌then◌else◌};
 ghost use Rattle.session_history.specs.Turn.{IsTurnFormed};
 ghost use Rattle.session_history.specs.Tasks.{IsSingle};
-ghost use Rattle.session_lines.specs.Logins.{caller_after};
+ghost use Rattle.session_history.specs.Placed.{is_done};
+ghost use Rattle.session_lines.specs.Logins.{name_or, caller_after};
 ghost use Rattle.session_lines.specs.Replied.{HasTold, HasReplied};
 
 use crate::checker::Checker;
@@ -18,6 +19,15 @@ use shared_store::OpenedStore;
 use std::alloc::Global;
 use std::sync::Wait;
 use tree_lock::{Pass, TreeLock};
+
+// Who is logged in after a reply: who was to be, if somebody was and the line was done.
+fn set_caller(caller: &mut Option<Principal>, who: Option<Principal>, reply: &LineReply)
+    ensures { caller.new ≡ (if is_done reply.now then name_or caller.old who else caller.old) }
+{
+    if is_done(reply) && who.is_some() {
+        *caller = who;
+    }
+}
 
 // Takes the one turn of a line. A login that is accepted changes the caller.
 fn answer_in_turn<R: Wait, D: Disk, C: Clock>(
@@ -37,9 +47,7 @@ fn answer_in_turn<R: Wait, D: Disk, C: Clock>(
 {
     let who = login_name(&request);
     let reply = take_turn(rt, alloc, lock, pass, clock, request);
-    if who.is_some() && is_done(&reply) {
-        *caller = who;
-    }
+    set_caller(caller, who, &reply);
     reply
 }
 

@@ -6,13 +6,13 @@ ghost use Rattle.bl_syntax.specs.Citable.{AreCitable};
 ghost use Rattle.session_lines.specs.Replied.{HasDone, HasIssued};
 
 use crate::checker::Checker;
-use crate::telling::{take_turn, told};
+use crate::telling::{take_turn, told, unproved};
 use access_history::StepRequest;
 use bl_syntax::{Goal, Numbers};
 use line_wire::LineReply;
 use pcfs_ports::{Clock, Disk};
 use proof_term::ProofTree;
-use proof_verifier::{CheckFault, Cites};
+use proof_verifier::Cites;
 use session_history::{LineTask, TurnReply, TurnRequest};
 use shared_store::{FormedRequest, OpenedStore, ask};
 use std::alloc::Global;
@@ -43,8 +43,7 @@ fn issue<R: Wait, D: Disk, C: Clock, K: Checker>(
             clock,
             TurnRequest::Step(StepRequest::Issue(checked)),
         ),
-        Err(CheckFault::NoMemory) => LineReply::NoMemory,
-        Err(fault) => LineReply::Unproved(fault),
+        Err(fault) => unproved(fault),
     }
 }
 

@@ -1,6 +1,6 @@
 //! What a line is told for which a turn replies something, and who is logged in then.
 
-ghost use Rattle.std.specs.Prelude.{◌≡◌};
+ghost use Rattle.std.specs.Prelude.{◌≡◌, ◌≢◌, ◌⊎◌};
 ghost use Rattle.session_history.specs.Placed.{IsTold, is_done};
 ghost use Rattle.session_history.specs.Turn.{IsTurnFormed};
 ghost use Rattle.session_history.specs.Tasks.{IsSingle};
@@ -10,6 +10,7 @@ ghost use Rattle.session_lines.specs.Replied.{HasTold};
 use bl_syntax::Principal;
 use line_wire::LineReply;
 use pcfs_ports::{Clock, Disk};
+use proof_verifier::CheckFault;
 use session_history::{TurnReply, TurnRequest};
 use shared_store::{FormedRequest, OpenedStore, ask};
 use std::alloc::Global;
@@ -28,6 +29,16 @@ pub fn told(found: TurnReply) -> LineReply
         TurnReply::Stopped => LineReply::Stopped,
         TurnReply::NoMemory => LineReply::NoMemory,
         TurnReply::Cited(_) => unreachable!(),
+    }
+}
+
+/// What a line is told whose proof was refused.
+pub fn unproved(fault: CheckFault) -> LineReply
+    ensures { (result ≡ LineReply.NoMemory) ⊎ ((result ≡ LineReply.Unproved fault) × (fault ≢ CheckFault.NoMemory)) }
+{
+    match fault {
+        CheckFault::NoMemory => LineReply::NoMemory,
+        _ => LineReply::Unproved(fault),
     }
 }
 
