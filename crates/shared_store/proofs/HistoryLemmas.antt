@@ -1,16 +1,34 @@
 -- Entries under their numbers, and without them.
-use Rattle.std.proofs.Common.{◌≡◌, ◌∙◌, ℕ, List, [], ◌∷◌, ◌++◌, refl, sym, ap}
+use Rattle.std.proofs.Common.{◌≡◌, ◌∙◌, ℕ, List, [], ◌∷◌, ◌++◌, map, Option, Some, None, refl, sym, ap}
+use Rattle.std.specs.List.{AllByRecursion}
 use Rattle.std.proofs.lemmas.List.{map-append}
 use mathlib.Core.List.{IsPrefix}
 use Rattle.tree_lock.specs.Entries.{AllOfNumber}
-use Rattle.pcfs_store.specs.Entries.{StoreEntry, happened, stopped}
+use Rattle.access_history.specs.declared.event.Event.{Event}
+use Rattle.access_history.specs.declared.event.Event.TheVariants.{Registered, Issued, Acted}
+use Rattle.journal_records.specs.EventSpelling.{erase, IsReadEvent}
+use Rattle.pcfs_store.specs.Entries.{StoreEntry, happened, stopped, stop_entries}
 use Rattle.pcfs_store.specs.StoreView.{StoreView}
-use Rattle.session_history.specs.Passes.{AllOfPass}
+use Rattle.session_history.specs.Passes.{event_pass, AllOfPass}
 use Rattle.shared_store.specs.declared.entry.LockEntry.{LockEntry}
 use Rattle.shared_store.specs.declared.entry.LockEntry.TheVariants.{Opened, Happened, Stopped}
-use Rattle.shared_store.specs.LockHistory.{numbered_entry, numbered, lock_history, bare}
+use Rattle.shared_store.specs.LockHistory.{numbered_entry, numbered, lock_history, lock_entries, bare}
+
+-- an event that was read has pass 0
+pass_none : (event : Event) → erase event ≡ event → event_pass event ≡ 0
+pass_none (Registered pass statement signature) same = cc
+pass_none (Issued pass cited proof grant) same = cc
+pass_none (Acted pass caller op procaps moment) same = cc
 
 module _ {D : Type 0} where
+  read_numbers : (events : List Event) (stop : Option ℕ) → AllByRecursion IsReadEvent events → stop ≡ None → AllOfNumber 0 (numbered {D} (map happened events ++ stop_entries stop))
+  read_numbers [] None each running = tt
+  read_numbers [] (Some pass) each running = absurd cc
+  read_numbers (event ∷ events) stop each running = (pass_none event each.0.erased, read_numbers events stop each.1 running)
+
+  pub opened_numbers : (s : StoreView D) → AllByRecursion IsReadEvent s.events → s.stop ≡ None → AllOfNumber 0 (lock_entries (record { store = s; opening = s }))
+  opened_numbers s each running = (refl, read_numbers s.events s.stop each running)
+
   bare_all : (entries : List StoreEntry) → bare (numbered {D} entries) ≡ entries
   bare_all [] = refl
   bare_all (happened event ∷ entries) = ap (λ (l : List StoreEntry). happened event ∷ l) (bare_all entries)

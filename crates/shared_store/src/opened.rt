@@ -55,12 +55,19 @@ fn told(reply: StoreReply) -> TurnReply
 }
 
 impl<D: Disk> OpenedStore<D> {
+    ghost use Rattle.std.specs.List.{AllByRecursion};
+    ghost use Rattle.journal_records.specs.EventSpelling.{IsReadEvent};
+    ghost use Rattle.tree_lock.specs.Entries.{AllOfNumber};
     ghost use Rattle.shared_store.specs.GoesOn.{HasGoneOn};
+    ghost use Rattle.shared_store.specs.LockHistory.{lock_entries};
 
     /// A store that was opened just now.
     pub fn new(store: Store<D>) -> OpenedStore<D>
         requires running { store.stop ≡ None }
-        ensures { result ≡ record { store = store; opening = store } }
+        ensures opened { result ≡ record { store = store; opening = store } }
+
+        // Of a store that was read no entry has a pass.
+        ensures numbers { AllByRecursion IsReadEvent store.events → AllOfNumber 0 (lock_entries result) }
     {
         let opening = Snapshot::of(&store);
         OpenedStore { store, opening }
