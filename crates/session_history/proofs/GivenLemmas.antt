@@ -52,8 +52,8 @@ line_given : (gives : ℤ → Type 0) (p : StorePass) (history : List StoreEntry
 line_given gives p history from _ _ _ _ (at_once reply) = tt
 line_given gives p history from _ _ _ _ (in_a_turn request found reply to given turn is) = turn_given gives p turn.before _ found given turn.turn
 line_given gives p history from _ _ _ _ (places.cites_none goal numbers proof found reply to given turn is) = turn_given gives p turn.before _ found given turn.turn
-line_given gives p history from _ _ _ _ (proves_none goal numbers proof cites fault to turn verdict_is) = tt
-line_given gives p history from _ _ _ _ (issues goal numbers proof cites g at found reply to given turn verdict_is second is) = turn_given gives p second.before _ found given second.turn
+line_given gives p history from _ _ _ _ (proves_none goal numbers proof cited fault to turn verdict_is) = tt
+line_given gives p history from _ _ _ _ (issues goal numbers proof cited g at found reply to given turn verdict_is second is) = turn_given gives p second.before _ found given second.turn
 line_given gives p history from _ _ _ _ (places.without_memory task) = tt
 
 all_of_both : (pass : ℕ) (xs ys : List StoreEntry) → AllOfPass pass xs → AllOfPass pass ys → AllOfPass pass (xs ++ ys)

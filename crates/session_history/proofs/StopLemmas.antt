@@ -70,7 +70,7 @@ turn_stopped gives p history from request reply to given t is = ap has_stop (fro
 
 stopped_turn : (found : TurnReply) (reply : LineReply) → IsTold found reply → reply ≡ replies.Stopped → found ≡ turn_replies.Stopped
 stopped_turn (turn_replies.Step answer) reply is same = let both : replies.Step answer ≡ replies.Stopped = sym is ∙ same in absurd cc
-stopped_turn (turn_replies.Cited cites) reply is same = absurd is
+stopped_turn (turn_replies.Cited cited) reply is same = absurd is
 stopped_turn turn_replies.LoggedIn reply is same = let both : replies.Done ≡ replies.Stopped = sym is ∙ same in absurd cc
 stopped_turn turn_replies.Full reply is same = let both : replies.Full ≡ replies.Stopped = sym is ∙ same in absurd cc
 stopped_turn turn_replies.Stopped reply is same = refl
@@ -118,8 +118,8 @@ by_place : (gives : ℤ → Type 0) (p : StorePass) (history : List StoreEntry) 
 by_place gives p history s from line _ _ _ _ asks_for (at_once reply) same = absurd (not_stopped_at_once reply (said_at_once s line (tasks.Reply reply) reply asks_for refl) same)
 by_place gives p history s from line _ _ _ _ asks_for (in_a_turn request found reply to given turn is) same = turn_stopped gives p history from request found to given turn (stopped_turn found reply is same)
 by_place gives p history s from line _ _ _ _ asks_for (places.cites_none goal numbers proof found reply to given turn is) same = turn_stopped gives p history from _ found to given turn (stopped_turn found reply is same)
-by_place gives p history s from line _ _ _ _ asks_for (proves_none goal numbers proof cites fault to turn verdict_is) same = absurd cc
-by_place gives p history s from line _ _ _ _ asks_for (issues goal numbers proof cites g at found reply to given turn verdict_is second is) same = turn_stopped gives p history at _ found to given second (stopped_turn found reply is same)
+by_place gives p history s from line _ _ _ _ asks_for (proves_none goal numbers proof cited fault to turn verdict_is) same = absurd cc
+by_place gives p history s from line _ _ _ _ asks_for (issues goal numbers proof cited g at found reply to given turn verdict_is second is) same = turn_stopped gives p history at _ found to given second (stopped_turn found reply is same)
 by_place gives p history s from line _ _ _ _ asks_for (places.without_memory task) same = absurd cc
 
 pub line_stopped : (gives : ℤ → Type 0) (p : StorePass) (history : List StoreEntry) (s : SessionState) (from : ℕ) (line : List ℕ) (task : LineTask) (to : ℕ) (given : List StoreEntry) →

@@ -78,7 +78,7 @@ after_turn s (Login who nonce signature) reply = after_login s who (is_done repl
 
 -- who is logged in after a reply: a login that was accepted changes it, and nothing else does
 abbrev pub state_after : SessionState → LineTask → LineReply → SessionState
-state_after s (tasks.Reply at_once) reply = s
+state_after s (tasks.Reply answer) reply = s
 state_after s (tasks.Turn request) reply = after_turn s request reply
 state_after s (tasks.Proof goal numbers proof) reply = s
 
