@@ -53,7 +53,7 @@ module _ {D : Type 0} where
     number = other.number ∙ one.number;
     seen = prefix_trans old.seen mid.seen new.seen one.seen other.seen;
     history = λ opening h. other.history opening (one.history opening h);
-    own = other.own ∙ ap (λ (l : List (ℕ × LockEntry D)). l ++ numbered more) one.own ∙ append_assoc old.own (numbered given) (numbered more) ∙ ap (λ (l : List (ℕ × LockEntry D)). old.own ++ l) (sym (numbered_both given more));
+    own = other.own ∙ ap (λ (l : List (ℕ × LockEntry D)). l ++ numbered more) one.own ∙ append_assoc old.own (numbered given) (numbered more) ∙ ap (λ (l : List (ℕ × LockEntry D)). old.own ++ l) (sym (numbered_both D given more));
   }
 
   -- after a turn that added nothing

@@ -30,8 +30,8 @@ module _ {D : Type 0} where
   pub appends : (gives : ℤ → Type 0) (request : TurnRequest) (before after : OpenedView D) (pass : ℕ) (reply : TurnReply) → HasTurned gives request before pass after reply → Appends pass (lock_entries before) (lock_entries after)
   appends gives request before after pass reply t = record {
     added = numbered t.given;
-    is = grown gives request before after pass reply t ∙ ap (λ (l : List (ℕ × LockEntry D)). (0, Opened before.opening) ∷ l) (numbered_both (entries_of before.store) t.given);
-    of_number = all_numbered pass t.given (turn_given gives (pass_at before.opening pass) (entries_of before.store) request reply t.given t.turn);
+    is = grown gives request before after pass reply t ∙ ap (λ (l : List (ℕ × LockEntry D)). (0, Opened before.opening) ∷ l) (numbered_both D (entries_of before.store) t.given);
+    of_number = all_numbered D pass t.given (turn_given gives (pass_at before.opening pass) (entries_of before.store) request reply t.given t.turn);
   }
 
   -- the moment was one that the clock gives
@@ -47,13 +47,13 @@ module _ {D : Type 0} where
     few_seen : (seen : List (ℕ × LockEntry D)) (opening : StoreView D) (entries : List StoreEntry) → IsPrefix seen (lock_history opening entries) → length seen - 1 ≤ length entries
     few_seen seen opening entries begins =
         let long : length (seen ++ begins.0) ≡ length (lock_history opening entries) = ap length begins.1 in
-        let same : length (numbered {D} entries) ≡ length entries = length-map entries numbered_entry in
+        let same : length (numbered {D = D} entries) ≡ length entries = length-map entries numbered_entry in
         omega (arith, long, same, length-append seen begins.0)
 
     all_seen : (seen : List (ℕ × LockEntry D)) (opening : StoreView D) (entries given : List StoreEntry) → seen ≡ lock_history opening (entries ++ given) → length seen - 1 ≡ length entries + length given
     all_seen seen opening entries given is =
         let long : length seen ≡ length (lock_history opening (entries ++ given)) = ap length is in
-        let same : length (numbered {D} (entries ++ given)) ≡ length (entries ++ given) = length-map (entries ++ given) numbered_entry in
+        let same : length (numbered {D = D} (entries ++ given)) ≡ length (entries ++ given) = length-map (entries ++ given) numbered_entry in
         omega (arith, long, same, length-append entries given)
 
     -- what has been seen of a store is of the same one later
@@ -69,7 +69,7 @@ module _ {D : Type 0} where
         let first : StoreView D = t.before.opening in
         let found : List StoreEntry = entries_of t.before.store in
         let left : lock_entries t.after ≡ lock_history first (found ++ w.given) = grown gives request t.before t.after old.number reply w in
-        let both : lock_history first (found ++ w.given) ≡ lock_history first found ++ numbered w.given = ap (λ (l : List (ℕ × LockEntry D)). (0, Opened first) ∷ l) (numbered_both found w.given) in
+        let both : lock_history first (found ++ w.given) ≡ lock_history first found ++ numbered w.given = ap (λ (l : List (ℕ × LockEntry D)). (0, Opened first) ∷ l) (numbered_both D found w.given) in
         let added : t.added ≡ numbered w.given = append_cancel_left (lock_history first found) t.added (numbered w.given) (sym t.left ∙ left ∙ both) in
         let seen : new.seen ≡ lock_history first (found ++ w.given) = t.seen ∙ left in
         let grew : IsPrefix old.seen new.seen = seen_grew lock_entries Done old new reply t in

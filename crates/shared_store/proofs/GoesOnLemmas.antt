@@ -1,5 +1,5 @@
 -- A store goes on from its opening by steps.
-use Rattle.std.proofs.Common.{◌≡◌, ◌∙◌, ◌⊎◌, inl, inr, ⊎_elim, ℕ, ◌≤◌, ◌<◌, ◌+◌, ◌-◌, ◌^◌, length, length-append, Bool, true, false, List, [], ◌∷◌, ◌++◌, Option, Some, None, refl, sym, arith, append_assoc, append-nil}
+use Rattle.std.proofs.Common.{◌≡◌, ◌∙◌, ◌⊎◌, inl, inr, ⊎_elim, ℕ, ◌≤◌, ◌<◌, ◌+◌, ◌-◌, ◌^◌, length, length-append, Bool, true, false, List, [], ◌∷◌, ◌++◌, Option, Some, None, refl, sym, subst, arith, append_assoc, append-nil}
 use Rattle.std.specs.Prelude.{ℤ, ◌≢◌, is_some}
 use Rattle.std.proofs.lemmas.Bool.{cases_lt}
 use mathlib.Core.List.{IsPrefix}
@@ -94,6 +94,9 @@ module _ {D : Type 0} (clock : D → ℕ) (left_since : D → ℕ → List ℕ �
     pub second_told : is_some (image (second_disk new)) ≡ is_some (image (second_disk old))
     pub first_never_falls : faults (first_disk old) ≤ faults (first_disk new)
     pub second_never_falls : faults (second_disk old) ≤ faults (second_disk new)
+
+  pub stepped_shown : (old new : StoreView D) (pass : ℕ) (given moment : ℤ) (request : StepRequest) (result : StoreReply) → given ≡ moment → Stepped old pass given request result new → Stepped old pass moment request result new
+  stepped_shown old new pass given moment request result is s = subst (λ (m : ℤ). Stepped old pass m request result new) is s
 
   module _ (opening : StoreView D) where
     -- the store did not change but in its active disk and its events, and is not stopped

@@ -20,32 +20,33 @@ pass_none (Registered pass statement signature) same = cc
 pass_none (Issued pass cited proof grant) same = cc
 pass_none (Acted pass caller op procaps moment) same = cc
 
+-- so has each entry of a store that was read
+read_numbers : (D : Type 0) (events : List Event) (stop : Option ℕ) → AllByRecursion IsReadEvent events → stop ≡ None → AllOfNumber 0 (numbered {D = D} (map happened events ++ stop_entries stop))
+read_numbers D [] None each running = tt
+read_numbers D [] (Some pass) each running = absurd cc
+read_numbers D (event ∷ events) stop each running = (pass_none event each.0.erased, read_numbers D events stop each.1 running)
+
+pub opened_numbers : {D : Type 0} (s : StoreView D) → AllByRecursion IsReadEvent s.events → s.stop ≡ None → AllOfNumber 0 (lock_entries (record { store = s; opening = s }))
+opened_numbers {D = D} s each running = (refl, read_numbers D s.events s.stop each running)
+
+bare_all : (D : Type 0) (entries : List StoreEntry) → bare (numbered {D = D} entries) ≡ entries
+bare_all D [] = refl
+bare_all D (happened event ∷ entries) = ap (λ (l : List StoreEntry). happened event ∷ l) (bare_all D entries)
+bare_all D (stopped pass ∷ entries) = ap (λ (l : List StoreEntry). stopped pass ∷ l) (bare_all D entries)
+
+pub numbered_both : (D : Type 0) (xs ys : List StoreEntry) → numbered {D = D} (xs ++ ys) ≡ numbered {D = D} xs ++ numbered {D = D} ys
+numbered_both D xs ys = map-append (numbered_entry {D = D}) xs ys
+
+pub all_numbered : (D : Type 0) (pass : ℕ) (entries : List StoreEntry) → AllOfPass pass entries → AllOfNumber pass (numbered {D = D} entries)
+all_numbered D pass [] all = tt
+all_numbered D pass (happened event ∷ entries) all = (all.0, all_numbered D pass entries all.1)
+all_numbered D pass (stopped other ∷ entries) all = (all.0, all_numbered D pass entries all.1)
+
 module _ {D : Type 0} where
-  read_numbers : (events : List Event) (stop : Option ℕ) → AllByRecursion IsReadEvent events → stop ≡ None → AllOfNumber 0 (numbered {D} (map happened events ++ stop_entries stop))
-  read_numbers [] None each running = tt
-  read_numbers [] (Some pass) each running = absurd cc
-  read_numbers (event ∷ events) stop each running = (pass_none event each.0.erased, read_numbers events stop each.1 running)
-
-  pub opened_numbers : (s : StoreView D) → AllByRecursion IsReadEvent s.events → s.stop ≡ None → AllOfNumber 0 (lock_entries (record { store = s; opening = s }))
-  opened_numbers s each running = (refl, read_numbers s.events s.stop each running)
-
-  bare_all : (entries : List StoreEntry) → bare (numbered {D} entries) ≡ entries
-  bare_all [] = refl
-  bare_all (happened event ∷ entries) = ap (λ (l : List StoreEntry). happened event ∷ l) (bare_all entries)
-  bare_all (stopped pass ∷ entries) = ap (λ (l : List StoreEntry). stopped pass ∷ l) (bare_all entries)
-
   bare_front : (entries : List StoreEntry) (rest : List (ℕ × LockEntry D)) → bare (numbered entries ++ rest) ≡ entries ++ bare rest
   bare_front [] rest = refl
   bare_front (happened event ∷ entries) rest = ap (λ (l : List StoreEntry). happened event ∷ l) (bare_front entries rest)
   bare_front (stopped pass ∷ entries) rest = ap (λ (l : List StoreEntry). stopped pass ∷ l) (bare_front entries rest)
-
-  pub numbered_both : (xs ys : List StoreEntry) → numbered {D} (xs ++ ys) ≡ numbered xs ++ numbered ys
-  numbered_both xs ys = map-append numbered_entry xs ys
-
-  pub all_numbered : (pass : ℕ) (entries : List StoreEntry) → AllOfPass pass entries → AllOfNumber pass (numbered {D} entries)
-  all_numbered pass [] all = tt
-  all_numbered pass (happened event ∷ entries) all = (all.0, all_numbered pass entries all.1)
-  all_numbered pass (stopped other ∷ entries) all = (all.0, all_numbered pass entries all.1)
 
   -- ---- how a history begins
 
@@ -67,4 +68,4 @@ module _ {D : Type 0} where
   opened_alike first opening seen entries begins = ap (opened_of first) begins.1
 
   pub entries_after : (first opening : StoreView D) (seen entries : List StoreEntry) → (begins : IsPrefix (lock_history first seen) (lock_history opening entries)) → entries ≡ seen ++ bare begins.0
-  entries_after first opening seen entries begins = sym (bare_all entries) ∙ sym (ap (λ (l : List (ℕ × LockEntry D)). bare (tail_of l)) begins.1) ∙ bare_front seen begins.0
+  entries_after first opening seen entries begins = sym (bare_all D entries) ∙ sym (ap (λ (l : List (ℕ × LockEntry D)). bare (tail_of l)) begins.1) ∙ bare_front seen begins.0

@@ -15,37 +15,34 @@ use Rattle.shared_store.specs.LockHistory.{lock_history, lock_entries, before_ot
 use Rattle.shared_store.specs.Merged.{AreMerged}
 use Rattle.shared_store.proofs.HistoryLemmas.{opened_alike, entries_after}
 
-module _ {D : Type 0} where
-  abbrev Lists : Type 0
-  Lists = List (List (ℕ × LockEntry D))
+set_same : (lists : List (List StoreEntry)) (k : ℕ) (l : List StoreEntry) → slice_get lists k ≡ Some l → slice_set lists k l ≡ lists
+set_same [] k l found = refl
+set_same (first ∷ lists) zero l found = let both : Some first ≡ Some l = found in let same : first ≡ l = cc in ap (λ (x : List StoreEntry). x ∷ lists) (sym same)
+set_same (first ∷ lists) (suc k) l found = ap (λ (ls : List (List StoreEntry)). first ∷ ls) (set_same lists k l found)
 
-  all_bare : (lists : Lists) → AllByRecursion (λ l. l ≡ []) lists → AllByRecursion (λ l. l ≡ []) (map bare lists)
+module _ {D : Type 0} where
+  all_bare : (lists : List (List (ℕ × LockEntry D))) → AllByRecursion (λ l. l ≡ []) lists → AllByRecursion (λ l. l ≡ []) (map bare lists)
   all_bare [] none = tt
   all_bare (l ∷ lists) none = (ap bare none.0, all_bare lists none.1)
 
-  get_bare : (lists : Lists) (k : ℕ) (l : List (ℕ × LockEntry D)) → slice_get lists k ≡ Some l → slice_get (map bare lists) k ≡ Some (bare l)
+  get_bare : (lists : List (List (ℕ × LockEntry D))) (k : ℕ) (l : List (ℕ × LockEntry D)) → slice_get lists k ≡ Some l → slice_get (map bare lists) k ≡ Some (bare l)
   get_bare [] k l found = absurd cc
   get_bare (first ∷ lists) zero l found = let both : Some first ≡ Some l = found in let same : first ≡ l = cc in ap (λ (x : List (ℕ × LockEntry D)). Some (bare x)) same
   get_bare (first ∷ lists) (suc k) l found = get_bare lists k l found
 
-  set_bare : (lists : Lists) (k : ℕ) (l : List (ℕ × LockEntry D)) → map bare (slice_set lists k l) ≡ slice_set (map bare lists) k (bare l)
+  set_bare : (lists : List (List (ℕ × LockEntry D))) (k : ℕ) (l : List (ℕ × LockEntry D)) → map bare (slice_set lists k l) ≡ slice_set (map bare lists) k (bare l)
   set_bare [] k l = refl
   set_bare (first ∷ lists) zero l = refl
   set_bare (first ∷ lists) (suc k) l = ap (λ (ls : List (List StoreEntry)). bare first ∷ ls) (set_bare lists k l)
 
-  set_same : (lists : List (List StoreEntry)) (k : ℕ) (l : List StoreEntry) → slice_get lists k ≡ Some l → slice_set lists k l ≡ lists
-  set_same [] k l found = refl
-  set_same (first ∷ lists) zero l found = let both : Some first ≡ Some l = found in let same : first ≡ l = cc in ap (λ (x : List StoreEntry). x ∷ lists) (sym same)
-  set_same (first ∷ lists) (suc k) l found = ap (λ (ls : List (List StoreEntry)). first ∷ ls) (set_same lists k l found)
-
   -- the first element of one of the lists, without its number, if it is no opening
-  taken : (lists : Lists) (k : ℕ) (e : LockEntry D) (l : List (ℕ × LockEntry D)) (rest : List StoreEntry) → slice_get (map bare lists) k ≡ Some (before_others e (bare l)) → Merges (slice_set (map bare lists) k (bare l)) rest →
+  taken : (lists : List (List (ℕ × LockEntry D))) (k : ℕ) (e : LockEntry D) (l : List (ℕ × LockEntry D)) (rest : List StoreEntry) → slice_get (map bare lists) k ≡ Some (before_others e (bare l)) → Merges (slice_set (map bare lists) k (bare l)) rest →
       Merges (map bare lists) (before_others e rest)
   taken lists k (Opened opening) l rest found merged = subst (λ (ls : List (List StoreEntry)). Merges ls rest) (set_same (map bare lists) k (bare l) found) merged
   taken lists k (Happened event) l rest found merged = takes k found merged
   taken lists k (Stopped pass) l rest found merged = takes k found merged
 
-  merges_bare : (lists : Lists) (xs : List (ℕ × LockEntry D)) → Merges lists xs → Merges (map bare lists) (bare xs)
+  merges_bare : (lists : List (List (ℕ × LockEntry D))) (xs : List (ℕ × LockEntry D)) → Merges lists xs → Merges (map bare lists) (bare xs)
   merges_bare lists _ (ends none) = ends (all_bare lists none)
   merges_bare lists _ (takes {x = x} {xs = xs} {ys = ys} k found merged) =
       taken lists k x.1 xs (bare ys) (get_bare lists k (x ∷ xs) found) (subst (λ (ls : List (List StoreEntry)). Merges ls (bare ys)) (set_bare lists k xs) (merges_bare (slice_set lists k xs) ys merged))

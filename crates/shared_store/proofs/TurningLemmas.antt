@@ -16,8 +16,12 @@ use Rattle.access_history.specs.Answer.{Answers}
 use Rattle.access_history.specs.Citing.{AreFound, IsAbsent}
 use Rattle.access_history.specs.History.{authority_with}
 use Rattle.access_history.specs.Replay.{replay}
+use Rattle.op_gate.specs.declared.cite.Citation.{Citation}
+use Rattle.op_gate.specs.declared.cite.Citation.TheVariants as citations
+use Rattle.op_gate.specs.Citations.{GivesCitation}
+use Rattle.op_gate.specs.Decision.{GateView}
 use Rattle.pcfs_store.specs.declared.reply.StoreReply.{StoreReply}
-use Rattle.pcfs_store.specs.Entries.{StoreEntry, happened, stopped, stop_entries, root_of, entries_of, state_of_entries}
+use Rattle.pcfs_store.specs.Entries.{StoreEntry, happened, stopped, stop_entries, root_of, entries_of, state_of_entries, used_by}
 use Rattle.pcfs_store.specs.StoreView.{StoreView, AnswersIn, IsStore}
 use Rattle.pcfs_store.specs.StoredHistory.{IsFull}
 use Rattle.pcfs_store.specs.Steps.{IsFullFor, Steps}
@@ -31,6 +35,7 @@ use Rattle.session_history.specs.Passes.{has_stop}
 use Rattle.session_history.specs.Turn.{StorePass, authority_of_root, IsFullAfter, Turn}
 use Rattle.session_history.specs.Turn as turns
 use Rattle.shared_store.specs.GoesOn.{HasGoneOn}
+use Rattle.shared_store.specs.OpenedView.{OpenedView}
 use Rattle.shared_store.specs.Turning.{turn_reply, pass_at, HasTurned}
 
 -- ---- entries of a store
@@ -78,11 +83,11 @@ module _ {D : Type 0} (clock : D → ℕ) (left_since : D → ℕ → List ℕ �
 
   full_there : (event : Event) → IsStore now → IsFullFor now event → IsFullAfter (root_of opening) (entries_of now) event
   full_there event store is_full =
-      subst (λ (s : BaseView). IsFull _ s.count event) (sym state_is) (subst (λ (n : ℕ). IsFull n (replay now.base now.events).count event) (used-entries now store) is_full)
+      subst (λ (s : BaseView). IsFull (used_by (root_of opening) (entries_of now)) s.count event) (sym state_is) (subst (λ (n : ℕ). IsFull n (replay now.base now.events).count event) (used-entries now store) is_full)
 
   full_here : (event : Event) → IsStore now → IsFullAfter (root_of opening) (entries_of now) event → IsFullFor now event
   full_here event store is_full =
-      subst (λ (n : ℕ). IsFull n (replay now.base now.events).count event) (sym (used-entries now store)) (subst (λ (s : BaseView). IsFull _ s.count event) state_is is_full)
+      subst (λ (n : ℕ). IsFull n (replay now.base now.events).count event) (sym (used-entries now store)) (subst (λ (s : BaseView). IsFull (used_by (root_of opening) (entries_of now)) s.count event) state_is is_full)
 
   -- a step
   by_step : (new : StoreView D) (pass : ℕ) (moment : ℤ) (request : StepRequest) (reply : StoreReply) → IsStore now → Steps faults now pass moment request reply new →
@@ -137,6 +142,30 @@ module _ {D : Type 0} (clock : D → ℕ) (left_since : D → ℕ → List ℕ �
   look_absent numbers number running absent pass moment =
       turns.answered moment (turn_replies.Step (Absent number)) (runs now running) refl (turns.cites_none numbers number (subst (λ (s : BaseView). IsAbsent (sayings s.statements) numbers number) (sym state_is) absent))
 
+  -- what the gate says of numbers
+  citation_here : (gate : GateView) (shown numbers : List ℕ) (citation given : Citation) → gate ≡ record { key = now.key; ring = now.ring; base = now.base; events = now.events; pending = None } → shown ≡ numbers → citation ≡ given →
+      GivesCitation (sayings (replay gate.base gate.events).statements) shown citation → GivesCitation (sayings (replay now.base now.events).statements) numbers given
+  citation_here gate shown numbers citation given gate_is shown_is is gives =
+      subst (λ (c : Citation). GivesCitation (sayings (replay now.base now.events).statements) numbers c) is
+      (subst (λ (ns : List ℕ). GivesCitation (sayings (replay now.base now.events).statements) ns citation) shown_is
+      (subst (λ (h : GateView). GivesCitation (sayings (replay h.base h.events).statements) shown citation) gate_is gives))
+
+  pub look_told_cited : (gate : GateView) (shown numbers : List ℕ) (citation : Citation) (cited : List Cite) → is_some now.stop ≡ false → gate ≡ record { key = now.key; ring = now.ring; base = now.base; events = now.events; pending = None } → shown ≡ numbers →
+      citation ≡ citations.Cited cited → GivesCitation (sayings (replay gate.base gate.events).statements) shown citation → Looks (requests.Cite numbers) (turn_replies.Cited cited)
+  look_told_cited gate shown numbers citation cited running gate_is shown_is is gives = look_cited numbers cited running (citation_here gate shown numbers citation (citations.Cited cited) gate_is shown_is is gives)
+
+  pub look_told_absent : (gate : GateView) (shown numbers : List ℕ) (citation : Citation) (number : ℕ) → is_some now.stop ≡ false → gate ≡ record { key = now.key; ring = now.ring; base = now.base; events = now.events; pending = None } → shown ≡ numbers →
+      citation ≡ citations.Absent number → GivesCitation (sayings (replay gate.base gate.events).statements) shown citation → Looks (requests.Cite numbers) (turn_replies.Step (Absent number))
+  look_told_absent gate shown numbers citation number running gate_is shown_is is gives = look_absent numbers number running (citation_here gate shown numbers citation (citations.Absent number) gate_is shown_is is gives)
+
+  -- what the ring says of a login
+  pub accepted_shown : (gate : GateView) (ring : List KeyView) (name who text nonce shown signature : List ℕ) (accepted : Bool) → gate ≡ record { key = now.key; ring = now.ring; base = now.base; events = now.events; pending = None } → ring ≡ gate.ring → name ≡ who →
+      text ≡ login_message who nonce → shown ≡ signature → accepted ≡ is_accepted ring name text shown → is_accepted now.ring who (login_message who nonce) signature ≡ accepted
+  accepted_shown gate ring name who text nonce shown signature accepted gate_is ring_is name_is text_is shown_is told =
+      subst (λ (r : List KeyView). is_accepted r who (login_message who nonce) signature ≡ accepted) (ring_is ∙ ap (λ (h : GateView). h.ring) gate_is)
+      (subst (λ (n : List ℕ). is_accepted ring n (login_message who nonce) signature ≡ accepted) name_is
+      (subst (λ (t : List ℕ). is_accepted ring name t signature ≡ accepted) text_is (subst (λ (s : List ℕ). is_accepted ring name text s ≡ accepted) shown_is (sym told))))
+
   accepted_there : (who nonce signature : List ℕ) (accepted : Bool) → is_accepted now.ring who (login_message who nonce) signature ≡ accepted → is_accepted (root_of opening).ring who (login_message who nonce) signature ≡ accepted
   accepted_there who nonce signature accepted is = ap (λ (r : List KeyView). is_accepted r who (login_message who nonce) signature) (sym g.ring_stays) ∙ is
 
@@ -156,9 +185,16 @@ turned_by_step clock left_since image faults opening old new pass moment request
     (by_step clock left_since image faults opening old g new pass moment request reply store stepped)
 
 -- a look is a turn that leaves all as it was
-pub turned_by_look : {D : Type 0} (opening now : StoreView D) (pass : ℕ) (moment : ℤ) (request : TurnRequest) (reply : TurnReply) → ((n : ℕ) (m : ℤ) → Turn (λ k. k ≡ m) (pass_at opening n) (entries_of now) request reply []) →
-    HasTurned (λ m. m ≡ moment) request (record { store = now; opening = opening }) pass (record { store = now; opening = opening }) reply
-turned_by_look opening now pass moment request reply looks = record { given = []; opening_stays = refl; grows = sym (append-nil (entries_of now)); turn = looks pass moment }
+pub turned_by_look : {D : Type 0} (s : OpenedView D) (pass : ℕ) (moment : ℤ) (asked request : TurnRequest) (reply : TurnReply) → asked ≡ request → ((n : ℕ) (m : ℤ) → Turn (λ k. k ≡ m) (pass_at s.opening n) (entries_of s.store) asked reply []) →
+    HasTurned (λ m. m ≡ moment) request s pass s reply
+turned_by_look s pass moment asked request reply is looks =
+    subst (λ (r : TurnRequest). HasTurned (λ m. m ≡ moment) r s pass s reply) is (record { given = []; opening_stays = refl; grows = sym (append-nil (entries_of s.store)); turn = looks pass moment })
+
+-- a step is one that was asked for, at the moment that was shown
+pub turned_by_request : {D : Type 0} (before after : OpenedView D) (pass : ℕ) (shown moment : ℤ) (asked request : TurnRequest) (reply : TurnReply) → shown ≡ moment → asked ≡ request → HasTurned (λ m. m ≡ shown) asked before pass after reply →
+    HasTurned (λ m. m ≡ moment) request before pass after reply
+turned_by_request before after pass shown moment asked request reply is same turned =
+    subst (λ (k : ℤ). HasTurned (λ m. m ≡ k) request before pass after reply) is (subst (λ (r : TurnRequest). HasTurned (λ m. m ≡ shown) r before pass after reply) same turned)
 
 -- the moment was one that the clock gives
 pub turn_shown : (gives : ℤ → Type 0) (p : StorePass) (before : List StoreEntry) (request : TurnRequest) (moment : ℤ) (reply : TurnReply) (given : List StoreEntry) → gives moment →

@@ -6,7 +6,7 @@ use Rattle.shared_store.proofs.opened.OpenedStore.new.Goals as goal
 
 pub invariant_of-result : goal.invariant_of-result
 invariant_of-result g c =
-    subst (λ opening. HasGoneOn g.D.Disk.clock g.D.Disk.left_since g.D.Disk.image g.D.Disk.faults opening c.args.store) (sym c.of-opening.ensures) (goes_on_same g.D.Disk.clock g.D.Disk.left_since g.D.Disk.image g.D.Disk.faults c.args.store c.requires)
+    subst (λ opening. HasGoneOn g.D.Disk.clock g.D.Disk.left_since g.D.Disk.image g.D.Disk.faults opening c.args.store) (sym c.of-opening.ensures) (goes_on_same g.D.Disk.clock g.D.Disk.left_since g.D.Disk.image g.D.Disk.faults c.args.store c.requires.running)
 
 pub returns-clause-numbers : goal.returns-clause-numbers
-returns-clause-numbers g c each = opened_numbers c.args.store each c.requires
+returns-clause-numbers g c each = opened_numbers c.args.store each c.requires.running
