@@ -1,0 +1,9 @@
+pub mod AskingLemmas
+pub mod CallerLemmas
+pub mod CitationLemmas
+pub mod EndLemmas
+pub mod FormedLemmas
+pub mod GivenLemmas
+pub mod GrowthLemmas
+pub mod StopLemmas
+pub mod TurnLemmas

@@ -1,0 +1,111 @@
+-- Laws of turns, lines and sessions: what is placed stays placed, what is given is the pass's own, places do not go back, and each line and each turn has one outcome.
+use Rattle.std.specs.Prelude.{◌+◌, ◌⊎◌, [], false, ◌≡◌, ◌≢◌, ℕ, ℤ, ◌≤◌, List, ◌++◌, length, take, true}
+use Rattle.std.specs.List.{AllByRecursion}
+use Rattle.policy_statement.specs.Messages.{login_message}
+use Rattle.policy_statement.specs.Ring.{KeyView, is_accepted}
+use Rattle.access_history.specs.declared.event.Event.TheVariants.{Registered, Issued, Acted}
+use Rattle.access_history.specs.Lawful.{IsLawful}
+use Rattle.line_wire.specs.declared.reply.LineReply.{LineReply}
+use Rattle.line_wire.specs.declared.reply.LineReply.TheVariants as replies
+use Rattle.pcfs_store.specs.Entries.{StoreEntry, happened, stopped, events_among}
+use Rattle.session_history.specs.declared.request.TurnRequest.{TurnRequest}
+use Rattle.session_history.specs.declared.reply.TurnReply.{TurnReply}
+use Rattle.session_history.specs.declared.reply.TurnReply.TheVariants as turn_replies
+use Rattle.session_history.specs.Passes.{AllOfPass, has_stop}
+use Rattle.session_history.specs.Turn.{StorePass, authority_of_root, Turn, TurnPlaced, IsTurnFormed}
+use Rattle.session_history.specs.SessionState.{SessionState, guest_with}
+use Rattle.session_history.specs.declared.task.LineTask.{LineTask}
+use Rattle.session_history.specs.Tasks.{IsTaskOf, IsTaskFormed, IsNamed}
+use Rattle.session_history.specs.Placed.{LinePlaced, LinesPlaced}
+
+-- ---- histories that grow: `gives` says which moments the clock gives
+
+-- a turn stays in its place where the history grows at its end
+abbrev pub TurnsStayPlaced : (ℤ → Type 0) → Type 0
+TurnsStayPlaced gives = (p : StorePass) (history more : List StoreEntry) (from : ℕ) (request : TurnRequest) (reply : TurnReply) (to : ℕ) (given : List StoreEntry) →
+    TurnPlaced gives p history from request reply to given → TurnPlaced gives p (history ++ more) from request reply to given
+
+-- so does a line
+abbrev pub LinesStayPlaced : (ℤ → Type 0) → Type 0
+LinesStayPlaced gives = (p : StorePass) (history more : List StoreEntry) (from : ℕ) (task : LineTask) (reply : LineReply) (to : ℕ) (given : List StoreEntry) →
+    LinePlaced gives p history from task reply to given → LinePlaced gives p (history ++ more) from task reply to given
+
+-- and so do the lines of a session
+abbrev pub SessionsStayPlaced : (ℤ → Type 0) → Type 0
+SessionsStayPlaced gives = (p : StorePass) (history more : List StoreEntry) (start : SessionState) (from : ℕ) (lines : List (List ℕ)) (answers : List LineReply) (end : SessionState) (to : ℕ) (given : List StoreEntry) →
+    LinesPlaced gives p history start from lines answers end to given → LinesPlaced gives p (history ++ more) start from lines answers end to given
+
+-- ---- what is given, and where
+
+-- the entries that a session is given were all added in turns of its own pass
+abbrev pub GivenAreOfPass : (ℤ → Type 0) → Type 0
+GivenAreOfPass gives = (p : StorePass) (history : List StoreEntry) (start : SessionState) (from : ℕ) (lines : List (List ℕ)) (answers : List LineReply) (end : SessionState) (to : ℕ) (given : List StoreEntry) →
+    LinesPlaced gives p history start from lines answers end to given → AllOfPass p.number given
+
+-- places do not go back, and stay within the history
+abbrev pub PlacesGoOn : (ℤ → Type 0) → Type 0
+PlacesGoOn gives = (p : StorePass) (history : List StoreEntry) (start : SessionState) (from : ℕ) (lines : List (List ℕ)) (answers : List LineReply) (end : SessionState) (to : ℕ) (given : List StoreEntry) →
+    from ≤ length history → LinesPlaced gives p history start from lines answers end to given → (from ≤ to) × (to ≤ length history)
+
+-- a line is told that the store is stopped only where a Stop is among the entries up to its place
+abbrev pub StoppedAfterStop : (ℤ → Type 0) → Type 0
+StoppedAfterStop gives = (p : StorePass) (history : List StoreEntry) (s : SessionState) (from : ℕ) (line : List ℕ) (task : LineTask) (to : ℕ) (given : List StoreEntry) →
+    IsTaskOf s line task → LinePlaced gives p history from task replies.Stopped to given → has_stop (take to history) ≡ true
+
+-- an operation among them is by somebody of whom the ring accepts a signature over this nonce
+abbrev pub IsByAccepted : List KeyView → List ℕ → StoreEntry → Type 0
+IsByAccepted ring nonce (happened (Acted pass caller op procaps moment)) = (signature : List ℕ) × (is_accepted ring caller (login_message caller nonce) signature ≡ true)
+IsByAccepted ring nonce (happened (Registered pass statement signature)) = Unit {0}
+IsByAccepted ring nonce (happened (Issued pass cited proof grant)) = Unit {0}
+IsByAccepted ring nonce (stopped pass) = Unit {0}
+
+-- each operation that a session is given is by somebody who logged in over its nonce
+abbrev pub CallersAreAccepted : (ℤ → Type 0) → Type 0
+CallersAreAccepted gives = (p : StorePass) (history : List StoreEntry) (nonce : List ℕ) (from : ℕ) (lines : List (List ℕ)) (answers : List LineReply) (end : SessionState) (to : ℕ) (given : List StoreEntry) →
+    LinesPlaced gives p history (guest_with nonce) from lines answers end to given → AllByRecursion (IsByAccepted p.root.ring nonce) given
+
+-- ---- one outcome
+
+-- each line has a reply
+abbrev pub LinesAreAnswered : (ℤ → Type 0) → Type 0
+LinesAreAnswered gives = (p : StorePass) (history : List StoreEntry) (start : SessionState) (from : ℕ) (lines : List (List ℕ)) (answers : List LineReply) (end : SessionState) (to : ℕ) (given : List StoreEntry) →
+    LinesPlaced gives p history start from lines answers end to given → length answers ≡ length lines
+
+-- each line of a session has a task
+abbrev pub LinesHaveATask : Type 0
+LinesHaveATask = (s : SessionState) (line : List ℕ) → (task : LineTask) × IsTaskOf s line task
+
+-- and one alone
+abbrev pub LinesHaveOneTask : Type 0
+LinesHaveOneTask = (s : SessionState) (line : List ℕ) (first second : LineTask) → IsTaskOf s line first → IsTaskOf s line second → first ≡ second
+
+-- and what it asks may be asked
+abbrev pub TasksAreFormed : Type 0
+TasksAreFormed = (s : SessionState) (line : List ℕ) (task : LineTask) → IsNamed s.caller → IsTaskOf s line task → IsTaskFormed task
+
+-- a turn that is not disturbed: memory did not run out, and no disk failed
+pub record IsUndisturbed (reply : TurnReply) : Type 0 where
+  pub had_memory : reply ≢ turn_replies.NoMemory
+  pub not_stopped : reply ≢ turn_replies.Stopped
+
+-- at a store that is not stopped a turn has an end that is not disturbed, whatever it finds
+abbrev pub TurnsHaveAnEnd : (ℤ → Type 0) → Type 0
+TurnsHaveAnEnd gives = (p : StorePass) (before : List StoreEntry) (request : TurnRequest) (clock : ℤ) → gives clock → IsTurnFormed request → has_stop before ≡ false →
+    (reply : TurnReply) × (given : List StoreEntry) × Turn gives p before request reply given × IsUndisturbed reply
+
+-- so does a line: after the entries of a lawful history, at a store that is not stopped, it has a reply and entries which place it there
+abbrev pub LinesHaveAnEnd : (ℤ → Type 0) → Type 0
+LinesHaveAnEnd gives = (p : StorePass) (s : SessionState) (line : List ℕ) (task : LineTask) (before : List StoreEntry) (clock : ℤ) → gives clock → IsNamed s.caller → IsLawful (authority_of_root p.root) p.root.base (events_among before) →
+    has_stop before ≡ false → IsTaskOf s line task →
+    (reply : LineReply) × (given : List StoreEntry) × LinePlaced gives p (before ++ given) (length before) task reply (length before + length given) given × (reply ≢ replies.NoMemory) × (reply ≢ replies.Stopped)
+
+-- at one that is stopped nothing is decided
+abbrev pub NothingAfterStop : (ℤ → Type 0) → Type 0
+NothingAfterStop gives = (p : StorePass) (before : List StoreEntry) (request : TurnRequest) (reply : TurnReply) (given : List StoreEntry) → has_stop before ≡ true → Turn gives p before request reply given →
+    (given ≡ []) × ((reply ≡ turn_replies.Stopped) ⊎ (reply ≡ turn_replies.NoMemory))
+
+-- over a lawful history a turn has one end at a moment, if it is not disturbed
+abbrev pub TurnsHaveOneEnd : Type 0
+TurnsHaveOneEnd = (p : StorePass) (before : List StoreEntry) (request : TurnRequest) (clock : ℤ) (first second : TurnReply) (given other : List StoreEntry) →
+    IsLawful (authority_of_root p.root) p.root.base (events_among before) → Turn (λ moment. moment ≡ clock) p before request first given → IsUndisturbed first →
+    Turn (λ moment. moment ≡ clock) p before request second other → IsUndisturbed second → (first ≡ second) × (given ≡ other)

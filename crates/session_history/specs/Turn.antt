@@ -1,0 +1,86 @@
+-- One turn at a store: what it replies that finds these entries, and which entries it adds at their end (this project's own).
+use Rattle.std.specs.Prelude.{◌≡◌, ℕ, ℤ, ◌+◌, ◌≤◌, List, [], ◌∷◌, ◌++◌, length, true, false, Option, Some, None}
+use Rattle.bl_syntax.specs.Citable.{AreCitable}
+use Rattle.policy_statement.specs.Messages.{login_message}
+use Rattle.policy_statement.specs.Ring.{is_accepted}
+use Rattle.proof_verifier.specs.declared.cites.Cite.{Cite}
+use Rattle.access_history.specs.declared.event.Event.{Event}
+use Rattle.access_history.specs.declared.request.StepRequest.{StepRequest}
+use Rattle.access_history.specs.declared.reply.StepReply.{StepReply}
+use Rattle.access_history.specs.declared.reply.StepReply.TheVariants.{Rejected, Absent}
+use Rattle.access_history.specs.declared.reply.Rejection.TheVariants.{BadSignature}
+use Rattle.access_history.specs.Base.{BaseView}
+use Rattle.access_history.specs.Authority.{Authority, sayings}
+use Rattle.access_history.specs.History.{authority_with}
+use Rattle.access_history.specs.Citing.{AreFound, IsAbsent}
+use Rattle.access_history.specs.Answer.{Answers}
+use Rattle.access_history.specs.WellFormed.{IsWellFormed}
+use Rattle.pcfs_store.specs.StoredHistory.{IsFull}
+use Rattle.pcfs_store.specs.Entries.{Root, StoreEntry, happened, stopped, state_of_entries, used_by}
+use Rattle.session_history.specs.Passes.{has_stop}
+use Rattle.session_history.specs.declared.request.TurnRequest.{TurnRequest}
+use Rattle.session_history.specs.declared.request.TurnRequest.TheVariants as requests
+use Rattle.session_history.specs.declared.reply.TurnReply.{TurnReply}
+use Rattle.session_history.specs.declared.reply.TurnReply.TheVariants as turn_replies
+
+-- whose turn it is: a pass with this number, at a store that was opened with this root
+pub record StorePass : Type 0 where
+  pub root : Root
+  pub number : ℕ
+
+-- under whose key procaps are sealed, and whose signatures are accepted
+abbrev pub authority_of_root : Root → Authority
+authority_of_root root = authority_with root.key root.ring
+
+-- The answer to what a turn asks, over a state, and the event to keep if there is one. Only a step keeps an event. The statements of numbers are given, or the first number that has none. A login is accepted exactly if
+-- the ring accepts the signature over the login message, which has the nonce in it.
+pub data AnswersTurn (root : Root) (state : BaseView) (pass : ℕ) (clock : ℤ) : TurnRequest → TurnReply → Option Event → Type 0 where
+  steps : (request : StepRequest) (reply : StepReply) (event : Option Event) → Answers (authority_of_root root) state pass clock request reply event →
+      AnswersTurn root state pass clock (requests.Step request) (turn_replies.Step reply) event
+  cites : (numbers : List ℕ) (cited : List Cite) → AreFound (sayings state.statements) numbers cited →
+      AnswersTurn root state pass clock (requests.Cite numbers) (turn_replies.Cited cited) None
+  cites_none : (numbers : List ℕ) (number : ℕ) → IsAbsent (sayings state.statements) numbers number →
+      AnswersTurn root state pass clock (requests.Cite numbers) (turn_replies.Step (Absent number)) None
+  logs_in : (who nonce signature : List ℕ) → is_accepted root.ring who (login_message who nonce) signature ≡ true →
+      AnswersTurn root state pass clock (requests.Login who nonce signature) turn_replies.LoggedIn None
+  rejects : (who nonce signature : List ℕ) → is_accepted root.ring who (login_message who nonce) signature ≡ false →
+      AnswersTurn root state pass clock (requests.Login who nonce signature) (turn_replies.Step (Rejected BadSignature)) None
+
+-- after these entries there is no room in the area for the record of the event, or no number for it
+abbrev pub IsFullAfter : Root → List StoreEntry → Event → Type 0
+IsFullAfter root before event = IsFull (used_by root before) (state_of_entries root before).count event
+
+-- What becomes of a turn of the pass that finds these entries, and asks this: its reply, and the entries that it adds. The first case that applies is the one; out of memory may be replied in each. `gives` says which moments the
+-- clock gives, of which the turn reads one.
+pub data Turn (gives : ℤ → Type 0) (p : StorePass) (before : List StoreEntry) (request : TurnRequest) : TurnReply → List StoreEntry → Type 0 where
+  -- the store was stopped, and nothing is decided
+  was_stopped : has_stop before ≡ true → Turn gives p before request turn_replies.Stopped []
+  -- the answer keeps nothing
+  answered : (clock : ℤ) (answer : TurnReply) → has_stop before ≡ false → gives clock → AnswersTurn p.root (state_of_entries p.root before) p.number clock request answer None →
+      Turn gives p before request answer []
+  -- the answer's event does not fit
+  full : (clock : ℤ) (answer : TurnReply) (event : Event) → has_stop before ≡ false → gives clock → AnswersTurn p.root (state_of_entries p.root before) p.number clock request answer (Some event) →
+      IsFullAfter p.root before event → Turn gives p before request turn_replies.Full []
+  -- the answer's event is kept
+  kept : (clock : ℤ) (answer : TurnReply) (event : Event) → has_stop before ≡ false → gives clock → AnswersTurn p.root (state_of_entries p.root before) p.number clock request answer (Some event) →
+      (IsFullAfter p.root before event → ⊥) → Turn gives p before request answer (happened event ∷ [])
+  -- a disk fails under the answer's event
+  failed : (clock : ℤ) (answer : TurnReply) (event : Event) → has_stop before ≡ false → gives clock → AnswersTurn p.root (state_of_entries p.root before) p.number clock request answer (Some event) →
+      (IsFullAfter p.root before event → ⊥) → Turn gives p before request turn_replies.Stopped (stopped p.number ∷ [])
+  -- memory ran out
+  without_memory : Turn gives p before request turn_replies.NoMemory []
+
+-- The turn has its place in a history, not before the first `from` entries: it found those before it, and added the given ones. `to` is how many entries there are then. What the history has after them may be of others.
+pub record TurnPlaced (gives : ℤ → Type 0) (p : StorePass) (history : List StoreEntry) (from : ℕ) (request : TurnRequest) (reply : TurnReply) (to : ℕ) (given : List StoreEntry) : Type 0 where
+  pub before : List StoreEntry
+  pub after : List StoreEntry
+  pub parts : history ≡ before ++ (given ++ after)
+  pub not_earlier : from ≤ length before
+  pub place : to ≡ length before + length given
+  pub turn : Turn gives p before request reply given
+
+-- what a turn may ask: a request that is well formed, and numbers that can be cited
+abbrev pub IsTurnFormed : TurnRequest → Type 0
+IsTurnFormed (requests.Step request) = IsWellFormed request
+IsTurnFormed (requests.Cite numbers) = AreCitable numbers
+IsTurnFormed (requests.Login who nonce signature) = Unit {0}

@@ -1,0 +1,61 @@
+//! Laws of the definitions. The functions do nothing: each contract is a law. Where the moments of a clock occur, it holds
+//! of each clock.
+
+ghost use Rattle.session_history.specs.Laws.{TurnsStayPlaced, LinesStayPlaced, SessionsStayPlaced, GivenAreOfPass, PlacesGoOn, StoppedAfterStop, CallersAreAccepted, LinesAreAnswered, LinesHaveATask, LinesHaveOneTask, TasksAreFormed, TurnsHaveAnEnd, LinesHaveAnEnd, NothingAfterStop, TurnsHaveOneEnd};
+
+use pcfs_ports::Clock;
+
+/// A turn, a line and the lines of a session stay in their places when the history grows at its end.
+pub fn what_is_placed_stays_placed<C: Clock>(clock: &C)
+    ensures turns { TurnsStayPlaced (C.gives clock.now) }
+    ensures lines { LinesStayPlaced (C.gives clock.now) }
+    ensures sessions { SessionsStayPlaced (C.gives clock.now) }
+{
+    let _ = clock;
+}
+
+/// The entries that a session is given are of its own pass, and each operation among them is by somebody who logged in over
+/// the session's nonce.
+pub fn given_entries_are_of_the_session<C: Clock>(clock: &C)
+    ensures pass { GivenAreOfPass (C.gives clock.now) }
+    ensures callers { CallersAreAccepted (C.gives clock.now) }
+{
+    let _ = clock;
+}
+
+/// The places of a session's lines do not go back, and stay within the history; each line has a reply.
+pub fn places_go_on<C: Clock>(clock: &C)
+    ensures places { PlacesGoOn (C.gives clock.now) }
+    ensures answered { LinesAreAnswered (C.gives clock.now) }
+{
+    let _ = clock;
+}
+
+/// A line is told that the store is stopped only if a disk failed before, and then no turn decides anything.
+pub fn a_stop_is_the_end<C: Clock>(clock: &C)
+    ensures told { StoppedAfterStop (C.gives clock.now) }
+    ensures nothing { NothingAfterStop (C.gives clock.now) }
+{
+    let _ = clock;
+}
+
+/// Each line of a session has exactly one task, and what it asks may be asked.
+pub fn lines_have_one_task()
+    ensures some { LinesHaveATask }
+    ensures one { LinesHaveOneTask }
+    ensures formed { TasksAreFormed }
+{}
+
+/// At a store that is not stopped a turn has an end that is not disturbed, whatever it finds; and so has a line, after a
+/// lawful history.
+pub fn turns_and_lines_have_an_end<C: Clock>(clock: &C)
+    ensures turns { TurnsHaveAnEnd (C.gives clock.now) }
+    ensures lines { LinesHaveAnEnd (C.gives clock.now) }
+{
+    let _ = clock;
+}
+
+/// Over a lawful history a turn has one end at a moment, if memory does not run out and no disk fails.
+pub fn turns_have_one_end()
+    ensures { TurnsHaveOneEnd }
+{}

@@ -1,0 +1,99 @@
+-- What a pass knows after a turn.
+use Rattle.std.proofs.Common.{◌≡◌, ◌∙◌, ◌+◌, ◌-◌, ◌≤◌, ℕ, List, ◌∷◌, ◌++◌, length, sym, ap, subst, arith, append_assoc, length-append}
+use Rattle.std.proofs.lemmas.List.{append_cancel_left, length-map}
+use Rattle.std.specs.Prelude.{ℤ}
+use mathlib.Core.List.{IsPrefix}
+use Rattle.tree_lock.specs.Entries.{Appends}
+use Rattle.tree_lock.specs.Seen.{PassView}
+use Rattle.tree_lock.specs.Turned.{Turned}
+use Rattle.tree_lock.proofs.TurnLemmas.{seen_grew}
+use Rattle.pcfs_store.specs.Entries.{StoreEntry, entries_of}
+use Rattle.pcfs_store.specs.StoreView.{StoreView}
+use Rattle.session_history.specs.declared.request.TurnRequest.{TurnRequest}
+use Rattle.session_history.specs.declared.reply.TurnReply.{TurnReply}
+use Rattle.session_history.specs.Turn.{Turn}
+use Rattle.session_history.proofs.GivenLemmas.{turn_given}
+use Rattle.shared_store.specs.declared.entry.LockEntry.{LockEntry}
+use Rattle.shared_store.specs.declared.entry.LockEntry.TheVariants.{Opened}
+use Rattle.shared_store.specs.OpenedView.{OpenedView}
+use Rattle.shared_store.specs.LockHistory.{numbered_entry, numbered, lock_history, lock_entries, bare}
+use Rattle.shared_store.specs.Turning.{pass_at, HasTurned}
+use Rattle.shared_store.specs.Asking.{HasHistory, HasAsked}
+use Rattle.shared_store.proofs.HistoryLemmas.{numbered_both, all_numbered, opened_alike, entries_after}
+use Rattle.shared_store.proofs.TurningLemmas.{turn_shown}
+
+module _ {D : Type 0} where
+  -- the entries after a turn are those before, and then the given ones under the number of the pass
+  grown : (gives : ℤ → Type 0) (request : TurnRequest) (before after : OpenedView D) (pass : ℕ) (reply : TurnReply) (t : HasTurned gives request before pass after reply) → lock_entries after ≡ lock_history before.opening (entries_of before.store ++ t.given)
+  grown gives request before after pass reply t = ap (λ (o : StoreView D). lock_history o (entries_of after.store)) t.opening_stays ∙ ap (lock_history before.opening) t.grows
+
+  pub appends : (gives : ℤ → Type 0) (request : TurnRequest) (before after : OpenedView D) (pass : ℕ) (reply : TurnReply) → HasTurned gives request before pass after reply → Appends pass (lock_entries before) (lock_entries after)
+  appends gives request before after pass reply t = record {
+    added = numbered t.given;
+    is = grown gives request before after pass reply t ∙ ap (λ (l : List (ℕ × LockEntry D)). (0, Opened before.opening) ∷ l) (numbered_both D (entries_of before.store) t.given);
+    of_number = all_numbered D pass t.given (turn_given gives (pass_at before.opening pass) (entries_of before.store) request reply t.given t.turn);
+  }
+
+  -- the moment was one that the clock gives
+  pub turned_shown : (gives : ℤ → Type 0) (request : TurnRequest) (before after : OpenedView D) (pass : ℕ) (moment : ℤ) (reply : TurnReply) → gives moment → HasTurned (λ m. m ≡ moment) request before pass after reply → HasTurned gives request before pass after reply
+  turned_shown gives request before after pass moment reply shown t =
+      record { given = t.given; opening_stays = t.opening_stays; grows = t.grows; turn = turn_shown gives (pass_at before.opening pass) (entries_of before.store) request moment reply t.given shown t.turn }
+
+  module _ (gives : ℤ → Type 0) (request : TurnRequest) where
+    abbrev Done : OpenedView D → ℕ → OpenedView D → TurnReply → Type 0
+    Done before pass after reply = HasTurned gives request before pass after reply
+
+    -- so many entries after the root, of which the first were seen
+    few_seen : (seen : List (ℕ × LockEntry D)) (opening : StoreView D) (entries : List StoreEntry) → IsPrefix seen (lock_history opening entries) → length seen - 1 ≤ length entries
+    few_seen seen opening entries begins =
+        let long : length (seen ++ begins.0) ≡ length (lock_history opening entries) = ap length begins.1 in
+        let same : length (numbered {D = D} entries) ≡ length entries = length-map entries numbered_entry in
+        omega (arith, long, same, length-append seen begins.0)
+
+    all_seen : (seen : List (ℕ × LockEntry D)) (opening : StoreView D) (entries given : List StoreEntry) → seen ≡ lock_history opening (entries ++ given) → length seen - 1 ≡ length entries + length given
+    all_seen seen opening entries given is =
+        let long : length seen ≡ length (lock_history opening (entries ++ given)) = ap length is in
+        let same : length (numbered {D = D} (entries ++ given)) ≡ length (entries ++ given) = length-map (entries ++ given) numbered_entry in
+        omega (arith, long, same, length-append entries given)
+
+    -- what has been seen of a store is of the same one later
+    same_store : (old new : PassView (LockEntry D)) (opening first : StoreView D) (entries : List StoreEntry) → IsPrefix old.seen new.seen → new.seen ≡ lock_history first entries → HasHistory opening old → HasHistory opening new
+    same_store old new opening first entries grew seen h =
+        let longer = subst (λ (l : List (ℕ × LockEntry D)). IsPrefix (lock_history opening h.entries) l) seen (subst (λ (l : List (ℕ × LockEntry D)). IsPrefix l new.seen) h.seen_is grew) in
+        let same : opening ≡ first = opened_alike opening first h.entries entries longer in
+        record { entries = entries; seen_is = seen ∙ ap (λ (o : StoreView D). lock_history o entries) (sym same) }
+
+    pub asked : (old new : PassView (LockEntry D)) (reply : TurnReply) → Turned lock_entries Done old new reply → HasAsked gives request old new reply
+    asked old new reply t =
+        let w = t.worked in
+        let first : StoreView D = t.before.opening in
+        let found : List StoreEntry = entries_of t.before.store in
+        let left : lock_entries t.after ≡ lock_history first (found ++ w.given) = grown gives request t.before t.after old.number reply w in
+        let both : lock_history first (found ++ w.given) ≡ lock_history first found ++ numbered w.given = ap (λ (l : List (ℕ × LockEntry D)). (0, Opened first) ∷ l) (numbered_both D found w.given) in
+        let added : t.added ≡ numbered w.given = append_cancel_left (lock_history first found) t.added (numbered w.given) (sym t.left ∙ left ∙ both) in
+        let seen : new.seen ≡ lock_history first (found ++ w.given) = t.seen ∙ left in
+        let grew : IsPrefix old.seen new.seen = seen_grew lock_entries Done old new reply t in
+        record {
+          given = w.given;
+          goes_on = record {
+            lock = t.lock;
+            number = t.number;
+            seen = grew;
+            history = λ opening h. same_store old new opening first (found ++ w.given) grew seen h;
+            own = t.own ∙ ap (λ (l : List (ℕ × LockEntry D)). old.own ++ l) added;
+          };
+          root = first;
+          found = found;
+          seen_is = seen;
+          turn = w.turn;
+          placed = λ opening entries begins.
+              let longer = subst (λ (l : List (ℕ × LockEntry D)). IsPrefix l (lock_history opening entries)) seen begins in
+              record {
+                before = found;
+                after = bare longer.0;
+                parts = entries_after first opening (found ++ w.given) entries longer ∙ append_assoc found w.given (bare longer.0);
+                not_earlier = few_seen old.seen first found t.found;
+                place = all_seen new.seen first found w.given seen;
+                turn = subst (λ (o : StoreView D). Turn gives (pass_at o old.number) found request reply w.given) (opened_alike first opening (found ++ w.given) entries longer) w.turn;
+              };
+        }

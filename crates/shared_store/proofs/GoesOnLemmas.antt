@@ -1,0 +1,163 @@
+-- A store goes on from its opening by steps.
+use Rattle.std.proofs.Common.{◌≡◌, ◌∙◌, ◌⊎◌, inl, inr, ⊎_elim, ℕ, ◌≤◌, ◌<◌, ◌+◌, ◌-◌, ◌^◌, length, length-append, Bool, true, false, List, [], ◌∷◌, ◌++◌, Option, Some, None, refl, sym, subst, arith, append_assoc, append-nil}
+use Rattle.std.specs.Prelude.{ℤ, ◌≢◌, is_some}
+use Rattle.std.proofs.lemmas.Bool.{cases_lt}
+use mathlib.Core.List.{IsPrefix}
+use Rattle.pcfs_ports.specs.Faults.{HasRisen}
+use Rattle.bl_syntax.specs.TimeOrder.{IsMoment}
+use Rattle.access_history.specs.Answer.{Answers}
+use Rattle.access_history.specs.Authority.{Authority}
+use Rattle.access_history.specs.Base.{BaseView}
+use Rattle.access_history.specs.Lawful.{IsLawful, one_more}
+use Rattle.access_history.specs.Replay.{replay}
+use Rattle.access_history.specs.WellFormed.{IsWellFormed}
+use Rattle.access_history.proofs.LawfulLemmas.{IsLawfulBase-lawful}
+use Rattle.access_history.proofs.MayFollowLemmas.{MayFollow-answered}
+use Rattle.access_history.proofs.ReplayLemmas.{count-replay}
+use Rattle.access_history.specs.declared.event.Event.{Event}
+use Rattle.access_history.specs.declared.request.StepRequest.{StepRequest}
+use Rattle.access_history.specs.declared.reply.StepReply.{StepReply}
+use Rattle.pcfs_store.specs.declared.reply.StoreReply.{StoreReply}
+use Rattle.pcfs_store.specs.declared.reply.StoreReply.TheVariants as stores
+use Rattle.pcfs_store.specs.Newest.{one_of}
+use Rattle.pcfs_store.specs.StoreView.{StoreView, authority_of_store, AnswersIn, first_disk, second_disk}
+use Rattle.pcfs_store.specs.Ready.{IsReady, IsCurrent, StopsNow, SurvivesWithOrWithout}
+use Rattle.pcfs_store.specs.Steps.{Steps}
+use Rattle.pcfs_store.specs.Steps as steps
+use Rattle.shared_store.specs.GoesOn.{HasGoneOn}
+
+none_some : {P : Type 0} (stop : Option ℕ) (pass : ℕ) → stop ≡ None → stop ≡ Some pass → P
+none_some stop pass none some = let both : ◌≡◌ {A = Option ℕ} None (Some pass) = sym none ∙ some in absurd cc
+
+-- a count that rose and then did not fall has risen
+risen_since : (before mid after : ℕ) → before ≤ mid → HasRisen mid after → HasRisen before after
+risen_since before mid after later risen below = let r = risen below in omega (arith, r, later)
+
+-- the count of the disk in its place
+risen_at : {D : Type 0} (faults : D → ℕ) (old active other : D) (second_active : Bool) → HasRisen (faults old) (faults active) →
+    HasRisen (faults (one_of old other second_active)) (faults (one_of active other second_active)) ⊎ HasRisen (faults (one_of other old second_active)) (faults (one_of other active second_active))
+risen_at faults old active other false risen = inl risen
+risen_at faults old active other true risen = inr risen
+
+events_stay : (opening events : List Event) → IsPrefix opening events → (event : Event) → IsPrefix opening (events ++ event ∷ [])
+events_stay opening events begins event = (begins.0 ++ event ∷ [], sym (append_assoc opening begins.0 (event ∷ [])) ∙ ap_push begins.1)
+  where
+    ap_push : opening ++ begins.0 ≡ events → (opening ++ begins.0) ++ event ∷ [] ≡ events ++ event ∷ []
+    ap_push is = λ i. is i ++ event ∷ []
+
+-- an event that has a number is the next of a lawful history
+numbered : (base : BaseView) (events : List Event) → ((replay base events).count < 2 ^ 48 - 1) ⊎ (2 ^ 48 - 1 ≤ (replay base events).count) → (2 ^ 48 - 1 ≤ (replay base events).count → ⊥) → base.count + (length events + 1) ≤ 2 ^ 48 - 1
+numbered base events (inl few) below = omega (arith, few, count-replay base events)
+numbered base events (inr many) below = absurd (below many)
+
+lawful_more : (authority : Authority) (base : BaseView) (events : List Event) (pass : ℕ) (moment : ℤ) (request : StepRequest) (reply : StepReply) (event : Event) → IsMoment moment → IsWellFormed request → (2 ^ 48 - 1 ≤ (replay base events).count → ⊥) →
+    Answers authority (replay base events) pass moment request reply (Some event) → IsLawful authority base events → IsLawful authority base (events ++ event ∷ [])
+lawful_more authority base events pass moment request reply event at formed below answers lawful =
+    let few = numbered base events (cases_lt (replay base events).count (2 ^ 48 - 1)) below in
+    record {
+      lawful_base = lawful.lawful_base;
+      counted = omega (arith, few, length-append events (event ∷ []));
+      each = one_more events event lawful.each (MayFollow-answered authority (replay base events) pass moment request reply event (IsLawfulBase-lawful authority base events lawful) at formed answers);
+    }
+
+module _ {D : Type 0} (clock : D → ℕ) (left_since : D → ℕ → List ℕ → Type 0) (image : D → Option (List ℕ)) (faults : D → ℕ) where
+  -- nothing happened
+  pub goes_on_same : (s : StoreView D) → s.stop ≡ None → HasGoneOn clock left_since image faults s s
+  goes_on_same s running = record {
+    began = running;
+    key_stays = refl;
+    ring_stays = refl;
+    base_stays = refl;
+    events_go_on = ([], append-nil s.events);
+    lawful = λ lawful. lawful;
+    generation_stays = refl;
+    place_stays = refl;
+    other_stays = refl;
+    ready = λ is none. is;
+    current = λ is none. is;
+    halts = λ is pass some. none_some s.stop pass running some;
+    failed = λ pass some. none_some s.stop pass running some;
+    first_told = refl;
+    second_told = refl;
+    first_never_falls = omega arith;
+    second_never_falls = omega arith;
+  }
+
+  -- what a step of a store says
+  pub record Stepped (old : StoreView D) (pass : ℕ) (moment : ℤ) (request : StepRequest) (result : StoreReply) (new : StoreView D) : Type 0 where
+    pub answer : Steps faults old pass moment request result new
+    pub stays_ready : IsReady clock left_since image old → result ≢ stores.Stopped → IsReady clock left_since image new
+    pub stays_current : IsCurrent clock left_since image old → result ≢ stores.Stopped → IsCurrent clock left_since image new
+    pub met : IsReady clock left_since image old → result ≡ stores.Stopped →
+        (reply : StepReply) × (event : Event) × AnswersIn old pass moment request reply (Some event) × StopsNow clock left_since image new (SurvivesWithOrWithout old.base old.events event)
+    pub first_told : is_some (image (first_disk new)) ≡ is_some (image (first_disk old))
+    pub second_told : is_some (image (second_disk new)) ≡ is_some (image (second_disk old))
+    pub first_never_falls : faults (first_disk old) ≤ faults (first_disk new)
+    pub second_never_falls : faults (second_disk old) ≤ faults (second_disk new)
+
+  pub stepped_shown : (old new : StoreView D) (pass : ℕ) (given moment : ℤ) (request : StepRequest) (result : StoreReply) → given ≡ moment → Stepped old pass given request result new → Stepped old pass moment request result new
+  stepped_shown old new pass given moment request result is s = subst (λ (m : ℤ). Stepped old pass m request result new) is s
+
+  module _ (opening : StoreView D) where
+    -- the store did not change but in its active disk and its events, and is not stopped
+    running_on : (old new : StoreView D) (pass : ℕ) (moment : ℤ) (request : StepRequest) (result : StoreReply) → HasGoneOn clock left_since image faults opening old → Stepped old pass moment request result new → old.stop ≡ None → new.stop ≡ None →
+        result ≢ stores.Stopped → new.key ≡ old.key → new.ring ≡ old.ring → new.base ≡ old.base → IsPrefix opening.events new.events →
+        (IsLawful (authority_of_store opening) opening.base opening.events → IsLawful (authority_of_store new) new.base new.events) → new.generation ≡ old.generation → new.second_active ≡ old.second_active → new.other ≡ old.other →
+        HasGoneOn clock left_since image faults opening new
+    running_on old new pass moment request result g s was is going key ring base events lawful generation place other = record {
+      began = g.began;
+      key_stays = key ∙ g.key_stays;
+      ring_stays = ring ∙ g.ring_stays;
+      base_stays = base ∙ g.base_stays;
+      events_go_on = events;
+      lawful = lawful;
+      generation_stays = generation ∙ g.generation_stays;
+      place_stays = place ∙ g.place_stays;
+      other_stays = other ∙ g.other_stays;
+      ready = λ first none. s.stays_ready (g.ready first was) going;
+      current = λ first none. s.stays_current (g.current first was) going;
+      halts = λ first pass some. none_some new.stop pass is some;
+      failed = λ pass some. none_some new.stop pass is some;
+      first_told = s.first_told ∙ g.first_told;
+      second_told = s.second_told ∙ g.second_told;
+      first_never_falls = omega (arith, s.first_never_falls, g.first_never_falls);
+      second_never_falls = omega (arith, s.second_never_falls, g.second_never_falls);
+    }
+
+    by_step : (old new : StoreView D) (pass : ℕ) (moment : ℤ) (request : StepRequest) (result : StoreReply) → IsMoment moment → IsWellFormed request → HasGoneOn clock left_since image faults opening old → Steps faults old pass moment request result new → Stepped old pass moment request result new →
+        HasGoneOn clock left_since image faults opening new
+    by_step old _ pass moment request _ at formed g (steps.answered reply running goes) s =
+        running_on old old pass moment request (stores.Step reply) g s running running (λ is. cc) refl refl refl g.events_go_on g.lawful refl refl refl
+    by_step old _ pass moment request _ at formed g (steps.kept reply event active running goes room) s =
+        running_on old (steps.with_event old event active) pass moment request (stores.Step reply) g s running running (λ is. cc) refl refl refl (events_stay opening.events old.events g.events_go_on event)
+        (λ first. lawful_more (authority_of_store old) old.base old.events pass moment request reply event at formed (λ many. room (inr many)) goes (g.lawful first)) refl refl refl
+    by_step old _ pass moment request _ at formed g (steps.full reply event running goes is_full) s =
+        running_on old old pass moment request stores.Full g s running running (λ is. cc) refl refl refl g.events_go_on g.lawful refl refl refl
+    by_step old _ pass moment request _ at formed g (steps.failed reply event active running goes room risen) s = record {
+      began = g.began;
+      key_stays = g.key_stays;
+      ring_stays = g.ring_stays;
+      base_stays = g.base_stays;
+      events_go_on = g.events_go_on;
+      lawful = g.lawful;
+      generation_stays = g.generation_stays;
+      place_stays = g.place_stays;
+      other_stays = g.other_stays;
+      ready = λ first none. none_some (Some pass) pass none refl;
+      current = λ first none. none_some (Some pass) pass none refl;
+      halts = λ first other some. let m = s.met (g.ready first running) refl in (m.1, m.3);
+      failed = λ other some. ⊎_elim
+          (λ (r : HasRisen (faults (first_disk old)) (faults (one_of active old.other old.second_active))). inl (risen_since (faults (first_disk opening)) (faults (first_disk old)) (faults (one_of active old.other old.second_active)) g.first_never_falls r))
+          (λ (r : HasRisen (faults (second_disk old)) (faults (one_of old.other active old.second_active))). inr (risen_since (faults (second_disk opening)) (faults (second_disk old)) (faults (one_of old.other active old.second_active)) g.second_never_falls r))
+          (risen_at faults old.active active old.other old.second_active risen);
+      first_told = s.first_told ∙ g.first_told;
+      second_told = s.second_told ∙ g.second_told;
+      first_never_falls = omega (arith, s.first_never_falls, g.first_never_falls);
+      second_never_falls = omega (arith, s.second_never_falls, g.second_never_falls);
+    }
+    by_step old _ pass moment request _ at formed g (steps.stopped earlier is) s = g
+    by_step old _ pass moment request _ at formed g (steps.without_memory running) s = g
+
+  pub goes_on_step : (opening old new : StoreView D) (pass : ℕ) (moment : ℤ) (request : StepRequest) (result : StoreReply) → IsMoment moment → IsWellFormed request → HasGoneOn clock left_since image faults opening old → Stepped old pass moment request result new →
+      HasGoneOn clock left_since image faults opening new
+  goes_on_step opening old new pass moment request result at formed g s = by_step opening old new pass moment request result at formed g s.answer s

@@ -1,0 +1,5 @@
+pub mod GoesOnLemmas
+pub mod TurningLemmas
+pub mod HistoryLemmas
+pub mod AskingLemmas
+pub mod MergedLemmas

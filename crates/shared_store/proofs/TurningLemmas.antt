@@ -1,0 +1,207 @@
+-- What a store does in a turn, as a turn over its entries.
+use Rattle.std.proofs.Common.{◌≡◌, ◌∙◌, ℕ, List, [], ◌∷◌, ◌++◌, map, Bool, true, false, Option, Some, None, refl, sym, ap, subst, append-nil}
+use Rattle.std.specs.Prelude.{ℤ, ◌↔◌, IsTrue, IsSome, is_some}
+use Rattle.std.proofs.lemmas.Bool.{false≢true}
+use Rattle.policy_statement.specs.Messages.{login_message}
+use Rattle.policy_statement.specs.Ring.{KeyView, is_accepted}
+use Rattle.proof_verifier.specs.declared.cites.Cite.{Cite}
+use Rattle.access_history.specs.declared.event.Event.{Event}
+use Rattle.access_history.specs.declared.request.StepRequest.{StepRequest}
+use Rattle.access_history.specs.declared.reply.StepReply.{StepReply}
+use Rattle.access_history.specs.declared.reply.StepReply.TheVariants.{Absent, Rejected}
+use Rattle.access_history.specs.declared.reply.Rejection.TheVariants.{BadSignature}
+use Rattle.access_history.specs.Authority.{sayings}
+use Rattle.access_history.specs.Base.{BaseView}
+use Rattle.access_history.specs.Answer.{Answers}
+use Rattle.access_history.specs.Citing.{AreFound, IsAbsent}
+use Rattle.access_history.specs.History.{authority_with}
+use Rattle.access_history.specs.Replay.{replay}
+use Rattle.op_gate.specs.declared.cite.Citation.{Citation}
+use Rattle.op_gate.specs.declared.cite.Citation.TheVariants as citations
+use Rattle.op_gate.specs.Citations.{GivesCitation}
+use Rattle.op_gate.specs.Decision.{GateView}
+use Rattle.pcfs_store.specs.declared.reply.StoreReply.{StoreReply}
+use Rattle.pcfs_store.specs.Entries.{StoreEntry, happened, stopped, stop_entries, root_of, entries_of, state_of_entries, used_by}
+use Rattle.pcfs_store.specs.StoreView.{StoreView, AnswersIn, IsStore}
+use Rattle.pcfs_store.specs.StoredHistory.{IsFull}
+use Rattle.pcfs_store.specs.Steps.{IsFullFor, Steps}
+use Rattle.pcfs_store.specs.Steps as steps
+use Rattle.pcfs_store.proofs.EntryLemmas.{events-entries, used-entries}
+use Rattle.session_history.specs.declared.request.TurnRequest.{TurnRequest}
+use Rattle.session_history.specs.declared.request.TurnRequest.TheVariants as requests
+use Rattle.session_history.specs.declared.reply.TurnReply.{TurnReply}
+use Rattle.session_history.specs.declared.reply.TurnReply.TheVariants as turn_replies
+use Rattle.session_history.specs.Passes.{has_stop}
+use Rattle.session_history.specs.Turn.{StorePass, authority_of_root, IsFullAfter, Turn}
+use Rattle.session_history.specs.Turn as turns
+use Rattle.shared_store.specs.GoesOn.{HasGoneOn}
+use Rattle.shared_store.specs.OpenedView.{OpenedView}
+use Rattle.shared_store.specs.Turning.{turn_reply, pass_at, HasTurned}
+
+-- ---- entries of a store
+
+stop_among : (events : List Event) (stop : Option ℕ) → has_stop (map happened events ++ stop_entries stop) ≡ is_some stop
+stop_among [] None = refl
+stop_among [] (Some pass) = refl
+stop_among (event ∷ events) stop = stop_among events stop
+
+pub runs : {D : Type 0} (s : StoreView D) → is_some s.stop ≡ false → has_stop (entries_of s) ≡ false
+runs s running = stop_among s.events s.stop ∙ running
+
+pub stands : {D : Type 0} (s : StoreView D) → is_some s.stop ≡ true → has_stop (entries_of s) ≡ true
+stands s stop = stop_among s.events s.stop ∙ stop
+
+-- what a store says of its stop
+pub is_stopped : (stop : Option ℕ) (found : Bool) → IsTrue found ↔ IsSome stop → found ≡ true → is_some stop ≡ true
+is_stopped stop found says is = says.0 is
+
+pub is_running : (stop : Option ℕ) (found : Bool) → IsTrue found ↔ IsSome stop → found ≡ false → is_some stop ≡ false
+is_running None found says is = refl
+is_running (Some pass) found says is = absurd (false≢true (sym is ∙ says.1 refl))
+
+event_more : (events : List Event) (event : Event) (stop : Option ℕ) → stop ≡ None → map happened (events ++ event ∷ []) ++ stop_entries stop ≡ (map happened events ++ stop_entries stop) ++ happened event ∷ []
+event_more events event (Some pass) none = absurd cc
+event_more [] event None none = refl
+event_more (e ∷ events) event None none = ap (λ (l : List StoreEntry). happened e ∷ l) (event_more events event None none)
+
+stop_more : (events : List Event) (stop : Option ℕ) (pass : ℕ) → stop ≡ None → map happened events ++ stop_entries (Some pass) ≡ (map happened events ++ stop_entries stop) ++ stopped pass ∷ []
+stop_more events (Some other) pass none = absurd cc
+stop_more [] None pass none = refl
+stop_more (e ∷ events) None pass none = ap (λ (l : List StoreEntry). happened e ∷ l) (stop_more events None pass none)
+
+module _ {D : Type 0} (clock : D → ℕ) (left_since : D → ℕ → List ℕ → Type 0) (image : D → Option (List ℕ)) (faults : D → ℕ) (opening now : StoreView D) (g : HasGoneOn clock left_since image faults opening now) where
+  -- the state to which the entries lead is the store's
+  pub state_is : state_of_entries (root_of opening) (entries_of now) ≡ replay now.base now.events
+  state_is = ap (replay opening.base) (events-entries now.events now.stop) ∙ ap (λ (b : BaseView). replay b now.events) (sym g.base_stays)
+
+  there : (pass : ℕ) (moment : ℤ) (request : StepRequest) (reply : StepReply) (event : Option Event) → AnswersIn now pass moment request reply event →
+      Answers (authority_of_root (root_of opening)) (state_of_entries (root_of opening) (entries_of now)) pass moment request reply event
+  there pass moment request reply event answers =
+      subst (λ (s : BaseView). Answers (authority_with opening.key opening.ring) s pass moment request reply event) (sym state_is)
+      (subst (λ (r : List KeyView). Answers (authority_with opening.key r) (replay now.base now.events) pass moment request reply event) g.ring_stays
+      (subst (λ (k : List ℕ). Answers (authority_with k now.ring) (replay now.base now.events) pass moment request reply event) g.key_stays answers))
+
+  full_there : (event : Event) → IsStore now → IsFullFor now event → IsFullAfter (root_of opening) (entries_of now) event
+  full_there event store is_full =
+      subst (λ (s : BaseView). IsFull (used_by (root_of opening) (entries_of now)) s.count event) (sym state_is) (subst (λ (n : ℕ). IsFull n (replay now.base now.events).count event) (used-entries now store) is_full)
+
+  full_here : (event : Event) → IsStore now → IsFullAfter (root_of opening) (entries_of now) event → IsFullFor now event
+  full_here event store is_full =
+      subst (λ (n : ℕ). IsFull n (replay now.base now.events).count event) (sym (used-entries now store)) (subst (λ (s : BaseView). IsFull (used_by (root_of opening) (entries_of now)) s.count event) state_is is_full)
+
+  -- a step
+  by_step : (new : StoreView D) (pass : ℕ) (moment : ℤ) (request : StepRequest) (reply : StoreReply) → IsStore now → Steps faults now pass moment request reply new →
+      HasTurned (λ m. m ≡ moment) (requests.Step request) (record { store = now; opening = opening }) pass (record { store = new; opening = opening }) (turn_reply reply)
+  by_step _ pass moment request _ store (steps.answered reply running answers) = record {
+    given = [];
+    opening_stays = refl;
+    grows = sym (append-nil (entries_of now));
+    turn = turns.answered moment (turn_replies.Step reply) (runs now (ap is_some running)) refl (turns.steps request reply None (there pass moment request reply None answers));
+  }
+  by_step _ pass moment request _ store (steps.kept reply event active running answers room) = record {
+    given = happened event ∷ [];
+    opening_stays = refl;
+    grows = event_more now.events event now.stop running;
+    turn = turns.kept moment (turn_replies.Step reply) event (runs now (ap is_some running)) refl (turns.steps request reply (Some event) (there pass moment request reply (Some event) answers)) (λ is_full. room (full_here event store is_full));
+  }
+  by_step _ pass moment request _ store (steps.full reply event running answers is_full) = record {
+    given = [];
+    opening_stays = refl;
+    grows = sym (append-nil (entries_of now));
+    turn = turns.full moment (turn_replies.Step reply) event (runs now (ap is_some running)) refl (turns.steps request reply (Some event) (there pass moment request reply (Some event) answers)) (full_there event store is_full);
+  }
+  by_step _ pass moment request _ store (steps.failed reply event active running answers room risen) = record {
+    given = stopped pass ∷ [];
+    opening_stays = refl;
+    grows = stop_more now.events now.stop pass running;
+    turn = turns.failed moment (turn_replies.Step reply) event (runs now (ap is_some running)) refl (turns.steps request reply (Some event) (there pass moment request reply (Some event) answers)) (λ is_full. room (full_here event store is_full));
+  }
+  by_step _ pass moment request _ store (steps.stopped earlier is) = record {
+    given = [];
+    opening_stays = refl;
+    grows = sym (append-nil (entries_of now));
+    turn = turns.was_stopped (stands now (ap is_some is));
+  }
+  by_step _ pass moment request _ store (steps.without_memory running) = record { given = []; opening_stays = refl; grows = sym (append-nil (entries_of now)); turn = turns.without_memory }
+
+  -- a look at the store, which adds nothing
+  abbrev Looks : TurnRequest → TurnReply → Type 0
+  Looks request reply = (pass : ℕ) (moment : ℤ) → Turn (λ m. m ≡ moment) (pass_at opening pass) (entries_of now) request reply []
+
+  pub look_stopped : (request : TurnRequest) → is_some now.stop ≡ true → Looks request turn_replies.Stopped
+  look_stopped request stop pass moment = turns.was_stopped (stands now stop)
+
+  pub look_no_memory : (request : TurnRequest) → Looks request turn_replies.NoMemory
+  look_no_memory request pass moment = turns.without_memory
+
+  pub look_cited : (numbers : List ℕ) (cited : List Cite) → is_some now.stop ≡ false → AreFound (sayings (replay now.base now.events).statements) numbers cited → Looks (requests.Cite numbers) (turn_replies.Cited cited)
+  look_cited numbers cited running found pass moment =
+      turns.answered moment (turn_replies.Cited cited) (runs now running) refl (turns.cites numbers cited (subst (λ (s : BaseView). AreFound (sayings s.statements) numbers cited) (sym state_is) found))
+
+  pub look_absent : (numbers : List ℕ) (number : ℕ) → is_some now.stop ≡ false → IsAbsent (sayings (replay now.base now.events).statements) numbers number → Looks (requests.Cite numbers) (turn_replies.Step (Absent number))
+  look_absent numbers number running absent pass moment =
+      turns.answered moment (turn_replies.Step (Absent number)) (runs now running) refl (turns.cites_none numbers number (subst (λ (s : BaseView). IsAbsent (sayings s.statements) numbers number) (sym state_is) absent))
+
+  -- what the gate says of numbers
+  citation_here : (gate : GateView) (shown numbers : List ℕ) (citation given : Citation) → gate ≡ record { key = now.key; ring = now.ring; base = now.base; events = now.events; pending = None } → shown ≡ numbers → citation ≡ given →
+      GivesCitation (sayings (replay gate.base gate.events).statements) shown citation → GivesCitation (sayings (replay now.base now.events).statements) numbers given
+  citation_here gate shown numbers citation given gate_is shown_is is gives =
+      subst (λ (c : Citation). GivesCitation (sayings (replay now.base now.events).statements) numbers c) is
+      (subst (λ (ns : List ℕ). GivesCitation (sayings (replay now.base now.events).statements) ns citation) shown_is
+      (subst (λ (h : GateView). GivesCitation (sayings (replay h.base h.events).statements) shown citation) gate_is gives))
+
+  pub look_told_cited : (gate : GateView) (shown numbers : List ℕ) (citation : Citation) (cited : List Cite) → is_some now.stop ≡ false → gate ≡ record { key = now.key; ring = now.ring; base = now.base; events = now.events; pending = None } → shown ≡ numbers →
+      citation ≡ citations.Cited cited → GivesCitation (sayings (replay gate.base gate.events).statements) shown citation → Looks (requests.Cite numbers) (turn_replies.Cited cited)
+  look_told_cited gate shown numbers citation cited running gate_is shown_is is gives = look_cited numbers cited running (citation_here gate shown numbers citation (citations.Cited cited) gate_is shown_is is gives)
+
+  pub look_told_absent : (gate : GateView) (shown numbers : List ℕ) (citation : Citation) (number : ℕ) → is_some now.stop ≡ false → gate ≡ record { key = now.key; ring = now.ring; base = now.base; events = now.events; pending = None } → shown ≡ numbers →
+      citation ≡ citations.Absent number → GivesCitation (sayings (replay gate.base gate.events).statements) shown citation → Looks (requests.Cite numbers) (turn_replies.Step (Absent number))
+  look_told_absent gate shown numbers citation number running gate_is shown_is is gives = look_absent numbers number running (citation_here gate shown numbers citation (citations.Absent number) gate_is shown_is is gives)
+
+  -- what the ring says of a login
+  pub accepted_shown : (gate : GateView) (ring : List KeyView) (name who text nonce shown signature : List ℕ) (accepted : Bool) → gate ≡ record { key = now.key; ring = now.ring; base = now.base; events = now.events; pending = None } → ring ≡ gate.ring → name ≡ who →
+      text ≡ login_message who nonce → shown ≡ signature → accepted ≡ is_accepted ring name text shown → is_accepted now.ring who (login_message who nonce) signature ≡ accepted
+  accepted_shown gate ring name who text nonce shown signature accepted gate_is ring_is name_is text_is shown_is told =
+      subst (λ (r : List KeyView). is_accepted r who (login_message who nonce) signature ≡ accepted) (ring_is ∙ ap (λ (h : GateView). h.ring) gate_is)
+      (subst (λ (n : List ℕ). is_accepted ring n (login_message who nonce) signature ≡ accepted) name_is
+      (subst (λ (t : List ℕ). is_accepted ring name t signature ≡ accepted) text_is (subst (λ (s : List ℕ). is_accepted ring name text s ≡ accepted) shown_is (sym told))))
+
+  accepted_there : (who nonce signature : List ℕ) (accepted : Bool) → is_accepted now.ring who (login_message who nonce) signature ≡ accepted → is_accepted (root_of opening).ring who (login_message who nonce) signature ≡ accepted
+  accepted_there who nonce signature accepted is = ap (λ (r : List KeyView). is_accepted r who (login_message who nonce) signature) (sym g.ring_stays) ∙ is
+
+  pub look_logged_in : (who nonce signature : List ℕ) → is_some now.stop ≡ false → is_accepted now.ring who (login_message who nonce) signature ≡ true → Looks (requests.Login who nonce signature) turn_replies.LoggedIn
+  look_logged_in who nonce signature running is pass moment =
+      turns.answered moment turn_replies.LoggedIn (runs now running) refl (turns.logs_in who nonce signature (accepted_there who nonce signature true is))
+
+  pub look_rejected : (who nonce signature : List ℕ) → is_some now.stop ≡ false → is_accepted now.ring who (login_message who nonce) signature ≡ false → Looks (requests.Login who nonce signature) (turn_replies.Step (Rejected BadSignature))
+  look_rejected who nonce signature running is pass moment =
+      turns.answered moment (turn_replies.Step (Rejected BadSignature)) (runs now running) refl (turns.rejects who nonce signature (accepted_there who nonce signature false is))
+
+pub turned_by_step : {D : Type 0} (clock : D → ℕ) (left_since : D → ℕ → List ℕ → Type 0) (image : D → Option (List ℕ)) (faults : D → ℕ) (opening old new : StoreView D) (pass : ℕ) (moment : ℤ) (request : StepRequest) (reply : StoreReply) (told : TurnReply) →
+    HasGoneOn clock left_since image faults opening old → IsStore old → Steps faults old pass moment request reply new → told ≡ turn_reply reply →
+    HasTurned (λ m. m ≡ moment) (requests.Step request) (record { store = old; opening = opening }) pass (record { store = new; opening = opening }) told
+turned_by_step clock left_since image faults opening old new pass moment request reply told g store stepped is =
+    subst (λ (r : TurnReply). HasTurned (λ m. m ≡ moment) (requests.Step request) (record { store = old; opening = opening }) pass (record { store = new; opening = opening }) r) (sym is)
+    (by_step clock left_since image faults opening old g new pass moment request reply store stepped)
+
+-- a look is a turn that leaves all as it was
+pub turned_by_look : {D : Type 0} (s : OpenedView D) (pass : ℕ) (moment : ℤ) (asked request : TurnRequest) (reply : TurnReply) → asked ≡ request → ((n : ℕ) (m : ℤ) → Turn (λ k. k ≡ m) (pass_at s.opening n) (entries_of s.store) asked reply []) →
+    HasTurned (λ m. m ≡ moment) request s pass s reply
+turned_by_look s pass moment asked request reply is looks =
+    subst (λ (r : TurnRequest). HasTurned (λ m. m ≡ moment) r s pass s reply) is (record { given = []; opening_stays = refl; grows = sym (append-nil (entries_of s.store)); turn = looks pass moment })
+
+-- a step is one that was asked for, at the moment that was shown
+pub turned_by_request : {D : Type 0} (before after : OpenedView D) (pass : ℕ) (shown moment : ℤ) (asked request : TurnRequest) (reply : TurnReply) → shown ≡ moment → asked ≡ request → HasTurned (λ m. m ≡ shown) asked before pass after reply →
+    HasTurned (λ m. m ≡ moment) request before pass after reply
+turned_by_request before after pass shown moment asked request reply is same turned =
+    subst (λ (k : ℤ). HasTurned (λ m. m ≡ k) request before pass after reply) is (subst (λ (r : TurnRequest). HasTurned (λ m. m ≡ shown) r before pass after reply) same turned)
+
+-- the moment was one that the clock gives
+pub turn_shown : (gives : ℤ → Type 0) (p : StorePass) (before : List StoreEntry) (request : TurnRequest) (moment : ℤ) (reply : TurnReply) (given : List StoreEntry) → gives moment →
+    Turn (λ m. m ≡ moment) p before request reply given → Turn gives p before request reply given
+turn_shown gives p before request moment _ _ shown (turns.was_stopped is) = turns.was_stopped is
+turn_shown gives p before request moment _ _ shown (turns.answered at reply running same answers) = turns.answered at reply running (subst gives (sym same) shown) answers
+turn_shown gives p before request moment _ _ shown (turns.full at reply event running same answers is_full) = turns.full at reply event running (subst gives (sym same) shown) answers is_full
+turn_shown gives p before request moment _ _ shown (turns.kept at reply event running same answers room) = turns.kept at reply event running (subst gives (sym same) shown) answers room
+turn_shown gives p before request moment _ _ shown (turns.failed at reply event running same answers room) = turns.failed at reply event running (subst gives (sym same) shown) answers room
+turn_shown gives p before request moment _ _ shown turns.without_memory = turns.without_memory

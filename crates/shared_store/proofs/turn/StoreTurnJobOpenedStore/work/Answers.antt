@@ -1,0 +1,16 @@
+-- The turn is taken at the moment that the clock shows.
+use Rattle.std.proofs.Common.{refl}
+use Rattle.std.proofs.lemmas.Int.{to_z-of_z}
+use Rattle.std.specs.Int.{w64}
+use Rattle.access_history.proofs.HistoryLemmas.{SFits-moment}
+use Rattle.shared_store.proofs.AskingLemmas.{appends, turned_shown}
+use Rattle.shared_store.proofs.TurningLemmas.{turned_by_request}
+use Rattle.shared_store.proofs.turn.StoreTurnJobOpenedStore.work.Goals as goal
+
+pub returns-clause-done : goal.returns-clause-done
+returns-clause-done g c =
+    turned_shown (g.C.Clock.gives c.args.self.clock.now) c.args.self.request c.args.value.now c.answer.new.self c.args.pass c.now-moment.result c.answer.result c.now-moment.ensures.given
+    (turned_by_request c.args.value.now c.answer.new.self c.args.pass _ c.now-moment.result c.args.self.request c.args.self.request c.answer.result (to_z-of_z w64 c.now-moment.result (SFits-moment c.now-moment.result c.now-moment.ensures.in_range)) refl c.answer.ensures)
+
+pub returns-clause-appends : goal.returns-clause-appends
+returns-clause-appends g c = appends _ c.args.self.request c.args.value.now c.answer.new.self c.args.pass c.answer.result c.answer.ensures

@@ -1,0 +1,33 @@
+-- How a store goes on from its opening, while steps are made (this project's own).
+use Rattle.std.specs.Prelude.{◌≡◌, ◌⊎◌, ℕ, ◌≤◌, List, Option, Some, None, is_some}
+use mathlib.Core.List.{IsPrefix}
+use Rattle.pcfs_ports.specs.Faults.{HasRisen}
+use Rattle.access_history.specs.declared.event.Event.{Event}
+use Rattle.access_history.specs.Lawful.{IsLawful}
+use Rattle.pcfs_store.specs.StoreView.{StoreView, authority_of_store, first_disk, second_disk}
+use Rattle.pcfs_store.specs.Ready.{IsReady, IsCurrent, StopsNow, SurvivesWithOrWithout}
+
+-- Below, of a disk d `clock d` is the present moment, `left_since d t bytes` says that a crash at some moment since t may have left these bytes, `image d` is what a read gives, if d tells it, and `faults d`
+-- counts its faults.
+module _ {D : Type 0} (clock : D → ℕ) (left_since : D → ℕ → List ℕ → Type 0) (image : D → Option (List ℕ)) (faults : D → ℕ) where
+  -- The store was opened as `opening`, and is `now`. Key, ring and base are the same, and the events are those of the opening with others after them; if the former are lawful, so are all. The area that counts has the same generation on the same disk, and the
+  -- other disk is not touched. While no disk has failed, a store that was ready is ready, and what a read gives stands for its history. If one has, a count rose above the one at the opening; and of a store that was ready a
+  -- crash leaves the history, or with it the event that met the fault.
+  pub record HasGoneOn (opening now : StoreView D) : Type 0 where
+    pub began : opening.stop ≡ None
+    pub key_stays : now.key ≡ opening.key
+    pub ring_stays : now.ring ≡ opening.ring
+    pub base_stays : now.base ≡ opening.base
+    pub events_go_on : IsPrefix opening.events now.events
+    pub lawful : IsLawful (authority_of_store opening) opening.base opening.events → IsLawful (authority_of_store now) now.base now.events
+    pub generation_stays : now.generation ≡ opening.generation
+    pub place_stays : now.second_active ≡ opening.second_active
+    pub other_stays : now.other ≡ opening.other
+    pub ready : IsReady clock left_since image opening → now.stop ≡ None → IsReady clock left_since image now
+    pub current : IsCurrent clock left_since image opening → now.stop ≡ None → IsCurrent clock left_since image now
+    pub halts : IsReady clock left_since image opening → (pass : ℕ) → now.stop ≡ Some pass → (met : Event) × StopsNow clock left_since image now (SurvivesWithOrWithout now.base now.events met)
+    pub failed : (pass : ℕ) → now.stop ≡ Some pass → HasRisen (faults (first_disk opening)) (faults (first_disk now)) ⊎ HasRisen (faults (second_disk opening)) (faults (second_disk now))
+    pub first_told : is_some (image (first_disk now)) ≡ is_some (image (first_disk opening))
+    pub second_told : is_some (image (second_disk now)) ≡ is_some (image (second_disk opening))
+    pub first_never_falls : faults (first_disk opening) ≤ faults (first_disk now)
+    pub second_never_falls : faults (second_disk opening) ≤ faults (second_disk now)

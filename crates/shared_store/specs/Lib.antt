@@ -1,0 +1,9 @@
+pub mod OpenedView
+pub mod OpenedCode
+pub mod RequestCode
+pub mod GoesOn
+pub mod LockHistory
+pub mod Turning
+pub mod Asking
+pub mod Merged
+pub mod Laws

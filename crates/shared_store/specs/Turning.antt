@@ -1,0 +1,29 @@
+-- One turn at a shared store (this project's own).
+use Rattle.std.specs.Prelude.{◌≡◌, ℕ, ℤ, List, ◌++◌}
+use Rattle.pcfs_store.specs.declared.reply.StoreReply.{StoreReply}
+use Rattle.pcfs_store.specs.declared.reply.StoreReply.TheVariants as stores
+use Rattle.pcfs_store.specs.Entries.{StoreEntry, root_of, entries_of}
+use Rattle.pcfs_store.specs.StoreView.{StoreView}
+use Rattle.session_history.specs.declared.request.TurnRequest.{TurnRequest}
+use Rattle.session_history.specs.declared.reply.TurnReply.{TurnReply}
+use Rattle.session_history.specs.declared.reply.TurnReply.TheVariants as turn_replies
+use Rattle.session_history.specs.Turn.{StorePass, Turn}
+use Rattle.shared_store.specs.OpenedView.{OpenedView}
+
+-- what a turn replies for which the store says this
+abbrev pub turn_reply : StoreReply → TurnReply
+turn_reply (stores.Step reply) = turn_replies.Step reply
+turn_reply stores.Full = turn_replies.Full
+turn_reply stores.Stopped = turn_replies.Stopped
+turn_reply stores.NoMemory = turn_replies.NoMemory
+
+-- the pass of this number at a store that was opened so
+abbrev pub pass_at : {D : Type 0} → StoreView D → ℕ → StorePass
+pass_at opening number = record { root = root_of opening; number = number }
+
+-- A turn of the pass took the store from `before` to `after`: it added entries at the end, and its reply is that of a turn which finds those before.
+pub record HasTurned {D : Type 0} (gives : ℤ → Type 0) (request : TurnRequest) (before : OpenedView D) (pass : ℕ) (after : OpenedView D) (reply : TurnReply) : Type 0 where
+  pub given : List StoreEntry
+  pub opening_stays : after.opening ≡ before.opening
+  pub grows : entries_of after.store ≡ entries_of before.store ++ given
+  pub turn : Turn gives (pass_at before.opening pass) (entries_of before.store) request reply given

@@ -1,0 +1,15 @@
+//! What the history of a shared store is made of. No value of this type is made.
+
+use access_history::Event;
+use pcfs_ports::Disk;
+use pcfs_store::Store;
+
+/// An entry of the history that a lock keeps.
+pub enum LockEntry<D: Disk> {
+    /// The store as it was opened; of the first entry alone.
+    Opened(Store<D>),
+    /// An event was kept.
+    Happened(Event),
+    /// A disk failed in a turn of this pass.
+    Stopped(u64),
+}

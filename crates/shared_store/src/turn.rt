@@ -1,0 +1,42 @@
+//! The entries of a shared store, and the job of one turn at it.
+
+use crate::entry::LockEntry;
+use crate::formed::FormedRequest;
+use crate::opened::OpenedStore;
+use pcfs_ports::{Clock, Disk};
+use session_history::TurnReply;
+use std::alloc::Global;
+use tree_lock::{Job, Recorded};
+
+impl<D: Disk> Recorded for OpenedStore<D> {
+    type Entry = LockEntry<D>;
+
+    ghost use Rattle.shared_store.specs.LockHistory.{lock_entries};
+
+    ghost entries = { lock_entries };
+}
+
+/// One turn: the clock is read, and the store is asked.
+pub struct StoreTurn<'c, C> {
+    pub alloc: Global,
+    pub clock: &'c C,
+    pub request: FormedRequest,
+}
+
+impl<'c, D: Disk, C: Clock> Job<OpenedStore<D>> for StoreTurn<'c, C> {
+    type Out = TurnReply;
+
+    ghost use Rattle.shared_store.specs.Turning.{HasTurned};
+
+    ghost done = { λ turn before pass after reply. HasTurned (C.gives turn.clock.now) turn.request before pass after reply };
+
+    fn work(self, value: &mut OpenedStore<D>, pass: u64) -> TurnReply {
+        let StoreTurn {
+            alloc,
+            clock,
+            request,
+        } = self;
+        let moment = clock.now();
+        value.answer(alloc, pass, request, moment)
+    }
+}
