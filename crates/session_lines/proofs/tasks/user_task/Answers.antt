@@ -1,0 +1,7 @@
+use Rattle.std.proofs.Common.{sym, subst}
+use Rattle.line_forms.specs.declared.command.Command.{Command}
+use Rattle.session_history.specs.Tasks.{IsUserTask}
+use Rattle.session_lines.proofs.tasks.user_task.Goals as goal
+
+pub returns-in-Register-clause-ok : goal.returns-in-Register-clause-ok
+returns-in-Register-clause-ok c = subst (λ (command : Command). IsUserTask c.args.who command c.registering.result) (sym c.in-Register.is) (c.registering.ensures.task c.args.who)
