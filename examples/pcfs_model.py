@@ -905,13 +905,13 @@ def numbered(text):
     return [line.replace("%", str(one)) for one in range(int(low), int(high) + 1)]
 
 
-MOST_BYTES = 262_144
+LONGEST_LINE = 262_144
 
 
 def replies(server, lines):
     """The replies to the lines, up to one that is too long."""
     for line in lines:
-        if len(line) > MOST_BYTES:
+        if len(line) > LONGEST_LINE:
             yield "bad 3"
             return
         yield server.answer(line)
