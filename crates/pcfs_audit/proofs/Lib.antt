@@ -1,0 +1,11 @@
+pub mod CitesLemmas
+pub mod CredentialLemmas
+pub mod FirstsLemmas
+pub mod FollowingLemmas
+pub mod GateLemmas
+pub mod LawLemmas
+pub mod PapersLemmas
+pub mod ReferenceLemmas
+pub mod RowsLemmas
+pub mod SplitLemmas
+pub mod TakingLemmas

@@ -1,0 +1,12 @@
+-- The needs before this place are met.
+use Rattle.std.proofs.Common.{◌≡◌, take}
+use Rattle.std.specs.Prelude.{IsTrue}
+use Rattle.std.specs.List.{AllByRecursion}
+use Rattle.procap.specs.Genuine.{IsGenuine}
+use Rattle.world_state.specs.Needed.{placed}
+use Rattle.access_history.specs.Admission.{IsNeedMet}
+use Rattle.access_history.specs.Base.{BaseView}
+use Rattle.pcfs_audit.proofs.admission.is_admitted.Given as goal
+
+abbrev pub invariant-loop-place : goal.invariant-loop-place
+invariant-loop-place l = (state : BaseView) → state.world ≡ l.world.world → (IsTrue l.are_sealed → AllByRecursion (IsGenuine l.key) l.procaps) → AllByRecursion (IsNeedMet l.key state l.caller l.procaps l.moment) (placed 1 (take l.place l.pairs))

@@ -1,0 +1,36 @@
+-- The event adds a statement, a grant, or nothing.
+use Rattle.std.proofs.Common.{[], length, refl, sym, ap, ◌≡◌, ◌∙◌, ◌++◌, ◌∷◌, ℕ}
+use Rattle.std.proofs.lemmas.List.{append-nil}
+use Rattle.access_history.specs.declared.event.Event.{Event}
+use Rattle.pcfs_audit.specs.declared.papers.Before.{Before}
+use Rattle.pcfs_audit.specs.Papers.{shown}
+use Rattle.pcfs_audit.proofs.PapersLemmas.{ArePapers-more, granted_by, said_by}
+use Rattle.pcfs_audit.proofs.ReferenceLemmas.{shown_more}
+use Rattle.pcfs_audit.proofs.papers.with_event.Goals as goal
+
+abbrev counts_with : ℕ → ℕ → Before
+counts_with statements issues = record { statements = statements; issues = issues }
+
+counted : (statements issues m n : ℕ) → statements ≡ m → issues ≡ n → counts_with statements issues ≡ counts_with m n
+counted statements issues m n one other = ap (λ (k : ℕ). counts_with k issues) one ∙ ap (λ (k : ℕ). counts_with m k) other
+
+pub returns-in_ok-push-in-Registered : goal.returns-in_ok-push-in-Registered
+returns-in_ok-push-in-Registered c base events are =
+    ArePapers-more base events c.args.event.now c.args.papers _ are
+    (shown_more c.args.papers.statements.items _ _ c.in-Registered.statement c.in_ok-push-in-Registered.ensures.items refl ∙ ap (λ (e : Event). shown c.args.papers.statements.items ++ said_by e) (sym c.in-Registered.is))
+    (sym (append-nil (shown c.args.papers.grants.items)) ∙ ap (λ (e : Event). shown c.args.papers.grants.items ++ granted_by e) (sym c.in-Registered.is))
+    (c.in_ok-push.ensures.items ∙ ap (λ (b : Before). c.args.papers.before.items ++ b ∷ []) (counted (length c.as_slice.result.now) (length c.as_slice-2.result.now) _ _ (ap length c.as_slice.ensures.value) (ap length c.as_slice-2.ensures.value)))
+
+pub returns-in_ok-push-in-Issued : goal.returns-in_ok-push-in-Issued
+returns-in_ok-push-in-Issued c base events are =
+    ArePapers-more base events c.args.event.now c.args.papers _ are
+    (sym (append-nil (shown c.args.papers.statements.items)) ∙ ap (λ (e : Event). shown c.args.papers.statements.items ++ said_by e) (sym c.in-Issued.is))
+    (shown_more c.args.papers.grants.items _ _ c.in-Issued.grant c.in_ok-push-in-Issued.ensures.items refl ∙ ap (λ (e : Event). shown c.args.papers.grants.items ++ granted_by e) (sym c.in-Issued.is))
+    (c.in_ok-push.ensures.items ∙ ap (λ (b : Before). c.args.papers.before.items ++ b ∷ []) (counted (length c.as_slice.result.now) (length c.as_slice-2.result.now) _ _ (ap length c.as_slice.ensures.value) (ap length c.as_slice-2.ensures.value)))
+
+pub returns-in-Acted : goal.returns-in-Acted
+returns-in-Acted c base events are =
+    ArePapers-more base events c.args.event.now c.args.papers _ are
+    (sym (append-nil (shown c.args.papers.statements.items)) ∙ ap (λ (e : Event). shown c.args.papers.statements.items ++ said_by e) (sym c.in-Acted.is))
+    (sym (append-nil (shown c.args.papers.grants.items)) ∙ ap (λ (e : Event). shown c.args.papers.grants.items ++ granted_by e) (sym c.in-Acted.is))
+    (c.in_ok-push.ensures.items ∙ ap (λ (b : Before). c.args.papers.before.items ++ b ∷ []) (counted (length c.as_slice.result.now) (length c.as_slice-2.result.now) _ _ (ap length c.as_slice.ensures.value) (ap length c.as_slice-2.ensures.value)))

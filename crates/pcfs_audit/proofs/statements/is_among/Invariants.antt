@@ -1,0 +1,8 @@
+-- None of the statements so far is it.
+use Rattle.std.proofs.Common.{take}
+use Rattle.std.specs.Prelude.{Contains}
+use Rattle.pcfs_audit.specs.Papers.{shown}
+use Rattle.pcfs_audit.proofs.statements.is_among.Given as goal
+
+abbrev pub invariant-loop-other : goal.invariant-loop-other
+invariant-loop-other l = Contains (shown (take l.other-index l.statements)) l.statement → ⊥

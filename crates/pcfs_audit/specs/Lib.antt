@@ -1,0 +1,11 @@
+pub mod Cites
+pub mod Credentials
+pub mod Dossier
+pub mod Finding
+pub mod Firsts
+pub mod Following
+pub mod Laws
+pub mod Papers
+pub mod Report
+pub mod ReportText
+pub mod Taking

@@ -1,0 +1,40 @@
+-- The papers of a history: its statements and the grants that were issued, and how many of each there were before each event (this project's own).
+use Rattle.std.specs.Prelude.{◌≡◌, ◌<◌, List, [], ◌∷◌, map, length, Contains}
+use Rattle.std.specs.Borrow.{Bor}
+use Rattle.bl_syntax.specs.Grant.{GrantView}
+use Rattle.bl_syntax.specs.Statement.{StatementView}
+use Rattle.access_history.specs.declared.event.Issue.{Issue}
+use Rattle.access_history.specs.declared.event.Event.{Event}
+use Rattle.access_history.specs.Authority.{sayings}
+use Rattle.access_history.specs.Base.{BaseView}
+use Rattle.access_history.specs.Replay.{next_state, replay}
+use Rattle.pcfs_audit.specs.declared.papers.Before.{Before}
+use Rattle.pcfs_audit.specs.declared.papers.Papers.{Papers}
+
+-- what these references point to, in order
+abbrev pub shown : {A : Type 0} → List (Bor A) → List A
+shown references = map (λ r. r.now) references
+
+-- the grants of these issues, in order
+abbrev pub grants_in : List Issue → List GrantView
+grants_in issues = map (λ (i : Issue). i.grant) issues
+
+-- how many statements and issues a state has
+abbrev pub counts_in : BaseView → Before
+counts_in state = record { statements = length state.statements; issues = length state.issues }
+
+-- how many there are before each of the events, the first of which comes over that state
+abbrev pub counts_before : BaseView → List Event → List Before
+counts_before state [] = []
+counts_before state (event ∷ events) = counts_in state ∷ counts_before (next_state state event) events
+
+-- they are the papers of the base and the events
+pub record ArePapers (base : BaseView) (events : List Event) (papers : Papers) : Type 0 where
+  pub statements_are : shown papers.statements.items ≡ sayings (replay base events).statements
+  pub grants_are : shown papers.grants.items ≡ grants_in (replay base events).issues
+  pub before_are : papers.before.items ≡ counts_before base events
+
+-- the statement may be added to these: none is equal to it, and there is room
+pub record IsNewAfter (said : List StatementView) (statement : StatementView) : Type 0 where
+  pub new : Contains said statement → ⊥
+  pub room : length said < 4096

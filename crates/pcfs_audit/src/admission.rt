@@ -1,0 +1,137 @@
+//! Whether an operation was admitted, and its effect, tested again over the world in which it came.
+
+ghost use Rattle.std.specs.Prelude.{◌≡◌, ◌↔◌, length, Contains, IfOk, IsTrue};
+ghost use Rattle.std.specs.List.{AllByRecursion};
+ghost use Rattle.bl_syntax.specs.Grant.{HoldsAt};
+ghost use Rattle.procap.specs.Genuine.{IsGenuine};
+ghost use Rattle.file_world.specs.Facts.{facts};
+ghost use Rattle.file_world.specs.Needs.{slots};
+ghost use Rattle.access_history.specs.Admission.{Admits, IsAdmitted};
+ghost use Rattle.access_history.specs.Base.{BaseView};
+ghost use Rattle.pcfs_audit.specs.Taking.{IsBrought, TakesPlace};
+
+use bl_syntax::{Goal, Grant, NoMemory, Principal, is_moment};
+use condition_set::{first_failing_state, first_failing_time};
+use file_world::{Op, OpFault};
+use op_gate::{bytes_to_write, slots};
+use procap::{Procap, SealKey};
+use std::alloc::Global;
+use world_state::World;
+
+/// The most bytes that an operation brings to be written.
+const MOST_BYTES: usize = 65536;
+
+// Whether the seal of the procap is right. It is not tested if that is known.
+fn is_right(key: &SealKey, is_sealed: bool, procap: &Procap) -> bool
+    ensures { (IsTrue is_sealed → IsGenuine key.now procap.now) → IsTrue result ↔ IsGenuine key.now procap.now }
+{
+    if is_sealed {
+        return true;
+    }
+    key.is_genuine(procap)
+}
+
+// Whether all conditions on time hold at the moment.
+fn do_times_hold(grant: &Grant, moment: i64) -> bool
+    ensures { IsTrue result ↔ AllByRecursion (HoldsAt moment) grant.now.times }
+{
+    match first_failing_time(grant, moment) {
+        None => true,
+        Some(_) => false,
+    }
+}
+
+// Whether all conditions on the state hold in the world.
+fn do_states_hold(grant: &Grant, world: &World) -> bool
+    ensures { IsTrue result ↔ AllByRecursion (Contains (facts world.now.world)) grant.now.states }
+{
+    match first_failing_state(grant, world) {
+        None => true,
+        Some(_) => false,
+    }
+}
+
+// Whether the procap passes all tests for what is wanted. That of its seal is left out if it is known to be right.
+fn passes(
+    world: &World,
+    key: &SealKey,
+    is_sealed: bool,
+    procap: &Procap,
+    wanted: &Goal,
+    moment: i64,
+) -> bool
+    ensures { (state : BaseView) → state.world ≡ world.now.world → (IsTrue is_sealed → IsGenuine key.now procap.now) → IsTrue result ↔ Admits key.now state moment wanted.now procap.now }
+{
+    if !is_right(key, is_sealed, procap) {
+        return false;
+    }
+    if !procap.grant.goal().is_same(wanted) {
+        return false;
+    }
+    if !do_times_hold(&procap.grant, moment) {
+        return false;
+    }
+    do_states_hold(&procap.grant, world)
+}
+
+/// Whether the caller's operation is admitted under these procaps, one for each slot. Seals are tested unless they are
+/// known to be right.
+pub fn is_admitted(
+    world: &World,
+    key: &SealKey,
+    are_sealed: bool,
+    caller: &Principal,
+    op: &Op,
+    procaps: &[Procap],
+    moment: i64,
+) -> bool
+    requires { length procaps.now ≡ slots op.now }
+    ensures { (state : BaseView) → state.world ≡ world.now.world → (IsTrue are_sealed → AllByRecursion (IsGenuine key.now) procaps.now) → IsTrue result ↔ IsAdmitted key.now state caller.now op.now procaps.now moment }
+{
+    let needs = world.needs(op);
+    let pairs = needs.as_slice();
+    for place in 0..pairs.len() {
+        let (file, perm) = pairs[place];
+        let wanted = Goal {
+            who: *caller,
+            file,
+            perm,
+        };
+        let procap = &procaps[place];
+        if !passes(world, key, are_sealed, procap, &wanted, moment) {
+            return false;
+        }
+    }
+    true
+}
+
+/// Whether an operation has a moment of the range, one procap for each slot, and at most 65,536 bytes to write.
+pub fn is_brought(op: &Op, procaps: &[Procap], moment: i64) -> bool
+    ensures { IsTrue result ↔ IsBrought op.now procaps.now moment }
+{
+    if !is_moment(moment) {
+        return false;
+    }
+    procaps.len() == slots(op) && bytes_to_write(op) <= MOST_BYTES
+}
+
+/// Makes the change of the caller's operation unless it is refused, and tells whether it was made.
+pub fn take_place(
+    alloc: Global,
+    world: &mut World,
+    caller: &Principal,
+    op: &Op,
+) -> Result<bool, NoMemory>
+    ensures { IfOk result (λ taken. TakesPlace caller.now op.now world.old.world taken world.new.world) }
+{
+    let copied = op.copy(alloc)?;
+    let (op, answer) = world.reserve(alloc, caller, copied);
+    match answer {
+        Ok(_) => {
+            let _ = world.apply(caller, op);
+            Ok(true)
+        }
+        Err(OpFault::Refused(_)) => Ok(false),
+        Err(OpFault::NoMemory) => Err(NoMemory),
+    }
+}

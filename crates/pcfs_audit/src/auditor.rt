@@ -1,0 +1,145 @@
+//! The auditor: it follows the events in order, over a world of its own, up to the first with which something is wrong.
+
+ghost use Rattle.std.specs.Prelude.{◌≡◌, ◌<◌, ◌+◌, ◌-◌, ◌^◌, ◌∷◌, ◌++◌, [], ℕ, List, false, IfOk, IsTrue, OnOk, Some, None};
+ghost use Rattle.access_history.specs.declared.event.Event.{Event as EventView};
+ghost use Rattle.access_history.specs.declared.event.Event.TheVariants as events;
+ghost use Rattle.access_history.specs.Authority.{Authority};
+ghost use Rattle.access_history.specs.Base.{BaseView};
+ghost use Rattle.access_history.specs.Replay.{replay};
+ghost use Rattle.pcfs_audit.specs.Credentials.{HasCredentials};
+ghost use Rattle.pcfs_audit.specs.Following.{Audits, Follows, HasAudited, StandsAt};
+
+use crate::admission::{is_admitted, is_brought, take_place};
+use crate::credentials::Credentials;
+use crate::report::{Finding, ReportRow, ReportRows, is_wrong};
+use access_history::{Base, Event};
+use bl_syntax::{NoMemory, Principal, Sequence};
+use file_world::Op;
+use procap::{Procap, SealKey};
+use std::alloc::Global;
+use world_state::World;
+
+/// The world and the last moment of a state, the number of the last event, and the rows so far.
+#[derive(Drop)]
+pub struct Auditor {
+    pub world: World,
+    pub moment: i64,
+    pub count: u64,
+    pub rows: ReportRows,
+}
+
+/// An auditor at the base.
+pub fn auditor_at(alloc: Global, base: &Base) -> Result<Auditor, NoMemory>
+    ensures { IfOk result (λ auditor. (authority : Authority) → HasAudited authority base.now [] auditor) }
+{
+    let world = base.world().copy()?;
+    Ok(Auditor {
+        world,
+        moment: base.moment(),
+        count: base.count(),
+        rows: Sequence::new(alloc),
+    })
+}
+
+// The finding, unless this holds.
+fn unless(holds: bool, finding: Finding) -> Option<Finding>
+    ensures none { IsTrue holds → result ≡ None }
+    ensures some { holds ≡ false → result ≡ Some finding }
+{
+    if holds { None } else { Some(finding) }
+}
+
+impl Auditor {
+    // What is found with the caller's operation; if nothing is wrong with it, its change is made.
+    fn act(
+        &mut self,
+        alloc: Global,
+        key: &SealKey,
+        credentials: Credentials,
+        caller: &Principal,
+        op: &Op,
+        procaps: &[Procap],
+        moment: i64,
+    ) -> Result<Option<Finding>, NoMemory>
+        ensures found { IfOk result (λ found. (authority : Authority) (state : BaseView) (pass : ℕ) → authority.key ≡ key.now → StandsAt state self.old → HasCredentials authority state (events.Acted pass caller.now op.now procaps.now moment) credentials
+            → Follows authority state (events.Acted pass caller.now op.now procaps.now moment) found self.new) }
+        ensures count { OnOk result (self.new.count ≡ self.old.count) }
+        ensures rows { OnOk result (self.new.rows ≡ self.old.rows) }
+    {
+        if moment < self.moment {
+            return Ok(Some(Finding::MomentFalls));
+        }
+        if !is_brought(op, procaps, moment) {
+            return Ok(Some(Finding::NotAdmitted));
+        }
+        let sealed = credentials.genuine;
+        if !is_admitted(&self.world, key, sealed, caller, op, procaps, moment) {
+            return Ok(Some(Finding::NotAdmitted));
+        }
+        if !take_place(alloc, &mut self.world, caller, op)? {
+            return Ok(Some(Finding::NotAdmitted));
+        }
+        self.moment = moment;
+        Ok(unless(credentials.issued, Finding::Unissued))
+    }
+
+    // What is found with the event; if nothing is wrong with it, its change is made.
+    fn find(
+        &mut self,
+        alloc: Global,
+        key: &SealKey,
+        credentials: Credentials,
+        event: &Event,
+    ) -> Result<Option<Finding>, NoMemory>
+        ensures found { IfOk result (λ found. (authority : Authority) (state : BaseView) → authority.key ≡ key.now → StandsAt state self.old → HasCredentials authority state event.now credentials → Follows authority state event.now found self.new) }
+        ensures count { OnOk result (self.new.count ≡ self.old.count) }
+        ensures rows { OnOk result (self.new.rows ≡ self.old.rows) }
+    {
+        match event {
+            Event::Registered { .. } => Ok(unless(credentials.genuine, Finding::Unsigned)),
+            Event::Issued { .. } => Ok(unless(credentials.genuine, Finding::Unproved)),
+            Event::Acted {
+                caller,
+                op,
+                procaps,
+                moment,
+                ..
+            } => self.act(
+                alloc,
+                key,
+                credentials,
+                caller,
+                op,
+                procaps.as_slice(),
+                *moment,
+            ),
+        }
+    }
+
+    /// Follows one more event, and tells whether to go on: nothing is wrong with it.
+    pub fn audit_event(
+        &mut self,
+        alloc: Global,
+        key: &SealKey,
+        credentials: Credentials,
+        event: &Event,
+    ) -> Result<bool, NoMemory>
+        requires { self.old.count < 2 ^ 48 - 1 }
+        ensures audits { IfOk result (λ goes_on. (authority : Authority) (base : BaseView) (events : List EventView) → authority.key ≡ key.now → HasAudited authority base events self.old → HasCredentials authority (replay base events) event.now credentials
+            → Audits authority base (events ++ event.now ∷ []) goes_on self.new) }
+        ensures count { OnOk result (self.new.count ≡ self.old.count + 1) }
+    {
+        let found = self.find(alloc, key, credentials, event)?;
+        self.count += 1;
+        match found {
+            None => Ok(true),
+            Some(finding) => {
+                self.rows.push(ReportRow {
+                    event: self.count,
+                    finding,
+                })?;
+                Ok(!is_wrong(finding))
+            }
+        }
+    }
+}

@@ -1,0 +1,44 @@
+//! Grants that were issued, found by their digests.
+
+ghost use Rattle.std.specs.Prelude.{◌≡◌, ◌↔◌, ◌≤◌, length, take, IsTrue, Contains};
+ghost use Rattle.pcfs_audit.specs.Dossier.{IsDossier};
+ghost use Rattle.pcfs_audit.specs.Firsts.{grant_digest};
+ghost use Rattle.pcfs_audit.specs.Papers.{shown};
+
+use crate::dossier::Dossier;
+use crate::firsts::first_place;
+use bl_syntax::Grant;
+use op_gate::is_same_grant;
+
+// Whether the grant is one of these.
+fn is_among(grants: &[&Grant], grant: &Grant) -> bool
+    ensures { IsTrue result ↔ Contains (shown grants.now) grant.now }
+{
+    for other in grants {
+        if is_same_grant(*other, grant) {
+            return true;
+        }
+    }
+    false
+}
+
+/// Whether the grant, which has that digest, is one of so many that were issued.
+pub fn was_issued(dossier: &Dossier, earlier: usize, digest: u64, grant: &Grant) -> bool
+    requires dossier { IsDossier dossier.now }
+    requires within { earlier ≤ length dossier.now.papers.grants.items }
+    requires digest { digest ≡ grant_digest dossier.now.key grant.now }
+    ensures { IsTrue result ↔ Contains (take earlier (shown dossier.now.papers.grants.items)) grant.now }
+{
+    let first = match first_place(&dossier.grant_firsts, digest) {
+        Some(first) => first,
+        None => return false,
+    };
+    if earlier <= first {
+        return false;
+    }
+    let grants = dossier.papers.grants.as_slice();
+    if is_same_grant(grants[first], grant) {
+        return true;
+    }
+    is_among(&grants[..earlier], grant)
+}

@@ -1,0 +1,25 @@
+//! The audit of a history: a report of what is wrong with its events, and of operations that were admitted by grants that
+//! were not issued before.
+//!
+//! The report is a definition over the base, the events, the key of the seal and the ring; it ends with the first event with
+//! which something is wrong. It is the same in any number of pieces. A history whose report has no wrong row is lawful, and the report on a lawful history has none.
+#![tactic(auto)]
+
+mod admission;
+mod auditing;
+mod auditor;
+mod credentials;
+mod digests;
+mod dossier;
+mod firsts;
+mod grants;
+mod issues;
+pub mod laws;
+mod papers;
+mod report;
+mod report_text;
+mod statements;
+
+pub use auditing::{audit, audit_pieces};
+pub use report::{Finding, Report, ReportRow, ReportRows};
+pub use report_text::write_report;

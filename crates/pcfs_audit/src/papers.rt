@@ -1,0 +1,102 @@
+//! The papers of a history: its statements and the grants that were issued, and how many of each there were before each
+//! event. Nothing of them is copied.
+
+ghost use Rattle.std.specs.Prelude.{◌≡◌, ◌∷◌, ◌++◌, [], List, IfOk};
+ghost use Rattle.access_history.specs.declared.event.Event.{Event as EventView};
+ghost use Rattle.access_history.specs.Authority.{sayings};
+ghost use Rattle.access_history.specs.Base.{BaseView};
+ghost use Rattle.pcfs_audit.specs.Papers.{ArePapers, grants_in, shown};
+
+use access_history::{Base, Event};
+use bl_syntax::{Grant, NoMemory, Statement};
+use std::alloc::Global;
+
+/// How many statements and issues there are.
+#[derive(Clone, Copy, Debug)]
+pub struct Before {
+    pub statements: usize,
+    pub issues: usize,
+}
+
+/// The statements and the grants of issues, by their numbers from 1, and how many of each there were before each event.
+#[derive(Drop)]
+pub struct Papers<'a> {
+    pub statements: Vec<&'a Statement>,
+    pub grants: Vec<&'a Grant>,
+    pub before: Vec<Before>,
+}
+
+// The statements of a base.
+fn base_statements<'a>(alloc: Global, base: &'a Base) -> Result<Vec<&'a Statement>, NoMemory>
+    ensures { IfOk result (λ statements. shown statements.items ≡ sayings base.now.statements) }
+{
+    let mut statements = Vec::new(alloc);
+    let entries = base.statements();
+    for entry in entries {
+        statements.push(entry.statement())?;
+    }
+    Ok(statements)
+}
+
+// The grants of the issues of a base.
+fn base_grants<'a>(alloc: Global, base: &'a Base) -> Result<Vec<&'a Grant>, NoMemory>
+    ensures { IfOk result (λ grants. shown grants.items ≡ grants_in base.now.issues) }
+{
+    let mut grants = Vec::new(alloc);
+    let issues = base.issues();
+    for issue in issues {
+        grants.push(&issue.grant)?;
+    }
+    Ok(grants)
+}
+
+// The papers of a base.
+fn base_papers<'a>(alloc: Global, base: &'a Base) -> Result<Papers<'a>, NoMemory>
+    ensures { IfOk result (ArePapers base.now []) }
+{
+    let statements = base_statements(alloc, base)?;
+    let grants = base_grants(alloc, base)?;
+    Ok(Papers {
+        statements,
+        grants,
+        before: Vec::new(alloc),
+    })
+}
+
+// The papers with those of one more event.
+fn with_event<'a>(papers: Papers<'a>, event: &'a Event) -> Result<Papers<'a>, NoMemory>
+    ensures { IfOk result (λ after. (base : BaseView) (events : List EventView) → ArePapers base events papers.entry → ArePapers base (events ++ event.now ∷ []) after) }
+{
+    let mut papers = papers;
+    let before = Before {
+        statements: papers.statements.as_slice().len(),
+        issues: papers.grants.as_slice().len(),
+    };
+    papers.before.push(before)?;
+    match event {
+        Event::Registered { statement, .. } => {
+            papers.statements.push(statement)?;
+            Ok(papers)
+        }
+        Event::Issued { grant, .. } => {
+            papers.grants.push(grant)?;
+            Ok(papers)
+        }
+        Event::Acted { .. } => Ok(papers),
+    }
+}
+
+/// The papers of the base and the events.
+pub fn papers_of<'a>(
+    alloc: Global,
+    base: &'a Base,
+    events: &'a [Event],
+) -> Result<Papers<'a>, NoMemory>
+    ensures { IfOk result (ArePapers base.now events.now) }
+{
+    let mut papers = base_papers(alloc, base)?;
+    for event in events {
+        papers = with_event(papers, event)?;
+    }
+    Ok(papers)
+}
