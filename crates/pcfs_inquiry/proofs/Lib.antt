@@ -1,0 +1,2 @@
+pub mod InquiryLemmas
+pub mod LawLemmas

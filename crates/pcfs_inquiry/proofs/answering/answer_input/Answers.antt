@@ -1,0 +1,47 @@
+-- Each end has its line.
+use Rattle.std.proofs.Common.{List, ap, subst, sym, ℕ, ◌∙◌, Err}
+use Rattle.std.specs.Prelude.{codes}
+use Rattle.line_text.specs.Lines.{lines_of}
+use Rattle.bl_syntax.specs.Statement.{StatementView}
+use Rattle.proof_verifier.specs.Cited.{statements_of}
+use Rattle.proof_verifier.specs.Verdict.{verdict}
+use Rattle.pcfs_inquiry.specs.Answers.{HasLongLine, InquiryEnds, answered, bad_line, bad_line_text, long_line, read_fault, too_long, verdict_text}
+use Rattle.pcfs_inquiry.specs.Inquiry.{HasFirstFault, IsInquiry}
+use Rattle.pcfs_inquiry.proofs.InquiryLemmas.{ends_with, statements_of-numbered}
+use Rattle.pcfs_inquiry.proofs.answering.answer_input.Goals as goal
+
+pub returns-in-Err-Failed : goal.returns-in-Err-Failed
+returns-in-Err-Failed g c =
+    ends_with c.end_with.result c.line_with.result 6 (codes "readfault") (InquiryEnds (g.I.Source.left c.args.input.now) (g.I.Source.left c.read_to_end.new.input) (g.I.Source.faults c.args.input.now) (g.I.Source.faults c.read_to_end.new.input))
+    c.end_with.ensures.status c.end_with.ensures.line c.line_with.ensures (read_fault (c.read_to_end.ensures.risen (c.in-Err-Failed.is ∙ ap (λ e. Err e) c.in-Err-Failed.field-0-is)))
+
+pub returns-in-Err-TooLong : goal.returns-in-Err-TooLong
+returns-in-Err-TooLong g c =
+    ends_with c.end_with-in-Err-TooLong.result c.line_with-in-Err-TooLong.result 13 (codes "toolong") (InquiryEnds (g.I.Source.left c.args.input.now) (g.I.Source.left c.read_to_end.new.input) (g.I.Source.faults c.args.input.now) (g.I.Source.faults c.read_to_end.new.input))
+    c.end_with-in-Err-TooLong.ensures.status c.end_with-in-Err-TooLong.ensures.line c.line_with-in-Err-TooLong.ensures (too_long (c.read_to_end.ensures.too_long (c.in-Err-TooLong.is ∙ ap (λ e. Err e) c.in-Err-TooLong.field-0-is)))
+
+pub returns-then-has_long_line : goal.returns-then-has_long_line
+returns-then-has_long_line g c =
+    ends_with c.end_with-then-has_long_line.result c.line_with-then-has_long_line.result 2 (codes "bad 3") (InquiryEnds (g.I.Source.left c.args.input.now) (g.I.Source.left c.read_to_end.new.input) (g.I.Source.faults c.args.input.now) (g.I.Source.faults c.read_to_end.new.input))
+    c.end_with-then-has_long_line.ensures.status c.end_with-then-has_long_line.ensures.line c.line_with-then-has_long_line.ensures
+    (long_line _ c.in-Ok.ensures.ok (subst (λ (bytes : List ℕ). HasLongLine (lines_of bytes)) c.as_slice.ensures (c.has_long_line.ensures.0 c.if-has_long_line.true)))
+
+pub returns-in-Ok-read_inquiry : goal.returns-in-Ok-read_inquiry
+returns-in-Ok-read_inquiry g c =
+    let inquiry = c.in-Ok-read_inquiry.inquiry in
+    let read = c.in-Ok-read_inquiry.ensures in
+    let same = ap statements_of read.cites_are ∙ statements_of-numbered 1 read.statements in
+    let is = subst (λ (bytes : List ℕ). IsInquiry (lines_of bytes) read.statements inquiry.goal inquiry.proof) c.as_slice-2.ensures read.is_inquiry in
+    let ends = subst (λ (ss : List StatementView). InquiryEnds (g.I.Source.left c.args.input.now) (g.I.Source.left c.read_to_end.new.input) (g.I.Source.faults c.args.input.now) (g.I.Source.faults c.read_to_end.new.input) 0 (verdict_text (verdict ss inquiry.goal inquiry.proof))) (sym same)
+    (answered _ read.statements inquiry.goal inquiry.proof c.in-Ok.ensures.ok is) in
+    ends_with c.end_with-in-Ok-read_inquiry.result c.answer.result 0 (verdict_text (verdict (statements_of inquiry.cites) inquiry.goal inquiry.proof))
+    (InquiryEnds (g.I.Source.left c.args.input.now) (g.I.Source.left c.read_to_end.new.input) (g.I.Source.faults c.args.input.now) (g.I.Source.faults c.read_to_end.new.input))
+    c.end_with-in-Ok-read_inquiry.ensures.status c.end_with-in-Ok-read_inquiry.ensures.line c.answer.ensures ends
+
+pub returns-in-Err-Bad : goal.returns-in-Err-Bad
+returns-in-Err-Bad g c =
+    let has = rw c.in-Err-Bad.field-0-is at c.in-Err-Bad.ensures in
+    let ends = bad_line _ c.in-Err-Bad.number c.in-Err-Bad.fault c.in-Ok.ensures.ok (subst (λ (bytes : List ℕ). HasFirstFault (lines_of bytes) c.in-Err-Bad.number c.in-Err-Bad.fault) c.as_slice-2.ensures has) in
+    ends_with c.end_with-in-Err-Bad.result c.bad_line.result 12 (bad_line_text c.in-Err-Bad.number c.in-Err-Bad.fault)
+    (InquiryEnds (g.I.Source.left c.args.input.now) (g.I.Source.left c.read_to_end.new.input) (g.I.Source.faults c.args.input.now) (g.I.Source.faults c.read_to_end.new.input))
+    c.end_with-in-Err-Bad.ensures.status c.end_with-in-Err-Bad.ensures.line c.bad_line.ensures ends

@@ -1,0 +1,4 @@
+pub mod Answers
+pub mod Inquiry
+pub mod Laws
+pub mod Reading

@@ -1,0 +1,179 @@
+//! The answer to the inquiry in an input.
+
+ghost use Rattle.std.specs.Prelude.{◌≡◌, ◌≢◌, ◌↔◌, ◌++◌, ◌∷◌, [], ℕ, List, IfOk, IsTrue, OnErr, OnOk};
+ghost use Rattle.bl_syntax.specs.BeginsWith.{BeginsWith};
+ghost use Rattle.line_text.specs.Lines.{lines_of};
+ghost use Rattle.proof_verifier.specs.Cited.{statements_of};
+ghost use Rattle.proof_verifier.specs.Verdict.{verdict};
+ghost use Rattle.pcfs_inquiry.specs.Answers.{HasLongLine, InquiryEnds, bad_line_text, line_fault_text, text_fault_text, verdict_text};
+
+use crate::reading::{Inquiry, InquiryFault, read_inquiry};
+use bl_syntax::decimal::{put_counted, put_text};
+use bl_syntax::{Bytes, Grant, NoMemory};
+use bl_text::TextFault;
+use line_forms::LineFault;
+use line_text::first_line;
+use line_wire::{LineReply, write_reply};
+use pcfs_ports::{Source, TakeFault, read_to_end};
+use proof_verifier::{CheckFault, verdict};
+use std::alloc::Global;
+
+/// The longest line.
+const LONGEST_LINE: usize = 262_144;
+
+/// The inquiry was answered.
+const DONE: u8 = 0;
+
+/// A line is too long.
+const LINE_TOO_LONG: u8 = 2;
+
+/// The input failed.
+const READ_FAULT: u8 = 6;
+
+/// A line is wrong.
+const BAD_INPUT: u8 = 12;
+
+/// The input is too long.
+const TOO_LONG: u8 = 13;
+
+/// How the inquiry in an input ends: the status, and the line to be written, with its end.
+#[derive(Debug, Drop)]
+pub struct InquiryEnd {
+    pub status: u8,
+    pub line: Bytes,
+}
+
+// Writes the number of a fault of a text, and its place there.
+fn write_text_fault(out: &mut Bytes, fault: TextFault) -> Result<(), NoMemory>
+    ensures ok { OnOk result (out.new ≡ out.old ++ text_fault_text fault) }
+    ensures err { OnErr result (BeginsWith out.new out.old) }
+{
+    match fault {
+        TextFault::Unexpected(at) => put_counted(out, "11 ", at as u64),
+        TextFault::UnknownName(at) => put_counted(out, "12 ", at as u64),
+        TextFault::BadDate(at) => put_counted(out, "13 ", at as u64),
+        TextFault::Sort(at) => put_counted(out, "14 ", at as u64),
+        TextFault::TooLarge(at) => put_counted(out, "15 ", at as u64),
+        TextFault::NoMemory => put_text(out, "nomemory"),
+    }
+}
+
+// Writes the number of a fault of a line, and its place.
+fn write_line_fault(out: &mut Bytes, fault: LineFault) -> Result<(), NoMemory>
+    ensures ok { OnOk result (out.new ≡ out.old ++ line_fault_text fault) }
+    ensures err { OnErr result (BeginsWith out.new out.old) }
+{
+    match fault {
+        LineFault::BadWord(place) => put_counted(out, "1 ", place as u64),
+        LineFault::BadCount => put_text(out, "2 0"),
+        LineFault::BadText(fault) => write_text_fault(out, fault),
+        LineFault::NoMemory => put_text(out, "nomemory"),
+    }
+}
+
+// The line that tells which line is wrong, and how.
+fn bad_line(alloc: Global, number: usize, fault: LineFault) -> Result<Bytes, NoMemory>
+    ensures { IfOk result (λ line. line ≡ bad_line_text number fault ++ 10 ∷ []) }
+{
+    let mut line = Bytes::new(alloc);
+    put_counted(&mut line, "line ", number as u64)?;
+    put_text(&mut line, " bad ")?;
+    write_line_fault(&mut line, fault)?;
+    line.push(b'\n')?;
+    Ok(line)
+}
+
+// A line with this text.
+fn line_with(alloc: Global, text: &str) -> Result<Bytes, NoMemory>
+    ensures { IfOk result (λ line. line ≡ text.now ++ 10 ∷ []) }
+{
+    let mut line = Bytes::new(alloc);
+    put_text(&mut line, text)?;
+    line.push(b'\n')?;
+    Ok(line)
+}
+
+// The line that tells what a proof grants.
+fn granted_line(alloc: Global, grant: Grant) -> Result<Bytes, NoMemory>
+    ensures { IfOk result (λ line. line ≡ verdict_text (Ok grant) ++ 10 ∷ []) }
+{
+    let mut reply = Bytes::new(alloc);
+    write_reply(alloc, &mut reply, &LineReply::Checked(grant))?;
+    let mut line = Bytes::new(alloc);
+    line.extend(&reply.as_slice()[3..])?;
+    Ok(line)
+}
+
+// The line that tells why a proof is refused; an error if memory ran out, which is no fault of the proof.
+fn refused_line(alloc: Global, fault: CheckFault) -> Result<Bytes, NoMemory>
+    ensures line { IfOk result (λ line. line ≡ verdict_text (Err fault) ++ 10 ∷ []) }
+    ensures not_memory { OnOk result (fault ≢ CheckFault.NoMemory) }
+{
+    match fault {
+        CheckFault::NoMemory => Err(NoMemory),
+        _ => {
+            let mut line = Bytes::new(alloc);
+            write_reply(alloc, &mut line, &LineReply::Unproved(fault))?;
+            Ok(line)
+        }
+    }
+}
+
+// The answer to an inquiry.
+fn answer(alloc: Global, inquiry: &Inquiry) -> Result<Bytes, NoMemory>
+    ensures { IfOk result (λ line. line ≡ verdict_text (verdict (statements_of inquiry.now.cites) inquiry.now.goal inquiry.now.proof) ++ 10 ∷ []) }
+{
+    match verdict(alloc, &inquiry.cites, &inquiry.goal, &inquiry.proof) {
+        Ok(grant) => granted_line(alloc, grant),
+        Err(fault) => refused_line(alloc, fault),
+    }
+}
+
+// Whether a line of the input is too long.
+fn has_long_line(input: &[u8]) -> bool
+    ensures { IsTrue result ↔ HasLongLine (lines_of input.now) }
+{
+    let mut rest = input;
+    while let Some((line, others)) = first_line(rest) {
+        if LONGEST_LINE < line.len() {
+            return true;
+        }
+        rest = others;
+    }
+    false
+}
+
+// The end with this status and this line, or out of memory.
+fn end_with(status: u8, line: Result<Bytes, NoMemory>) -> Result<InquiryEnd, NoMemory>
+    ensures status { IfOk result (λ end. end.status ≡ status) }
+    ensures line { IfOk result (λ end. line ≡ Ok end.line) }
+{
+    match line {
+        Ok(line) => Ok(InquiryEnd { status, line }),
+        Err(refused) => Err(refused),
+    }
+}
+
+/// Reads the input to its end and answers the inquiry in it. What ends it otherwise is told with its status: 2, a line is
+/// too long; 6, the input failed; 12, a line is wrong; 13, the input has 1 GiB or more.
+pub fn answer_input<I: Source>(alloc: Global, input: &mut I) -> Result<InquiryEnd, NoMemory>
+    ensures { IfOk result (λ end. (text : List ℕ) × (end.line ≡ text ++ 10 ∷ []) × InquiryEnds (I.left input.old) (I.left input.new) (I.faults input.old) (I.faults input.new) end.status text) }
+{
+    let bytes = match read_to_end(alloc, input) {
+        Ok(bytes) => bytes,
+        Err(TakeFault::Failed) => return end_with(READ_FAULT, line_with(alloc, "readfault")),
+        Err(TakeFault::TooLong) => return end_with(TOO_LONG, line_with(alloc, "toolong")),
+        Err(TakeFault::NoMemory) => return Err(NoMemory),
+    };
+    if has_long_line(bytes.as_slice()) {
+        return end_with(LINE_TOO_LONG, line_with(alloc, "bad 3"));
+    }
+    match read_inquiry(alloc, bytes.as_slice()) {
+        Ok(inquiry) => end_with(DONE, answer(alloc, &inquiry)),
+        Err(InquiryFault::Bad(number, fault)) => end_with(
+            BAD_INPUT,
+            bad_line(alloc, number, fault),
+        ),
+        Err(InquiryFault::NoMemory) => Err(NoMemory),
+    }
+}
