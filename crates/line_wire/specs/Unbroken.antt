@@ -1,4 +1,4 @@
--- Replies in which no name and no text holds the byte that ends a line (this project's own). Each name of a principal, of a node and each text constant is so.
+-- Replies in which no name and no text holds the byte that ends a line (this project's own).
 use Rattle.std.specs.Prelude.{ℕ, List}
 use Rattle.std.specs.List.{AllByRecursion}
 use Rattle.bl_syntax.specs.declared.terms.Term.{Term}

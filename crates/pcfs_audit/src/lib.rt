@@ -2,7 +2,8 @@
 //! were not issued before.
 //!
 //! The report is a definition over the base, the events, the key of the seal and the ring; it ends with the first event with
-//! which something is wrong. It is the same in any number of pieces. A history whose report has no wrong row is lawful, and the report on a lawful history has none.
+//! which something is wrong. It is the same in any number of pieces. The report on a lawful history has no wrong row. A history over a
+//! lawful base whose report has none is lawful too, if its events are typed and it ends below event 2^48.
 #![tactic(auto)]
 
 mod admission;
