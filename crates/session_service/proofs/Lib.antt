@@ -1,0 +1,4 @@
+pub mod AskingLemmas
+pub mod SaidLemmas
+pub mod SpokenLemmas
+pub mod SessionEndsLemmas

@@ -1,0 +1,9 @@
+-- The line of the reply is written alone.
+use Rattle.session_service.proofs.SpokenLemmas.{one_told, some_told}
+use Rattle.session_service.proofs.lines.tell.Goals as goal
+
+pub returns-in-Ok-clause-ok : goal.returns-in-Ok-clause-ok
+returns-in-Ok-clause-ok g c = one_told _ _ _ c.args.reply.now c.new-text.ensures c.in-Ok.ensures.ok
+
+pub returns-in-Err-clause-err : goal.returns-in-Err-clause-err
+returns-in-Err-clause-err g c = some_told _ _ _ c.args.reply.now c.new-text.ensures c.in-Err.ensures.err
