@@ -1,16 +1,19 @@
-//! Two sessions over one store, as data: each file of rows that a word names is read. Of each of its cases an operator's
-//! script makes the store, which is opened again, and then the sessions answer their lines, one line at a time.
+//! Sessions over one store, as data: each file of rows that a word names is read. Of each of its cases an operator's script makes
+//! the store, `pcfs_run::run` serves connections over it, which say their lines in the order of the rows, and another script
+//! looks at what is kept.
 //!
-//! For each case it prints that it agrees, or what was replied, and it ends with status 1 if any differs. `README.md` beside
+//! For each case it prints that it agrees, or where it differs, and it ends with status 1 if any differs. `README.md` beside
 //! `src/` says what the rows are.
 #![tactic(auto)]
 
+mod board;
 mod case;
-mod talk;
+mod connection;
+mod rows;
 
 use bl_syntax::{Bytes, NoMemory};
-use case::run_rows;
 use pcfs_ports::{StdSink, write_all};
+use rows::run_rows;
 use std::io::{self, ErrorKind};
 use std::process::ExitCode;
 use std::rt::Files;
