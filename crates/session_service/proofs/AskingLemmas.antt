@@ -16,7 +16,8 @@ use Rattle.access_history.specs.declared.request.StepRequest.{StepRequest}
 use Rattle.access_history.specs.declared.request.StepRequest.TheVariants as requests
 use Rattle.access_history.specs.Authority.{sayings}
 use Rattle.access_history.specs.Base.{BaseView}
-use Rattle.access_history.specs.Citing.{AreFound}
+use Rattle.access_history.specs.Citing.{AreFound, IsAbsent}
+use Rattle.access_history.specs.declared.reply.StepReply.TheVariants.{Absent}
 use Rattle.line_words.specs.declared.procap_word.ProcapWord.{ProcapWord}
 use Rattle.line_words.specs.declared.procap_word.ProcapWord.TheVariants as words
 use Rattle.line_forms.specs.declared.command.Command.{Command}
@@ -29,7 +30,7 @@ use Rattle.session_history.specs.Tasks.{IsUserTask}
 use Rattle.pcfs_session.specs.Asker.{Asker}
 use Rattle.pcfs_session.specs.LineAnswer.{replied, requested, ComesTo, registers, shows, verifies, verifies_nothing, acts}
 use Rattle.pcfs_session.specs.Procaps.{held, AreBrought}
-use Rattle.pcfs_session.specs.Proved.{proves_none}
+use Rattle.pcfs_session.specs.Proved.{cites_none, proves_none}
 
 -- words that are written out bring their own procaps
 brought : (key : List ℕ) (issues : List IssueOf) (procaps : List Sealed) → AreBrought key issues (map words.Procap procaps) procaps
@@ -85,3 +86,7 @@ module _ (secrets : Secrets) (state : BaseView) (asker : Asker) where
         ComesTo secrets state asker command (replied (replies.Unproved fault))
     fault_comes command cites fault is found refuted =
         subst (λ (c : Command). ComesTo secrets state asker c (replied (replies.Unproved fault))) (proof_of command is) (verifies_nothing goal numbers proof (replies.Unproved fault) (proves_none cites fault found refuted))
+
+    pub absent_comes : (command : Command) (number : ℕ) → IsUserTask asker.caller command (tasks.Proof goal numbers proof) → IsAbsent (sayings state.statements) numbers number → ComesTo secrets state asker command (replied (replies.Step (Absent number)))
+    absent_comes command number is absent =
+        subst (λ (c : Command). ComesTo secrets state asker c (replied (replies.Step (Absent number)))) (proof_of command is) (verifies_nothing goal numbers proof (replies.Step (Absent number)) (cites_none number absent))

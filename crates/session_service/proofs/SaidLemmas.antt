@@ -3,19 +3,21 @@ use Rattle.std.proofs.Common.{◌≡◌, ℕ, List, [], ◌∷◌, ◌++◌, Opt
 use Rattle.std.specs.Prelude.{ℤ}
 use mathlib.Core.List.{IsPrefix}
 use Rattle.tree_lock.specs.Seen.{PassView}
-use Rattle.tree_lock.proofs.EntryLemmas.{prefix_trans}
+use Rattle.tree_lock.proofs.EntryLemmas.{prefix_refl, prefix_trans}
 use Rattle.line_wire.specs.declared.reply.LineReply.{LineReply}
 use Rattle.pcfs_store.specs.Entries.{StoreEntry}
+use Rattle.pcfs_store.specs.StoreView.{StoreView}
 use Rattle.session_history.specs.SessionState.{SessionState}
 use Rattle.session_history.specs.Turn.{StorePass}
 use Rattle.session_history.specs.Placed.{LinesPlaced, no_line, one_more}
 use Rattle.shared_store.specs.declared.entry.LockEntry.{LockEntry}
 use Rattle.shared_store.specs.LockHistory.{lock_history}
 use Rattle.shared_store.specs.Turning.{pass_at}
-use Rattle.shared_store.specs.Asking.{entries_seen}
+use Rattle.shared_store.specs.Asking.{entries_seen, HasHistory}
 use Rattle.session_lines.specs.Replied.{IsPlacedFrom, HasReplied}
 use Rattle.session_lines.proofs.DoneLemmas.{stays, goes_further}
 use Rattle.session_service.specs.Said.{session_of, AreSaidFrom, HasSaid}
+use Rattle.session_service.specs.Laws.{IsPlacedSession}
 use Rattle.session_service.specs.SessionEnds.{Speaks}
 
 -- ---- in a history
@@ -83,4 +85,19 @@ module _ {D : Type 0} (gives : ℤ → Type 0) where
   pub Speaks-said : (nonce : List ℕ) (caller_after : Option (List ℕ)) (old new : PassView (LockEntry D)) (lines : List (List ℕ)) (answers : List LineReply) → HasSaid gives (session_of nonce None) old new lines answers (session_of nonce caller_after) → Speaks gives nonce old new lines answers
   Speaks-said nonce caller_after old new lines answers said =
       let all = said.placed (entries_seen old) (omega arith) in
-      record { end = session_of nonce caller_after; to = all.to; given = said.given; goes_on = said.goes_on; placed = all.placed }
+      record { end = session_of nonce caller_after; to = all.to; within = all.within; given = said.given; goes_on = said.goes_on; placed = all.placed }
+
+  -- what its pass has seen at the end is a history in which it is placed
+  pub Speaks-placed : (nonce : List ℕ) (opening : StoreView D) (old new : PassView (LockEntry D)) (lines : List (List ℕ)) (answers : List LineReply) → HasHistory opening old → Speaks gives nonce old new lines answers → IsPlacedSession gives nonce opening old new lines answers
+  Speaks-placed nonce opening old new lines answers has s =
+      let h = s.goes_on.history opening has in
+      record {
+        entries = h.entries;
+        seen_is = h.seen_is;
+        end = s.end;
+        to = s.to;
+        given = s.given;
+        placed = s.placed opening h.entries (subst (λ (l : List (ℕ × LockEntry D)). IsPrefix new.seen l) h.seen_is (prefix_refl new.seen));
+        within = s.within;
+        own = s.goes_on.own;
+      }

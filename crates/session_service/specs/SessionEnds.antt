@@ -1,5 +1,5 @@
 -- How a session ends: what was taken, what was written, and where its replies are placed in the history that others grow too. If the input does not tell what it has, or the output what it holds, nothing is said of that (this project's own).
-use Rattle.std.specs.Prelude.{◌≡◌, ◌⊎◌, ℕ, ℤ, List, [], ◌∷◌, ◌++◌}
+use Rattle.std.specs.Prelude.{◌≡◌, ◌⊎◌, ℕ, ◌≤◌, ℤ, List, [], ◌∷◌, ◌++◌}
 use Rattle.pcfs_ports.specs.Faults.{HasRisen}
 use Rattle.pcfs_ports.specs.Told.{with_back, ReadsToEnd, TakesFirst, HoldsSome}
 use Rattle.line_text.specs.Lines.{lines_of}
@@ -29,6 +29,7 @@ module _ {D : Type 0} (gives : ℤ → Type 0) (nonce : List ℕ) where
   pub record Speaks (old new : PassView (LockEntry D)) (lines : List (List ℕ)) (answers : List LineReply) : Type 0 where
     pub end : SessionState
     pub to : ℕ
+    pub within : to ≤ entries_seen new
     pub given : List StoreEntry
     pub goes_on : PassGoesOn old new given
     pub placed : InEachHistory new (λ opening entries. LinesPlaced gives (pass_at opening old.number) entries (guest_with nonce) (entries_seen old) lines answers end to given)
