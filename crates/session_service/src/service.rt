@@ -86,7 +86,7 @@ impl<V: Recorded> SessionToken<V> {
 
     // The pass, and whether the connection was attended.
     fn into_pass(self) -> (Pass<V>, bool)
-        ensures { (result.0 ≡ self.entry.pass) × (result.1 ≡ self.entry.attended) }
+        ensures { (result.0 ≡ self.pass) × (result.1 ≡ self.attended) }
     {
         let SessionToken {
             pass,
