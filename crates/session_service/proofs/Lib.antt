@@ -1,3 +1,4 @@
+pub mod CountLemmas
 pub mod AskingLemmas
 pub mod SaidLemmas
 pub mod SpokenLemmas
