@@ -104,7 +104,7 @@ verify bob #1 write 1 saysR(claim(0,init(1)))
 const LOGIN: &[u8] = b"login bob 8c747c2e83ff4cc228462cb3a09e77c1bc7df6397add9e18ea6c2d031f1735ce\n";
 
 // Bob asks for a file, under a procap that is good from 200 on.
-const ASKING: &[u8] = b"do create #1 made @FROM_200@\n";
+const ASKING: &[u8] = b"do create #1 made 470103626f6200000000000000010201040100000000000000c80600525f7c1df0ca13ca6b7cf8daa465635d12b6f8875262d9ae9f69906ab35ed059\n";
 
 // Holds the lock for one turn, once the user has logged in.
 fn hold<R: Wait>(
