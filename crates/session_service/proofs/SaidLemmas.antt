@@ -32,14 +32,14 @@ module _ (gives : ℤ → Type 0) (p : StorePass) (history : List StoreEntry) (s
       (subst (λ (g : List StoreEntry). LinesPlaced gives p history start from lines answers end to g) three placed))
 
   -- more lines after lines
-  pub LinesPlaced-then : (lines others : List (List ℕ)) (answers more : List LineReply) (mid end : SessionState) (at to : ℕ) (given added : List StoreEntry) → LinesPlaced gives p history start from lines answers mid at given →
+  pub LinesPlaced-then : (lines : List (List ℕ)) (answers : List LineReply) (mid : SessionState) (at : ℕ) (given : List StoreEntry) (others : List (List ℕ)) (more : List LineReply) (end : SessionState) (to : ℕ) (added : List StoreEntry) → LinesPlaced gives p history start from lines answers mid at given →
       LinesPlaced gives p history mid at others more end to added → LinesPlaced gives p history start from (lines ++ others) (answers ++ more) end to (given ++ added)
-  LinesPlaced-then lines _ answers _ mid _ at _ given _ first no_line =
+  LinesPlaced-then lines answers mid at given _ _ _ _ _ first no_line =
       as_lines lines (lines ++ []) answers (answers ++ []) mid at given (given ++ []) (sym (append-nil lines)) (sym (append-nil answers)) (sym (append-nil given)) first
-  LinesPlaced-then lines _ answers _ mid _ at _ given _ first (one_more others more s then_at added line task reply to last placed is here) =
+  LinesPlaced-then lines answers mid at given _ _ _ _ _ first (one_more others more s then_at added line task reply to last placed is here) =
       as_lines ((lines ++ others) ++ line ∷ []) (lines ++ (others ++ line ∷ [])) ((answers ++ more) ++ reply ∷ []) (answers ++ (more ++ reply ∷ [])) _ to ((given ++ added) ++ last) (given ++ (added ++ last))
       (append_assoc lines others (line ∷ [])) (append_assoc answers more (reply ∷ [])) (append_assoc given added last)
-      (one_more (lines ++ others) (answers ++ more) s then_at (given ++ added) line task reply to last (LinesPlaced-then lines others answers more mid s at then_at given added first placed) is here)
+      (one_more (lines ++ others) (answers ++ more) s then_at (given ++ added) line task reply to last (LinesPlaced-then lines answers mid at given others more s then_at added first placed) is here)
 
 -- ---- under a pass
 
@@ -69,7 +69,7 @@ module _ {D : Type 0} (gives : ℤ → Type 0) where
       to = b.to;
       within = b.within;
       placed = λ opening entries begins.
-          LinesPlaced-then gives (pass_at opening old.number) entries start from lines others answers more mid end a.to b.to given added
+          LinesPlaced-then gives (pass_at opening old.number) entries start from lines answers mid a.to given others more end b.to added
           (a.placed opening entries (prefix_trans between.seen new.seen (lock_history opening entries) seen begins))
           (subst (λ (n : ℕ). LinesPlaced gives (pass_at opening n) entries mid a.to others more end b.to added) same (b.placed opening entries begins));
     }

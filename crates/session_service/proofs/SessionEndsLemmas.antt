@@ -191,21 +191,21 @@ module _ {D : Type 0} (gives : ℤ → Type 0) (nonce : List ℕ) (old : PassVie
 
 -- ---- the greeting
 
-module _ {D : Type 0} (gives : ℤ → Type 0) (nonce : List ℕ) where
-  abbrev greeted : List ℕ
-  greeted = greeting_text nonce ++ 10 ∷ []
+abbrev greeted : List ℕ → List ℕ
+greeted nonce = greeting_text nonce ++ 10 ∷ []
 
+module _ {D : Type 0} (gives : ℤ → Type 0) (nonce : List ℕ) where
   -- it was not written
-  pub SessionEnds-ungreeted : (pass : PassView (LockEntry D)) (before after : Streams) (fault : SendFault) (how : SessionEnd) → how ≡ unsent_end fault → after.left ≡ before.left → (fault ≡ Write → HasRisen before.write_faults after.write_faults) → HoldsSome before.held after.held greeted →
+  pub SessionEnds-ungreeted : (pass : PassView (LockEntry D)) (before after : Streams) (fault : SendFault) (how : SessionEnd) → how ≡ unsent_end fault → after.left ≡ before.left → (fault ≡ Write → HasRisen before.write_faults after.write_faults) → HoldsSome before.held after.held (greeted nonce) →
       SessionEnds gives nonce pass pass before how after
   SessionEnds-ungreeted pass before after fault how is left risen some =
       subst (λ (h : SessionEnd). SessionEnds gives nonce pass pass before h after) (sym is)
       (ends.cut_short fault after [] risen
       (ends.while_reading [] (record { bytes = []; rest = []; taken = with_front-nil before.left ∙ ap (with_front []) (sym left); first = AreFirst-none []; few = omega arith })
       (Speaks-said gives nonce None pass pass [] [] (HasSaid-none gives (session_of nonce None) pass)))
-      (HoldsSome-more before.held after.held greeted (output_of []) some))
+      (HoldsSome-more before.held after.held (greeted nonce) (output_of []) some))
 
-  module _ (old new : PassView (LockEntry D)) (before mid after : Streams) (same : mid.left ≡ before.left) (reads : mid.read_faults ≡ before.read_faults) (later : before.write_faults ≤ mid.write_faults) (out : mid.held ≡ with_back before.held greeted) where
+  module _ (old new : PassView (LockEntry D)) (before mid after : Streams) (same : mid.left ≡ before.left) (reads : mid.read_faults ≡ before.read_faults) (later : before.write_faults ≤ mid.write_faults) (out : mid.held ≡ with_back before.held (greeted nonce)) where
     -- what was taken since is what was taken
     way_before : (answers : List LineReply) → IsUnderWay gives nonce old new mid after answers → IsUnderWay gives nonce old new before after answers
     way_before answers (ends.while_reading lines taken said) = ends.while_reading lines (subst (λ (l : Option (List ℕ)). AreTaken l after.left lines) same taken) said
@@ -219,16 +219,16 @@ module _ {D : Type 0} (gives : ℤ → Type 0) (nonce : List ℕ) where
     replies_before _ _ (ends.input_too_long lines answers first all said) =
         ends.input_too_long lines answers (subst (λ (l : Option (List ℕ)). TakesFirst 1073741824 l after.left) same first) (subst (λ (l : Option (List ℕ)). AreAllTaken l after.left lines) same all) said
 
-    out_behind : (bytes : List ℕ) → after.held ≡ with_back mid.held bytes → after.held ≡ with_back before.held (greeted ++ bytes)
-    out_behind bytes more = more ∙ ap (λ (t : Option (List ℕ)). with_back t bytes) out ∙ with_back-with_back before.held greeted bytes
+    out_behind : (bytes : List ℕ) → after.held ≡ with_back mid.held bytes → after.held ≡ with_back before.held ((greeted nonce) ++ bytes)
+    out_behind bytes more = more ∙ ap (λ (t : Option (List ℕ)). with_back t bytes) out ∙ with_back-with_back before.held (greeted nonce) bytes
 
-    some_behind : (bytes : List ℕ) → HoldsSome mid.held after.held bytes → HoldsSome before.held after.held (greeted ++ bytes)
-    some_behind bytes some = GoesOut-some before.held mid.held after.held greeted [] bytes (GoesOut-all before.held mid.held greeted [] out refl) some
+    some_behind : (bytes : List ℕ) → HoldsSome mid.held after.held bytes → HoldsSome before.held after.held ((greeted nonce) ++ bytes)
+    some_behind bytes some = GoesOut-some before.held mid.held after.held (greeted nonce) [] bytes (GoesOut-all before.held mid.held (greeted nonce) [] out refl) some
 
     risen_before : (fault : SendFault) → (fault ≡ Write → HasRisen mid.write_faults after.write_faults) → fault ≡ Write → HasRisen before.write_faults after.write_faults
     risen_before fault risen is = HasRisen-earlier before.write_faults mid.write_faults after.write_faults later (risen is)
 
-  pub SessionEnds-greeted : (old new : PassView (LockEntry D)) (before mid after : Streams) (how : SessionEnd) → mid.left ≡ before.left → mid.read_faults ≡ before.read_faults → before.write_faults ≤ mid.write_faults → mid.held ≡ with_back before.held greeted →
+  pub SessionEnds-greeted : (old new : PassView (LockEntry D)) (before mid after : Streams) (how : SessionEnd) → mid.left ≡ before.left → mid.read_faults ≡ before.read_faults → before.write_faults ≤ mid.write_faults → mid.held ≡ with_back before.held (greeted nonce) →
       GoesOnToEnd gives nonce old new mid how after → SessionEnds gives nonce old new before how after
   SessionEnds-greeted old new before mid _ _ same reads later out (ends.rest_written how after answers replies all) =
       ends.written how after answers (replies_before old new before mid after same reads later out how answers replies) (out_behind old new before mid after same reads later out (output_of answers) all)
@@ -245,7 +245,7 @@ module _ {D : Type 0} (gives : ℤ → Type 0) (nonce : List ℕ) where
   what_follows old new before _ _ (ends.rest_cut_short fault after answers risen way some) = (take some.count (output_of answers), some.held)
   what_follows old new before _ _ (ends.rest_cut_at_long_line fault after answers risen replies some) = (take some.count (output_of answers), some.held)
 
-  pub GreetsFirst-greeted : (old new : PassView (LockEntry D)) (before mid after : Streams) (how : SessionEnd) → mid.held ≡ with_back before.held greeted → GoesOnToEnd gives nonce old new mid how after → GreetsFirst nonce before after
+  pub GreetsFirst-greeted : (old new : PassView (LockEntry D)) (before mid after : Streams) (how : SessionEnd) → mid.held ≡ with_back before.held (greeted nonce) → GoesOnToEnd gives nonce old new mid how after → GreetsFirst nonce before after
   GreetsFirst-greeted old new before mid after how out goes =
       let m = what_follows old new mid how after goes in
-      inr (m.0, m.1 ∙ ap (λ (t : Option (List ℕ)). with_back t m.0) out ∙ with_back-with_back before.held greeted m.0)
+      inr (m.0, m.1 ∙ ap (λ (t : Option (List ℕ)). with_back t m.0) out ∙ with_back-with_back before.held (greeted nonce) m.0)

@@ -9,6 +9,3 @@ returns-in-Err-clause-err g c = none_out _ _ _ refl
 
 pub returns-in-Ok-write_all-clause-ok : goal.returns-in-Ok-write_all-clause-ok
 returns-in-Ok-write_all-clause-ok g c = c.in-Ok-write_all.ensures.ok ∙ ap (with_back (g.O.Sink.held c.args.output.now)) (c.as_slice.ensures ∙ c.in-Ok.ensures)
-
-pub returns-in-Err-write_all-clause-err : goal.returns-in-Err-write_all-clause-err
-returns-in-Err-write_all-clause-err g c = subst (HoldsSome (g.O.Sink.held c.args.output.now) (g.O.Sink.held c.write_all.new.output)) (c.as_slice.ensures ∙ c.in-Ok.ensures) c.in-Err-write_all.ensures.err

@@ -9,8 +9,8 @@ returns-in-Ok-clause-ok g c = IsSpoken-line (g.C.Clock.gives c.args.clock.now) c
 pub returns-in-Ok-clause-same_lock : goal.returns-in-Ok-clause-same_lock
 returns-in-Ok-clause-same_lock g c = c.answer_line-reply.ensures.done.goes_on.lock ∙ c.requires
 
-pub returns-in-Err-clause-cut : goal.returns-in-Err-clause-cut
-returns-in-Err-clause-cut g c = IsCutOff-line (g.C.Clock.gives c.args.clock.now) c.args.nonce.now _ _ _ _ _ _ _ _ c.answer_line-reply.ensures c.in-Err.ensures.err
+pub returns-clause-cut : goal.returns-clause-cut
+returns-clause-cut g c = IsCutOff-line (g.C.Clock.gives c.args.clock.now) c.args.nonce.now _ _ _ _ _ _ _ _ c.answer_line-reply.ensures c.in-Err.ensures.err
 
-pub returns-in-Err-clause-same_lock : goal.returns-in-Err-clause-same_lock
-returns-in-Err-clause-same_lock g c = c.answer_line-reply.ensures.done.goes_on.lock ∙ c.requires
+pub returns-clause-same_lock : goal.returns-clause-same_lock
+returns-clause-same_lock g c = c.answer_line-reply.ensures.done.goes_on.lock ∙ c.requires

@@ -4,6 +4,3 @@ use Rattle.session_service.proofs.lines.tell.Goals as goal
 
 pub returns-in-Ok-clause-ok : goal.returns-in-Ok-clause-ok
 returns-in-Ok-clause-ok g c = one_told _ _ _ c.args.reply.now c.new-text.ensures c.in-Ok.ensures.ok
-
-pub returns-in-Err-clause-err : goal.returns-in-Err-clause-err
-returns-in-Err-clause-err g c = some_told _ _ _ c.args.reply.now c.new-text.ensures c.in-Err.ensures.err

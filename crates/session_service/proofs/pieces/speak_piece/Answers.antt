@@ -17,10 +17,10 @@ pub returns-in-Err-NoMemory-clause-ends : goal.returns-in-Err-NoMemory-clause-en
 returns-in-Err-NoMemory-clause-ends g c = EndsAtPiece-refused (g.C.Clock.gives c.args.clock.now) c.args.nonce.now _ _ _ _ _
 
 pub returns-in-Ok-speak_held-clause-ok : goal.returns-in-Ok-speak_held-clause-ok
-returns-in-Ok-speak_held-clause-ok g c = SpeaksPiece-held (g.C.Clock.gives c.args.clock.now) c.args.nonce.now _ _ _ _ _ _ _ _ _ _ (ap (λ (f : FramerState). f.left) c.in-Ok.ensures.after_is) c.in-Ok-speak_held.ensures.ok
+returns-in-Ok-speak_held-clause-ok g c = SpeaksPiece-held (g.C.Clock.gives c.args.clock.now) c.args.nonce.now _ _ _ _ _ _ c.args.framer.now.left c.args.piece.now _ _ (ap (λ (f : FramerState). f.left) c.in-Ok.ensures.after_is) c.in-Ok-speak_held.ensures.ok
 
 pub returns-in-Ok-speak_held-clause-few : goal.returns-in-Ok-speak_held-clause-few
-returns-in-Ok-speak_held-clause-few g c = few_held (g.C.Clock.gives c.args.clock.now) c.args.nonce.now _ _ _ _ _ _ _ _ _ _ (ap (λ (f : FramerState). f.left) c.in-Ok.ensures.after_is) c.in-Ok.ensures.short c.in-Ok-speak_held.ensures.ok
+returns-in-Ok-speak_held-clause-few g c = few_held (g.C.Clock.gives c.args.clock.now) c.args.nonce.now _ _ _ _ _ _ c.args.framer.now.left c.args.piece.now _ _ (ap (λ (f : FramerState). f.left) c.in-Ok.ensures.after_is) c.in-Ok.ensures.short c.in-Ok-speak_held.ensures.ok
 
 pub returns-in-Ok-speak_held-clause-stays_so : goal.returns-in-Ok-speak_held-clause-stays_so
 returns-in-Ok-speak_held-clause-stays_so g c = c.in-Ok-speak_held.ensures.long_stays ∙ ap (λ (f : FramerState). f.is_long) c.in-Ok.ensures.after_is

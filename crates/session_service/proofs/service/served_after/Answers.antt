@@ -3,5 +3,5 @@ use Rattle.std.proofs.Common.{arith}
 use Rattle.tree_lock.proofs.NumberLemmas.{retired-le}
 use Rattle.session_service.proofs.service.served_after.Goals as goal
 
-pub overflow_add : goal.overflow_add
-overflow_add g c = let few = retired-le c.args.door.now.made c.args.door.now.retired c.requires.numbers in omega (arith, few, c.requires.fewer, c.pass_count-_made.ensures)
+pub overflow_add-result : goal.overflow_add-result
+overflow_add-result g c = let few = retired-le c.args.door.now.made c.args.door.now.retired c.requires.numbers in omega (arith, few, c.requires.fewer, c.pass_count-made.ensures)
