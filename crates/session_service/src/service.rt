@@ -14,6 +14,7 @@ use std::sync::Wait;
 use tree_lock::{Doorman, Pass, Recorded, TreeLock};
 
 /// Sessions over what a lock keeps, by a clock. `N` is the type of the nonces, which the door holds.
+#[derive(Drop)]
 pub struct SessionService<'a, V: Recorded, C, N> {
     lock: &'a TreeLock<V>,
     clock: &'a C,
