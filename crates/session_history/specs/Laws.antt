@@ -47,7 +47,12 @@ abbrev pub PlacesGoOn : (ℤ → Type 0) → Type 0
 PlacesGoOn gives = (p : StorePass) (history : List StoreEntry) (start : SessionState) (from : ℕ) (lines : List (List ℕ)) (answers : List LineReply) (end : SessionState) (to : ℕ) (given : List StoreEntry) →
     from ≤ length history → LinesPlaced gives p history start from lines answers end to given → (from ≤ to) × (to ≤ length history)
 
--- a line is told that the store is stopped only where a Stop is among the entries up to its place
+-- A turn that is told that the store is stopped keeps no event, and there is a mark, which it found or which it adds; and a turn that adds a mark is told so.
+abbrev pub StopsAreTold : (ℤ → Type 0) → Type 0
+StopsAreTold gives = (p : StorePass) (before : List StoreEntry) (request : TurnRequest) (reply : TurnReply) (given : List StoreEntry) → Turn gives p before request reply given →
+    (reply ≡ turn_replies.Stopped → (has_stop (before ++ given) ≡ true) × (events_among given ≡ [])) × (has_stop given ≡ true → reply ≡ turn_replies.Stopped)
+
+-- a line is told that the store is stopped only where a mark is among the entries up to its place
 abbrev pub StoppedAfterStop : (ℤ → Type 0) → Type 0
 StoppedAfterStop gives = (p : StorePass) (history : List StoreEntry) (s : SessionState) (from : ℕ) (line : List ℕ) (task : LineTask) (to : ℕ) (given : List StoreEntry) →
     IsTaskOf s line task → LinePlaced gives p history from task replies.Stopped to given → has_stop (take to history) ≡ true
