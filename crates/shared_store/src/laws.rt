@@ -10,7 +10,8 @@ pub fn closed_stores_are_merges<D: Disk>()
     ensures { ClosedAreMerged D }
 {}
 
-/// A turn finds all that a pass had seen when it was told something, if who takes the turn has seen as much before.
+/// A turn finds all entries that a pass had seen when something was told under it, if the pass that takes the turn had seen
+/// as much before.
 pub fn turns_find_what_was_told<D: Disk, C: Clock>(clock: &C)
     ensures { TurnsFindWhatWasTold D (C.gives clock.now) }
 {
