@@ -64,13 +64,14 @@ module _ {D : Type 0} where
       (λ is. subst (λ (l : List (ℕ × LockEntry D)). AllOfPass n (bare l)) (sym (of_number-here n (k, e) es is)) (here is))
       (λ ne. subst (λ (l : List (ℕ × LockEntry D)). AllOfPass n (bare l)) (sym (of_number-else n (k, e) es ne)) rest)
 
-  own_entries : (n : ℕ) (entries : List StoreEntry) → AllOfPass n (bare (of_number n (numbered {D = D} entries)))
-  own_entries n [] = tt
-  own_entries n (happened event ∷ entries) = under n (event_pass event) (Happened event) (numbered entries) (λ is. (is, own_entries n entries)) (own_entries n entries)
-  own_entries n (stopped pass ∷ entries) = under n pass (Stopped pass) (numbered entries) (λ is. (is, own_entries n entries)) (own_entries n entries)
+own_entries : (D : Type 0) (n : ℕ) (entries : List StoreEntry) → AllOfPass n (bare (of_number n (numbered {D = D} entries)))
+own_entries D n [] = tt
+own_entries D n (happened event ∷ entries) = under n (event_pass event) (Happened event) (numbered {D = D} entries) (λ is. (is, own_entries D n entries)) (own_entries D n entries)
+own_entries D n (stopped pass ∷ entries) = under n pass (Stopped pass) (numbered {D = D} entries) (λ is. (is, own_entries D n entries)) (own_entries D n entries)
 
+module _ {D : Type 0} where
   own_history : (n : ℕ) (opening : StoreView D) (entries : List StoreEntry) → AllOfPass n (bare (of_number n (lock_history opening entries)))
-  own_history n opening entries = under n 0 (Opened opening) (numbered entries) (λ is. own_entries n entries) (own_entries n entries)
+  own_history n opening entries = under n 0 (Opened opening) (numbered entries) (λ is. own_entries D n entries) (own_entries D n entries)
 
   all_own : (opening : StoreView D) (entries : List StoreEntry) (retired : List (Retired (LockEntry D))) → AreOwn (lock_history opening entries) retired → AllByRecursion (λ (r : Retired (LockEntry D)). AllOfPass r.0 (bare r.1)) retired
   all_own opening entries [] own = tt
