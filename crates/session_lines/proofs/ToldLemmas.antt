@@ -1,5 +1,5 @@
 -- A line finds what was told before.
-use Rattle.std.proofs.Common.{◌≡◌, ◌∙◌, ◌+◌, ◌-◌, ◌≤◌, ℕ, List, length, sym, ap, subst, arith}
+use Rattle.std.proofs.Common.{◌≡◌, ◌∙◌, ◌≤◌, ℕ, List, length, sym, ap, subst, arith}
 use Rattle.std.specs.Prelude.{ℤ, ◌≢◌}
 use Rattle.std.proofs.lemmas.List.{length-map}
 use mathlib.Core.List.{IsPrefix}
@@ -33,7 +33,7 @@ module _ {D : Type 0} where
       let entries : List StoreEntry = known.1.entries in
       let seen : IsPrefix told.seen new.seen = prefix_trans told.seen old.seen new.seen earlier d.goes_on.seen in
       let begins : IsPrefix (lock_history opening h.entries) (lock_history known.0 entries) =
-          subst (λ (l : List (ℕ × LockEntry D)). IsPrefix l (lock_history known.0 entries)) h.seen_is (subst (λ (l : List (ℕ × LockEntry D)). IsPrefix told.seen l) known.1.seen_is seen) in
+      subst (λ (l : List (ℕ × LockEntry D)). IsPrefix l (lock_history known.0 entries)) h.seen_is (subst (λ (l : List (ℕ × LockEntry D)). IsPrefix told.seen l) known.1.seen_is seen) in
       let same : opening ≡ known.0 = opened_alike opening known.0 h.entries entries begins in
       let here : new.seen ≡ lock_history opening entries = known.1.seen_is ∙ ap (λ (o : StoreView D). lock_history o entries) (sym same) in
       let at = d.placed (length h.entries) (told_few told old opening h.entries h.seen_is earlier) in
