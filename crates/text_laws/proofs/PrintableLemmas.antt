@@ -107,7 +107,7 @@ sign_left : (text : List ℕ) (sign : Sign) (here there : ProofCursor) → curso
 unfolding cursor_after_sign
 sign_left text sign here there h =
     let found = if_ok (is_sign sign (token_at text here).token) (Ok (cursor_after_token (token_at text here))) (faults.Unexpected (token_at text here).at) there h in
-    ap (λ (p : ProofCursor). p.left) (sym (ok_same found.1)) ∙ left_same text here.from here.left
+    let same_place = ok_same found.1 in sym (ap (λ (p : ProofCursor). p.left) same_place) ∙ left_same text here.from here.left
 
 -- the term can be said, and so many rules are left after it
 abbrev IsTermSaid : ℕ → Term × ProofCursor → Type 0
@@ -146,7 +146,7 @@ hypothesis_said text here x h =
 
 name_by : (at size left : ℕ) (o : Option RuleName) (x : RuleName × ProofCursor) → rule_reading at size left o ≡ Ok x → x.1.left ≡ left
 name_by at size left None x h = absurd (refused h)
-name_by at size left (Some name) x h = ap (λ (p : RuleName × ProofCursor). p.1.left) (sym (ok_same h))
+name_by at size left (Some name) x h = let found = ok_same h in sym (ap (λ (p : RuleName × ProofCursor). p.1.left) found)
 
 name_left : (text : List ℕ) (here : ProofCursor) (x : RuleName × ProofCursor) → rule_at text here ≡ Ok x → x.1.left ≡ here.left
 unfolding rule_at
