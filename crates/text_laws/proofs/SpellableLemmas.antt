@@ -1,12 +1,12 @@
 -- A statement that a text writes has a spelling: what stands in the text of its formula is in the grammar, and the formula is closed and within the limits.
-use Rattle.std.proofs.Common.{◌≡◌, ℕ, ◌+◌, ◌-◌, ◌≤◌, Bool, true, false, List, [], ◌∷◌, ◌++◌, length, refl, sym, ap, ◌∙◌, subst, arith, Result, Ok, Err, ◌⊎◌, inl, inr}
+use Rattle.std.proofs.Common.{◌≡◌, ℕ, ◌-◌, ◌≤◌, Bool, true, false, List, [], ◌∷◌, length, refl, sym, ◌∙◌, subst, arith, Result, Ok, Err, ◌⊎◌, inl, inr}
 use Rattle.std.specs.Prelude.{not, nat_le, ◌&&◌, codes, IsTrue, Option, Some, None, if◌then◌else◌}
 use Rattle.std.specs.List.{AllByRecursion}
 use Rattle.std.specs.Str.{bytes_eq}
 use Rattle.bl_syntax.specs.declared.terms.Sort.{Sort}
 use Rattle.bl_syntax.specs.declared.terms.Sort.TheVariants as sorts
 use Rattle.bl_syntax.specs.declared.terms.Term.{Term}
-use Rattle.bl_syntax.specs.declared.terms.Term.TheVariants.{Prin, Bound}
+use Rattle.bl_syntax.specs.declared.terms.Term.TheVariants.{Prin}
 use Rattle.bl_syntax.specs.declared.terms.StatePred.TheVariants.{Owner, HasXattr, InDir}
 use Rattle.bl_syntax.specs.Formula.{FormulaView, atom, state, truth, falsity}
 use Rattle.bl_syntax.specs.FormulaSpelling.{AreNamed, IsSpellableStatement}
@@ -269,7 +269,7 @@ binder_written text here there name s h =
     let sort = bind_ok (sort_at colon.0) _ (name, s, there) colon.1.1 in
     let dot = bind_ok (expect_sign text signs.Dot (cursor_after text colon.0)) _ (name, s, there) sort.1.1 in
     let last = expected_ok text signs.Dot (cursor_after text colon.0) dot.0 dot.1.0 in
-    subst (λ (p : List ℕ × Sort × Cursor). IsTokenInGrammar p.2.token) (ok_same dot.1.1) (sign_fits text (cursor_after text colon.0) dot.0 last.1)
+    subst (λ (p : List ℕ × Sort × Cursor). IsTokenInGrammar p.2.token) (ok_same {a = (name_.0, sort.0, dot.0)} dot.1.1) (sign_fits text (cursor_after text colon.0) dot.0 last.1)
 
 record ReadsInterval (there : Cursor) (from to : Term) : Type 0 where
   pub next : IsTokenInGrammar there.token
@@ -288,7 +288,7 @@ interval_written text st scope here there from to h =
     let first_is = expected_ok text signs.OpenInterval (cursor_after_node text here) first.0 first.1.0 in
     let second_is = expected_ok text signs.Comma (cursor_after_node text first.0) second.0 second.1.0 in
     let last = expected_ok text signs.CloseInterval (cursor_after_node text second.0) close.0 close.1.0 in
-    subst (λ (p : Term × Term × Cursor). ReadsInterval p.2 p.0 p.1) (ok_same close.1.1) (record {
+    subst (λ (p : Term × Term × Cursor). ReadsInterval p.2 p.0 p.1) (ok_same {a = (low.0, high.0, close.0)} close.1.1) (record {
       next = sign_fits text (cursor_after_node text second.0) close.0 last.1;
       from_fits = time_argument_written st scope first.0 low.0 (sign_fits text (cursor_after_node text here) first.0 first_is.1) low.1.0;
       to_fits = time_argument_written st scope second.0 high.0 (sign_fits text (cursor_after_node text first.0) second.0 second_is.1) high.1.0;
