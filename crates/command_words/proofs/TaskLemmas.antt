@@ -1,6 +1,6 @@
 -- What a command asks for by its name and what is given to it.
 use Rattle.std.proofs.Common.{◌≡◌, ◌⊎◌, inl, inr, ◌^◌, ◌-◌, ℕ, List, [], ap, ap₂, sym, subst, ◌∙◌, Option, Some, None}
-use Rattle.std.specs.Prelude.{Box, MatchOption, codes, String, option_map}
+use Rattle.std.specs.Prelude.{Box, IfSome, MatchOption, codes, String, option_map, ◌≤◌}
 use Rattle.std.specs.Box.{box_value}
 use Rattle.std.specs.declared.alloc.Global.{Global}
 use Rattle.clap.specs.Words.{HasKind, IsAmong, Kinds, Row, Text, fault_of, first_of, found_of, kind_of, rows_of, subcommand_of}
@@ -11,7 +11,7 @@ use Rattle.clap.specs.declared.parser.matches.ArgMatches.TheViews.{out-SubComman
 use Rattle.clap.specs.declared.parser.matches.SubCommand.{SubCommand}
 use Rattle.command_words.specs.Commands.{program}
 use Rattle.command_words.specs.CommandWords.{GivesNumber, GivesPieces}
-use Rattle.command_words.specs.Tasks.{AreKnown, AsksFor, Finds, IsTaskOf, texts_of}
+use Rattle.command_words.specs.Tasks.{AreKnown, AskForNoRun, AsksFor, Finds, IsServing, IsTaskOf, texts_of}
 use Rattle.command_words.specs.declared.words.Task.{Task}
 use Rattle.command_words.specs.declared.words.Task.TheVariants.{Script, Stored, Init, Audit, Check, Load, Serve}
 
@@ -91,3 +91,38 @@ module _ (words : List (String Global)) where
   pub asks_nothing : (e : Error) (ks : Kinds) → ks ≡ fault_of program (texts_of words) → HasKind ks e → (kind_of e ≡ kinds.OutOfMemory → ⊥) → AreKnown words → ⊥
   asks_nothing e ks is (inl memory) other known = other memory
   asks_nothing e ks is (inr among) other known = subst (IsAmong (kind_of e)) (is ∙ known.1.taken) among
+
+-- ---- what follows from what the words ask for
+
+-- an audit is in one piece at least
+pub some_pieces : (words : List (String Global)) (pieces : Option ℕ) → AsksFor words (Audit pieces) → IfSome pieces (λ (n : ℕ). 1 ≤ n)
+some_pieces words None asks = tt
+some_pieces words (Some n) asks = from (subcommand_of program (texts_of words)) asks.finds
+  where
+    from : (found : Option (Text × List Row)) → Finds found (Audit (Some n)) → 1 ≤ n
+    from None finds = absurd finds
+    from (Some f) finds = finds.1.not_below
+
+pub few_rounds : (words : List (String Global)) (rounds seed : ℕ) → AsksFor words (Load rounds seed) → rounds ≤ 20000
+few_rounds words rounds seed asks = from (subcommand_of program (texts_of words)) asks.finds
+  where
+    from : (found : Option (Text × List Row)) → Finds found (Load rounds seed) → rounds ≤ 20000
+    from None finds = absurd finds
+    from (Some f) finds = finds.1.not_above
+
+serving_only : (found : Option (Text × List Row)) (port count : ℕ) → Finds found (Serve port count) → (task : Task) → Finds found task → IsServing task
+serving_only None port count serves task finds = absurd serves
+serving_only (Some f) port count serves Script finds = let e : codes "serve" ≡ codes "script" = sym serves.0 ∙ finds.0 in absurd cc
+serving_only (Some f) port count serves Stored finds = let e : codes "serve" ≡ codes "script" = sym serves.0 ∙ finds.0 in absurd cc
+serving_only (Some f) port count serves Init finds = let e : codes "serve" ≡ codes "init" = sym serves.0 ∙ finds in absurd cc
+serving_only (Some f) port count serves (Audit pieces) finds = let e : codes "serve" ≡ codes "audit" = sym serves.0 ∙ finds.0 in absurd cc
+serving_only (Some f) port count serves Check finds = let e : codes "serve" ≡ codes "check" = sym serves.0 ∙ finds in absurd cc
+serving_only (Some f) port count serves (Load rounds seed) finds = let e : codes "serve" ≡ codes "load" = sym serves.0 ∙ finds.0 in absurd cc
+serving_only (Some f) port count serves (Serve other more) finds = tt
+
+-- if sessions are asked for, nothing else is
+pub serves_alone : (words : List (String Global)) (port count : ℕ) → AsksFor words (Serve port count) → AskForNoRun words
+serves_alone words port count serves task asks = serving_only (subcommand_of program (texts_of words)) port count serves.finds task asks.finds
+
+pub nothing_asked : (words : List (String Global)) → (AreKnown words → ⊥) → AskForNoRun words
+nothing_asked words unknown task asks = absurd (unknown (task, asks))

@@ -35,3 +35,17 @@ pub record AsksFor (words : List (String Global)) (task : Task) : Type 0 where
 -- the words ask for something
 abbrev pub AreKnown : List (String Global) → Type 0
 AreKnown words = (task : Task) × AsksFor words task
+
+-- sessions are asked for, which need more ports than a run without them
+abbrev pub IsServing : Task → Type 0
+IsServing Script = ⊥
+IsServing Stored = ⊥
+IsServing Init = ⊥
+IsServing (Audit pieces) = ⊥
+IsServing Check = ⊥
+IsServing (Load rounds seed) = ⊥
+IsServing (Serve port count) = Unit {0}
+
+-- the words ask for nothing, unless it is sessions
+abbrev pub AskForNoRun : List (String Global) → Type 0
+AskForNoRun words = (task : Task) → AsksFor words task → IsServing task
