@@ -1,6 +1,6 @@
 -- What a command asks for by its name and what is given to it.
 use Rattle.std.proofs.Common.{◌≡◌, ◌⊎◌, inl, inr, ◌^◌, ◌-◌, ℕ, List, [], ap, ap₂, sym, subst, ◌∙◌, Option, Some, None}
-use Rattle.std.specs.Prelude.{Box, IfSome, MatchOption, codes, String, option_map, ◌≤◌}
+use Rattle.std.specs.Prelude.{Box, MatchOption, codes, String, option_map}
 use Rattle.std.specs.Box.{box_value}
 use Rattle.std.specs.declared.alloc.Global.{Global}
 use Rattle.clap.specs.Words.{HasKind, IsAmong, Kinds, Row, Text, fault_of, first_of, found_of, kind_of, rows_of, subcommand_of}
@@ -11,7 +11,7 @@ use Rattle.clap.specs.declared.parser.matches.ArgMatches.TheViews.{out-SubComman
 use Rattle.clap.specs.declared.parser.matches.SubCommand.{SubCommand}
 use Rattle.command_words.specs.Commands.{program}
 use Rattle.command_words.specs.CommandWords.{GivesNumber, GivesPieces}
-use Rattle.command_words.specs.Tasks.{AreKnown, AskForNoRun, AsksFor, Finds, IsServing, IsTaskOf, texts_of}
+use Rattle.command_words.specs.Tasks.{AreKnown, AskForNoRun, AsksFor, Finds, IsFit, IsServing, IsTaskOf, texts_of}
 use Rattle.command_words.specs.declared.words.Task.{Task}
 use Rattle.command_words.specs.declared.words.Task.TheVariants.{Script, Stored, Init, Audit, Check, Load, Serve}
 
@@ -94,21 +94,20 @@ module _ (words : List (String Global)) where
 
 -- ---- what follows from what the words ask for
 
--- an audit is in one piece at least
-pub some_pieces : (words : List (String Global)) (pieces : Option ℕ) → AsksFor words (Audit pieces) → IfSome pieces (λ (n : ℕ). 1 ≤ n)
-some_pieces words None asks = tt
-some_pieces words (Some n) asks = from (subcommand_of program (texts_of words)) asks.finds
-  where
-    from : (found : Option (Text × List Row)) → Finds found (Audit (Some n)) → 1 ≤ n
-    from None finds = absurd finds
-    from (Some f) finds = finds.1.not_below
+fits_found : (found : Option (Text × List Row)) (task : Task) → Finds found task → IsFit task
+fits_found None task finds = absurd finds
+fits_found (Some f) Script finds = tt
+fits_found (Some f) Stored finds = tt
+fits_found (Some f) Init finds = tt
+fits_found (Some f) (Audit None) finds = tt
+fits_found (Some f) (Audit (Some n)) finds = finds.1.not_below
+fits_found (Some f) Check finds = tt
+fits_found (Some f) (Load rounds seed) finds = finds.1.not_above
+fits_found (Some f) (Serve port count) finds = tt
 
-pub few_rounds : (words : List (String Global)) (rounds seed : ℕ) → AsksFor words (Load rounds seed) → rounds ≤ 20000
-few_rounds words rounds seed asks = from (subcommand_of program (texts_of words)) asks.finds
-  where
-    from : (found : Option (Text × List Row)) → Finds found (Load rounds seed) → rounds ≤ 20000
-    from None finds = absurd finds
-    from (Some f) finds = finds.1.not_above
+-- what is asked for has its numbers in their ranges
+pub fits : (words : List (String Global)) (task : Task) → AsksFor words task → IsFit task
+fits words task asks = fits_found (subcommand_of program (texts_of words)) task asks.finds
 
 serving_only : (found : Option (Text × List Row)) (port count : ℕ) → Finds found (Serve port count) → (task : Task) → Finds found task → IsServing task
 serving_only None port count serves task finds = absurd serves

@@ -1,5 +1,5 @@
 -- What the words of a command ask for (this project's own). They are read as `clap` reads them.
-use Rattle.std.specs.Prelude.{◌≡◌, ◌^◌, ◌-◌, ℕ, List, [], String, map, codes, Option, Some, None}
+use Rattle.std.specs.Prelude.{◌≡◌, ◌≤◌, ◌^◌, ◌-◌, ℕ, List, [], String, map, codes, Option, Some, None, IfSome}
 use Rattle.std.specs.String.{string_bytes}
 use Rattle.std.specs.declared.alloc.Global.{Global}
 use Rattle.clap.specs.Words.{Row, Text, fault_of, first_of, subcommand_of}
@@ -35,6 +35,16 @@ pub record AsksFor (words : List (String Global)) (task : Task) : Type 0 where
 -- the words ask for something
 abbrev pub AreKnown : List (String Global) → Type 0
 AreKnown words = (task : Task) × AsksFor words task
+
+-- the numbers of what is asked for are in their ranges
+abbrev pub IsFit : Task → Type 0
+IsFit Script = Unit {0}
+IsFit Stored = Unit {0}
+IsFit Init = Unit {0}
+IsFit (Audit pieces) = IfSome pieces (λ n. 1 ≤ n)
+IsFit Check = Unit {0}
+IsFit (Load rounds seed) = rounds ≤ 20000
+IsFit (Serve port count) = Unit {0}
 
 -- sessions are asked for, which need more ports than a run without them
 abbrev pub IsServing : Task → Type 0

@@ -4,7 +4,7 @@ ghost use Rattle.std.specs.Prelude.{◌≡◌, ◌≤◌, ℕ, List, Option, Str
 ghost use Rattle.std.specs.declared.alloc.Global.{Global};
 ghost use Rattle.pcfs_ports.specs.Disk.{IsPinned};
 ghost use Rattle.pcfs_session.specs.ScriptEnds.{with_line_end};
-ghost use Rattle.command_words.specs.Tasks.{AsksFor};
+ghost use Rattle.command_words.specs.Tasks.{AsksFor, IsFit};
 ghost use Rattle.command_words.specs.declared.words.Task.TheVariants.{Stored, Init, Audit};
 ghost use Rattle.pcfs_top.specs.Run.{EndsWith, TellsUnopened, TellsUnmade, damage_number, damaged_text};
 
@@ -222,8 +222,7 @@ fn run_task<R: Threads + Wait + Sync, I: Source, O: Sink, D: Disk>(
     a: D,
     b: D,
 ) -> Ended<D>
-    requires pieces { (n : ℕ) → task ≡ Task.Audit (Some n) → 1 ≤ n }
-    requires rounds { (rounds seed : ℕ) → task ≡ Task.Load rounds seed → rounds ≤ 20000 }
+    requires { IsFit task }
     ensures { (words : List (String Global)) → AsksFor words task → EndsWith secrets.now words (record { before = IsPinned D.clock D.left_since D.image a × IsPinned D.clock D.left_since D.image b; after = IsPinned D.clock D.left_since D.image result.a × IsPinned D.clock D.left_since D.image result.b })
         (record {
           streams = record { left = I.left input.old; read_faults = I.faults input.old; held = O.held output.old; write_faults = O.faults output.old };
