@@ -26,8 +26,14 @@ const MOST_CONNECTIONS: u64 = 1_000_000;
 fn number_given(given: &ArgMatches<'_>, name: &str, least: u64, most: u64) -> Option<u64>
     ensures { MatchOption result ((n : ℕ) → GivesNumber least most name.now (rows_of (found_of given.now)) n → ⊥) (GivesNumber least most name.now (rows_of (found_of given.now))) }
 {
-    let text = given.get_str(name)?;
-    let number = long_number(text.as_bytes())?;
+    let text = match given.get_str(name) {
+        Some(text) => text,
+        None => return None,
+    };
+    let number = match long_number(text.as_bytes()) {
+        Some(number) => number,
+        None => return None,
+    };
     if number < least {
         return None;
     }
