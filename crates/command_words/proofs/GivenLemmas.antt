@@ -1,20 +1,17 @@
 -- What is given to a command.
 use Rattle.std.proofs.Common.{◌≡◌, ◌≤◌, ℕ, List, sym, ap, subst, ◌∙◌, Option, Some, None}
-use Rattle.clap.specs.Words.{Row, Text, first_of, first_value, rows_of}
-use Rattle.clap.specs.declared.parser.matches.Found.{Found}
-use Rattle.clap.proofs.WalkLemmas.{first_value-rows}
+use Rattle.clap.specs.Words.{Row, Text, first_of}
 use Rattle.line_words.specs.Numbers.{IsLongNumber}
 use Rattle.command_words.specs.CommandWords.{GivesNumber}
 
-same_some : (x y : Text) → Some x ≡ Some y → x ≡ y
+pub same_some : (x y : Text) → Some x ≡ Some y → x ≡ y
 same_some x y is = cc
+
+pub some_none : (x : Text) → Some x ≡ None → ⊥
+some_none x is = absurd cc
 
 same_number : (x y : ℕ) → Some x ≡ Some y → x ≡ y
 same_number x y is = cc
-
--- what the getter reads is the first value of the name
-pub is_first : (f : Found) (name : Text) (found : Option Text) → found ≡ first_value f name → first_of name (rows_of f) ≡ found
-is_first f name found is = sym (first_value-rows f name) ∙ sym is
 
 module _ (least most : ℕ) (name : Text) (given : List Row) where
   -- nothing is given

@@ -1,7 +1,10 @@
 -- What a command asks for by its name and what is given to it.
-use Rattle.std.proofs.Common.{◌≡◌, ◌⊎◌, inl, inr, ◌^◌, ◌-◌, ℕ, List, [], ap, ap₂, sym, subst, ◌∙◌, Option, Some, None}
+use Rattle.std.proofs.Common.{◌≡◌, ◌⊎◌, inl, inr, false, refl, ◌^◌, ◌-◌, ℕ, List, [], ap, ap₂, sym, subst, ◌∙◌, Option, Some, None}
 use Rattle.std.specs.Prelude.{Box, MatchOption, codes, String, option_map}
 use Rattle.std.specs.Box.{box_value}
+use Rattle.std.specs.Str.{bytes_eq}
+use Rattle.std.proofs.lemmas.Bool.{false≢true}
+use Rattle.std.proofs.lemmas.Slice.Eq.{bytes_eq-Decides}
 use Rattle.std.specs.declared.alloc.Global.{Global}
 use Rattle.clap.specs.Words.{HasKind, IsAmong, Kinds, Row, Text, fault_of, first_of, found_of, kind_of, rows_of, subcommand_of}
 use Rattle.clap.specs.Simple.{subcommand_rows}
@@ -15,17 +18,23 @@ use Rattle.command_words.specs.Tasks.{AreKnown, AskForNoRun, AsksFor, Finds, IsF
 use Rattle.command_words.specs.declared.words.Task.{Task}
 use Rattle.command_words.specs.declared.words.Task.TheVariants.{Script, Stored, Init, Audit, Check, Load, Serve}
 
+-- ---- names
+
+-- these texts are apart
+differ : (x y : Text) → bytes_eq x y ≡ false → x ≡ y → ⊥
+differ x y apart same = false≢true (sym apart ∙ (bytes_eq-Decides x y).1 same)
+
 -- ---- one command
 
 module _ (given : List Row) where
   pub no_audit : ((pieces : Option ℕ) → GivesPieces given pieces → ⊥) → (task : Task) → IsTaskOf (codes "audit") given task → ⊥
-  no_audit none Script is = let e = is.0 in absurd cc
-  no_audit none Stored is = let e = is.0 in absurd cc
-  no_audit none Init is = absurd cc
+  no_audit none Script is = absurd (differ (codes "audit") (codes "script") refl is.0)
+  no_audit none Stored is = absurd (differ (codes "audit") (codes "script") refl is.0)
+  no_audit none Init is = absurd (differ (codes "audit") (codes "init") refl is)
   no_audit none (Audit pieces) is = none pieces is.1
-  no_audit none Check is = absurd cc
-  no_audit none (Load rounds seed) is = let e = is.0 in absurd cc
-  no_audit none (Serve port count) is = let e = is.0 in absurd cc
+  no_audit none Check is = absurd (differ (codes "audit") (codes "check") refl is)
+  no_audit none (Load rounds seed) is = absurd (differ (codes "audit") (codes "load") refl is.0)
+  no_audit none (Serve port count) is = absurd (differ (codes "audit") (codes "serve") refl is.0)
 
   -- pieces are given, but as no such number
   pub no_pieces : (text : Text) → first_of (codes "pieces") given ≡ Some text → ((n : ℕ) → GivesNumber 1 64 (codes "pieces") given n → ⊥) → (pieces : Option ℕ) → GivesPieces given pieces → ⊥
@@ -33,21 +42,21 @@ module _ (given : List Row) where
   no_pieces text is none (Some n) says = none n says
 
   pub no_load : ((rounds seed : ℕ) → GivesNumber 0 20000 (codes "rounds") given rounds → GivesNumber 0 (2 ^ 64 - 1) (codes "seed") given seed → ⊥) → (task : Task) → IsTaskOf (codes "load") given task → ⊥
-  no_load none Script is = let e = is.0 in absurd cc
-  no_load none Stored is = let e = is.0 in absurd cc
-  no_load none Init is = absurd cc
-  no_load none (Audit pieces) is = let e = is.0 in absurd cc
-  no_load none Check is = absurd cc
+  no_load none Script is = absurd (differ (codes "load") (codes "script") refl is.0)
+  no_load none Stored is = absurd (differ (codes "load") (codes "script") refl is.0)
+  no_load none Init is = absurd (differ (codes "load") (codes "init") refl is)
+  no_load none (Audit pieces) is = absurd (differ (codes "load") (codes "audit") refl is.0)
+  no_load none Check is = absurd (differ (codes "load") (codes "check") refl is)
   no_load none (Load rounds seed) is = none rounds seed is.1 is.2
-  no_load none (Serve port count) is = let e = is.0 in absurd cc
+  no_load none (Serve port count) is = absurd (differ (codes "load") (codes "serve") refl is.0)
 
   pub no_serve : ((port count : ℕ) → GivesNumber 1 65535 (codes "port") given port → GivesNumber 1 1000000 (codes "count") given count → ⊥) → (task : Task) → IsTaskOf (codes "serve") given task → ⊥
-  no_serve none Script is = let e = is.0 in absurd cc
-  no_serve none Stored is = let e = is.0 in absurd cc
-  no_serve none Init is = absurd cc
-  no_serve none (Audit pieces) is = let e = is.0 in absurd cc
-  no_serve none Check is = absurd cc
-  no_serve none (Load rounds seed) is = let e = is.0 in absurd cc
+  no_serve none Script is = absurd (differ (codes "serve") (codes "script") refl is.0)
+  no_serve none Stored is = absurd (differ (codes "serve") (codes "script") refl is.0)
+  no_serve none Init is = absurd (differ (codes "serve") (codes "init") refl is)
+  no_serve none (Audit pieces) is = absurd (differ (codes "serve") (codes "audit") refl is.0)
+  no_serve none Check is = absurd (differ (codes "serve") (codes "check") refl is)
+  no_serve none (Load rounds seed) is = absurd (differ (codes "serve") (codes "load") refl is.0)
   no_serve none (Serve port count) is = none port count is.1 is.2
 
   -- the name is no command's
@@ -111,12 +120,12 @@ fits words task asks = fits_found (subcommand_of program (texts_of words)) task 
 
 serving_only : (found : Option (Text × List Row)) (port count : ℕ) → Finds found (Serve port count) → (task : Task) → Finds found task → IsServing task
 serving_only None port count serves task finds = absurd serves
-serving_only (Some f) port count serves Script finds = let e : codes "serve" ≡ codes "script" = sym serves.0 ∙ finds.0 in absurd cc
-serving_only (Some f) port count serves Stored finds = let e : codes "serve" ≡ codes "script" = sym serves.0 ∙ finds.0 in absurd cc
-serving_only (Some f) port count serves Init finds = let e : codes "serve" ≡ codes "init" = sym serves.0 ∙ finds in absurd cc
-serving_only (Some f) port count serves (Audit pieces) finds = let e : codes "serve" ≡ codes "audit" = sym serves.0 ∙ finds.0 in absurd cc
-serving_only (Some f) port count serves Check finds = let e : codes "serve" ≡ codes "check" = sym serves.0 ∙ finds in absurd cc
-serving_only (Some f) port count serves (Load rounds seed) finds = let e : codes "serve" ≡ codes "load" = sym serves.0 ∙ finds.0 in absurd cc
+serving_only (Some f) port count serves Script finds = absurd (differ (codes "serve") (codes "script") refl (sym serves.0 ∙ finds.0))
+serving_only (Some f) port count serves Stored finds = absurd (differ (codes "serve") (codes "script") refl (sym serves.0 ∙ finds.0))
+serving_only (Some f) port count serves Init finds = absurd (differ (codes "serve") (codes "init") refl (sym serves.0 ∙ finds))
+serving_only (Some f) port count serves (Audit pieces) finds = absurd (differ (codes "serve") (codes "audit") refl (sym serves.0 ∙ finds.0))
+serving_only (Some f) port count serves Check finds = absurd (differ (codes "serve") (codes "check") refl (sym serves.0 ∙ finds))
+serving_only (Some f) port count serves (Load rounds seed) finds = absurd (differ (codes "serve") (codes "load") refl (sym serves.0 ∙ finds.0))
 serving_only (Some f) port count serves (Serve other more) finds = tt
 
 -- if sessions are asked for, nothing else is

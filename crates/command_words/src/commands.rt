@@ -1,8 +1,9 @@
 //! The commands of the program, for `clap`.
 
 ghost use Rattle.std.specs.Prelude.{◌≡◌, IfOk, false};
-ghost use Rattle.clap.specs.Words.{app_of, fields_of, rule_of};
-ghost use Rattle.command_words.specs.Commands.{audit_app, check_app, flag_rule, init_app, load_app, no_commands, option_rule, program, script_app, serve_app, stored_commands, word_rule};
+ghost use Rattle.clap.specs.Words.{AddsSubcommand, app_of, rule_of, with_subcommand};
+ghost use Rattle.clap.specs.declared.builder.command.Command.{Command};
+ghost use Rattle.command_words.specs.Commands.{audit_app, flag_rule, load_app, no_commands, option_rule, program, script_app, serve_app, stored_commands, word_rule};
 
 use clap::{Arg, ArgAction, Command};
 use std::alloc::{AllocError, Global};
@@ -36,24 +37,21 @@ fn word<'a>(alloc: Global, name: &'a str) -> Arg<'a>
 }
 
 fn script_command<'a>(alloc: Global) -> Result<Command<'a>, AllocError>
-    ensures app { IfOk result (λ c. app_of c ≡ script_app) }
-    ensures local { IfOk result (λ c. (fields_of c).has_globals ≡ false) }
+    ensures { IfOk result (λ c. (old new : Command) → AddsSubcommand old c new → app_of new ≡ with_subcommand (app_of old) script_app.top) }
 {
     let command = Command::new(alloc, "script").arg(flag(alloc, "stored"))?;
     Ok(command)
 }
 
 fn audit_command<'a>(alloc: Global) -> Result<Command<'a>, AllocError>
-    ensures app { IfOk result (λ c. app_of c ≡ audit_app) }
-    ensures local { IfOk result (λ c. (fields_of c).has_globals ≡ false) }
+    ensures { IfOk result (λ c. (old new : Command) → AddsSubcommand old c new → app_of new ≡ with_subcommand (app_of old) audit_app.top) }
 {
     let command = Command::new(alloc, "audit").arg(option(alloc, "pieces"))?;
     Ok(command)
 }
 
 fn load_command<'a>(alloc: Global) -> Result<Command<'a>, AllocError>
-    ensures app { IfOk result (λ c. app_of c ≡ load_app) }
-    ensures local { IfOk result (λ c. (fields_of c).has_globals ≡ false) }
+    ensures { IfOk result (λ c. (old new : Command) → AddsSubcommand old c new → app_of new ≡ with_subcommand (app_of old) load_app.top) }
 {
     let first = Command::new(alloc, "load").arg(word(alloc, "rounds"))?;
     let command = first.arg(word(alloc, "seed"))?;
@@ -61,8 +59,7 @@ fn load_command<'a>(alloc: Global) -> Result<Command<'a>, AllocError>
 }
 
 fn serve_command<'a>(alloc: Global) -> Result<Command<'a>, AllocError>
-    ensures app { IfOk result (λ c. app_of c ≡ serve_app) }
-    ensures local { IfOk result (λ c. (fields_of c).has_globals ≡ false) }
+    ensures { IfOk result (λ c. (old new : Command) → AddsSubcommand old c new → app_of new ≡ with_subcommand (app_of old) serve_app.top) }
 {
     let first = Command::new(alloc, "serve").arg(word(alloc, "port"))?;
     let command = first.arg(word(alloc, "count"))?;

@@ -59,8 +59,9 @@ pub fn script_task(given: &ArgMatches<'_>) -> Option<Task>
 pub fn audit_task(given: &ArgMatches<'_>) -> Option<Task>
     ensures { MatchOption result ((task : Task) → IsTaskOf (codes "audit") (rows_of (found_of given.now)) task → ⊥) (IsTaskOf (codes "audit") (rows_of (found_of given.now))) }
 {
-    if given.get_str("pieces").is_none() {
-        return Some(Task::Audit(None));
+    match given.get_str("pieces") {
+        Some(_text) => {}
+        None => return Some(Task::Audit(None)),
     }
     match number_given(given, "pieces", 1, MOST_PIECES) {
         Some(pieces) => Some(Task::Audit(Some(pieces as usize))),

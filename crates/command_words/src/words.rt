@@ -75,12 +75,9 @@ pub fn task_of(alloc: Global, words: &Vec<String>) -> Result<Option<Task>, NoMem
     };
     match command.try_get_matches_from(words.as_slice()) {
         Ok(matches) => Ok(task_in(&matches)),
-        Err(error) => {
-            if error.kind() == ErrorKind::OutOfMemory {
-                Err(NoMemory)
-            } else {
-                Ok(None)
-            }
-        }
+        Err(error) => match error.kind() {
+            ErrorKind::OutOfMemory => Err(NoMemory),
+            _ => Ok(None),
+        },
     }
 }
