@@ -1,5 +1,5 @@
 -- What is given to a command.
-use Rattle.std.proofs.Common.{◌≡◌, ◌≤◌, ℕ, List, sym, ap, subst, ◌∙◌, Option, Some, None}
+use Rattle.std.proofs.Common.{◌≡◌, ◌≤◌, ℕ, List, sym, subst, ◌∙◌, Option, Some, None}
 use Rattle.clap.specs.Words.{Row, Text, first_of}
 use Rattle.line_words.specs.Numbers.{IsLongNumber}
 use Rattle.command_words.specs.CommandWords.{GivesNumber}

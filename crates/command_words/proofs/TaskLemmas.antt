@@ -1,5 +1,5 @@
 -- What a command asks for by its name and what is given to it.
-use Rattle.std.proofs.Common.{◌≡◌, ◌⊎◌, inl, inr, false, refl, ◌^◌, ◌-◌, ℕ, List, [], ap, ap₂, sym, subst, ◌∙◌, Option, Some, None}
+use Rattle.std.proofs.Common.{◌≡◌, inl, inr, false, refl, ◌^◌, ◌-◌, ℕ, List, [], ap₂, sym, subst, ◌∙◌, Option, Some, None}
 use Rattle.std.specs.Prelude.{Box, MatchOption, codes, String, option_map}
 use Rattle.std.specs.Box.{box_value}
 use Rattle.std.specs.Str.{bytes_eq}

@@ -1,6 +1,6 @@
 -- The commands of the program as `clap` knows them: a command with one level of subcommands, whose values are texts (this project's own).
-use Rattle.std.specs.Prelude.{List, [], ◌∷◌, codes, true, Option, Some}
-use Rattle.clap.specs.Words.{App, Rule, Shape, Text, new_app, new_rule, with_rule, with_subcommand}
+use Rattle.std.specs.Prelude.{[], codes, true, Some}
+use Rattle.clap.specs.Words.{App, Rule, Text, new_app, new_rule, with_rule, with_subcommand}
 use Rattle.clap.specs.Simple.{new_shape}
 use Rattle.clap.specs.declared.builder.action.ArgAction.TheVariants.{Set, SetTrue}
 

@@ -1,9 +1,9 @@
 -- By whether `--stored` is given.
-use Rattle.std.proofs.Common.{ap, refl, sym, ◌∙◌, option_map, codes, Some, None, ◌≡◌}
+use Rattle.std.proofs.Common.{ap, refl, sym, ◌∙◌, option_map, codes, Some}
 use Rattle.std.specs.Borrow.{Bor}
 use Rattle.std.proofs.lemmas.Bool.{false≢true}
 use Rattle.std.proofs.lemmas.Slice.Eq.{bytes_eq-Decides}
-use Rattle.clap.specs.Words.{Text, found_of, rows_of}
+use Rattle.clap.specs.Words.{Text, found_of}
 use Rattle.clap.proofs.WalkLemmas.{first_value-rows}
 use Rattle.command_words.proofs.GivenLemmas.{same_some, some_none}
 use Rattle.command_words.proofs.given.script_task.Goals as goal
