@@ -15,8 +15,8 @@ returns-in-Stored g c words asks = c.run_stored.ensures words (subst (AsksFor wo
 pub returns-in-Init : goal.returns-in-Init
 returns-in-Init g c words asks = c.init.ensures words _ _ (subst (AsksFor words) c.in-Init.is asks)
 
-pub audit_stored-requires : goal.audit_stored-requires
-audit_stored-requires g c = subst IsFit c.in-Audit.is c.requires
+pub audit_stored-requires-clause-some : goal.audit_stored-requires-clause-some
+audit_stored-requires-clause-some g c _ _ = subst IsFit c.in-Audit.is c.requires
 
 pub returns-in-Audit : goal.returns-in-Audit
 returns-in-Audit g c words asks = c.audit_stored.ensures words _ _ (subst (AsksFor words) c.in-Audit.is asks)
