@@ -11,7 +11,6 @@ use Rattle.journal_core.specs.Area.{IsShut, Closed, StandsForBody, area_bytes, g
 use Rattle.access_history.specs.declared.event.Event.{Event}
 use Rattle.access_history.specs.History.{authority_with}
 use Rattle.access_history.specs.Lawful.{IsLawful}
-use Rattle.access_history.specs.Replay.{fresh}
 use Rattle.policy_statement.specs.Ring.{KeyView}
 use Rattle.pcfs_secrets.specs.declared.secrets.Secrets.{Secrets}
 use Rattle.pcfs_store.specs.Formats.{IsNewStore, IsNoneOrFresh, PairsLeft}
@@ -42,7 +41,7 @@ use Rattle.pcfs_tools.proofs.MemoryLemmas.{secrets_of}
 use Rattle.pcfs_top.specs.Ports.{Disks, Ports, Rests, AreBytesKept}
 use Rattle.pcfs_top.specs.Run.{AreOfStore, of_script, of_audit, HasNoArea, IsNotLost, IsOpened, IsNewestOf, Returns, HasCause, EndsWith, TellsUnopened, TellsUnmade, damaged_text}
 use Rattle.pcfs_top.specs.Run as run
-use Rattle.pcfs_session.specs.ScriptRun.{Standing, IsLawfulStanding, script_pass}
+use Rattle.pcfs_session.specs.ScriptRun.{IsLawfulStanding, script_pass}
 use Rattle.pcfs_session.specs.Stored.{StoreGoesOn}
 use Rattle.pcfs_session.proofs.StoredLemmas.{HasRisen-earlier, none_some}
 

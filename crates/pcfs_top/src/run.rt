@@ -222,7 +222,7 @@ fn run_task<R: Threads + Wait + Sync, I: Source, O: Sink, D: Disk>(
     a: D,
     b: D,
 ) -> Ended<D>
-    requires { IsFit task }
+    requires fit { IsFit task }
     ensures { (words : List (String Global)) → AsksFor words task → EndsWith secrets.now words (record { before = IsPinned D.clock D.left_since D.image a × IsPinned D.clock D.left_since D.image b; after = IsPinned D.clock D.left_since D.image result.a × IsPinned D.clock D.left_since D.image result.b })
         (record {
           streams = record { left = I.left input.old; read_faults = I.faults input.old; held = O.held output.old; write_faults = O.faults output.old };

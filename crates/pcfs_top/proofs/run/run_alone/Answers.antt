@@ -4,8 +4,8 @@ use Rattle.command_words.proofs.TaskLemmas.{fits, nothing_asked}
 use Rattle.pcfs_top.proofs.EndsWithLemmas.{EndsWith-unasked, EndsWith-usage}
 use Rattle.pcfs_top.proofs.run.run_alone.Goals as goal
 
-pub run_task-requires : goal.run_task-requires
-run_task-requires g c = fits c.args.words.now.items c.in-Ok-Some.task (rw c.in-Ok-Some.field-0-is at c.in-Ok-Some.ensures)
+pub run_task-requires-clause-fit : goal.run_task-requires-clause-fit
+run_task-requires-clause-fit g c _ _ = fits c.args.words.now.items c.in-Ok-Some.task (rw c.in-Ok-Some.field-0-is at c.in-Ok-Some.ensures)
 
 pub returns-in-Ok-Some : goal.returns-in-Ok-Some
 returns-in-Ok-Some g c = c.run_task.ensures c.args.words.now.items (rw c.in-Ok-Some.field-0-is at c.in-Ok-Some.ensures)

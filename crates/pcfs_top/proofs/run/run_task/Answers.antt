@@ -16,7 +16,7 @@ pub returns-in-Init : goal.returns-in-Init
 returns-in-Init g c words asks = c.init.ensures words _ _ (subst (AsksFor words) c.in-Init.is asks)
 
 pub audit_stored-requires-clause-some : goal.audit_stored-requires-clause-some
-audit_stored-requires-clause-some g c _ _ = subst IsFit c.in-Audit.is c.requires
+audit_stored-requires-clause-some g c _ _ = subst IsFit c.in-Audit.is c.requires.fit
 
 pub returns-in-Audit : goal.returns-in-Audit
 returns-in-Audit g c words asks = c.audit_stored.ensures words _ _ (subst (AsksFor words) c.in-Audit.is asks)
@@ -25,7 +25,7 @@ pub returns-in-Check : goal.returns-in-Check
 returns-in-Check g c words asks = run.inquired _ (subst (AsksFor words) c.in-Check.is asks) refl c.inquire.ensures
 
 pub load-requires : goal.load-requires
-load-requires g c = subst IsFit c.in-Load.is c.requires
+load-requires g c = subst IsFit c.in-Load.is c.requires.fit
 
 pub returns-in-Load : goal.returns-in-Load
 returns-in-Load g c words asks = EndsWith-loaded words c.args.secrets.now _ _ _ _ _ _ (subst (AsksFor words) c.in-Load.is asks) refl refl c.load.ensures
