@@ -13,9 +13,7 @@ fn flag<'a>(alloc: Global, name: &'a str) -> Arg<'a>
     ensures rule { rule_of result ≡ flag_rule name.entry.now }
     ensures local { result.global ≡ false }
 {
-    Arg::new(alloc, name)
-        .long(name)
-        .action(ArgAction::SetTrue)
+    Arg::new(alloc, name).long(name).action(ArgAction::SetTrue)
 }
 
 // `--NAME` with a value, which may stand there.
@@ -31,9 +29,7 @@ fn word<'a>(alloc: Global, name: &'a str) -> Arg<'a>
     ensures rule { rule_of result ≡ word_rule name.entry.now }
     ensures local { result.global ≡ false }
 {
-    Arg::new(alloc, name)
-        .action(ArgAction::Set)
-        .required(true)
+    Arg::new(alloc, name).action(ArgAction::Set).required(true)
 }
 
 fn script_command<'a>(alloc: Global) -> Result<Command<'a>, AllocError>
