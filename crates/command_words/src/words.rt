@@ -1,11 +1,16 @@
 //! What the words of a command ask for.
 
-ghost use Rattle.std.specs.Prelude.{◌≡◌, ◌↔◌, ◌∷◌, [], ℕ, IsTrue, MatchOption, map};
+ghost use Rattle.std.specs.Prelude.{◌≡◌, ◌↔◌, IsTrue, MatchOption, IfOk};
 ghost use Rattle.std.specs.String.{string_bytes};
-ghost use Rattle.command_words.specs.CommandWords.{AreKnown, AreToolWords, IsAuditIn, IsLoad, IsPieces, IsRounds};
-ghost use Rattle.command_words.specs.Tasks.{AsksFor};
+ghost use Rattle.clap.specs.Words.{found_of, rows_of, subcommand_rows_of};
+ghost use Rattle.command_words.specs.Tasks.{AreKnown, AsksFor, Finds, IsTaskOf};
 
-use crate::numerals::long_number;
+use crate::commands::program;
+use crate::given::{audit_task, load_task, script_task, serve_task};
+use bl_syntax::NoMemory;
+use clap::ArgMatches;
+use clap::error::ErrorKind;
+use std::alloc::Global;
 
 /// What the words of a command ask for.
 #[derive(Clone, Copy, Debug, PartialEq, Eq)]
@@ -22,13 +27,9 @@ pub enum Task {
     Check,
     /// So many rounds of the script that is generated from this seed.
     Load(u64, u64),
+    /// Sessions over the areas on this port, for so many connections.
+    Serve(u16, u64),
 }
-
-/// The most pieces of an audit.
-const MOST_PIECES: u64 = 64;
-
-/// The most rounds of a generated script.
-const MOST_ROUNDS: u64 = 20_000;
 
 /// Whether the word is this name.
 pub fn is_word(word: &String, name: &str) -> bool
@@ -37,130 +38,54 @@ pub fn is_word(word: &String, name: &str) -> bool
     word.as_str() == name
 }
 
-// Whether there is just this word.
-fn is_one(words: &Vec<String>, name: &str) -> bool
-    ensures { IsTrue result ↔ (map string_bytes words.now.items ≡ name.now ∷ []) }
+// What the command of this name asks for; none if there is no such command, or a number that is given to it is not one.
+fn task_named(name: &str, given: &ArgMatches<'_>) -> Option<Task>
+    ensures { MatchOption result ((task : Task) → IsTaskOf name.now (rows_of (found_of given.now)) task → ⊥) (IsTaskOf name.now (rows_of (found_of given.now))) }
 {
-    match words.as_slice() {
-        [word] => is_word(word, name),
-        _ => false,
+    if name == "script" {
+        return script_task(given);
     }
-}
-
-// Whether there are just these two words.
-fn are_two(words: &Vec<String>, name: &str, option: &str) -> bool
-    ensures { IsTrue result ↔ (map string_bytes words.now.items ≡ name.now ∷ option.now ∷ []) }
-{
-    match words.as_slice() {
-        [first, second] => {
-            if is_word(first, name) {
-                return is_word(second, option);
-            }
-            false
-        }
-        _ => false,
+    if name == "init" {
+        return Some(Task::Init);
     }
-}
-
-// The number of pieces that the word writes, from 1 to 64.
-fn pieces_in(word: &[u8]) -> Option<usize>
-    ensures { MatchOption result ((n : ℕ) → IsPieces word.now n → ⊥) (IsPieces word.now) }
-{
-    let pieces = long_number(word)?;
-    if pieces == 0 {
-        return None;
+    if name == "audit" {
+        return audit_task(given);
     }
-    if pieces <= MOST_PIECES {
-        Some(pieces as usize)
-    } else {
-        None
-    }
-}
-
-// The number of pieces of an audit; none unless the words are `audit --pieces` and such a number.
-fn pieces_of(words: &Vec<String>) -> Option<usize>
-    ensures { MatchOption result ((n : ℕ) → IsAuditIn words.now.items n → ⊥) (IsAuditIn words.now.items) }
-{
-    match words.as_slice() {
-        [first, second, third] => {
-            if !is_word(first, "audit") {
-                return None;
-            }
-            if !is_word(second, "--pieces") {
-                return None;
-            }
-            pieces_in(third.as_bytes())
-        }
-        _ => None,
-    }
-}
-
-// The number of rounds that the word writes, at most 20,000.
-fn rounds_in(word: &[u8]) -> Option<u64>
-    ensures { MatchOption result ((n : ℕ) → IsRounds word.now n → ⊥) (IsRounds word.now) }
-{
-    let rounds = long_number(word)?;
-    if rounds <= MOST_ROUNDS {
-        Some(rounds)
-    } else {
-        None
-    }
-}
-
-// The rounds and the seed of a large run; none unless the words are `load` and such numbers.
-fn rounds_of(words: &Vec<String>) -> Option<(u64, u64)>
-    ensures { MatchOption result ((rounds seed : ℕ) → IsLoad words.now.items rounds seed → ⊥) (λ p. IsLoad words.now.items p.0 p.1) }
-{
-    match words.as_slice() {
-        [first, second, third] => {
-            if !is_word(first, "load") {
-                return None;
-            }
-            let rounds = rounds_in(second.as_bytes())?;
-            let seed = long_number(third.as_bytes())?;
-            Some((rounds, seed))
-        }
-        _ => None,
-    }
-}
-
-// What the words ask for, if that is an audit, an inquiry or a large run.
-fn tool_of(words: &Vec<String>) -> Option<Task>
-    ensures { MatchOption result (AreToolWords words.now.items → ⊥) (AsksFor words.now.items) }
-{
-    let is_audit = is_one(words, "audit");
-    let is_check = is_one(words, "check");
-    if is_audit {
-        return Some(Task::Audit(None));
-    }
-    if is_check {
+    if name == "check" {
         return Some(Task::Check);
     }
-    match pieces_of(words) {
-        Some(pieces) => return Some(Task::Audit(Some(pieces))),
-        None => {}
+    if name == "load" {
+        return load_task(given);
     }
-    match rounds_of(words) {
-        Some((rounds, seed)) => Some(Task::Load(rounds, seed)),
+    if name == "serve" {
+        return serve_task(given);
+    }
+    None
+}
+
+// What the command that was found asks for.
+fn task_in(matches: &ArgMatches<'_>) -> Option<Task>
+    ensures { MatchOption result ((task : Task) → Finds (subcommand_rows_of matches.now) task → ⊥) (Finds (subcommand_rows_of matches.now)) }
+{
+    match matches.subcommand() {
+        Some((name, given)) => task_named(name, given),
         None => None,
     }
 }
 
-/// What the words ask for; none if they are no command.
-pub fn task_of(words: &Vec<String>) -> Option<Task>
-    ensures { MatchOption result (AreKnown words.now.items → ⊥) (AsksFor words.now.items) }
+/// What the words ask for; none if they are no command. They are without the program's name.
+pub fn task_of(alloc: Global, words: &Vec<String>) -> Result<Option<Task>, NoMemory>
+    ensures { IfOk result (λ asked. MatchOption asked (AreKnown words.now.items → ⊥) (AsksFor words.now.items)) }
 {
-    let is_script = is_one(words, "script");
-    let is_init = is_one(words, "init");
-    let is_stored = are_two(words, "script", "--stored");
-    if is_script {
-        return Some(Task::Script);
+    let command = match program(alloc) {
+        Ok(command) => command,
+        Err(_) => return Err(NoMemory),
+    };
+    match command.try_get_matches_from(words.as_slice()) {
+        Ok(matches) => Ok(task_in(&matches)),
+        Err(error) => match error.kind() {
+            ErrorKind::OutOfMemory => Err(NoMemory),
+            _ => Ok(None),
+        },
     }
-    if is_init {
-        return Some(Task::Init);
-    }
-    if is_stored {
-        return Some(Task::Stored);
-    }
-    tool_of(words)
 }

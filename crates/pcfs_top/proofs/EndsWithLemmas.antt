@@ -11,7 +11,6 @@ use Rattle.journal_core.specs.Area.{IsShut, Closed, StandsForBody, area_bytes, g
 use Rattle.access_history.specs.declared.event.Event.{Event}
 use Rattle.access_history.specs.History.{authority_with}
 use Rattle.access_history.specs.Lawful.{IsLawful}
-use Rattle.access_history.specs.Replay.{fresh}
 use Rattle.policy_statement.specs.Ring.{KeyView}
 use Rattle.pcfs_secrets.specs.declared.secrets.Secrets.{Secrets}
 use Rattle.pcfs_store.specs.Formats.{IsNewStore, IsNoneOrFresh, PairsLeft}
@@ -32,7 +31,8 @@ use Rattle.pcfs_session.specs.InterpreterView.{standing_over}
 use Rattle.pcfs_session.specs.LineAnswer.{authority_under}
 use Rattle.pcfs_session.specs.Streams.{Streams}
 use Rattle.pcfs_audit.specs.ReportText.{report_text}
-use Rattle.command_words.specs.CommandWords.{AreKnown, AsksForAudit, IsScript, IsStored, IsInit, IsLoad, is_audit, is_load, is_stored, is_init, is_tool}
+use Rattle.command_words.specs.Tasks.{AskForNoRun, AsksFor}
+use Rattle.command_words.specs.declared.words.Task.TheVariants.{Stored, Init, Audit, Load}
 use Rattle.pcfs_tools.specs.Audited.{TellsAudit, reported, unreported, audit_status}
 use Rattle.pcfs_tools.specs.LastLine.{IsTold, IsUntold}
 use Rattle.pcfs_tools.specs.Load.{IsLoaded}
@@ -41,7 +41,7 @@ use Rattle.pcfs_tools.proofs.MemoryLemmas.{secrets_of}
 use Rattle.pcfs_top.specs.Ports.{Disks, Ports, Rests, AreBytesKept}
 use Rattle.pcfs_top.specs.Run.{AreOfStore, of_script, of_audit, HasNoArea, IsNotLost, IsOpened, IsNewestOf, Returns, HasCause, EndsWith, TellsUnopened, TellsUnmade, damaged_text}
 use Rattle.pcfs_top.specs.Run as run
-use Rattle.pcfs_session.specs.ScriptRun.{Standing, IsLawfulStanding, script_pass}
+use Rattle.pcfs_session.specs.ScriptRun.{IsLawfulStanding, script_pass}
 use Rattle.pcfs_session.specs.Stored.{StoreGoesOn}
 use Rattle.pcfs_session.proofs.StoredLemmas.{HasRisen-earlier, none_some}
 
@@ -58,36 +58,14 @@ told_as : (words : List (String Global)) (secrets : Secrets) (rests : Rests) (be
 told_as words secrets rests before after status line result cause left (inl told) = subst (EndsWith secrets words rests before after) (sym told.0) (run.told status line cause left told.1)
 told_as words secrets rests before after status line result cause left (inr failed) = subst (EndsWith secrets words rests before after) (sym failed.0) (run.cut_short status line cause left failed.1 failed.2)
 
-untold_as : (words : List (String Global)) (secrets : Secrets) (rests : Rests) (before after : Ports) (result : ℕ) → (IsScript words → ⊥) → AreKnown words → AreBytesKept before.disks after.disks → after.streams.left ≡ before.streams.left →
+untold_as : (words : List (String Global)) (secrets : Secrets) (rests : Rests) (before after : Ports) (result : ℕ) → AreBytesKept before.disks after.disks → after.streams.left ≡ before.streams.left →
     IsUntold before.streams.held result after.streams.held → EndsWith secrets words rests before after result
-untold_as words secrets rests before after result other known kept left untold = subst (EndsWith secrets words rests before after) (sym untold.0) (run.out_of_memory other known kept left untold.1)
+untold_as words secrets rests before after result kept left untold = subst (EndsWith secrets words rests before after) (sym untold.0) (run.out_of_memory kept left untold.1)
 
 -- the words are no command
-pub EndsWith-usage : (words : List (String Global)) (secrets : Secrets) (rests : Rests) (before after : Ports) (result : ℕ) → (AreKnown words → ⊥) → after.disks ≡ before.disks → after.streams.left ≡ before.streams.left →
+pub EndsWith-usage : (words : List (String Global)) (secrets : Secrets) (rests : Rests) (before after : Ports) (result : ℕ) → AskForNoRun words → after.disks ≡ before.disks → after.streams.left ≡ before.streams.left →
     IsTold 1 (codes "usage") before.streams.held before.streams.write_faults result after.streams.held after.streams.write_faults → EndsWith secrets words rests before after result
 EndsWith-usage words secrets rests before after result unknown same left told = told_as words secrets rests before after 1 (codes "usage") result (run.usage unknown same) left told
-
--- ---- words
-
-not_script : (words : List (String Global)) → IsStored words → IsScript words → ⊥
-not_script words stored script = let both = sym stored ∙ script in absurd cc
-
-not_init : (words : List (String Global)) → IsInit words → IsScript words → ⊥
-not_init words init script = let both = sym init ∙ script in absurd cc
-
--- words over the store in the areas
-
-known_store : (words : List (String Global)) → AreOfStore words → AreKnown words
-known_store words (of_script is) = is_stored is
-known_store words (of_audit pieces asks) = is_tool (is_audit pieces asks)
-
-not_script_store : (words : List (String Global)) → AreOfStore words → IsScript words → ⊥
-not_script_store words (of_script is) script = not_script words is script
-not_script_store words (of_audit None is) script = let both = sym is ∙ script in absurd cc
-not_script_store words (of_audit (Some pieces) asks) script = let both = sym asks.words_are ∙ script in absurd cc
-
-not_script_load : (words : List (String Global)) (rounds seed : ℕ) → IsLoad words rounds seed → IsScript words → ⊥
-not_script_load words rounds seed is script = let both = sym is.words_are ∙ script in absurd cc
 
 -- ---- areas
 
@@ -201,7 +179,7 @@ module _ {D : Type 0} (clock : D → ℕ) (left_since : D → ℕ → List ℕ �
 
   -- ---- a store that is made
 
-  module _ (words : List (String Global)) (secrets : Secrets) (a b : D) (is : IsInit words) where
+  module _ (words : List (String Global)) (secrets : Secrets) (a b : D) (is : AsksFor words Init) where
     on_first : (s : StoreView D) → s.second_active ≡ false → first_disk s ≡ s.active
     on_first s first = ap (λ (w : Bool). one_of s.active s.other w) first
 
@@ -251,12 +229,12 @@ module _ {D : Type 0} (clock : D → ℕ) (left_since : D → ℕ → List ℕ �
     EndsWith-unmade before after result formats.Disk a' b' already same risen lost left tells =
         told_as words secrets (rests_of a b a' b') (record { streams = before; disks = disks_of a b }) (record { streams = after; disks = disks_of a' b' }) 5 (codes "stopped") result (run.not_made is (risen refl) lost) left tells
     EndsWith-unmade before after result formats.NoMemory a' b' already same risen lost left tells =
-        untold_as words secrets (rests_of a b a' b') (record { streams = before; disks = disks_of a b }) (record { streams = after; disks = disks_of a' b' }) result (not_init words is) (is_init is) (kept a' b' (same (λ e. absurd cc))) left tells
+        untold_as words secrets (rests_of a b a' b') (record { streams = before; disks = disks_of a b }) (record { streams = after; disks = disks_of a' b' }) result (kept a' b' (same (λ e. absurd cc))) left tells
 
     -- memory ran out at first
     pub EndsWith-unbegun : (before after : Streams) → after.left ≡ before.left → after.held ≡ before.held → EndsWith secrets words (rests_of a b a b) (record { streams = before; disks = disks_of a b }) (record { streams = after; disks = disks_of a b }) 9
     EndsWith-unbegun before after left held =
-        untold_as words secrets (rests_of a b a b) (record { streams = before; disks = disks_of a b }) (record { streams = after; disks = disks_of a b }) 9 (not_init words is) (is_init is) (record { a_stays = refl; b_stays = refl }) left (refl, held)
+        untold_as words secrets (rests_of a b a b) (record { streams = before; disks = disks_of a b }) (record { streams = after; disks = disks_of a b }) 9 (record { a_stays = refl; b_stays = refl }) left (refl, held)
 
   -- ---- a store that is opened
 
@@ -279,16 +257,16 @@ module _ {D : Type 0} (clock : D → ℕ) (left_since : D → ℕ → List ℕ �
         told_as words secrets (rests_of a b a' b') (record { streams = before; disks = disks_of a b }) (record { streams = after; disks = disks_of a' b' }) 3 (damaged_text number damage) result
         (run.damaged number damage over n.cause (same_bytes (opens.Damaged number damage) a' b' (λ e. absurd cc) n)) left tells
     EndsWith-unopened before after result (opens.Damaged number damage) a' b' n left (inr tells) =
-        untold_as words secrets (rests_of a b a' b') (record { streams = before; disks = disks_of a b }) (record { streams = after; disks = disks_of a' b' }) result (not_script_store words over) (known_store words over) (same_bytes (opens.Damaged number damage) a' b' (λ e. absurd cc) n) left tells
+        untold_as words secrets (rests_of a b a' b') (record { streams = before; disks = disks_of a b }) (record { streams = after; disks = disks_of a' b' }) result (same_bytes (opens.Damaged number damage) a' b' (λ e. absurd cc) n) left tells
     EndsWith-unopened before after result opens.Disk a' b' n left tells =
         told_as words secrets (rests_of a b a' b') (record { streams = before; disks = disks_of a b }) (record { streams = after; disks = disks_of a' b' }) 5 (codes "stopped") result
         (run.not_opened over n.cause (λ rest. record { a_stays = n.first_handled.stays rest.0; b_stays = n.second_handled.stays rest.1 })) left tells
     EndsWith-unopened before after result opens.NoMemory a' b' n left tells =
-        untold_as words secrets (rests_of a b a' b') (record { streams = before; disks = disks_of a b }) (record { streams = after; disks = disks_of a' b' }) result (not_script_store words over) (known_store words over) (same_bytes opens.NoMemory a' b' (λ e. absurd cc) n) left tells
+        untold_as words secrets (rests_of a b a' b') (record { streams = before; disks = disks_of a b }) (record { streams = after; disks = disks_of a' b' }) result (same_bytes opens.NoMemory a' b' (λ e. absurd cc) n) left tells
 
     pub EndsWith-unread : (before after : Streams) → after.left ≡ before.left → after.held ≡ before.held → EndsWith secrets words (rests_of a b a b) (record { streams = before; disks = disks_of a b }) (record { streams = after; disks = disks_of a b }) 9
     EndsWith-unread before after left held =
-        untold_as words secrets (rests_of a b a b) (record { streams = before; disks = disks_of a b }) (record { streams = after; disks = disks_of a b }) 9 (not_script_store words over) (known_store words over) (record { a_stays = refl; b_stays = refl }) left (refl, held)
+        untold_as words secrets (rests_of a b a b) (record { streams = before; disks = disks_of a b }) (record { streams = after; disks = disks_of a b }) 9 (record { a_stays = refl; b_stays = refl }) left (refl, held)
 
     is_opened : (s : StoreView D) → IsStore s → opening.IsOpened clock left_since image faults a b secrets.seal_key secrets.ring s → IsOpened secrets s.generation (disks_of a b) (standing_over s None (first_asker script_pass))
     is_opened s store opened = record {
@@ -302,7 +280,7 @@ module _ {D : Type 0} (clock : D → ℕ) (left_since : D → ℕ → List ℕ �
     }
 
     -- an audit leaves the disks as they were
-    pub EndsWith-audited : (pieces : Option ℕ) (before after : Streams) (result : ℕ) (s : StoreView D) (a' b' : D) → AsksForAudit words pieces → IsStore s → opening.IsOpened clock left_since image faults a b secrets.seal_key secrets.ring s →
+    pub EndsWith-audited : (pieces : Option ℕ) (before after : Streams) (result : ℕ) (s : StoreView D) (a' b' : D) → AsksFor words (Audit pieces) → IsStore s → opening.IsOpened clock left_since image faults a b secrets.seal_key secrets.ring s →
         TellsAudit (authority_under secrets) s.base s.events before.held before.write_faults result after.held after.write_faults → after.left ≡ before.left → a' ≡ first_disk s → b' ≡ second_disk s →
         EndsWith secrets words (rests_of a b a' b') (record { streams = before; disks = disks_of a b }) (record { streams = after; disks = disks_of a' b' }) result
     EndsWith-audited pieces before after result s a' b' asks store opened (reported report is tells) left a_is b_is =
@@ -310,10 +288,10 @@ module _ {D : Type 0} (clock : D → ℕ) (left_since : D → ℕ → List ℕ �
         (run.audited pieces s.generation (standing_over s None (first_asker script_pass)) report asks (is_opened s store opened) is (record { a_stays = ap image a_is ∙ opened.first_read.same; b_stays = ap image b_is ∙ opened.second_read.same })
         (subst (IsPinned clock left_since image) (sym a_is) opened.first_read.pinned, subst (IsPinned clock left_since image) (sym b_is) opened.second_read.pinned)) left tells
     EndsWith-audited pieces before after result s a' b' asks store opened (unreported untold) left a_is b_is =
-        untold_as words secrets (rests_of a b a' b') (record { streams = before; disks = disks_of a b }) (record { streams = after; disks = disks_of a' b' }) result (not_script_store words over) (known_store words over)
+        untold_as words secrets (rests_of a b a' b') (record { streams = before; disks = disks_of a b }) (record { streams = after; disks = disks_of a' b' }) result
         (record { a_stays = ap image a_is ∙ opened.first_read.same; b_stays = ap image b_is ∙ opened.second_read.same }) left untold
 
-  module _ (words : List (String Global)) (secrets : Secrets) (a b : D) (is : IsStored words) where
+  module _ (words : List (String Global)) (secrets : Secrets) (a b : D) (is : AsksFor words Stored) where
     -- of one of two disks a count rose since the start
     risen_since : (s s' : StoreView D) → opening.IsOpened clock left_since image faults a b secrets.seal_key secrets.ring s → HasRisen (faults (first_disk s)) (faults (first_disk s')) ⊎ HasRisen (faults (second_disk s)) (faults (second_disk s')) →
         HasRisen (faults a) (faults (first_disk s')) ⊎ HasRisen (faults b) (faults (second_disk s'))
@@ -356,13 +334,18 @@ module _ {D : Type 0} (clock : D → ℕ) (left_since : D → ℕ → List ℕ �
         (subst (λ (y : D). EndsWith secrets words (rests_of a b (first_disk s') y) (record { streams = before; disks = disks_of a b }) (record { streams = after; disks = disks_of (first_disk s') y }) result) (sym b_is)
         (run.stored result s.generation (standing_over s None (first_asker script_pass)) (standing_over s' answers.met asker) is (is_opened words secrets a b (of_script is) s store opened) (returns_of may_stay s s' answers.met asker store store' opened answers.goes_on) answers.ends))
 
+-- ---- no memory for the words
+
+pub EndsWith-unasked : (words : List (String Global)) (secrets : Secrets) (rests : Rests) (before after : Ports) → after.disks ≡ before.disks → after.streams.left ≡ before.streams.left → after.streams.held ≡ before.streams.held → EndsWith secrets words rests before after 9
+EndsWith-unasked words secrets rests before after same left held = run.out_of_memory (record { a_stays = ap (λ (d : Disks). d.a) same; b_stays = ap (λ (d : Disks). d.b) same }) left held
+
 -- ---- a large run
 
-pub EndsWith-loaded : (words : List (String Global)) (secrets : Secrets) (rests : Rests) (before after : Ports) (rounds seed result : ℕ) → IsLoad words rounds seed → after.disks ≡ before.disks → after.streams.left ≡ before.streams.left →
+pub EndsWith-loaded : (words : List (String Global)) (secrets : Secrets) (rests : Rests) (before after : Ports) (rounds seed result : ℕ) → AsksFor words (Load rounds seed) → after.disks ≡ before.disks → after.streams.left ≡ before.streams.left →
     ((told : List ℕ) × IsLoaded rounds seed told × IsTold 0 told before.streams.held before.streams.write_faults result after.streams.held after.streams.write_faults) ⊎ IsUntold before.streams.held result after.streams.held →
     EndsWith secrets words rests before after result
 EndsWith-loaded words secrets rests before after rounds seed result is same left (inl loaded) =
     told_as words secrets rests before after 0 loaded.0 result (run.loaded rounds seed loaded.0 is loaded.1 same) left loaded.2
 EndsWith-loaded words secrets rests before after rounds seed result is same left (inr untold) =
-    untold_as words secrets rests before after result (not_script_load words rounds seed is) (is_tool (is_load rounds seed is))
+    untold_as words secrets rests before after result
     (record { a_stays = ap (λ (d : Disks). d.a) same; b_stays = ap (λ (d : Disks). d.b) same }) left untold

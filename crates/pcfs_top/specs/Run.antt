@@ -28,7 +28,8 @@ use Rattle.pcfs_session.specs.ScriptRun.{Standing, IsLawfulStanding, script_pass
 use Rattle.pcfs_audit.specs.Report.{IsReport}
 use Rattle.pcfs_audit.specs.ReportText.{report_text}
 use Rattle.pcfs_audit.specs.declared.report.Report.{Report}
-use Rattle.command_words.specs.CommandWords.{AreKnown, AsksForAudit, IsScript, IsStored, IsInit, IsCheck, IsLoad}
+use Rattle.command_words.specs.Tasks.{AskForNoRun, AsksFor}
+use Rattle.command_words.specs.declared.words.Task.TheVariants.{Script, Stored, Init, Audit, Check, Load}
 use Rattle.pcfs_tools.specs.Audited.{audit_status}
 use Rattle.pcfs_tools.specs.Inquired.{TellsInquiry}
 use Rattle.pcfs_tools.specs.LastLine.{IsTold, IsUntold}
@@ -37,10 +38,10 @@ use Rattle.pcfs_tools.specs.Memory.{MemoryEnds}
 use Rattle.pcfs_tools.specs.ScriptStatus.{ScriptStatus}
 use Rattle.pcfs_top.specs.Ports.{Disks, Ports, Rests, IfTold, HasDiskFailed, AreBytesKept}
 
--- the words ask for something over the store in the areas
+-- the words ask for a script over the store in the areas, or for an audit of it
 pub data AreOfStore (words : List (String Global)) : Type 0 where
-  of_script : IsStored words → AreOfStore words
-  of_audit : (pieces : Option ℕ) → AsksForAudit words pieces → AreOfStore words
+  of_script : AsksFor words Stored → AreOfStore words
+  of_audit : (pieces : Option ℕ) → AsksFor words (Audit pieces) → AreOfStore words
 
 -- the number under which a damage is reported
 abbrev pub damage_number : Damage → ℕ
@@ -94,16 +95,16 @@ pub record IsNotLost (before after : Disks) : Type 0 where
 
 -- what a run has to write if it ends with this status without an answer to a line: one line with the cause
 pub data HasCause (secrets : Secrets) (words : List (String Global)) (rests : Rests) (before after : Disks) : ℕ → List ℕ → Type 0 where
-  usage : (AreKnown words → ⊥) → after ≡ before → HasCause secrets words rests before after 1 (codes "usage")
-  made : IsInit words → IfTold before (λ x y. HasNoArea x y × (rests.after × IfSome after.a (Closed (area_bytes 1 fresh_image [])))) → after.b ≡ before.b → HasCause secrets words rests before after 0 (codes "ok")
-  exists : IsInit words → IfTold before (λ x y. HasNoArea x y → ⊥) → AreBytesKept before after → HasCause secrets words rests before after 10 (codes "exists")
-  not_made : IsInit words → HasDiskFailed before after → (rests.before → IsNotLost before after) → HasCause secrets words rests before after 5 (codes "stopped")
+  usage : AskForNoRun words → after ≡ before → HasCause secrets words rests before after 1 (codes "usage")
+  made : AsksFor words Init → IfTold before (λ x y. HasNoArea x y × (rests.after × IfSome after.a (Closed (area_bytes 1 fresh_image [])))) → after.b ≡ before.b → HasCause secrets words rests before after 0 (codes "ok")
+  exists : AsksFor words Init → IfTold before (λ x y. HasNoArea x y → ⊥) → AreBytesKept before after → HasCause secrets words rests before after 10 (codes "exists")
+  not_made : AsksFor words Init → HasDiskFailed before after → (rests.before → IsNotLost before after) → HasCause secrets words rests before after 5 (codes "stopped")
   no_store : AreOfStore words → IfTold before HasNoArea → AreBytesKept before after → HasCause secrets words rests before after 4 (codes "nostore")
   damaged : (number : ℕ) (damage : Damage) → AreOfStore words → IfTold before (IsNewestDamaged (authority_under secrets) number damage) → AreBytesKept before after → HasCause secrets words rests before after 3 (damaged_text number damage)
   not_opened : AreOfStore words → HasDiskFailed before after → (rests.before → AreBytesKept before after) → HasCause secrets words rests before after 5 (codes "stopped")
-  audited : (pieces : Option ℕ) (generation : ℕ) (start : Standing) (report : Report) → AsksForAudit words pieces → IsOpened secrets generation before start → IsReport (authority_under secrets) start.base start.events report →
+  audited : (pieces : Option ℕ) (generation : ℕ) (start : Standing) (report : Report) → AsksFor words (Audit pieces) → IsOpened secrets generation before start → IsReport (authority_under secrets) start.base start.events report →
       AreBytesKept before after → rests.after → HasCause secrets words rests before after (audit_status report.rows) (report_text report)
-  loaded : (rounds seed : ℕ) (told : List ℕ) → IsLoad words rounds seed → IsLoaded rounds seed told → after ≡ before → HasCause secrets words rests before after 0 told
+  loaded : (rounds seed : ℕ) (told : List ℕ) → AsksFor words (Load rounds seed) → IsLoaded rounds seed told → after ≡ before → HasCause secrets words rests before after 0 told
 
 -- what is reported of why no store was opened
 abbrev pub TellsUnopened : OpenFault → Option (List ℕ) → ℕ → ℕ → Option (List ℕ) → ℕ → Type 0
@@ -122,12 +123,12 @@ TellsUnmade formats.NoMemory held faults result held_after faults_after = IsUnto
 -- begins where they stand. An inquiry ends as its lines say, and leaves the disks alone. Any other run writes its line, or the output failed and holds some first part of it; an audit, the lines of its report. Memory may run out before
 -- that, and then nothing changes.
 pub data EndsWith (secrets : Secrets) (words : List (String Global)) (rests : Rests) (before after : Ports) : ℕ → Type 0 where
-  in_memory : (status : ℕ) → IsScript words → after.disks ≡ before.disks → MemoryEnds secrets before.streams after.streams status → EndsWith secrets words rests before after status
-  stored : (status generation : ℕ) (start end : Standing) → IsStored words → IsOpened secrets generation before.disks start → Returns rests generation before.disks after.disks start end → ScriptStatus start end before.streams after.streams status →
+  in_memory : (status : ℕ) → AsksFor words Script → after.disks ≡ before.disks → MemoryEnds secrets before.streams after.streams status → EndsWith secrets words rests before after status
+  stored : (status generation : ℕ) (start end : Standing) → AsksFor words Stored → IsOpened secrets generation before.disks start → Returns rests generation before.disks after.disks start end → ScriptStatus start end before.streams after.streams status →
       EndsWith secrets words rests before after status
   told : (status : ℕ) (line : List ℕ) → HasCause secrets words rests before.disks after.disks status line → after.streams.left ≡ before.streams.left → after.streams.held ≡ with_back before.streams.held (with_line_end line) →
       EndsWith secrets words rests before after status
   cut_short : (status : ℕ) (line : List ℕ) → HasCause secrets words rests before.disks after.disks status line → after.streams.left ≡ before.streams.left → HasRisen before.streams.write_faults after.streams.write_faults →
       HoldsSome before.streams.held after.streams.held (with_line_end line) → EndsWith secrets words rests before after 7
-  inquired : (status : ℕ) → IsCheck words → after.disks ≡ before.disks → TellsInquiry before.streams after.streams status → EndsWith secrets words rests before after status
-  out_of_memory : (IsScript words → ⊥) → AreKnown words → AreBytesKept before.disks after.disks → after.streams.left ≡ before.streams.left → after.streams.held ≡ before.streams.held → EndsWith secrets words rests before after 9
+  inquired : (status : ℕ) → AsksFor words Check → after.disks ≡ before.disks → TellsInquiry before.streams after.streams status → EndsWith secrets words rests before after status
+  out_of_memory : AreBytesKept before.disks after.disks → after.streams.left ≡ before.streams.left → after.streams.held ≡ before.streams.held → EndsWith secrets words rests before after 9

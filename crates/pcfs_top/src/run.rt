@@ -4,7 +4,8 @@ ghost use Rattle.std.specs.Prelude.{◌≡◌, ◌≤◌, ℕ, List, Option, Str
 ghost use Rattle.std.specs.declared.alloc.Global.{Global};
 ghost use Rattle.pcfs_ports.specs.Disk.{IsPinned};
 ghost use Rattle.pcfs_session.specs.ScriptEnds.{with_line_end};
-ghost use Rattle.command_words.specs.CommandWords.{AsksForAudit, IsStored, IsInit};
+ghost use Rattle.command_words.specs.Tasks.{AsksFor, IsFit};
+ghost use Rattle.command_words.specs.declared.words.Task.TheVariants.{Stored, Init, Audit};
 ghost use Rattle.pcfs_top.specs.Run.{EndsWith, TellsUnopened, TellsUnmade, damage_number, damaged_text};
 
 use bl_syntax::decimal::put_counted;
@@ -98,7 +99,7 @@ fn run_stored<I: Source, O: Sink, D: Disk>(
     a: D,
     b: D,
 ) -> Ended<D>
-    ensures { (words : List (String Global)) → IsStored words → EndsWith secrets.now words (record { before = IsPinned D.clock D.left_since D.image a × IsPinned D.clock D.left_since D.image b; after = IsPinned D.clock D.left_since D.image result.a × IsPinned D.clock D.left_since D.image result.b })
+    ensures { (words : List (String Global)) → AsksFor words Stored → EndsWith secrets.now words (record { before = IsPinned D.clock D.left_since D.image a × IsPinned D.clock D.left_since D.image b; after = IsPinned D.clock D.left_since D.image result.a × IsPinned D.clock D.left_since D.image result.b })
         (record { streams = record { left = I.left input.old; read_faults = I.faults input.old; held = O.held output.old; write_faults = O.faults output.old }; disks = record { a = D.image a; b = D.image b; a_faults = D.faults a; b_faults = D.faults b } })
         (record { streams = record { left = I.left input.new; read_faults = I.faults input.new; held = O.held output.new; write_faults = O.faults output.new }; disks = record { a = D.image result.a; b = D.image result.b; a_faults = D.faults result.a; b_faults = D.faults result.b } }) result.status }
 {
@@ -137,7 +138,7 @@ fn audit_stored<R: Threads + Sync, O: Sink, D: Disk>(
     b: D,
 ) -> Ended<D>
     requires some { IfSome pieces (λ n. 1 ≤ n) }
-    ensures { (words : List (String Global)) (left : Option (List ℕ)) (read_faults : ℕ) → AsksForAudit words pieces → EndsWith secrets.now words (record { before = IsPinned D.clock D.left_since D.image a × IsPinned D.clock D.left_since D.image b; after = IsPinned D.clock D.left_since D.image result.a × IsPinned D.clock D.left_since D.image result.b })
+    ensures { (words : List (String Global)) (left : Option (List ℕ)) (read_faults : ℕ) → AsksFor words (Audit pieces) → EndsWith secrets.now words (record { before = IsPinned D.clock D.left_since D.image a × IsPinned D.clock D.left_since D.image b; after = IsPinned D.clock D.left_since D.image result.a × IsPinned D.clock D.left_since D.image result.b })
         (record { streams = record { left = left; read_faults = read_faults; held = O.held output.old; write_faults = O.faults output.old }; disks = record { a = D.image a; b = D.image b; a_faults = D.faults a; b_faults = D.faults b } })
         (record { streams = record { left = left; read_faults = read_faults; held = O.held output.new; write_faults = O.faults output.new }; disks = record { a = D.image result.a; b = D.image result.b; a_faults = D.faults result.a; b_faults = D.faults result.b } }) result.status }
 {
@@ -181,7 +182,7 @@ fn tell_unmade<O: Sink>(output: &mut O, fault: FormatFault) -> u8
 
 // Makes a store before its first event on the first disk.
 fn init<O: Sink, D: Disk>(alloc: Global, secrets: &Secrets, output: &mut O, a: D, b: D) -> Ended<D>
-    ensures { (words : List (String Global)) (left : Option (List ℕ)) (read_faults : ℕ) → IsInit words → EndsWith secrets.now words (record { before = IsPinned D.clock D.left_since D.image a × IsPinned D.clock D.left_since D.image b; after = IsPinned D.clock D.left_since D.image result.a × IsPinned D.clock D.left_since D.image result.b })
+    ensures { (words : List (String Global)) (left : Option (List ℕ)) (read_faults : ℕ) → AsksFor words Init → EndsWith secrets.now words (record { before = IsPinned D.clock D.left_since D.image a × IsPinned D.clock D.left_since D.image b; after = IsPinned D.clock D.left_since D.image result.a × IsPinned D.clock D.left_since D.image result.b })
         (record { streams = record { left = left; read_faults = read_faults; held = O.held output.old; write_faults = O.faults output.old }; disks = record { a = D.image a; b = D.image b; a_faults = D.faults a; b_faults = D.faults b } })
         (record { streams = record { left = left; read_faults = read_faults; held = O.held output.new; write_faults = O.faults output.new }; disks = record { a = D.image result.a; b = D.image result.b; a_faults = D.faults result.a; b_faults = D.faults result.b } }) result.status }
 {
@@ -204,6 +205,55 @@ fn init<O: Sink, D: Disk>(alloc: Global, secrets: &Secrets, output: &mut O, a: D
         }
         Err((fault, a, b)) => Ended {
             status: tell_unmade(output, fault),
+            a,
+            b,
+        },
+    }
+}
+
+// Does what was asked for.
+fn run_task<R: Threads + Wait + Sync, I: Source, O: Sink, D: Disk>(
+    rt: &R,
+    alloc: Global,
+    task: Task,
+    secrets: &Secrets,
+    input: &mut I,
+    output: &mut O,
+    a: D,
+    b: D,
+) -> Ended<D>
+    requires fit { IsFit task }
+    ensures { (words : List (String Global)) → AsksFor words task → EndsWith secrets.now words (record { before = IsPinned D.clock D.left_since D.image a × IsPinned D.clock D.left_since D.image b; after = IsPinned D.clock D.left_since D.image result.a × IsPinned D.clock D.left_since D.image result.b })
+        (record {
+          streams = record { left = I.left input.old; read_faults = I.faults input.old; held = O.held output.old; write_faults = O.faults output.old };
+          disks = record { a = D.image a; b = D.image b; a_faults = D.faults a; b_faults = D.faults b };
+        })
+        (record {
+          streams = record { left = I.left input.new; read_faults = I.faults input.new; held = O.held output.new; write_faults = O.faults output.new };
+          disks = record { a = D.image result.a; b = D.image result.b; a_faults = D.faults result.a; b_faults = D.faults result.b };
+        }) result.status }
+{
+    match task {
+        Task::Script => Ended {
+            status: run_in_memory(alloc, secrets, input, output),
+            a,
+            b,
+        },
+        Task::Stored => run_stored(alloc, secrets, input, output, a, b),
+        Task::Init => init(alloc, secrets, output, a, b),
+        Task::Audit(pieces) => audit_stored(rt, alloc, secrets, pieces, output, a, b),
+        Task::Check => Ended {
+            status: inquire(alloc, input, output),
+            a,
+            b,
+        },
+        Task::Load(rounds, seed) => Ended {
+            status: load(alloc, rounds, seed, output),
+            a,
+            b,
+        },
+        Task::Serve(_, _) => Ended {
+            status: tell(output, b"usage\n", USAGE),
             a,
             b,
         },
@@ -243,27 +293,15 @@ pub fn run_alone<R: Threads + Wait + Sync, I: Source, O: Sink, D: Disk>(
           disks = record { a = D.image result.a; b = D.image result.b; a_faults = D.faults result.a; b_faults = D.faults result.b };
         }) result.status }
 {
-    match task_of(words) {
-        Some(Task::Script) => Ended {
-            status: run_in_memory(alloc, secrets, input, output),
-            a,
-            b,
-        },
-        Some(Task::Stored) => run_stored(alloc, secrets, input, output, a, b),
-        Some(Task::Init) => init(alloc, secrets, output, a, b),
-        Some(Task::Audit(pieces)) => audit_stored(rt, alloc, secrets, pieces, output, a, b),
-        Some(Task::Check) => Ended {
-            status: inquire(alloc, input, output),
-            a,
-            b,
-        },
-        Some(Task::Load(rounds, seed)) => Ended {
-            status: load(alloc, rounds, seed, output),
-            a,
-            b,
-        },
-        None => Ended {
+    match task_of(alloc, words) {
+        Ok(Some(task)) => run_task(rt, alloc, task, secrets, input, output, a, b),
+        Ok(None) => Ended {
             status: tell(output, b"usage\n", USAGE),
+            a,
+            b,
+        },
+        Err(_) => Ended {
+            status: OUT_OF_MEMORY,
             a,
             b,
         },
