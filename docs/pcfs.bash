@@ -2,7 +2,7 @@
 _pcfs() {
     local word=${COMP_WORDS[COMP_CWORD]}
     case $COMP_CWORD in
-    1) COMPREPLY=($(compgen -W 'init script' -- "$word")) ;;
+    1) COMPREPLY=($(compgen -W 'init script serve' -- "$word")) ;;
     2) [ "${COMP_WORDS[1]}" = script ] && COMPREPLY=($(compgen -W '--stored' -- "$word")) ;;
     esac
 }
