@@ -1,18 +1,15 @@
 -- What a closed lock says of the passes of connections.
-use Rattle.std.proofs.Common.{◌≡◌, ◌∙◌, ℕ, ◌≤◌, List, [], ◌∷◌, ◌++◌, map, length, eqb, eqb-true, cond, Bool, true, false, refl, sym, ap, subst, arith}
+use Rattle.std.proofs.Common.{◌≡◌, ◌∙◌, ℕ, ◌≤◌, List, [], ◌∷◌, map, length, eqb, refl, sym, ap, subst, arith}
 use Rattle.std.specs.List.{AllByRecursion, IsDistinct}
 use Rattle.std.proofs.lemmas.List.{length-map, append-nil}
-use Rattle.tree_lock.specs.Entries.{of_number}
 use Rattle.tree_lock.specs.Merge.{Merges, ends}
-use Rattle.tree_lock.specs.Seen.{DoormanView, Retired, AreOwn}
+use Rattle.tree_lock.specs.Seen.{DoormanView, Retired}
 use Rattle.tree_lock.specs.Closing.{IsClosed}
-use Rattle.access_history.specs.declared.event.Event.{Event}
-use Rattle.pcfs_store.specs.Entries.{StoreEntry, happened, stopped, entries_of}
+use Rattle.pcfs_store.specs.Entries.{StoreEntry, entries_of}
 use Rattle.pcfs_store.specs.StoreView.{StoreView}
-use Rattle.session_history.specs.Passes.{event_pass, AllOfPass}
+use Rattle.session_history.specs.Passes.{AllOfPass}
 use Rattle.shared_store.specs.declared.entry.LockEntry.{LockEntry}
-use Rattle.shared_store.specs.declared.entry.LockEntry.TheVariants.{Opened, Happened, Stopped}
-use Rattle.shared_store.specs.LockHistory.{numbered, lock_history, lock_entries, bare}
+use Rattle.shared_store.specs.LockHistory.{lock_entries, bare}
 use Rattle.shared_store.specs.OpenedView.{OpenedView}
 use Rattle.shared_store.proofs.MergedLemmas.{closed_are_merged}
 use Rattle.pcfs_run.specs.Passes.{IsGrown}
@@ -34,33 +31,9 @@ module _ {D : Type 0} where
   within_of made [] all = tt
   within_of made (r ∷ rs) all = (all.0, within_of made rs all.1)
 
-  -- ---- entries under a number
-
-  event_if : (found : Bool) (n : ℕ) (event : Event) (es : List (ℕ × LockEntry D)) → (found ≡ true → event_pass event ≡ n) → AllOfPass n (bare es) → AllOfPass n (bare (cond found ((event_pass event, Happened event) ∷ es) es))
-  event_if true n event es is all = (is refl, all)
-  event_if false n event es is all = all
-
-  mark_if : (found : Bool) (n pass : ℕ) (es : List (ℕ × LockEntry D)) → (found ≡ true → pass ≡ n) → AllOfPass n (bare es) → AllOfPass n (bare (cond found ((pass, Stopped pass) ∷ es) es))
-  mark_if true n pass es is all = (is refl, all)
-  mark_if false n pass es is all = all
-
-  opening_if : (found : Bool) (opening : StoreView D) (es : List (ℕ × LockEntry D)) → bare (cond found ((0, Opened opening) ∷ es) es) ≡ bare es
-  opening_if true opening es = refl
-  opening_if false opening es = refl
-
-  own_entries : (n : ℕ) (entries : List StoreEntry) → AllOfPass n (bare (of_number n (numbered {D = D} entries)))
-  own_entries n [] = tt
-  own_entries n (happened event ∷ entries) = event_if (eqb (event_pass event) n) n event (of_number n (numbered {D = D} entries)) (eqb-true (event_pass event) n) (own_entries n entries)
-  own_entries n (stopped pass ∷ entries) = mark_if (eqb pass n) n pass (of_number n (numbered {D = D} entries)) (eqb-true pass n) (own_entries n entries)
-
-  own_history : (opening : StoreView D) (entries : List StoreEntry) (n : ℕ) → AllOfPass n (bare (of_number n (lock_history opening entries)))
-  own_history opening entries n = subst (AllOfPass n) (sym (opening_if (eqb 0 n) opening (of_number n (numbered {D = D} entries)))) (own_entries n entries)
-
-  own_of : (history : List (ℕ × LockEntry D)) → ((n : ℕ) → AllOfPass n (bare (of_number n history))) → (retired : List (Retired (LockEntry D))) → AreOwn history retired → AllByRecursion (λ (p : ℕ × List StoreEntry). AllOfPass p.0 p.1) (passes_of retired)
-  own_of history each [] own = tt
-  own_of history each (r ∷ rs) own = (subst (λ (l : List (ℕ × LockEntry D)). AllOfPass r.0 (bare l)) own.0 (each r.0), own_of history each rs own.1)
-
-  -- ---- stores
+  own_of : (retired : List (Retired (LockEntry D))) → AllByRecursion (λ (r : Retired (LockEntry D)). AllOfPass r.0 (bare r.1)) retired → AllByRecursion (λ (p : ℕ × List StoreEntry). AllOfPass p.0 p.1) (passes_of retired)
+  own_of [] all = tt
+  own_of (r ∷ rs) all = (all.0, own_of rs all.1)
 
   -- a lock was made over the first store, all its passes were taken in, and the last store came out
   pub IsGrown-closed : (first last : OpenedView D) (door : DoormanView (LockEntry D)) (attended count : ℕ) → door.opening ≡ lock_entries first → IsClosed door (lock_entries last) → attended ≤ length door.retired → door.made ≤ count →
@@ -75,7 +48,7 @@ module _ {D : Type 0} where
           passes = passes_of door.retired;
           distinct = subst (IsDistinct eqb) (sym (numbers_same door.retired)) closed.knows.numbers.distinct;
           within = subst (λ (n : ℕ). AllByRecursion (λ (p : ℕ × List StoreEntry). (1 ≤ p.0) × (p.0 ≤ n)) (passes_of door.retired)) (sym (all ∙ closed.all)) (within_of door.made door.retired closed.knows.numbers.within);
-          own = own_of (lock_entries last) (own_history last.opening (entries_of last.store)) door.retired closed.knows.own;
+          own = own_of door.retired m.of_passes;
           merged = subst (λ (ls : List (List StoreEntry)). Merges ls m.rest) (sym (lists_same door.retired)) m.merged;
           each = subst (λ (n : ℕ). attended ≤ n) (sym all) each;
           few = subst (λ (n : ℕ). n ≤ count) (sym (all ∙ closed.all)) few;
