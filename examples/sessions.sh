@@ -1,8 +1,8 @@
 #!/usr/bin/env bash
-# Gives three users sessions over one store, on the loopback address: each logs in on a connection of its own, one writes a
-# file of 60,000 bytes in one line, another reads it back once that was told, and then all three work at once. The program
-# has to end with status 0 and to tell that three were served, and the store is opened again with all events that were told.
-# Exits 1 if something differs.
+# Gives users sessions over one store, on the loopback address. The first logs in from the shell alone. Then each of three has
+# a connection of its own: one writes a file of 60,000 bytes in one line, another reads it back once that was told, and then
+# all three work at once. The program has to end with status 0 and to tell that four were served, and the store is opened
+# again with all events that were told. Exits 1 if something differs.
 # usage: examples/sessions.sh [PROGRAM [PORT]], by default crates/pcfs/out/pcfs and 4040
 set -euo pipefail
 here=$(cd "$(dirname "$0")" && pwd)
@@ -17,12 +17,35 @@ key bob 626f62206b6579
 key carol 6361726f6c206b6579
 SECRETS
 cd "$work"
-PYTHONPATH="$here" python3 - "$program" "$port" << 'PYTHON'
+
+differs() {
+    echo "$1"
+    echo "sessions differ"
+    exit 1
+}
+
+"$program" init > /dev/null
+"$program" serve "$port" 4 < /dev/null > told &
+server=$!
+
+# a login that is signed in the shell, over the byte 4c, the name after its length, and the nonce
+for _ in $(seq 100); do
+    exec 3<> "/dev/tcp/127.0.0.1/$port" && break
+    sleep 0.05
+done 2> /dev/null
+read -r hello nonce <&3
+signature=$({ printf 'L\5admin'; xxd -r -p <<< "$nonce"; } | openssl dgst -sha256 -mac HMAC -macopt hexkey:61646d696e7320736563726574 -r | cut -c1-64)
+echo "login admin $signature" >&3
+read -r reply <&3
+exec 3>&-
+[ "$hello $reply" = "hello ok" ] || differs "the login from the shell: $hello, $reply"
+
+PYTHONPATH="$here" python3 - "$port" << 'PYTHON' || differs "the three sessions"
 """Three clients of one server, and what each is told."""
-import socket, subprocess, sys, threading, time
+import socket, sys, threading
 from pcfs_client import key_of, sign_login, sign_statement
 
-program, port = sys.argv[1], int(sys.argv[2])
+port = int(sys.argv[1])
 SECRETS = "pcfs.secrets"
 PROOF = "saysR(claim(0,init(1)))"
 TURNS = 12  # operations that each client asks for while the others do
@@ -74,24 +97,7 @@ class Session:
         self.socket.close()
 
 
-def started():
-    """The program, once it listens."""
-    subprocess.run([program, "init"], check=True, stdout=subprocess.DEVNULL)
-    return subprocess.Popen([program, "serve", str(port), "3"], stdin=subprocess.DEVNULL, stdout=subprocess.PIPE)
-
-
-def first_session(name):
-    for _ in range(100):
-        try:
-            return Session(name)
-        except ConnectionRefusedError:
-            time.sleep(0.05)
-    sys.exit("nobody listens")
-
-
-server = started()
-alice = first_session("alice")
-bob, carol = Session("bob"), Session("carol")
+alice, bob, carol = Session("alice"), Session("bob"), Session("carol")
 
 POLICY = [
     "admin says may(alice,#1,write) from -inf to +inf",
@@ -115,20 +121,25 @@ refused = carol.asks(f"do read #2 0 1 {late}")
 if not refused.startswith("denied 1 time") or "ctime <= 1609372800" not in refused:
     faults.append(f"carol: {refused}")
 
+
 # all three at once
 def work(session, ask):
     for turn in range(TURNS):
         ask(session, turn)
 
+
 def writes(session, turn):
     session.says(f"do create #1 n{turn} {create}", f"ok node #{turn + 3}")
+
 
 def reads(session, turn):
     session.says(f"do read #2 {turn} 10 {read}", f"ok bytes {content[turn : turn + 10].hex()}")
 
+
 def is_denied(session, turn):
     if not session.asks(f"do read #2 0 1 {late}").startswith("denied 1 time"):
         faults.append("carol is not denied")
+
 
 threads = [threading.Thread(target=work, args=pair) for pair in ((alice, writes), (bob, reads), (carol, is_denied))]
 for thread in threads:
@@ -137,17 +148,15 @@ for thread in threads:
     thread.join()
 for session in (alice, bob, carol):
     session.leaves()
-out, _ = server.communicate(timeout=60)
-if (out, server.returncode) != (b"served 3\n", 0):
-    faults.append(f"the server: {out!r}, status {server.returncode}")
-
-# the next opening finds every event that was told: statements, issues, operations that were done
-kept = len(POLICY) + 4 + 3 + 2 * TURNS
-probe = subprocess.run([program, "script", "--stored"], input=b"as dave\ndo create #1 x @1\n", stdout=subprocess.PIPE).stdout.decode().splitlines()
-if probe != ["ok", f"denied 1 principal at {kept}"]:
-    faults.append(f"the next opening: {probe}, not at {kept}")
 for fault in faults:
     print(fault)
-print("sessions agree" if not faults else "sessions differ")
 sys.exit(1 if faults else 0)
 PYTHON
+
+wait "$server" || differs "the server ends with status $?"
+[ "$(cat told)" = "served 4" ] || differs "the server tells $(cat told)"
+
+# the next opening finds every event that was told: 6 statements, 4 issues, 3 operations, and 12 of two users each
+found=$(printf 'as dave\ndo create #1 x @1\n' | "$program" script --stored)
+[ "$found" = "$(printf 'ok\ndenied 1 principal at 37')" ] || differs "the next opening: $found"
+echo "sessions agree"
