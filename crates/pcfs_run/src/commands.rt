@@ -23,7 +23,7 @@ fn serve<
     D: Disk + Send,
     C: Clock + Sync,
     L: Listener,
-    N: Nonces,
+    N: Nonces + Sync,
 >(
     rt: &R,
     alloc: Global,
@@ -95,7 +95,7 @@ pub fn run<
     D: Disk + Send,
     C: Clock + Sync,
     L: Listener,
-    N: Nonces,
+    N: Nonces + Sync,
 >(
     rt: &R,
     alloc: Global,

@@ -22,7 +22,13 @@ use tree_lock::{Doorman, TreeLock};
 const AT_ONCE: usize = 64;
 
 // Gives connections sessions over what the lock keeps, and returns how that ended, and the doorman.
-fn serve_under<R: Threads + Wait + Sync, D: Disk + Send, C: Clock + Sync, L: Listener, N: Nonces>(
+fn serve_under<
+    R: Threads + Wait + Sync,
+    D: Disk + Send,
+    C: Clock + Sync,
+    L: Listener,
+    N: Nonces + Sync,
+>(
     rt: &R,
     alloc: Global,
     lock: &TreeLock<OpenedStore<D>>,
@@ -51,9 +57,7 @@ fn serve_under<R: Threads + Wait + Sync, D: Disk + Send, C: Clock + Sync, L: Lis
         nonces: &mut *nonces,
         served: 0,
     };
-    let end = serve_conns(
-        rt, alloc, net, &service, &mut front, port, count, AT_ONCE,
-    );
+    let end = serve_conns(rt, alloc, net, &service, &mut front, port, count, AT_ONCE);
     let SessionDoor {
         door,
         nonces: _,
@@ -68,7 +72,7 @@ pub fn serve_store<
     D: Disk + Send,
     C: Clock + Sync,
     L: Listener,
-    N: Nonces,
+    N: Nonces + Sync,
 >(
     rt: &R,
     alloc: Global,
