@@ -1,10 +1,12 @@
--- Each operation that a session is given is by somebody who logged in over its nonce.
+-- Each entry that a session is given comes after a login over its nonce, and each operation is by somebody who logged in so.
 use Rattle.std.proofs.Common.{◌≡◌, ◌∙◌, ℕ, List, [], ◌∷◌, ◌++◌, Bool, true, false, Option, Some, None, refl, sym, ap, subst}
 use Rattle.std.specs.Prelude.{ℤ}
 use Rattle.std.specs.List.{AllByRecursion}
 use Rattle.policy_statement.specs.Messages.{login_message}
 use Rattle.policy_statement.specs.Ring.{KeyView, is_accepted}
+use Rattle.proof_verifier.specs.CheckedView.{checked_view}
 use Rattle.access_history.specs.declared.event.Event.{Event}
+use Rattle.access_history.specs.declared.event.Event.TheVariants.{Registered, Issued, Acted}
 use Rattle.access_history.specs.declared.request.StepRequest.{StepRequest}
 use Rattle.access_history.specs.declared.request.StepRequest.TheVariants as steps
 use Rattle.access_history.specs.declared.reply.StepReply.{StepReply}
@@ -29,21 +31,17 @@ use Rattle.session_history.specs.Turn as turns
 use Rattle.session_history.specs.Tasks.{IsUserTask, IsCommandTask, IsReadTask, IsTaskOf, faulty, read}
 use Rattle.session_history.specs.Placed.{IsTold, LinePlaced, at_once, in_a_turn, proves_none, issues, is_done, state_after, LinesPlaced, no_line, one_more}
 use Rattle.session_history.specs.Placed as places
-use Rattle.session_history.specs.Laws.{IsByAccepted}
-
--- the ring accepts a signature of this name over the nonce
-abbrev HasSigned : List KeyView → List ℕ → List ℕ → Type 0
-HasSigned ring nonce who = (signature : List ℕ) × (is_accepted ring who (login_message who nonce) signature ≡ true)
+use Rattle.session_history.specs.Laws.{HasSigned, IsByAccepted}
 
 -- so of who is logged in
 abbrev IsCallerAccepted : List KeyView → List ℕ → Option (List ℕ) → Type 0
 IsCallerAccepted ring nonce None = Unit {0}
 IsCallerAccepted ring nonce (Some who) = HasSigned ring nonce who
 
--- who acts by a task that takes one turn
+-- who acts by a task that takes one turn; somebody does who registers or issues
 abbrev ActsAs : (List ℕ → Type 0) → TurnRequest → Type 0
-ActsAs P (Step (steps.Register statement signature)) = Unit {0}
-ActsAs P (Step (steps.Issue checked)) = Unit {0}
+ActsAs P (Step (steps.Register statement signature)) = (who : List ℕ) × P who
+ActsAs P (Step (steps.Issue checked)) = (who : List ℕ) × P who
 ActsAs P (Step (steps.Act who op procaps)) = P who
 ActsAs P (Step (steps.ShowProcap number who)) = Unit {0}
 ActsAs P (Cite numbers) = Unit {0}
@@ -52,14 +50,14 @@ ActsAs P (Login who nonce signature) = Unit {0}
 abbrev IsActedAs : (List ℕ → Type 0) → LineTask → Type 0
 IsActedAs P (tasks.Reply reply) = Unit {0}
 IsActedAs P (tasks.Turn request) = ActsAs P request
-IsActedAs P (tasks.Proof goal numbers proof) = Unit {0}
+IsActedAs P (tasks.Proof goal numbers proof) = (who : List ℕ) × P who
 
 -- ---- what an answer keeps
 
 event_by : (ring : List KeyView) (nonce : List ℕ) (authority : Authority) (state : BaseView) (pass : ℕ) (clock : ℤ) (request : StepRequest) (reply : StepReply) (event : Event) → ActsAs (HasSigned ring nonce) (Step request) →
     Answers authority state pass clock request reply (Some event) → IsByAccepted ring nonce (happened event)
-event_by ring nonce authority state pass clock request reply event acts (registered statement signature may) = tt
-event_by ring nonce authority state pass clock request reply event acts (issued checked rising granted stand) = tt
+event_by ring nonce authority state pass clock request reply event acts (registered statement signature may) = acts
+event_by ring nonce authority state pass clock request reply event acts (issued checked rising granted stand) = acts
 event_by ring nonce authority state pass clock request reply event acts (acted caller op procaps admitted free) = acts
 
 abbrev IsEventBy : List KeyView → List ℕ → Option Event → Type 0
@@ -79,13 +77,19 @@ of_turn_answer ring nonce root state pass clock _ _ _ acts (turns.cites_none num
 of_turn_answer ring nonce root state pass clock _ _ _ acts (turns.logs_in who nonce' signature is) = tt
 of_turn_answer ring nonce root state pass clock _ _ _ acts (turns.rejects who nonce' signature is) = tt
 
+-- where there is an event, somebody logged in
+somebody : (ring : List KeyView) (nonce : List ℕ) (event : Event) → IsByAccepted ring nonce (happened event) → (who : List ℕ) × HasSigned ring nonce who
+somebody ring nonce (Registered pass statement signature) by_some = by_some
+somebody ring nonce (Issued pass cited proof grant) by_some = by_some
+somebody ring nonce (Acted pass caller op procaps moment) by_some = (caller, by_some)
+
 turn_by : (ring : List KeyView) (nonce : List ℕ) (gives : ℤ → Type 0) (p : StorePass) (before : List StoreEntry) (request : TurnRequest) (reply : TurnReply) (given : List StoreEntry) → ActsAs (HasSigned ring nonce) request →
     Turn gives p before request reply given → AllByRecursion (IsByAccepted ring nonce) given
 turn_by ring nonce gives p before request _ _ acts (turns.was_stopped is) = tt
 turn_by ring nonce gives p before request _ _ acts (turns.answered clock answer running shown answers) = tt
 turn_by ring nonce gives p before request _ _ acts (turns.full clock answer event running shown answers is_full) = tt
 turn_by ring nonce gives p before request _ _ acts (turns.kept clock answer event running shown answers room) = (of_turn_answer ring nonce p.root (state_of_entries p.root before) p.number clock request answer (Some event) acts answers, tt)
-turn_by ring nonce gives p before request _ _ acts (turns.failed clock answer event running shown answers room) = (tt, tt)
+turn_by ring nonce gives p before request _ _ acts (turns.failed clock answer event running shown answers room) = (somebody ring nonce event (of_turn_answer ring nonce p.root (state_of_entries p.root before) p.number clock request answer (Some event) acts answers), tt)
 turn_by ring nonce gives p before request _ _ acts turns.without_memory = tt
 
 line_by : (ring : List KeyView) (nonce : List ℕ) (gives : ℤ → Type 0) (p : StorePass) (history : List StoreEntry) (from : ℕ) (task : LineTask) (reply : LineReply) (to : ℕ) (given : List StoreEntry) → IsActedAs (HasSigned ring nonce) task →
@@ -94,7 +98,7 @@ line_by ring nonce gives p history from _ _ _ _ acts (at_once reply) = tt
 line_by ring nonce gives p history from _ _ _ _ acts (in_a_turn request replied reply to given turn is) = turn_by ring nonce gives p turn.before request replied given acts turn.turn
 line_by ring nonce gives p history from _ _ _ _ acts (places.cites_none goal numbers proof replied reply to given turn is) = turn_by ring nonce gives p turn.before (Cite numbers) replied given tt turn.turn
 line_by ring nonce gives p history from _ _ _ _ acts (proves_none goal numbers proof cites fault to turn verdict_is) = tt
-line_by ring nonce gives p history from _ _ _ _ acts (issues goal numbers proof cites g at replied reply to given turn verdict_is second is) = turn_by ring nonce gives p second.before _ replied given tt second.turn
+line_by ring nonce gives p history from _ _ _ _ acts (issues goal numbers proof cites g at replied reply to given turn verdict_is second is) = turn_by ring nonce gives p second.before (Step (steps.Issue (checked_view cites goal proof g))) replied given acts second.turn
 line_by ring nonce gives p history from _ _ _ _ acts (places.without_memory task) = tt
 
 -- ---- who acts by a line
@@ -103,9 +107,9 @@ user_acts : (ring : List KeyView) (nonce who : List ℕ) (command : Command) (ta
 user_acts ring nonce who (At second) task signed is = absurd is
 user_acts ring nonce who (As other) task signed is = absurd is
 user_acts ring nonce who (Register None statement) task signed is = absurd is
-user_acts ring nonce who (Register (Some signature) statement) task signed is = subst (IsActedAs (HasSigned ring nonce)) (sym is) tt
+user_acts ring nonce who (Register (Some signature) statement) task signed is = subst (IsActedAs (HasSigned ring nonce)) (sym is) (who, signed)
 user_acts ring nonce who (Procap number) task signed is = subst (IsActedAs (HasSigned ring nonce)) (sym is) tt
-user_acts ring nonce who (Verify goal numbers proof) task signed is = subst (IsActedAs (HasSigned ring nonce)) (sym is) tt
+user_acts ring nonce who (Verify goal numbers proof) task signed is = subst (IsActedAs (HasSigned ring nonce)) (sym is) (who, signed)
 user_acts ring nonce who (Check goal numbers proof) task signed is = absurd is
 user_acts ring nonce who (Do op given) task signed is = subst (IsActedAs (HasSigned ring nonce)) (sym is.2) signed
 

@@ -47,19 +47,28 @@ abbrev pub PlacesGoOn : (ℤ → Type 0) → Type 0
 PlacesGoOn gives = (p : StorePass) (history : List StoreEntry) (start : SessionState) (from : ℕ) (lines : List (List ℕ)) (answers : List LineReply) (end : SessionState) (to : ℕ) (given : List StoreEntry) →
     from ≤ length history → LinesPlaced gives p history start from lines answers end to given → (from ≤ to) × (to ≤ length history)
 
--- a line is told that the store is stopped only where a Stop is among the entries up to its place
+-- A turn that is told that the store is stopped keeps no event, and there is a mark, which it found or which it adds; and a turn that adds a mark is told so.
+abbrev pub StopsAreTold : (ℤ → Type 0) → Type 0
+StopsAreTold gives = (p : StorePass) (before : List StoreEntry) (request : TurnRequest) (reply : TurnReply) (given : List StoreEntry) → Turn gives p before request reply given →
+    (reply ≡ turn_replies.Stopped → (has_stop (before ++ given) ≡ true) × (events_among given ≡ [])) × (has_stop given ≡ true → reply ≡ turn_replies.Stopped)
+
+-- a line is told that the store is stopped only where a mark is among the entries up to its place
 abbrev pub StoppedAfterStop : (ℤ → Type 0) → Type 0
 StoppedAfterStop gives = (p : StorePass) (history : List StoreEntry) (s : SessionState) (from : ℕ) (line : List ℕ) (task : LineTask) (to : ℕ) (given : List StoreEntry) →
     IsTaskOf s line task → LinePlaced gives p history from task replies.Stopped to given → has_stop (take to history) ≡ true
 
--- an operation among them is by somebody of whom the ring accepts a signature over this nonce
-abbrev pub IsByAccepted : List KeyView → List ℕ → StoreEntry → Type 0
-IsByAccepted ring nonce (happened (Acted pass caller op procaps moment)) = (signature : List ℕ) × (is_accepted ring caller (login_message caller nonce) signature ≡ true)
-IsByAccepted ring nonce (happened (Registered pass statement signature)) = Unit {0}
-IsByAccepted ring nonce (happened (Issued pass cited proof grant)) = Unit {0}
-IsByAccepted ring nonce (stopped pass) = Unit {0}
+-- the ring accepts a signature over this nonce of who has this name
+abbrev pub HasSigned : List KeyView → List ℕ → List ℕ → Type 0
+HasSigned ring nonce who = (signature : List ℕ) × (is_accepted ring who (login_message who nonce) signature ≡ true)
 
--- each operation that a session is given is by somebody who logged in over its nonce
+-- the entry comes after a login over this nonce, and an operation is by who logged in so
+abbrev pub IsByAccepted : List KeyView → List ℕ → StoreEntry → Type 0
+IsByAccepted ring nonce (happened (Acted pass caller op procaps moment)) = HasSigned ring nonce caller
+IsByAccepted ring nonce (happened (Registered pass statement signature)) = (who : List ℕ) × HasSigned ring nonce who
+IsByAccepted ring nonce (happened (Issued pass cited proof grant)) = (who : List ℕ) × HasSigned ring nonce who
+IsByAccepted ring nonce (stopped pass) = (who : List ℕ) × HasSigned ring nonce who
+
+-- each entry that a session is given comes after a login over its nonce, and each operation is by somebody who logged in so
 abbrev pub CallersAreAccepted : (ℤ → Type 0) → Type 0
 CallersAreAccepted gives = (p : StorePass) (history : List StoreEntry) (nonce : List ℕ) (from : ℕ) (lines : List (List ℕ)) (answers : List LineReply) (end : SessionState) (to : ℕ) (given : List StoreEntry) →
     LinesPlaced gives p history (guest_with nonce) from lines answers end to given → AllByRecursion (IsByAccepted p.root.ring nonce) given

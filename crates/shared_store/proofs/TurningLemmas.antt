@@ -34,7 +34,7 @@ use Rattle.session_history.specs.declared.reply.TurnReply.TheVariants as turn_re
 use Rattle.session_history.specs.Passes.{has_stop}
 use Rattle.session_history.specs.Turn.{StorePass, authority_of_root, IsFullAfter, Turn}
 use Rattle.session_history.specs.Turn as turns
-use Rattle.shared_store.specs.GoesOn.{HasGoneOn}
+use Rattle.shared_store.specs.GoesOn.{IsStoppedBy, HasGoneOn}
 use Rattle.shared_store.specs.OpenedView.{OpenedView}
 use Rattle.shared_store.specs.Turning.{turn_reply, pass_at, HasTurned}
 
@@ -50,6 +50,14 @@ runs s running = stop_among s.events s.stop ∙ running
 
 pub stands : {D : Type 0} (s : StoreView D) → is_some s.stop ≡ true → has_stop (entries_of s) ≡ true
 stands s stop = stop_among s.events s.stop ∙ stop
+
+some_stop : (stop : Option ℕ) → is_some stop ≡ true → (pass : ℕ) × (stop ≡ Some pass)
+some_stop None is = absurd (false≢true is)
+some_stop (Some pass) is = (pass, refl)
+
+-- a store is stopped if its entries have a mark
+pub stop_of : {D : Type 0} (s : StoreView D) → has_stop (entries_of s) ≡ true → (pass : ℕ) × (s.stop ≡ Some pass)
+stop_of s mark = some_stop s.stop (sym (stop_among s.events s.stop) ∙ mark)
 
 -- what a store says of its stop
 pub is_stopped : (stop : Option ℕ) (found : Bool) → IsTrue found ↔ IsSome stop → found ≡ true → is_some stop ≡ true
@@ -68,6 +76,10 @@ stop_more : (events : List Event) (stop : Option ℕ) (pass : ℕ) → stop ≡ 
 stop_more events (Some other) pass none = absurd cc
 stop_more [] None pass none = refl
 stop_more (e ∷ events) None pass none = ap (λ (l : List StoreEntry). happened e ∷ l) (stop_more events None pass none)
+
+-- the mark is the last entry
+pub marked : {D : Type 0} (faults : D → ℕ) (s : StoreView D) (pass : ℕ) → (cause : IsStoppedBy faults s pass) → entries_of s ≡ entries_of cause.before ++ stopped pass ∷ []
+marked faults s pass cause = ap (λ (v : StoreView _). entries_of v) cause.left ∙ stop_more cause.before.events cause.before.stop pass cause.running
 
 module _ {D : Type 0} (clock : D → ℕ) (left_since : D → ℕ → List ℕ → Type 0) (image : D → Option (List ℕ)) (faults : D → ℕ) (opening now : StoreView D) (g : HasGoneOn clock left_since image faults opening now) where
   -- the state to which the entries lead is the store's

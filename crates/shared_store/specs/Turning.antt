@@ -1,5 +1,5 @@
 -- One turn at a shared store (this project's own).
-use Rattle.std.specs.Prelude.{◌≡◌, ℕ, ℤ, List, ◌++◌}
+use Rattle.std.specs.Prelude.{◌≡◌, ℕ, ℤ, List, ◌++◌, Some}
 use Rattle.pcfs_store.specs.declared.reply.StoreReply.{StoreReply}
 use Rattle.pcfs_store.specs.declared.reply.StoreReply.TheVariants as stores
 use Rattle.pcfs_store.specs.Entries.{StoreEntry, root_of, entries_of}
@@ -8,6 +8,7 @@ use Rattle.session_history.specs.declared.request.TurnRequest.{TurnRequest}
 use Rattle.session_history.specs.declared.reply.TurnReply.{TurnReply}
 use Rattle.session_history.specs.declared.reply.TurnReply.TheVariants as turn_replies
 use Rattle.session_history.specs.Turn.{StorePass, Turn}
+use Rattle.shared_store.specs.GoesOn.{IsStoppedBy, HasCountRisen}
 use Rattle.shared_store.specs.OpenedView.{OpenedView}
 
 -- what a turn replies for which the store says this
@@ -27,3 +28,9 @@ pub record HasTurned {D : Type 0} (gives : ℤ → Type 0) (request : TurnReques
   pub opening_stays : after.opening ≡ before.opening
   pub grows : entries_of after.store ≡ entries_of before.store ++ given
   pub turn : Turn gives (pass_at before.opening pass) (entries_of before.store) request reply given
+
+-- What a turn does at the store: so it turned; and if the store is stopped then, a count has risen since the opening, and in the very step that stopped it, in this turn or an earlier one.
+pub record TakesTurn {D : Type 0} (faults : D → ℕ) (gives : ℤ → Type 0) (request : TurnRequest) (before : OpenedView D) (pass : ℕ) (after : OpenedView D) (reply : TurnReply) : Type 0 where
+  pub turned : HasTurned gives request before pass after reply
+  pub failed : (stopper : ℕ) → after.store.stop ≡ Some stopper → HasCountRisen faults after.opening after.store
+  pub stopped_by : (stopper : ℕ) → after.store.stop ≡ Some stopper → IsStoppedBy faults after.store stopper

@@ -73,6 +73,13 @@ impl<D: Disk> OpenedStore<D> {
         OpenedStore { store, opening }
     }
 
+    // What it keeps at every moment.
+    pub(crate) fn keeps(&self)
+        ensures { HasGoneOn D.clock D.left_since D.image D.faults self.now.opening self.now.store }
+    {
+        let _ = &self.store;
+    }
+
     /// The store.
     pub fn into_store(self) -> Store<D>
         ensures same { result ≡ self.store }
