@@ -1,13 +1,12 @@
 -- What the words of a command are.
 use Rattle.std.proofs.Common.{◌≡◌, ℕ, ◌≤◌, ◌<◌, Bool, true, false, List, [], ◌∷◌, length, get_or, map, ap, sym, ◌∙◌, subst, arith, Option, Some, None}
-use Rattle.std.specs.Prelude.{String, codes, IfSome, MatchOption}
+use Rattle.std.specs.Prelude.{String, IfSome, MatchOption}
 use Rattle.std.specs.String.{string_bytes}
 use Rattle.std.specs.Str.{bytes_eq}
 use Rattle.std.specs.declared.alloc.Global.{Global}
 use Rattle.std.proofs.lemmas.Slice.Eq.{bytes_eq-Decides}
 use Rattle.std.proofs.lemmas.List.{length-map}
-use Rattle.line_words.specs.Numbers.{IsLongNumber}
-use Rattle.command_words.specs.CommandWords.{AreToolWords, AsksForAudit, IsAudit, IsAuditIn, IsCheck, IsLoad, IsPieces, IsRounds, is_audit, is_check, is_load}
+use Rattle.command_words.specs.CommandWords.{AreToolWords, AsksForAudit, IsAudit, IsAuditIn, IsCheck, IsLoad, is_audit, is_check, is_load}
 use Rattle.command_words.specs.Tasks.{AsksFor}
 use Rattle.command_words.specs.declared.words.Task.{Task}
 use Rattle.command_words.specs.CommandWords.{AreKnown, IsScript, IsStored, IsInit, is_script, is_stored, is_init, is_tool}
@@ -83,40 +82,6 @@ third_same x y z x' y' z' same = cc
 -- there are not three words
 pub not_three : (items slice : List (String Global)) (x y z : List ℕ) → slice ≡ items → (length slice ≡ 3 → ⊥) → map string_bytes items ≡ x ∷ y ∷ z ∷ [] → ⊥
 not_three items slice x y z is other words = other (ap length is ∙ sym (length-map items string_bytes) ∙ ap length words)
-
-module _ (words : List (String Global)) (first second third : List ℕ) (are : map string_bytes words ≡ first ∷ second ∷ third ∷ []) where
-  named : (x y : List ℕ) → first ≡ x → second ≡ y → map string_bytes words ≡ x ∷ y ∷ third ∷ []
-  named x y is_first is_second = are ∙ ap (λ (b : List ℕ). b ∷ second ∷ third ∷ []) is_first ∙ ap (λ (b : List ℕ). x ∷ b ∷ third ∷ []) is_second
-
-  pub audit_in : (n : ℕ) → first ≡ codes "audit" → second ≡ codes "--pieces" → IsPieces third n → IsAuditIn words n
-  audit_in n is_first is_second says = record { word = third; words_are = named (codes "audit") (codes "--pieces") is_first is_second; says = says }
-
-  pub not_audit_first : (n : ℕ) → (first ≡ codes "audit" → ⊥) → IsAuditIn words n → ⊥
-  not_audit_first n other asks = other (first_same first second third (codes "audit") (codes "--pieces") asks.word (sym are ∙ asks.words_are))
-
-  pub not_audit_second : (n : ℕ) → (second ≡ codes "--pieces" → ⊥) → IsAuditIn words n → ⊥
-  not_audit_second n other asks = other (second_same first second third (codes "audit") (codes "--pieces") asks.word (sym are ∙ asks.words_are))
-
-  pub not_audit_third : (n : ℕ) → (IsPieces third n → ⊥) → IsAuditIn words n → ⊥
-  not_audit_third n other asks = other (subst (λ (w : List ℕ). IsPieces w n) (sym (third_same first second third (codes "audit") (codes "--pieces") asks.word (sym are ∙ asks.words_are))) asks.says)
-
-  -- what the third word says is what an audit has
-  pub audit_told : (bytes : List ℕ) (found : Option ℕ) → bytes ≡ third → first ≡ codes "audit" → second ≡ codes "--pieces" → MatchOption found ((n : ℕ) → IsPieces bytes n → ⊥) (IsPieces bytes) → MatchOption found ((n : ℕ) → IsAuditIn words n → ⊥) (IsAuditIn words)
-  audit_told bytes None same is_first is_second none n asks = not_audit_third n (λ says. none n (subst (λ (w : List ℕ). IsPieces w n) (sym same) says)) asks
-  audit_told bytes (Some n) same is_first is_second says = audit_in n is_first is_second (subst (λ (w : List ℕ). IsPieces w n) same says)
-
-  pub load_in : (rounds seed : ℕ) → first ≡ codes "load" → IsRounds second rounds → IsLongNumber third seed → IsLoad words rounds seed
-  load_in rounds seed is_first says_rounds says_seed =
-      record { first = second; second = third; words_are = are ∙ ap (λ (b : List ℕ). b ∷ second ∷ third ∷ []) is_first; says_rounds = says_rounds; says_seed = says_seed }
-
-  pub not_load_first : (rounds seed : ℕ) → (first ≡ codes "load" → ⊥) → IsLoad words rounds seed → ⊥
-  not_load_first rounds seed other asks = other (first_same first second third (codes "load") asks.first asks.second (sym are ∙ asks.words_are))
-
-  pub not_load_second : (rounds seed : ℕ) → (IsRounds second rounds → ⊥) → IsLoad words rounds seed → ⊥
-  not_load_second rounds seed other asks = other (subst (λ (w : List ℕ). IsRounds w rounds) (sym (second_same first second third (codes "load") asks.first asks.second (sym are ∙ asks.words_are))) asks.says_rounds)
-
-  pub not_load_third : (rounds seed : ℕ) → (IsLongNumber third seed → ⊥) → IsLoad words rounds seed → ⊥
-  not_load_third rounds seed other asks = other (subst (λ (w : List ℕ). IsLongNumber w seed) (sym (third_same first second third (codes "load") asks.first asks.second (sym are ∙ asks.words_are))) asks.says_seed)
 
 -- an audit is in one piece at least
 pub some_pieces : (words : List (String Global)) (pieces : Option ℕ) → AsksForAudit words pieces → IfSome pieces (λ (n : ℕ). 1 ≤ n)

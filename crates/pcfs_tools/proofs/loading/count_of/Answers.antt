@@ -10,5 +10,5 @@ loop-reply-preserved c = (
   omega (arith, c.in-Some.ensures.shorter, c.loop-reply.invariant.1, c.counted.ensures),
 )
 
-pub returns-in-None : goal.returns-in-None
-returns-in-None c = count_end c.args.word.now c.loop-reply.rest.now c.loop-reply.count _ c.in-None.ensures.lines c.loop-reply.invariant.0
+pub returns : goal.returns
+returns c = count_end c.args.word.now c.loop-reply.rest.now c.loop-reply.count _ c.in_default.ensures.lines c.loop-reply.invariant.0

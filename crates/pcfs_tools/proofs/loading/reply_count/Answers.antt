@@ -10,5 +10,5 @@ loop-others-preserved c = (
   omega (arith, c.in-Some.ensures.shorter, c.loop-others.invariant.1),
 )
 
-pub returns-in-None : goal.returns-in-None
-returns-in-None c = all_end c.loop-others.rest.now c.loop-others.count _ c.in-None.ensures.lines c.loop-others.invariant.0
+pub returns : goal.returns
+returns c = all_end c.loop-others.rest.now c.loop-others.count _ c.in_default.ensures.lines c.loop-others.invariant.0
