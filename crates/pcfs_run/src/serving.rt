@@ -21,6 +21,40 @@ use tree_lock::{Doorman, TreeLock};
 /// How many connections are attended at once, at most.
 const AT_ONCE: usize = 64;
 
+// Attends connections by this door, and returns how that ended. The door has the same nonces afterwards.
+fn attend_all<
+    'a,
+    R: Threads + Wait + Sync,
+    D: Disk + Send,
+    C: Clock + Sync,
+    L: Listener,
+    N: Nonces + Sync,
+>(
+    rt: &R,
+    alloc: Global,
+    service: &SessionService<'a, OpenedStore<D>, C, N>,
+    front: &mut SessionDoor<'a, OpenedStore<D>, N>,
+    port: u16,
+    count: u64,
+    net: &mut L,
+) -> ServeEnd
+    requires lock { front.old.door.lock ≡ service.now.lock.now }
+    requires unmade { front.old.door.made ≡ 0 }
+    requires unserved { front.old.served ≡ 0 }
+    requires few { count ≤ 1000000 }
+    ensures same_reference { front.new.nonces.ghost_name ≡ front.old.nonces.ghost_name }
+    ensures lock { front.new.door.lock ≡ service.now.lock.now }
+    ensures out { front.new.door.out ≡ front.old.door.out }
+    ensures opening { front.new.door.opening ≡ front.old.door.opening }
+    ensures each { number_of result ≤ length front.new.door.retired }
+    ensures made { front.new.door.made ≤ count }
+    ensures attended { AreAttended count
+        (record { waiting = L.waiting net.old; over = L.over net.old; faults = L.faults net.old; nonce_faults = N.faults front.old.nonces.now })
+        (record { waiting = L.waiting net.new; over = L.over net.new; faults = L.faults net.new; nonce_faults = N.faults front.new.nonces.now }) result }
+{
+    serve_conns(rt, alloc, net, service, front, port, count, AT_ONCE)
+}
+
 // Gives connections sessions over what the lock keeps, and returns how that ended, and the doorman.
 fn serve_under<
     R: Threads + Wait + Sync,
@@ -57,7 +91,7 @@ fn serve_under<
         nonces: &mut *nonces,
         served: 0,
     };
-    let end = serve_conns(rt, alloc, net, &service, &mut front, port, count, AT_ONCE);
+    let end = attend_all(rt, alloc, &service, &mut front, port, count, net);
     let SessionDoor {
         door,
         nonces: _,
