@@ -111,9 +111,7 @@ fn run_over<R: Threads + Wait + Sync + AllocGlobal>(
     let alloc = rt.alloc();
     let words = words_of(alloc, words)?;
     let mut input = MemorySource::new(alloc, input, Numbers::new(alloc));
-    Ok(run_alone(
-        rt, alloc, &words, secrets, &mut input, output, a, b,
-    ))
+    Ok(run_alone(rt, alloc, &words, secrets, &mut input, output, a, b))
 }
 
 // The disks after the operator's script.

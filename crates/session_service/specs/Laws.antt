@@ -29,9 +29,10 @@ use Rattle.session_history.specs.Placed.{LinesPlaced}
 use Rattle.shared_store.specs.declared.entry.LockEntry.{LockEntry}
 use Rattle.shared_store.specs.LockHistory.{numbered, lock_history}
 use Rattle.shared_store.specs.Turning.{pass_at}
-use Rattle.shared_store.specs.Asking.{entries_seen, HasHistory}
+use Rattle.shared_store.specs.Asking.{entries_seen, HasHistory, HasSeenFault}
 use Rattle.pcfs_session.specs.Asker.{Asker}
 use Rattle.pcfs_session.specs.LineAnswer.{replied, requested, ComesTo}
+use Rattle.session_service.specs.Said.{SaysStopped}
 use Rattle.session_service.specs.SessionEnds.{Speaks}
 
 -- what is asked in one turn is what a look at any state makes of the command
@@ -58,7 +59,7 @@ AbsencesAreWhatCommandsComeTo = (secrets : Secrets) (state : BaseView) (asker : 
 
 -- A session in what its pass has seen at the end: this is the history of a store that was opened so, and the replies are placed in it, after all that the pass had seen at first; the pass's own entries grew by those that the replies
 -- were given.
-pub record IsPlacedSession {D : Type 0} (gives : ℤ → Type 0) (nonce : List ℕ) (opening : StoreView D) (old new : PassView (LockEntry D)) (lines : List (List ℕ)) (answers : List LineReply) : Type 0 where
+pub record IsPlacedSession {D : Type 0} (faults : D → ℕ) (gives : ℤ → Type 0) (nonce : List ℕ) (opening : StoreView D) (old new : PassView (LockEntry D)) (lines : List (List ℕ)) (answers : List LineReply) : Type 0 where
   pub entries : List StoreEntry
   pub seen_is : new.seen ≡ lock_history opening entries
   pub end : SessionState
@@ -67,8 +68,9 @@ pub record IsPlacedSession {D : Type 0} (gives : ℤ → Type 0) (nonce : List �
   pub placed : LinesPlaced gives (pass_at opening old.number) entries (guest_with nonce) (entries_seen old) lines answers end to given
   pub within : to ≤ entries_seen new
   pub own : new.own ≡ old.own ++ numbered given
+  pub stopped : SaysStopped answers → HasSeenFault faults new
 
 -- so is each session over a store of which its pass had seen the history
-abbrev pub SessionsArePlaced : Type 0 → (ℤ → Type 0) → Type 0
-SessionsArePlaced D gives = (nonce : List ℕ) (opening : StoreView D) (old new : PassView (LockEntry D)) (lines : List (List ℕ)) (answers : List LineReply) → HasHistory opening old → Speaks gives nonce old new lines answers →
-    IsPlacedSession gives nonce opening old new lines answers
+abbrev pub SessionsArePlaced : (D : Type 0) → (D → ℕ) → (ℤ → Type 0) → Type 0
+SessionsArePlaced D faults gives = (nonce : List ℕ) (opening : StoreView D) (old new : PassView (LockEntry D)) (lines : List (List ℕ)) (answers : List LineReply) → HasHistory opening old → Speaks faults gives nonce old new lines answers →
+    IsPlacedSession faults gives nonce opening old new lines answers

@@ -14,7 +14,7 @@ use Rattle.session_history.specs.SessionState.{SessionState, guest_with}
 use Rattle.session_history.specs.Placed.{LinesPlaced}
 use Rattle.shared_store.specs.declared.entry.LockEntry.{LockEntry}
 use Rattle.shared_store.specs.Turning.{pass_at}
-use Rattle.shared_store.specs.Asking.{entries_seen, PassGoesOn, InEachHistory}
+use Rattle.shared_store.specs.Asking.{entries_seen, PassGoesOn, InEachHistory, HasSeenFault}
 use Rattle.pcfs_session.specs.Streams.{Streams}
 use Rattle.pcfs_session.specs.Taken.{AreTaken, AreAllTaken, IsCutAtLong}
 use Rattle.pcfs_session.specs.declared.outbox.SendFault.{SendFault}
@@ -22,10 +22,11 @@ use Rattle.pcfs_session.specs.declared.outbox.SendFault.TheVariants.{Write}
 use Rattle.session_service.specs.declared.session_end.SessionEnd.{SessionEnd}
 use Rattle.session_service.specs.declared.session_end.SessionEnd.TheVariants.{Done, LineTooLong, ReadFault, InputTooLong}
 use Rattle.session_service.specs.Ends.{unsent_end}
+use Rattle.session_service.specs.Said.{SaysStopped}
 
-module _ {D : Type 0} (gives : ℤ → Type 0) (nonce : List ℕ) where
+module _ {D : Type 0} (faults : D → ℕ) (gives : ℤ → Type 0) (nonce : List ℕ) where
   -- A session with this nonce answered these lines, from one moment of its pass to a later one. In each history that begins with what the pass has seen then, the replies are placed after all that it had seen at first; and
-  -- the pass's own entries grew by those that the replies were given.
+  -- the pass's own entries grew by those that the replies were given. That the store is stopped is told only if the pass has seen that a disk failed.
   pub record Speaks (old new : PassView (LockEntry D)) (lines : List (List ℕ)) (answers : List LineReply) : Type 0 where
     pub end : SessionState
     pub to : ℕ
@@ -33,6 +34,7 @@ module _ {D : Type 0} (gives : ℤ → Type 0) (nonce : List ℕ) where
     pub given : List StoreEntry
     pub goes_on : PassGoesOn old new given
     pub placed : InEachHistory new (λ opening entries. LinesPlaced gives (pass_at opening old.number) entries (guest_with nonce) (entries_seen old) lines answers end to given)
+    pub stopped : SaysStopped answers → HasSeenFault faults new
 
   -- how far a session is: it answered lines that were taken, each with its end; or the input was read to its end, and it answered all its lines, of which none is too long
   pub data IsUnderWay (old new : PassView (LockEntry D)) (before after : Streams) (answers : List LineReply) : Type 0 where

@@ -18,17 +18,17 @@ use Rattle.session_service.specs.declared.session_end.SessionEnd.TheVariants.{Do
 use Rattle.session_service.specs.Ends.{unsent_end}
 use Rattle.session_service.specs.Said.{session_of, HasSaid}
 
-module _ {D : Type 0} (gives : ℤ → Type 0) (nonce : List ℕ) where
+module _ {D : Type 0} (faults : D → ℕ) (gives : ℤ → Type 0) (nonce : List ℕ) where
   -- lines are answered, and their replies were written
   pub record IsSpoken (lines : List (List ℕ)) (caller : Option (List ℕ)) (old new : PassView (LockEntry D)) (caller_after : Option (List ℕ)) (held held_after : Option (List ℕ)) : Type 0 where
     pub answers : List LineReply
-    pub said : HasSaid gives (session_of nonce caller) old new lines answers (session_of nonce caller_after)
+    pub said : HasSaid faults gives (session_of nonce caller) old new lines answers (session_of nonce caller_after)
     pub out : held_after ≡ with_back held (output_of answers)
 
   -- lines are answered, and of their replies some first part was written
   pub record IsCutOff (lines : List (List ℕ)) (caller : Option (List ℕ)) (old new : PassView (LockEntry D)) (caller_after : Option (List ℕ)) (held held_after : Option (List ℕ)) : Type 0 where
     pub answers : List LineReply
-    pub said : HasSaid gives (session_of nonce caller) old new lines answers (session_of nonce caller_after)
+    pub said : HasSaid faults gives (session_of nonce caller) old new lines answers (session_of nonce caller_after)
     pub some : HoldsSome held held_after (output_of answers)
 
   -- the lines of these bytes that have their end are answered, and these bytes are left
@@ -51,9 +51,9 @@ module _ {D : Type 0} (gives : ℤ → Type 0) (nonce : List ℕ) where
 
   -- how a session ends after these lines, since the next one is too long: that was written after their replies; or of all that some first part
   pub data EndsAtLong (lines : List (List ℕ)) (caller : Option (List ℕ)) (old new : PassView (LockEntry D)) (caller_after : Option (List ℕ)) (held held_after : Option (List ℕ)) : SessionEnd → Type 0 where
-    long_told : (answers : List LineReply) → HasSaid gives (session_of nonce caller) old new lines answers (session_of nonce caller_after) → held_after ≡ with_back held (output_of (answers ++ TooLong ∷ [])) →
+    long_told : (answers : List LineReply) → HasSaid faults gives (session_of nonce caller) old new lines answers (session_of nonce caller_after) → held_after ≡ with_back held (output_of (answers ++ TooLong ∷ [])) →
         EndsAtLong lines caller old new caller_after held held_after LineTooLong
-    long_untold : (answers : List LineReply) (fault : SendFault) → HasSaid gives (session_of nonce caller) old new lines answers (session_of nonce caller_after) → HoldsSome held held_after (output_of (answers ++ TooLong ∷ [])) →
+    long_untold : (answers : List LineReply) (fault : SendFault) → HasSaid faults gives (session_of nonce caller) old new lines answers (session_of nonce caller_after) → HoldsSome held held_after (output_of (answers ++ TooLong ∷ [])) →
         EndsAtLong lines caller old new caller_after held held_after (unsent_end fault)
     cut_before : (fault : SendFault) → IsCutWithin (ended lines) caller old new caller_after held held_after → EndsAtLong lines caller old new caller_after held held_after (unsent_end fault)
 

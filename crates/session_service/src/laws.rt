@@ -16,7 +16,7 @@ pub fn lines_ask_what_commands_come_to()
 
 /// What a session's pass has seen at the end is a history, if it was one at first, and the session's replies are placed in it.
 pub fn sessions_are_placed<D: Disk, C: Clock>(clock: &C)
-    ensures { SessionsArePlaced D (C.gives clock.now) }
+    ensures { SessionsArePlaced D D.faults (C.gives clock.now) }
 {
     let _ = clock;
 }

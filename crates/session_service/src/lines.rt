@@ -47,8 +47,8 @@ pub fn speak<R: Wait, D: Disk, C: Clock, K: Checker, O: Sink>(
     output: &mut O,
 ) -> Result<(), SendFault>
     requires { pass.old.lock ≡ lock.now }
-    ensures ok { OnOk result (IsSpoken (C.gives clock.now) nonce.now (line.now ∷ []) caller.old pass.old pass.new caller.new (O.held output.old) (O.held output.new)) }
-    ensures cut { OnErr result (IsCutOff (C.gives clock.now) nonce.now (line.now ∷ []) caller.old pass.old pass.new caller.new (O.held output.old) (O.held output.new)) }
+    ensures ok { OnOk result (IsSpoken D.faults (C.gives clock.now) nonce.now (line.now ∷ []) caller.old pass.old pass.new caller.new (O.held output.old) (O.held output.new)) }
+    ensures cut { OnErr result (IsCutOff D.faults (C.gives clock.now) nonce.now (line.now ∷ []) caller.old pass.old pass.new caller.new (O.held output.old) (O.held output.new)) }
     ensures risen { IsErrOf result SendFault.Write → HasRisen (O.faults output.old) (O.faults output.new) }
     ensures never_falls { O.faults output.old ≤ O.faults output.new }
     ensures same_lock { pass.new.lock ≡ lock.now }
@@ -74,9 +74,9 @@ pub fn speak_held<R: Wait, D: Disk, C: Clock, K: Checker, O: Sink>(
     output: &mut O,
 ) -> Result<(), SendFault>
     requires { pass.old.lock ≡ lock.now }
-    ensures ok { OnOk result (SpeaksHeld (C.gives clock.now) nonce.now framer.old.left framer.new.left caller.old pass.old pass.new caller.new (O.held output.old) (O.held output.new)) }
+    ensures ok { OnOk result (SpeaksHeld D.faults (C.gives clock.now) nonce.now framer.old.left framer.new.left caller.old pass.old pass.new caller.new (O.held output.old) (O.held output.new)) }
     ensures long_stays { OnOk result (framer.new.is_long ≡ framer.old.is_long) }
-    ensures cut { OnErr result (IsCutWithin (C.gives clock.now) nonce.now framer.old.left caller.old pass.old pass.new caller.new (O.held output.old) (O.held output.new)) }
+    ensures cut { OnErr result (IsCutWithin D.faults (C.gives clock.now) nonce.now framer.old.left caller.old pass.old pass.new caller.new (O.held output.old) (O.held output.new)) }
     ensures risen { IsErrOf result SendFault.Write → HasRisen (O.faults output.old) (O.faults output.new) }
     ensures never_falls { O.faults output.old ≤ O.faults output.new }
     ensures same_lock { pass.new.lock ≡ lock.now }

@@ -34,7 +34,7 @@ fn end_at_long_line<R: Wait, D: Disk, C: Clock, K: Checker, O: Sink>(
 ) -> SessionEnd
     requires { pass.old.lock ≡ lock.now }
     ensures ends { (lines : List (List ℕ)) → AllByRecursion IsLine lines → framer.old.left ≡ ended lines →
-        EndsAtLong (C.gives clock.now) nonce.now lines caller.old pass.old pass.new caller.new (O.held output.old) (O.held output.new) result }
+        EndsAtLong D.faults (C.gives clock.now) nonce.now lines caller.old pass.old pass.new caller.new (O.held output.old) (O.held output.new) result }
     ensures risen { (result ≡ SessionEnd.WriteFault) → HasRisen (O.faults output.old) (O.faults output.new) }
     ensures never_falls { O.faults output.old ≤ O.faults output.new }
     ensures same_lock { pass.new.lock ≡ lock.now }
@@ -67,10 +67,10 @@ pub fn speak_piece<R: Wait, D: Disk, C: Clock, K: Checker, O: Sink>(
 ) -> Result<(), SessionEnd>
     requires lock { pass.old.lock ≡ lock.now }
     requires not_long { framer.old.is_long ≡ false }
-    ensures ok { OnOk result (SpeaksPiece (C.gives clock.now) nonce.now framer.old.left piece.now framer.new.left caller.old pass.old pass.new caller.new (O.held output.old) (O.held output.new)) }
+    ensures ok { OnOk result (SpeaksPiece D.faults (C.gives clock.now) nonce.now framer.old.left piece.now framer.new.left caller.old pass.old pass.new caller.new (O.held output.old) (O.held output.new)) }
     ensures few { OnOk result (length framer.new.left ≤ 262144) }
     ensures stays_so { OnOk result (framer.new.is_long ≡ false) }
-    ensures ends { IfErr result (EndsAtPiece (C.gives clock.now) nonce.now framer.old.left piece.now caller.old pass.old pass.new caller.new (O.held output.old) (O.held output.new)) }
+    ensures ends { IfErr result (EndsAtPiece D.faults (C.gives clock.now) nonce.now framer.old.left piece.now caller.old pass.old pass.new caller.new (O.held output.old) (O.held output.new)) }
     ensures risen { IsErrOf result SessionEnd.WriteFault → HasRisen (O.faults output.old) (O.faults output.new) }
     ensures never_falls { O.faults output.old ≤ O.faults output.new }
     ensures same_lock { pass.new.lock ≡ lock.now }
@@ -107,7 +107,7 @@ pub fn speak_last<R: Wait, D: Disk, C: Clock, K: Checker, O: Sink>(
 ) -> SessionEnd
     requires lock { pass.old.lock ≡ lock.now }
     requires one { HasNo 10 framer.now.left }
-    ensures ends { EndsAtLast (C.gives clock.now) nonce.now framer.now.left caller.old pass.old pass.new caller.new (O.held output.old) (O.held output.new) result }
+    ensures ends { EndsAtLast D.faults (C.gives clock.now) nonce.now framer.now.left caller.old pass.old pass.new caller.new (O.held output.old) (O.held output.new) result }
     ensures risen { (result ≡ SessionEnd.WriteFault) → HasRisen (O.faults output.old) (O.faults output.new) }
     ensures never_falls { O.faults output.old ≤ O.faults output.new }
     ensures same_lock { pass.new.lock ≡ lock.now }

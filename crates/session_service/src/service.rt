@@ -14,6 +14,7 @@ use std::sync::Wait;
 use tree_lock::{Doorman, Pass, Recorded, TreeLock};
 
 /// Sessions over what a lock keeps, by a clock. `N` is the type of the nonces, which the door holds.
+#[derive(Drop)]
 pub struct SessionService<'a, V: Recorded, C, N> {
     lock: &'a TreeLock<V>,
     clock: &'a C,
@@ -179,7 +180,7 @@ impl<'a, D: Disk + Send, C: Clock, N: Nonces + 'a, I: Source, O: Sink> Service<I
         ensures attended { token.new.attended ≡ true }
 
         // The connection had a session, under the token's pass and with its nonce.
-        ensures session { (end : SessionEnd) × SessionEnds (C.gives self.now.clock.now) token.old.nonce token.old.pass token.new.pass
+        ensures session { (end : SessionEnd) × SessionEnds D.faults (C.gives self.now.clock.now) token.old.nonce token.old.pass token.new.pass
             (record { left = I.left input.old; read_faults = I.faults input.old; held = O.held output.old; write_faults = O.faults output.old }) end
             (record { left = I.left input.new; read_faults = I.faults input.new; held = O.held output.new; write_faults = O.faults output.new }) }
         ensures greets_first { GreetsFirst token.old.nonce

@@ -57,7 +57,7 @@ fn speak_pieces<R: Wait, I: Source, O: Sink, D: Disk, C: Clock, K: Checker>(
     checker: &mut K,
 ) -> SessionEnd
     requires { pass.old.lock ≡ lock.now }
-    ensures ends { GoesOnToEnd (C.gives clock.now) nonce.now pass.old pass.new
+    ensures ends { GoesOnToEnd D.faults (C.gives clock.now) nonce.now pass.old pass.new
         (record { left = I.left input.old; read_faults = I.faults input.old; held = O.held output.old; write_faults = O.faults output.old }) result
         (record { left = I.left input.new; read_faults = I.faults input.new; held = O.held output.new; write_faults = O.faults output.new }) }
     ensures same_lock { pass.new.lock ≡ lock.now }
@@ -128,7 +128,7 @@ pub fn serve_session_with<R: Wait, I: Source, O: Sink, D: Disk, C: Clock, K: Che
     checker: &mut K,
 ) -> SessionEnd
     requires { pass.old.lock ≡ lock.now }
-    ensures ends { SessionEnds (C.gives clock.now) nonce pass.old pass.new
+    ensures ends { SessionEnds D.faults (C.gives clock.now) nonce pass.old pass.new
         (record { left = I.left input.old; read_faults = I.faults input.old; held = O.held output.old; write_faults = O.faults output.old }) result
         (record { left = I.left input.new; read_faults = I.faults input.new; held = O.held output.new; write_faults = O.faults output.new }) }
     ensures greets_first { GreetsFirst nonce
@@ -154,7 +154,7 @@ pub fn serve_session<R: Wait, I: Source, O: Sink, D: Disk, C: Clock>(
     nonce: [u8; 16],
 ) -> SessionEnd
     requires { pass.old.lock ≡ lock.now }
-    ensures ends { SessionEnds (C.gives clock.now) nonce pass.old pass.new
+    ensures ends { SessionEnds D.faults (C.gives clock.now) nonce pass.old pass.new
         (record { left = I.left input.old; read_faults = I.faults input.old; held = O.held output.old; write_faults = O.faults output.old }) result
         (record { left = I.left input.new; read_faults = I.faults input.new; held = O.held output.new; write_faults = O.faults output.new }) }
     ensures greets_first { GreetsFirst nonce

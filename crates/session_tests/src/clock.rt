@@ -101,10 +101,12 @@ register - admin says may(bob,#1,write) from 200 to +inf
 verify bob #1 write 1 saysR(claim(0,init(1)))
 ";
 
-const LOGIN: &[u8] = b"login bob 8c747c2e83ff4cc228462cb3a09e77c1bc7df6397add9e18ea6c2d031f1735ce\n";
+const LOGIN: &[u8] =
+    b"login bob 8c747c2e83ff4cc228462cb3a09e77c1bc7df6397add9e18ea6c2d031f1735ce\n";
 
 // Bob asks for a file, under a procap that is good from 200 on.
-const ASKING: &[u8] = b"do create #1 made 470103626f6200000000000000010201040100000000000000c80600525f7c1df0ca13ca6b7cf8daa465635d12b6f8875262d9ae9f69906ab35ed059\n";
+const ASKING: &[u8] =
+    b"do create #1 made 470103626f6200000000000000010201040100000000000000c80600525f7c1df0ca13ca6b7cf8daa465635d12b6f8875262d9ae9f69906ab35ed059\n";
 
 // Holds the lock for one turn, once the user has logged in.
 fn hold<R: Wait>(
@@ -183,8 +185,14 @@ fn the_clock_is_read_in_the_turn(rt: HostRuntime) -> Result<(), Fail> {
     };
     let clock = SetClock::new(100);
     let store = opened(&rt, SET_UP)?;
-    assert!(rt; ask_while_held(&rt, rt.alloc(), store, &clock, &signs), "the session did not end");
-    assert!(rt; signs.ready.was_seen() && signs.held.was_seen() && signs.asked.was_seen(), "a sign was not seen");
+    assert!(rt;
+        ask_while_held(&rt, rt.alloc(), store, &clock, &signs),
+        "the session did not end"
+    );
+    assert!(rt;
+        signs.ready.was_seen() && signs.held.was_seen() && signs.asked.was_seen(),
+        "a sign was not seen"
+    );
     assert!(rt; signs.done.was_seen(), "the clock was read before the turn");
     Ok(())
 }

@@ -67,20 +67,15 @@ pub fn run_over(
 ) -> Result<Ended<MemoryDisk>, Fail> {
     let words = words_of(rt, words)?;
     let mut input = input_of(rt, text)?;
-    Ok(run_alone(
-        rt,
-        rt.alloc(),
-        &words,
-        secrets,
-        &mut input,
-        output,
-        a,
-        b,
-    ))
+    Ok(run_alone(rt, rt.alloc(), &words, secrets, &mut input, output, a, b))
 }
 
 /// The disks after a script.
-pub fn set_up(rt: &HostRuntime, secrets: &Secrets, script: &str) -> Result<Ended<MemoryDisk>, Fail> {
+pub fn set_up(
+    rt: &HostRuntime,
+    secrets: &Secrets,
+    script: &str,
+) -> Result<Ended<MemoryDisk>, Fail> {
     let mut output = MemorySink::new(rt.alloc(), Numbers::new(rt.alloc()));
     let a = new_disk(rt)?;
     let b = new_disk(rt)?;
