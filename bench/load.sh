@@ -34,7 +34,7 @@ def sqlite():
     base = sqlite3.connect(":memory:", isolation_level=None)
     base.execute("create table event (number integer primary key, kind integer, payload blob)")
     base.execute("create table node (number integer primary key, parent integer, name text, owner text, contents blob, unique (parent, name))")
-    begin, state, count, nodes = time.perf_counter(), SEED, 0, 1
+    begin, state, count, nodes, issues = time.perf_counter(), SEED, 0, 1, 0
     base.execute("begin")
     for place in range(1, ROUNDS + 1):
         state, user = drawn(state, 8)
@@ -43,8 +43,10 @@ def sqlite():
         state, choice = drawn(state, 8)
         grant = b"G\1\2u" + bytes([48 + user]) + (file + 2).to_bytes(8, "big") + bytes(30)
         hmac.digest(b"\2", grant, "sha256")
+        if kind == 2 and issues == 0:
+            kind = 0
         if kind in (1, 3):
-            count += 1
+            count, issues = count + 1, issues + 1
             base.execute("insert into event values (?, 2, ?)", (count, grant))
         if kind == 0:
             nodes += 1

@@ -1,5 +1,5 @@
 -- A script grows by users and by rounds.
-use Rattle.std.proofs.Common.{◌≡◌, ◌<◌, ◌≤◌, ◌+◌, ◌-◌, ℕ, suc, List, ◌++◌, sym, ap, ◌∙◌, append_assoc, append-nil, add-one, arith}
+use Rattle.std.proofs.Common.{◌≡◌, ◌<◌, ◌≤◌, ◌+◌, ◌-◌, ℕ, suc, List, ◌++◌, sym, ap, ◌∙◌, append_assoc, append-nil, arith}
 use Rattle.generated_script.specs.declared.drawing.Round.{Round}
 use Rattle.generated_script.specs.Draws.{round_from}
 use Rattle.generated_script.specs.Script.{issues_after, root_lines, round_lines, rounds_text, users_lines}

@@ -66,12 +66,7 @@ fn put_prove_lines(
 
 // Writes how a user writes by the procap of an issue that a round has made; it makes a file if there is none.
 #[tactic(auto, using(bl_syntax::proofs::BeginsWithLemmas::writing), unfolding(crate::specs::Script::again_lines))]
-fn put_again_lines(
-    out: &mut Bytes,
-    round: &Round,
-    number: u64,
-    issues: u64,
-) -> Result<(), NoMemory>
+fn put_again_lines(out: &mut Bytes, round: &Round, number: u64, issues: u64) -> Result<(), NoMemory>
     requires user { round.now.user < 8 }
     requires issues { 8 ≤ issues }
     ensures { OnOk result (out.new ≡ out.old ++ again_lines round.now number issues) }
@@ -94,12 +89,7 @@ fn put_give_lines(out: &mut Bytes, file: u64, user: u64, issue: u64) -> Result<(
 }
 
 // Writes the lines of a round after its time, if there were so many issues before it.
-fn put_kind_lines(
-    out: &mut Bytes,
-    round: &Round,
-    number: u64,
-    issues: u64,
-) -> Result<(), NoMemory>
+fn put_kind_lines(out: &mut Bytes, round: &Round, number: u64, issues: u64) -> Result<(), NoMemory>
     requires user { round.now.user < 8 }
     requires issues { 8 ≤ issues }
     requires few { issues < 2 ^ 32 }

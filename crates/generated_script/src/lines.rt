@@ -62,7 +62,10 @@ pub fn put_owner(out: &mut Bytes) -> Result<(), NoMemory>
 pub fn put_govern(out: &mut Bytes) -> Result<(), NoMemory>
     ensures { OnOk result (out.new ≡ out.old ++ govern_line) }
 {
-    put_text(out, "register - admin says forall F:file. may(admin,F,govern) from 0 to 100000\n")
+    put_text(
+        out,
+        "register - admin says forall F:file. may(admin,F,govern) from 0 to 100000\n",
+    )
 }
 
 // Writes the goal that a user may do something with a file.

@@ -1,5 +1,5 @@
 -- A script in memory that was run to its end, and how many of its replies begin with a word.
-use Rattle.std.proofs.Common.{◌≡◌, ◌⊎◌, inl, inr, ◌+◌, ℕ, List, [], ◌∷◌, Bool, true, false, length, refl, sym, ap, subst, ◌∙◌, arith, Option, Some, None}
+use Rattle.std.proofs.Common.{◌≡◌, ◌⊎◌, inl, inr, ◌+◌, ◌≤◌, ◌<◌, ℕ, List, [], ◌∷◌, Bool, true, false, length, refl, sym, ap, subst, ◌∙◌, arith, Option, Some, None}
 use Rattle.std.specs.Prelude.{if◌then◌else◌, IfSome}
 use Rattle.access_history.specs.Replay.{replay}
 use Rattle.line_text.specs.Lines.{lines_of}
@@ -31,6 +31,11 @@ count_next word reply replies others hit count new total parts hit_is new_is bef
     one_reply hit count (count_of word others) new total new_is
     (subst (λ (b : Bool). count + (if b then 1 + count_of word others else count_of word others) ≡ total) (sym hit_is) (subst (λ (rs : List (List ℕ)). count + count_of word rs ≡ total) parts before))
 
+-- and no more are counted than there are bytes
+pub counted_few : (hit : Bool) (count new rest left total : ℕ) → new ≡ (if hit then count + 1 else count) → left < rest → count + rest ≤ total → new + left ≤ total
+counted_few true count new rest left total is fewer before = omega (arith, is, fewer, before)
+counted_few false count new rest left total is fewer before = omega (arith, is, fewer, before)
+
 -- all were
 pub count_end : (word rest : List ℕ) (count total : ℕ) → rest ≡ [] → count + count_of word (lines_of rest) ≡ total → count ≡ total
 count_end word rest count total none before = let all = subst (λ (r : List ℕ). count + count_of word (lines_of r) ≡ total) none before in omega (arith, all)
@@ -46,17 +51,20 @@ all_end rest count total none before = let all = subst (λ (r : List ℕ). count
 same_some : (x y : List ℕ) → Some x ≡ Some y → x ≡ y
 same_some x y is = cc
 
+not_zero : (status other : ℕ) → status ≡ 0 → status ≡ other → 1 ≤ other → ⊥
+not_zero status other none is some = omega (arith, none, is, some)
+
 -- only the end Done has the status 0, and then nothing more was written
 done_tells : (how : ScriptEnd) (held : Option (List ℕ)) (faults status : ℕ) (held_after : Option (List ℕ)) (faults_after : ℕ) → status ≡ 0 → TellsEnd how held faults status held_after faults_after → (how ≡ Done) × (held_after ≡ held)
 done_tells Done held faults status held_after faults_after is tells = (refl, tells.1)
-done_tells LineTooLong held faults status held_after faults_after is tells = let bad : 0 ≡ 2 = sym is ∙ tells.0 in absurd (omega arith)
-done_tells ReadFault held faults status held_after faults_after is (inl told) = let bad : 0 ≡ 6 = sym is ∙ told.0 in absurd (omega arith)
-done_tells ReadFault held faults status held_after faults_after is (inr failed) = let bad : 0 ≡ 7 = sym is ∙ failed.0 in absurd (omega arith)
-done_tells WriteFault held faults status held_after faults_after is tells = let bad : 0 ≡ 7 = sym is ∙ tells.0 in absurd (omega arith)
-done_tells NoMemory held faults status held_after faults_after is tells = let bad : 0 ≡ 9 = sym is ∙ tells.0 in absurd (omega arith)
-done_tells InputTooLong held faults status held_after faults_after is (inl told) = let bad : 0 ≡ 13 = sym is ∙ told.0 in absurd (omega arith)
-done_tells InputTooLong held faults status held_after faults_after is (inr failed) = let bad : 0 ≡ 7 = sym is ∙ failed.0 in absurd (omega arith)
-done_tells Stopped held faults status held_after faults_after is tells = let bad : 0 ≡ 5 = sym is ∙ tells.0 in absurd (omega arith)
+done_tells LineTooLong held faults status held_after faults_after is tells = absurd (not_zero status 2 is tells.0 (omega arith))
+done_tells ReadFault held faults status held_after faults_after is (inl told) = absurd (not_zero status 6 is told.0 (omega arith))
+done_tells ReadFault held faults status held_after faults_after is (inr failed) = absurd (not_zero status 7 is failed.0 (omega arith))
+done_tells WriteFault held faults status held_after faults_after is tells = absurd (not_zero status 7 is tells.0 (omega arith))
+done_tells NoMemory held faults status held_after faults_after is tells = absurd (not_zero status 9 is tells.0 (omega arith))
+done_tells InputTooLong held faults status held_after faults_after is (inl told) = absurd (not_zero status 13 is told.0 (omega arith))
+done_tells InputTooLong held faults status held_after faults_after is (inr failed) = absurd (not_zero status 7 is failed.0 (omega arith))
+done_tells Stopped held faults status held_after faults_after is tells = absurd (not_zero status 5 is tells.0 (omega arith))
 
 -- the whole input was run
 done_writes : (start end : Standing) (before after : Streams) (how : ScriptEnd) (whole script : List ℕ) → how ≡ Done → before.left ≡ Some script → ScriptWrites start end before after how whole → RunsOver start (lines_of script) end whole × (end.met ≡ None)

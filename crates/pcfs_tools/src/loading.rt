@@ -1,6 +1,6 @@
 //! A large run: a generated script over a store in memory, and how many replies of each kind it had.
 
-ghost use Rattle.std.specs.Prelude.{◌≡◌, ◌≤◌, ◌<◌, ◌+◌, ◌-◌, ◌^◌, ◌++◌, ◌⊎◌, ℕ, List, None, IfOk, OnOk, length, if◌then◌else◌};
+ghost use Rattle.std.specs.Prelude.{◌≡◌, ◌≤◌, ◌<◌, ◌+◌, ◌-◌, ◌^◌, ◌++◌, ◌⊎◌, [], ℕ, List, None, IfOk, OnOk, length, if◌then◌else◌};
 ghost use Rattle.line_text.specs.Lines.{lines_of};
 ghost use Rattle.pcfs_session.specs.Asker.{first_asker};
 ghost use Rattle.pcfs_session.specs.InterpreterView.{standing_over};
@@ -16,7 +16,7 @@ use bl_syntax::{Bytes, NoMemory, Numbers, Principal};
 use generated_script::generated_script;
 use line_text::first_line;
 use line_words::first_word;
-use pcfs_ports::{MemoryDisk, MemorySink, MemorySource, Sink};
+use pcfs_ports::{Disk, MemorySink, MemorySource, Sink};
 use pcfs_secrets::Secrets;
 use pcfs_store::Store;
 use policy_statement::Keyring;
@@ -126,18 +126,38 @@ fn summary(alloc: Global, replies: &[u8], events: u64) -> Result<Bytes, NoMemory
     Ok(line)
 }
 
+// Runs the script over the store, writes its replies, and returns the status that it ends with, and the number of the last
+// event.
+fn run_bytes<D: Disk + Drop>(
+    alloc: Global,
+    store: Store<D>,
+    script: Bytes,
+    output: &mut MemorySink,
+) -> (u8, u64)
+    requires lawful { IsLawfulStanding (standing_over store None (first_asker script_pass)) }
+    requires running { store.stop ≡ None }
+    ensures { (told : List ℕ) → output.old.held ≡ [] → result.0 ≡ 0 → told ≡ summary_text (lines_of output.new.held) result.1 → IsRunThrough (standing_over store None (first_asker script_pass)) script told }
+{
+    let mut input = MemorySource::new(alloc, script, Numbers::new(alloc));
+    let (status, after) = run_over(alloc, store, &mut input, ENOUGH, output);
+    (status, after.gate().history().count())
+}
+
 // Runs the script over the store, and returns the line that tells of it; out of memory also if it was not run to its end,
 // since all ports are in memory.
-fn run_script(alloc: Global, store: Store<MemoryDisk>, script: Bytes) -> Result<Bytes, NoMemory>
+fn run_script<D: Disk + Drop>(
+    alloc: Global,
+    store: Store<D>,
+    script: Bytes,
+) -> Result<Bytes, NoMemory>
     requires lawful { IsLawfulStanding (standing_over store None (first_asker script_pass)) }
     requires running { store.stop ≡ None }
     ensures { IfOk result (λ line. (told : List ℕ) × (line ≡ with_line_end told) × IsRunThrough (standing_over store None (first_asker script_pass)) script told) }
 {
-    let mut input = MemorySource::new(alloc, script, Numbers::new(alloc));
     let mut output = MemorySink::new(alloc, Numbers::new(alloc));
-    let (status, after) = run_over(alloc, store, &mut input, ENOUGH, &mut output);
+    let (status, events) = run_bytes(alloc, store, script, &mut output);
     if status == DONE {
-        summary(alloc, output.held(), after.gate().history().count())
+        summary(alloc, output.held(), events)
     } else {
         Err(NoMemory)
     }

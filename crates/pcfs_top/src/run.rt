@@ -136,7 +136,7 @@ fn audit_stored<R: Threads + Sync, O: Sink, D: Disk>(
     a: D,
     b: D,
 ) -> Ended<D>
-    requires { IfSome pieces (λ n. 1 ≤ n) }
+    requires some { IfSome pieces (λ n. 1 ≤ n) }
     ensures { (words : List (String Global)) (left : Option (List ℕ)) (read_faults : ℕ) → AsksForAudit words pieces → EndsWith secrets.now words (record { before = IsPinned D.clock D.left_since D.image a × IsPinned D.clock D.left_since D.image b; after = IsPinned D.clock D.left_since D.image result.a × IsPinned D.clock D.left_since D.image result.b })
         (record { streams = record { left = left; read_faults = read_faults; held = O.held output.old; write_faults = O.faults output.old }; disks = record { a = D.image a; b = D.image b; a_faults = D.faults a; b_faults = D.faults b } })
         (record { streams = record { left = left; read_faults = read_faults; held = O.held output.new; write_faults = O.faults output.new }; disks = record { a = D.image result.a; b = D.image result.b; a_faults = D.faults result.a; b_faults = D.faults result.b } }) result.status }

@@ -1,5 +1,4 @@
 -- The inquiry ends, and its line is told.
-use Rattle.std.proofs.Common.{refl}
 use Rattle.pcfs_tools.proofs.TellingLemmas.{TellsInquiry-told}
 use Rattle.pcfs_tools.proofs.inquiring.inquire.Goals as goal
 

@@ -18,8 +18,8 @@ returns-in-Some-Stored g c = c.run_stored.ensures c.args.words.now.items (subst 
 pub returns-in-Some-Init : goal.returns-in-Some-Init
 returns-in-Some-Init g c = c.init.ensures c.args.words.now.items _ _ (subst (AsksFor c.args.words.now.items) c.in-Some-Init.field-0-is c.in-Some-Init.ensures)
 
-pub audit_stored-requires : goal.audit_stored-requires
-audit_stored-requires g c = some_pieces c.args.words.now.items _ (subst (AsksFor c.args.words.now.items) c.in-Some-Audit.field-0-is c.in-Some-Audit.ensures)
+pub audit_stored-requires-clause-some : goal.audit_stored-requires-clause-some
+audit_stored-requires-clause-some g c _ _ = some_pieces c.args.words.now.items _ (subst (AsksFor c.args.words.now.items) c.in-Some-Audit.field-0-is c.in-Some-Audit.ensures)
 
 pub returns-in-Some-Audit : goal.returns-in-Some-Audit
 returns-in-Some-Audit g c = c.audit_stored.ensures c.args.words.now.items _ _ (subst (AsksFor c.args.words.now.items) c.in-Some-Audit.field-0-is c.in-Some-Audit.ensures)
