@@ -94,9 +94,10 @@ fn serve_under<
     let end = attend_all(rt, alloc, &service, &mut front, port, count, net);
     let SessionDoor {
         door,
-        nonces: _,
+        nonces: lent,
         served: _,
     } = front;
+    let _ = lent;
     (end, door)
 }
 
