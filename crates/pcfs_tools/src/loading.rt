@@ -111,7 +111,10 @@ fn summary(alloc: Global, replies: &[u8], events: u64) -> Result<Bytes, NoMemory
     let done = count_of(replies, "ok");
     let denied = count_of(replies, "denied");
     let refused = count_of(replies, "refused");
-    let others = all.saturating_sub(done).saturating_sub(denied).saturating_sub(refused);
+    let others = all
+        .saturating_sub(done)
+        .saturating_sub(denied)
+        .saturating_sub(refused);
     let mut line = Bytes::new(alloc);
     put_summary(
         &mut line,

@@ -1,5 +1,5 @@
 -- Laws of turns, lines and sessions: what is placed stays placed, what is given is the pass's own, places do not go back, and each line and each turn has one outcome.
-use Rattle.std.specs.Prelude.{◌+◌, ◌⊎◌, [], false, ◌≡◌, ◌≢◌, ℕ, ℤ, ◌≤◌, List, ◌++◌, length, take, true}
+use Rattle.std.specs.Prelude.{◌+◌, ◌⊎◌, [], ◌∷◌, false, ◌≡◌, ◌≢◌, ℕ, ℤ, ◌≤◌, List, ◌++◌, length, take, true}
 use Rattle.std.specs.List.{AllByRecursion}
 use Rattle.policy_statement.specs.Messages.{login_message}
 use Rattle.policy_statement.specs.Ring.{KeyView, is_accepted}
@@ -9,12 +9,14 @@ use Rattle.line_wire.specs.declared.reply.LineReply.{LineReply}
 use Rattle.line_wire.specs.declared.reply.LineReply.TheVariants as replies
 use Rattle.pcfs_store.specs.Entries.{StoreEntry, happened, stopped, events_among}
 use Rattle.session_history.specs.declared.request.TurnRequest.{TurnRequest}
+use Rattle.session_history.specs.declared.request.TurnRequest.TheVariants.{Login}
 use Rattle.session_history.specs.declared.reply.TurnReply.{TurnReply}
 use Rattle.session_history.specs.declared.reply.TurnReply.TheVariants as turn_replies
 use Rattle.session_history.specs.Passes.{AllOfPass, has_stop}
 use Rattle.session_history.specs.Turn.{StorePass, authority_of_root, Turn, TurnPlaced, IsTurnFormed}
 use Rattle.session_history.specs.SessionState.{SessionState, guest_with}
 use Rattle.session_history.specs.declared.task.LineTask.{LineTask}
+use Rattle.session_history.specs.declared.task.LineTask.TheVariants as tasks
 use Rattle.session_history.specs.Tasks.{IsTaskOf, IsTaskFormed, IsNamed}
 use Rattle.session_history.specs.Placed.{LinePlaced, LinesPlaced}
 
@@ -57,21 +59,28 @@ abbrev pub StoppedAfterStop : (ℤ → Type 0) → Type 0
 StoppedAfterStop gives = (p : StorePass) (history : List StoreEntry) (s : SessionState) (from : ℕ) (line : List ℕ) (task : LineTask) (to : ℕ) (given : List StoreEntry) →
     IsTaskOf s line task → LinePlaced gives p history from task replies.Stopped to given → has_stop (take to history) ≡ true
 
--- the ring accepts a signature over this nonce of who has this name
-abbrev pub HasSigned : List KeyView → List ℕ → List ℕ → Type 0
-HasSigned ring nonce who = (signature : List ℕ) × (is_accepted ring who (login_message who nonce) signature ≡ true)
+-- One of these lines asks that this name be logged in over this nonce, by a signature that it brings and the ring accepts.
+pub record HasSigned (ring : List KeyView) (nonce : List ℕ) (heard : List (List ℕ)) (who : List ℕ) : Type 0 where
+  pub before : List (List ℕ)
+  pub line : List ℕ
+  pub after : List (List ℕ)
+  pub among : heard ≡ before ++ line ∷ after
+  pub state : SessionState
+  pub signature : List ℕ
+  pub asks : IsTaskOf state line (tasks.Turn (Login who nonce signature))
+  pub accepted : is_accepted ring who (login_message who nonce) signature ≡ true
 
--- the entry comes after a login over this nonce, and an operation is by who logged in so
-abbrev pub IsByAccepted : List KeyView → List ℕ → StoreEntry → Type 0
-IsByAccepted ring nonce (happened (Acted pass caller op procaps moment)) = HasSigned ring nonce caller
-IsByAccepted ring nonce (happened (Registered pass statement signature)) = (who : List ℕ) × HasSigned ring nonce who
-IsByAccepted ring nonce (happened (Issued pass cited proof grant)) = (who : List ℕ) × HasSigned ring nonce who
-IsByAccepted ring nonce (stopped pass) = (who : List ℕ) × HasSigned ring nonce who
+-- somebody logged in by one of these lines over this nonce, and an operation is by who did
+abbrev pub IsByAccepted : List KeyView → List ℕ → List (List ℕ) → StoreEntry → Type 0
+IsByAccepted ring nonce heard (happened (Acted pass caller op procaps moment)) = HasSigned ring nonce heard caller
+IsByAccepted ring nonce heard (happened (Registered pass statement signature)) = (who : List ℕ) × HasSigned ring nonce heard who
+IsByAccepted ring nonce heard (happened (Issued pass cited proof grant)) = (who : List ℕ) × HasSigned ring nonce heard who
+IsByAccepted ring nonce heard (stopped pass) = (who : List ℕ) × HasSigned ring nonce heard who
 
--- each entry that a session is given comes after a login over its nonce, and each operation is by somebody who logged in so
+-- In a session that is given entries somebody logged in over its nonce, by one of its lines; and each operation among them is by who logged in so.
 abbrev pub CallersAreAccepted : (ℤ → Type 0) → Type 0
 CallersAreAccepted gives = (p : StorePass) (history : List StoreEntry) (nonce : List ℕ) (from : ℕ) (lines : List (List ℕ)) (answers : List LineReply) (end : SessionState) (to : ℕ) (given : List StoreEntry) →
-    LinesPlaced gives p history (guest_with nonce) from lines answers end to given → AllByRecursion (IsByAccepted p.root.ring nonce) given
+    LinesPlaced gives p history (guest_with nonce) from lines answers end to given → AllByRecursion (IsByAccepted p.root.ring nonce lines) given
 
 -- ---- one outcome
 

@@ -57,7 +57,7 @@ fn answer_in_turn<R: Wait, D: Disk, C: Clock>(
 ///
 /// Each turn that it takes is placed, whatever others do, in each history that begins with what the pass has seen then. A
 /// proof is checked between its two turns, outside the lock. If memory runs out, the reply says so. `Stopped` comes only if a
-/// disk failed: the pass has seen the mark of the turn in which its count of faults rose.
+/// disk failed: the pass has seen the mark, and a count has risen since the store was opened.
 pub fn answer_line<R: Wait, D: Disk, C: Clock, K: Checker>(
     rt: &R,
     alloc: Global,

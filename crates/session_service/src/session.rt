@@ -112,10 +112,10 @@ fn speak_pieces<R: Wait, I: Source, O: Sink, D: Disk, C: Clock, K: Checker>(
 /// Holds a session over a shared store, with this nonce, under this pass; a proof is checked by this checker, outside the
 /// lock.
 ///
-/// The greeting is out before the first read, and each reply before more of the input is taken. At `Done` the input was read
-/// to its end and each of its lines was answered. Each reply has its place in each history that begins with what the pass
-/// has seen at the end, after what it had seen at first, and places do not go back; what the pass was given by the
-/// replies is what its own entries grew by.
+/// The greeting is out before the first read; by the order of the code, and no clause, so is each reply before more of the
+/// input is taken. At `Done` the input was read to its end and each of its lines was answered. Each reply has its place in
+/// each history that begins with what the pass has seen at the end, after what it had seen at first, and places do not go
+/// back; what the pass was given by the replies is what its own entries grew by.
 pub fn serve_session_with<R: Wait, I: Source, O: Sink, D: Disk, C: Clock, K: Checker>(
     rt: &R,
     alloc: Global,

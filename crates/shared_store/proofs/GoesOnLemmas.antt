@@ -24,9 +24,9 @@ use Rattle.pcfs_store.specs.StoreView.{StoreView, authority_of_store, AnswersIn,
 use Rattle.pcfs_store.specs.Ready.{IsReady, IsCurrent, StopsNow, SurvivesWithOrWithout}
 use Rattle.pcfs_store.specs.Steps.{Steps}
 use Rattle.pcfs_store.specs.Steps as steps
-use Rattle.shared_store.specs.GoesOn.{IsStoppedBy, HasMet, HasGoneOn}
+use Rattle.shared_store.specs.GoesOn.{HasMet, HasGoneOn}
 
-none_some : {P : Type 0} (stop : Option ℕ) (pass : ℕ) → stop ≡ None → stop ≡ Some pass → P
+pub none_some : {P : Type 0} (stop : Option ℕ) (pass : ℕ) → stop ≡ None → stop ≡ Some pass → P
 none_some stop pass none some = let both : ◌≡◌ {A = Option ℕ} None (Some pass) = sym none ∙ some in absurd cc
 
 -- a count that rose and then did not fall has risen
@@ -77,7 +77,6 @@ module _ {D : Type 0} (clock : D → ℕ) (left_since : D → ℕ → List ℕ �
     current = λ is none. is;
     halts = λ is pass some. none_some s.stop pass running some;
     failed = λ pass some. none_some s.stop pass running some;
-    stopped_by = λ pass some. none_some s.stop pass running some;
     first_told = refl;
     second_told = refl;
     first_never_falls = omega arith;
@@ -102,10 +101,6 @@ module _ {D : Type 0} (clock : D → ℕ) (left_since : D → ℕ → List ℕ �
   -- the store that a step leaves in which the disk failed
   abbrev stopped_at : StoreView D → D → ℕ → StoreView D
   stopped_at old active pass = record old { active = active; stop = Some pass }
-
-  stopped_in : (old : StoreView D) (active : D) (pass other : ℕ) → old.stop ≡ None → HasRisen (faults old.active) (faults active) → ◌≡◌ {A = Option ℕ} (Some pass) (Some other) → IsStoppedBy faults (stopped_at old active pass) other
-  stopped_in old active pass other running risen some =
-      let same : pass ≡ other = cc in subst (IsStoppedBy faults (stopped_at old active pass)) same (record { before = old; running = running; left = refl; risen = risen })
 
   met_in : (old : StoreView D) (active : D) (pass other : ℕ) (moment : ℤ) (request : StepRequest) → IsMoment moment → IsWellFormed request → (2 ^ 48 - 1 ≤ (replay old.base old.events).count → ⊥) →
       (reply : StepReply) × (event : Event) × AnswersIn old pass moment request reply (Some event) × StopsNow clock left_since image (stopped_at old active pass) (SurvivesWithOrWithout old.base old.events event) → ◌≡◌ {A = Option ℕ} (Some pass) (Some other) →
@@ -140,7 +135,6 @@ module _ {D : Type 0} (clock : D → ℕ) (left_since : D → ℕ → List ℕ �
       current = λ first none. s.stays_current (g.current first was) going;
       halts = λ first pass some. none_some new.stop pass is some;
       failed = λ pass some. none_some new.stop pass is some;
-      stopped_by = λ pass some. none_some new.stop pass is some;
       first_told = s.first_told ∙ g.first_told;
       second_told = s.second_told ∙ g.second_told;
       first_never_falls = omega (arith, s.first_never_falls, g.first_never_falls);
@@ -173,7 +167,6 @@ module _ {D : Type 0} (clock : D → ℕ) (left_since : D → ℕ → List ℕ �
           (λ (r : HasRisen (faults (first_disk old)) (faults (one_of active old.other old.second_active))). inl (risen_since (faults (first_disk opening)) (faults (first_disk old)) (faults (one_of active old.other old.second_active)) g.first_never_falls r))
           (λ (r : HasRisen (faults (second_disk old)) (faults (one_of old.other active old.second_active))). inr (risen_since (faults (second_disk opening)) (faults (second_disk old)) (faults (one_of old.other active old.second_active)) g.second_never_falls r))
           (risen_at faults old.active active old.other old.second_active risen);
-      stopped_by = λ other some. stopped_in old active pass other running risen some;
       first_told = s.first_told ∙ g.first_told;
       second_told = s.second_told ∙ g.second_told;
       first_never_falls = omega (arith, s.first_never_falls, g.first_never_falls);

@@ -1,9 +1,8 @@
 -- What a pass knows after a turn at a shared store (this project's own).
-use Rattle.std.specs.Prelude.{◌≡◌, ℕ, ℤ, ◌-◌, List, [], ◌∷◌, ◌++◌, length}
+use Rattle.std.specs.Prelude.{◌≡◌, ℕ, ℤ, ◌-◌, List, ◌++◌, length, Some}
 use mathlib.Core.List.{IsPrefix}
-use Rattle.pcfs_ports.specs.Faults.{HasRisen}
 use Rattle.tree_lock.specs.Seen.{PassView}
-use Rattle.pcfs_store.specs.Entries.{StoreEntry, stopped, entries_of}
+use Rattle.pcfs_store.specs.Entries.{StoreEntry, entries_of}
 use Rattle.pcfs_store.specs.StoreView.{StoreView}
 use Rattle.session_history.specs.declared.request.TurnRequest.{TurnRequest}
 use Rattle.session_history.specs.declared.reply.TurnReply.{TurnReply}
@@ -47,14 +46,11 @@ module _ {D : Type 0} where
     pub turn : Turn gives (pass_at root old.number) found request reply given
     pub placed : InEachHistory new (λ opening entries. TurnPlaced gives (pass_at opening old.number) entries (entries_seen old) request reply (entries_seen new) given)
 
-  -- The pass has seen that a disk failed: of a store that was opened as `root`, it has seen the mark that the turn of the pass of this number added, which found the store as `before` and left it as `after`. A count rose in that turn, and
-  -- has risen since the opening.
+  -- The pass has seen that a disk failed: of a store that was opened as `root` and left as `after`, it has seen all entries, of which the last is the mark of the turn of the pass of this number; and a count has risen since the opening.
   pub record HasSeenFault (faults : D → ℕ) (pass : PassView (LockEntry D)) : Type 0 where
     pub root : StoreView D
-    pub number : ℕ
-    pub before : StoreView D
     pub after : StoreView D
+    pub number : ℕ
     pub seen : IsPrefix (lock_history root (entries_of after)) pass.seen
-    pub mark : entries_of after ≡ entries_of before ++ stopped number ∷ []
-    pub risen : HasRisen (faults before.active) (faults after.active)
+    pub stop : after.stop ≡ Some number
     pub since : HasCountRisen faults root after

@@ -20,13 +20,6 @@ pub record IsAskedFor {D : Type 0} (s : StoreView D) (pass : ℕ) (event : Event
   pub well_formed : IsWellFormed request
   pub answers : AnswersIn s pass moment request reply (Some event)
 
--- The store was stopped by a step of this pass. Before the step it was not stopped; the step left all as it was but the disk with the area that counts, and the mark; and that disk's count of faults rose in it.
-pub record IsStoppedBy {D : Type 0} (faults : D → ℕ) (s : StoreView D) (pass : ℕ) : Type 0 where
-  pub before : StoreView D
-  pub running : before.stop ≡ None
-  pub left : s ≡ record before { active = s.active; stop = Some pass }
-  pub risen : HasRisen (faults before.active) (faults s.active)
-
 -- of a disk of the store a count has risen since it was opened
 abbrev pub HasCountRisen : {D : Type 0} → (D → ℕ) → StoreView D → StoreView D → Type 0
 HasCountRisen faults opening now = HasRisen (faults (first_disk opening)) (faults (first_disk now)) ⊎ HasRisen (faults (second_disk opening)) (faults (second_disk now))
@@ -43,8 +36,8 @@ pub record HasMet {D : Type 0} (clock : D → ℕ) (left_since : D → ℕ → L
 
 module _ {D : Type 0} (clock : D → ℕ) (left_since : D → ℕ → List ℕ → Type 0) (image : D → Option (List ℕ)) (faults : D → ℕ) where
   -- The store was opened as `opening`, and is `now`. Key, ring and base are the same, and the events are those of the opening with others after them; if the former are lawful, so are all. The area that counts has the same generation on the same disk, and the
-  -- other disk is not touched. While no disk has failed, a store that was ready is ready, and what a read gives stands for its history. If one has, a count rose above the one at the opening, and in the very step that stopped the store; and of a store that
-  -- was ready a crash leaves the history, or with it the event that met the fault, which a request of that step's pass asked for.
+  -- other disk is not touched. While no disk has failed, a store that was ready is ready, and what a read gives stands for its history. If one has, a count rose above the one at the opening; and of a store that was ready a
+  -- crash leaves the history, or with it the event that met the fault, which a request of the pass that stopped it asked for.
   pub record HasGoneOn (opening now : StoreView D) : Type 0 where
     pub began : opening.stop ≡ None
     pub key_stays : now.key ≡ opening.key
@@ -59,7 +52,6 @@ module _ {D : Type 0} (clock : D → ℕ) (left_since : D → ℕ → List ℕ �
     pub current : IsCurrent clock left_since image opening → now.stop ≡ None → IsCurrent clock left_since image now
     pub halts : IsReady clock left_since image opening → (pass : ℕ) → now.stop ≡ Some pass → HasMet clock left_since image now pass
     pub failed : (pass : ℕ) → now.stop ≡ Some pass → HasCountRisen faults opening now
-    pub stopped_by : (pass : ℕ) → now.stop ≡ Some pass → IsStoppedBy faults now pass
     pub first_told : is_some (image (first_disk now)) ≡ is_some (image (first_disk opening))
     pub second_told : is_some (image (second_disk now)) ≡ is_some (image (second_disk opening))
     pub first_never_falls : faults (first_disk opening) ≤ faults (first_disk now)

@@ -1,5 +1,5 @@
 -- The line of the reply is written alone.
-use Rattle.session_service.proofs.SpokenLemmas.{one_told, some_told}
+use Rattle.session_service.proofs.SpokenLemmas.{one_told}
 use Rattle.session_service.proofs.lines.tell.Goals as goal
 
 pub returns-in-Ok-clause-ok : goal.returns-in-Ok-clause-ok
