@@ -1,6 +1,5 @@
 -- A store may go to another thread.
 use denote.RattleType.{RattleType}
-use denote.Param.{param}
 use denote.Param.Send.{IsSend, sendable, view_send}
 use denote.Param.SendFields.{declared_send, as_row_send}
 use Rattle.pcfs_store.specs.contracts.store.Store.TheInside as inside
@@ -8,7 +7,7 @@ use Rattle.shared_store.specs.contracts.opened.OpenedStore.TheInside as opened
 use Rattle.journal_core.proofs.area.Area.TheSendSync as area
 use Rattle.std.proofs.Crossing.{crosses}
 use Rattle.std.proofs.MapsCrossing as maps
-use Rattle.bl_syntax.proofs.formula.Formula.TheLaws.TheKnot.{send-Formula, hole_send-Formula}
+use Rattle.bl_syntax.proofs.formula.Formula.TheLaws.TheKnot.{send-Formula}
 use Rattle.proof_term.proofs.proof.Proof.TheLaws.TheKnot.{send-Proof, hole_send-Proof}
 use Rattle.file_world.proofs.operation.Op.TheSendSync as op
 use Rattle.bl_syntax.proofs.lists.Sequence.TheSendSync as sequence
@@ -39,7 +38,7 @@ formula_send : IsSend Formula.the_row
 formula_send = search (sendable, crosses, send-Formula) depth 100 fits 20000
 
 statement_send : IsSend Statement.the_row
-statement_send = search (sendable, crosses, send-Formula, hole_send-Formula) depth 100 fits 20000
+statement_send = search (sendable, crosses, send-Formula) depth 100 fits 20000
 
 proof_send : IsSend Proof.the_row
 proof_send = search (sendable, crosses, send-Proof) depth 100 fits 20000
@@ -63,13 +62,13 @@ world_send : IsSend World.the_row
 world_send = search (sendable, crosses, maps.crosses) depth 100 fits 20000
 
 event_send : IsSend Event.the_row
-event_send = search (sendable, crosses, statement_send, tree_send, op.the_send, op.the_field_send, sequence.the_send, grant.the_send, procap.the_send, procap.the_field_send, principal.the_send) depth 100 fits 20000
+event_send = search (sendable, crosses, statement_send, tree_send, op.the_field_send, sequence.the_send, grant.the_send, procap.the_send, principal.the_send) depth 100 fits 20000
 
 issue_send : IsSend Issue.the_row
 issue_send = search (sendable, crosses, tree_send) depth 100 fits 20000
 
 addition_send : IsSend Addition.the_row
-addition_send = search (sendable, crosses, statement_send, tree_send, issue_send) depth 100 fits 20000
+addition_send = search (sendable, crosses, statement_send, tree_send) depth 100 fits 20000
 
 base_send : IsSend Base.the_row
 base_send = search (sendable, crosses, world_send, statement_send, issue_send) depth 100 fits 20000
@@ -78,13 +77,13 @@ history_send : IsSend History.the_row
 history_send = search (sendable, crosses, key_send, ring_send, base_send, event_send, world_send, registry_send, issue_send) depth 100 fits 20000
 
 event_field : IsSend Event.the_field.row
-event_field = search (sendable, crosses, statement_send, tree_send, op.the_send, op.the_field_send, sequence.the_send, grant.the_send, procap.the_send, procap.the_field_send, principal.the_send) depth 100 fits 20000
+event_field = search (sendable, crosses, statement_send, tree_send, op.the_field_send, sequence.the_send, grant.the_send, procap.the_send, principal.the_send) depth 100 fits 20000
 
 addition_field : IsSend Addition.the_field.row
 addition_field = search (sendable, crosses, statement_send, tree_send) depth 100 fits 20000
 
 pending_send : IsSend Pending.the_row
-pending_send = search (sendable, crosses, event_send, addition_send, event_field, addition_field) depth 100 fits 20000
+pending_send = search (sendable, crosses, event_field, addition_field) depth 100 fits 20000
 
 pub gate_send : IsSend Gate.the_row
 gate_send = search (sendable, crosses, history_send, pending_send) depth 100 fits 20000

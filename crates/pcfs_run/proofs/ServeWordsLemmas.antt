@@ -1,9 +1,9 @@
 -- What the words of `serve` are.
-use Rattle.std.proofs.Common.{◌≡◌, ◌∙◌, ℕ, ◌≤◌, ◌<◌, List, [], ◌∷◌, length, get_or, map, Option, Some, None, MatchOption, decimal, codes, string_bytes, sym, ap, subst, arith}
+use Rattle.std.proofs.Common.{◌≡◌, ◌∙◌, ℕ, ◌≤◌, ◌<◌, List, [], ◌∷◌, length, get_or, map, Option, Some, None, MatchOption, decimal, codes, string_bytes, sym, ap, arith}
 use Rattle.std.specs.Prelude.{String}
 use Rattle.std.specs.declared.alloc.Global.{Global}
 use Rattle.command_words.proofs.WordsLemmas.{three_words, not_three, first_same, second_same, third_same}
-use Rattle.pcfs_run.specs.ServeWords.{IsServe, IsNumberIn, IsPort, IsCount}
+use Rattle.pcfs_run.specs.ServeWords.{IsServe, IsPort, IsCount}
 
 -- three words that ask for sessions, or not
 module _ (words : List (String Global)) (first second third : List ℕ) (are : map string_bytes words ≡ first ∷ second ∷ third ∷ []) where

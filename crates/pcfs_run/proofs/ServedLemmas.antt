@@ -1,5 +1,5 @@
 -- How a run ends that serves.
-use Rattle.std.proofs.Common.{◌≡◌, ◌∙◌, ◌⊎◌, inl, inr, ℕ, ◌≤◌, List, [], ◌∷◌, ◌++◌, map, Bool, Option, Some, None, option_map, codes, decimal, refl, sym, ap, subst, arith, add-zero}
+use Rattle.std.proofs.Common.{◌≡◌, ◌∙◌, ◌⊎◌, inl, inr, ℕ, ◌≤◌, List, [], ◌∷◌, ◌++◌, map, Bool, Option, Some, None, codes, decimal, refl, sym, ap, subst, arith, add-zero}
 use Rattle.pcfs_ports.specs.Accepted.{FallsBy}
 use Rattle.pcfs_ports.specs.Faults.{HasRisen}
 use Rattle.access_history.specs.Answer.{Answers}
@@ -28,7 +28,7 @@ use Rattle.recover.specs.Opening.{IsNotOpened, IsNewestClosed}
 use Rattle.recover.specs.Opening as opening
 use Rattle.shared_store.specs.GoesOn.{HasGoneOn}
 use Rattle.pcfs_tools.specs.LastLine.{IsTold}
-use Rattle.pcfs_top.specs.Ports.{Disks, Ports, Rests, IfTold, AreBytesKept}
+use Rattle.pcfs_top.specs.Ports.{Rests, IfTold, AreBytesKept}
 use Rattle.pcfs_top.specs.Run.{IsNewestOf, TellsUnopened, damaged_text}
 use Rattle.pcfs_top.proofs.EndsWithLemmas.{disks_of, rests_of, newest_of, counts_now, closed_of, pinned_at, other_same, has_no_area}
 use Rattle.pcfs_run.specs.Passes.{IsGrown, stop_among}
@@ -181,11 +181,11 @@ module _ {D : Type 0} (clock : D → ℕ) (left_since : D → ℕ → List ℕ �
       told_running (serve_ends.Done n) result runs grown attended (inl told) =
           told_as 0 (codes "served " ++ decimal n) result (serving.served (serve_ends.Done n) 0 (codes "served " ++ decimal n) (is_served n count None runs grown) attended (all_served n)) told
       told_running (serve_ends.Done n) result runs grown attended (inr untold) =
-          subst (EndsServing secrets count Around Here There) (sym untold.0) (serving.out_of_memory (serve_ends.Done n) (is_served n count None runs grown) attended untold.1)
+          subst (EndsServing secrets count Around Here There) (sym untold.0) (serving.out_of_memory (serve_ends.Done n) (λ e. e) (is_served n count None runs grown) attended untold.1)
       told_running (serve_ends.NetFault n) result runs grown attended told =
           told_as 8 (codes "netfault") result (serving.served (serve_ends.NetFault n) 8 (codes "netfault") (is_served n count None runs grown) attended (net_failed n)) told
       told_running (serve_ends.NoMemory n) result runs grown attended untold =
-          subst (EndsServing secrets count Around Here There) (sym untold.0) (serving.out_of_memory (serve_ends.NoMemory n) (is_served n count None runs grown) attended untold.1)
+          subst (EndsServing secrets count Around Here There) (sym untold.0) (serving.out_of_memory (serve_ends.NoMemory n) (λ e. e) (is_served n count None runs grown) attended untold.1)
 
       told_end : (stop : Option ℕ) (end : ServeEnd) (result : ℕ) → s'.stop ≡ stop → IsGrown (number_of end) count s s' → AreAttended count net net' end →
           ((pass : ℕ) → s'.stop ≡ Some pass → IsTold 5 (codes "stopped") before.held before.write_faults result after.held after.write_faults) →

@@ -6,8 +6,8 @@ use Rattle.pcfs_store.specs.Entries.{StoreEntry, happened, stopped, entries_of}
 use Rattle.pcfs_store.specs.StoreView.{StoreView}
 use Rattle.session_history.specs.Passes.{AllOfPass}
 
--- Each connection that was admitted had a pass, with a number of its own from 1 on. A pass has the entries that were added in its turns, and they carry its number; all that were added are a merge of these. No more than `count` were admitted, and of
--- those so many were attended.
+-- These entries were added in the turns of passes, each with a number of its own from 1 on: a pass has the entries of its turns, which carry its number, and all that were added are a merge of these lists. There are no more than `count` passes, and no
+-- fewer than connections that were attended.
 pub record AreOfPasses (attended count : ℕ) (added : List StoreEntry) : Type 0 where
   pub passes : List (ℕ × List StoreEntry)
   pub distinct : IsDistinct eqb (map (λ p. p.0) passes)

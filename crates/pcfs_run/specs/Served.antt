@@ -1,5 +1,5 @@
 -- How a run ends that gives connections sessions over the store in the areas. If a port does not tell what it has, nothing is said of that (this project's own).
-use Rattle.std.specs.Prelude.{◌≡◌, ◌⊎◌, ℕ, ℤ, ◌≤◌, List, [], ◌∷◌, ◌++◌, String, codes, Bool, Option, Some, None}
+use Rattle.std.specs.Prelude.{◌≡◌, ◌⊎◌, ℕ, ℤ, List, [], ◌∷◌, ◌++◌, String, codes, Bool, Option, Some, None}
 use Rattle.std.specs.Fmt.{decimal}
 use Rattle.std.specs.declared.alloc.Global.{Global}
 use Rattle.bl_syntax.specs.TimeOrder.{IsMoment}
@@ -106,16 +106,16 @@ pub data ServeWrites (secrets : Secrets) (count : ℕ) (rests : Rests) (before a
       ServeWrites secrets count rests before after 3 (damaged_text number damage)
   not_opened : HasDiskFailed before.ports.disks after.ports.disks → (rests.before → AreBytesKept before.ports.disks after.ports.disks) → IsNetKept before.net after.net → ServeWrites secrets count rests before after 5 (codes "stopped")
 
--- The status that such a run ends with. Its line was written; or the output failed, and holds some first part of it; or memory ran out, before the store was opened or after it was served, and nothing was written.
+-- The status that such a run ends with. Its line was written; or the output failed, and holds some first part of it; or memory ran out, before the store was opened or after it was served with no fault of the listener or the nonces, and nothing was written.
 pub data EndsServing (secrets : Secrets) (count : ℕ) (rests : Rests) (before after : ServePorts) : ℕ → Type 0 where
   told : (status : ℕ) (line : List ℕ) → ServeWrites secrets count rests before after status line → after.ports.streams.held ≡ with_back before.ports.streams.held (with_line_end line) → EndsServing secrets count rests before after status
   cut_short : (status : ℕ) (line : List ℕ) → ServeWrites secrets count rests before after status line → HasRisen before.ports.streams.write_faults after.ports.streams.write_faults →
       HoldsSome before.ports.streams.held after.ports.streams.held (with_line_end line) → EndsServing secrets count rests before after 7
   unopened : AreBytesKept before.ports.disks after.ports.disks → IsNetKept before.net after.net → after.ports.streams.held ≡ before.ports.streams.held → EndsServing secrets count rests before after 9
-  out_of_memory : (end : ServeEnd) → IsServed secrets rests before.ports.disks after.ports.disks (number_of end) count None → AreAttended count before.net after.net end → after.ports.streams.held ≡ before.ports.streams.held →
+  out_of_memory : (end : ServeEnd) → (IsNetFault end → ⊥) → IsServed secrets rests before.ports.disks after.ports.disks (number_of end) count None → AreAttended count before.net after.net end → after.ports.streams.held ≡ before.ports.streams.held →
       EndsServing secrets count rests before after 9
 
 -- How a run ends: it serves, and takes nothing of its input; or it is a run of another command, and the listener and the nonces tell what they did before.
 pub data RunEnds (secrets : Secrets) (words : List (String Global)) (rests : Rests) (before after : ServePorts) : ℕ → Type 0 where
-  serves : (status port count : ℕ) → IsServe words port count → after.ports.streams.left ≡ before.ports.streams.left → EndsServing secrets count rests before after status → RunEnds secrets words rests before after status
+  serves : (status port count : ℕ) → IsServe words port count → after.ports.streams.left ≡ before.ports.streams.left → after.ports.streams.read_faults ≡ before.ports.streams.read_faults → EndsServing secrets count rests before after status → RunEnds secrets words rests before after status
   alone : (status : ℕ) → ((port count : ℕ) → IsServe words port count → ⊥) → EndsWith secrets words rests before.ports after.ports status → IsNetKept before.net after.net → RunEnds secrets words rests before after status

@@ -2,15 +2,10 @@
 use Rattle.std.proofs.Common.{ap}
 use denote.Exit.{no}
 use Rattle.shared_store.specs.LockHistory.{lock_entries}
-use denote.Param.Send.{IsSend, sendable, param_send, param_sync, arg_send, arg_sync}
-use Rattle.tree_lock.proofs.parts.Pass.TheSendSync as pass
-use Rattle.tree_lock.proofs.parts.TreeLock.TheSendSync as lock
+use denote.Param.Send.{param_send, param_sync, arg_send, arg_sync}
 use Rattle.session_service.proofs.service.SessionToken.TheSendSync as token
 use Rattle.session_service.proofs.service.SessionService.TheSendSync as service
 use denote.Param.{param}
-use Rattle.shared_store.specs.contracts.opened.OpenedStore as Opened
-use Rattle.session_service.specs.contracts.service.SessionToken as Token
-use Rattle.session_service.specs.contracts.service.SessionService as Service
 use Rattle.pcfs_run.proofs.SentLemmas.{opened_send}
 use Rattle.pcfs_run.proofs.serving.attend_all.Goals as goal
 

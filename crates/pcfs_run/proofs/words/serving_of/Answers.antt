@@ -1,7 +1,7 @@
 -- The words are `serve` and two numbers, or something else.
 use Rattle.std.proofs.Common.{refl}
 use Rattle.std.proofs.lemmas.Bool.{false≢true}
-use Rattle.pcfs_run.proofs.ServeWordsLemmas.{asked_serve, asked_other, asked_others}
+use Rattle.pcfs_run.proofs.ServeWordsLemmas.{asked_serve, asked_other}
 use Rattle.pcfs_run.proofs.words.serving_of.Goals as goal
 
 pub returns-then-is_word : goal.returns-then-is_word
