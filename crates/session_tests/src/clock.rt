@@ -89,7 +89,7 @@ impl<'a> Sink for TellingSink<'a> {
     ghost faults = { λ _. 0 };
 
     fn write(&mut self, piece: &[u8]) -> Result<usize, Failed> {
-        if piece == b"ok node #2\n" {
+        if piece == b"ok node #2\n".as_slice() {
             self.signs.done.give();
         }
         Ok(piece.len())
@@ -184,7 +184,7 @@ fn the_clock_is_read_in_the_turn(rt: HostRuntime) -> Result<(), Fail> {
         done: Sign::new(),
     };
     let clock = SetClock::new(100);
-    let store = opened(&rt, SET_UP)?;
+    let store = opened(&rt, rt.alloc(), SET_UP)?;
     assert!(rt;
         ask_while_held(&rt, rt.alloc(), store, &clock, &signs),
         "the session did not end"

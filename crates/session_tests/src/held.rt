@@ -133,10 +133,10 @@ fn talk_at_once<R: Threads + Wait + Sync>(
 
 #[test]
 fn a_proof_is_checked_while_another_session_has_turns(rt: HostRuntime) -> Result<(), Fail> {
-    let proving = input_of(&rt, PROVING)?;
-    let making = input_of(&rt, MAKING)?;
+    let proving = input_of(rt.alloc(), PROVING)?;
+    let making = input_of(rt.alloc(), MAKING)?;
     let made = Sign::new();
-    let store = opened(&rt, SET_UP)?;
+    let store = opened(&rt, rt.alloc(), SET_UP)?;
     let ended = talk_at_once(&rt, rt.alloc(), store, &made, proving, making);
     assert!(rt; ended, "a session did not end");
     assert!(rt; made.was_seen(), "the proof was checked under the lock");

@@ -10,9 +10,11 @@ use pcfs_secrets::Secrets;
 use pcfs_store::Store;
 use pcfs_top::run::{Ended, run_alone};
 use recover::open_store;
+use std::alloc::Global;
+use std::sync::Wait;
 use std::sync::atomic::{AtomicBool, Ordering};
 use std::test::Fail;
-use std::thread;
+use std::thread::{self, Threads};
 
 /// How often somebody looks for a sign before they give up.
 pub const LOOKS: u32 = 100_000_000;
@@ -20,16 +22,15 @@ pub const LOOKS: u32 = 100_000_000;
 const SECRETS: &str = "seal 6f6e65\nkey admin 61\nkey alice 62\nkey bob 63\n";
 
 /// The keys of the tests.
-pub fn secrets(rt: &HostRuntime) -> Result<Secrets, Fail> {
-    match Secrets::parse(rt.alloc(), SECRETS.as_bytes()) {
+pub fn secrets(alloc: Global) -> Result<Secrets, Fail> {
+    match Secrets::parse(alloc, SECRETS.as_bytes()) {
         Ok(secrets) => Ok(secrets),
         Err(_) => Err(Fail::new("no secrets")),
     }
 }
 
 /// A disk in memory without bytes.
-fn new_disk(rt: &HostRuntime) -> Result<MemoryDisk, Fail> {
-    let alloc = rt.alloc();
+fn new_disk(alloc: Global) -> Result<MemoryDisk, Fail> {
     match MemoryDisk::new(alloc, Bytes::new(alloc), Numbers::new(alloc)) {
         Ok(disk) => Ok(disk),
         Err(_) => Err(Fail::new("no disk")),
@@ -37,8 +38,7 @@ fn new_disk(rt: &HostRuntime) -> Result<MemoryDisk, Fail> {
 }
 
 /// An input of this text.
-pub fn input_of(rt: &HostRuntime, text: &str) -> Result<MemorySource, Fail> {
-    let alloc = rt.alloc();
+pub fn input_of(alloc: Global, text: &str) -> Result<MemorySource, Fail> {
     let mut bytes = Bytes::new(alloc);
     match bytes.extend(text.as_bytes()) {
         Ok(()) => Ok(MemorySource::new(alloc, bytes, Numbers::new(alloc))),
@@ -47,17 +47,18 @@ pub fn input_of(rt: &HostRuntime, text: &str) -> Result<MemorySource, Fail> {
 }
 
 /// These words.
-pub fn words_of(rt: &HostRuntime, words: &[&str]) -> Result<Vec<String>, Fail> {
-    let mut own = Vec::new(rt.alloc());
+pub fn words_of(alloc: Global, words: &[&str]) -> Result<Vec<String>, Fail> {
+    let mut own = Vec::new(alloc);
     for word in words {
-        own.push(word.to_string(rt.alloc())?)?;
+        own.push(word.to_string(alloc)?)?;
     }
     Ok(own)
 }
 
 /// Runs a command over the disks with this input.
-pub fn run_over(
-    rt: &HostRuntime,
+pub fn run_over<R: Threads + Wait + Sync>(
+    rt: &R,
+    alloc: Global,
     words: &[&str],
     secrets: &Secrets,
     text: &str,
@@ -65,61 +66,69 @@ pub fn run_over(
     a: MemoryDisk,
     b: MemoryDisk,
 ) -> Result<Ended<MemoryDisk>, Fail> {
-    let words = words_of(rt, words)?;
-    let mut input = input_of(rt, text)?;
-    Ok(run_alone(rt, rt.alloc(), &words, secrets, &mut input, output, a, b))
+    let words = words_of(alloc, words)?;
+    let mut input = input_of(alloc, text)?;
+    Ok(run_alone(rt, alloc, &words, secrets, &mut input, output, a, b))
 }
 
 /// The disks after a script.
-pub fn set_up(
-    rt: &HostRuntime,
+pub fn set_up<R: Threads + Wait + Sync>(
+    rt: &R,
+    alloc: Global,
     secrets: &Secrets,
     script: &str,
 ) -> Result<Ended<MemoryDisk>, Fail> {
-    let mut output = MemorySink::new(rt.alloc(), Numbers::new(rt.alloc()));
-    let a = new_disk(rt)?;
-    let b = new_disk(rt)?;
-    let made = run_over(rt, &["init"], secrets, "", &mut output, a, b)?;
+    let mut output = MemorySink::new(alloc, Numbers::new(alloc));
+    let a = new_disk(alloc)?;
+    let b = new_disk(alloc)?;
+    let made = run_over(rt, alloc, &["init"], secrets, "", &mut output, a, b)?;
     let words = ["script", "--stored"];
-    run_over(rt, &words, secrets, script, &mut output, made.a, made.b)
+    run_over(
+        rt,
+        alloc,
+        &words,
+        secrets,
+        script,
+        &mut output,
+        made.a,
+        made.b,
+    )
 }
 
 // Opens the store on the disks.
 fn open(
-    rt: &HostRuntime,
+    alloc: Global,
     secrets: &Secrets,
     disks: Ended<MemoryDisk>,
 ) -> Result<Store<MemoryDisk>, Fail>
     ensures running { IfOk result (λ store. store.stop ≡ None) }
     ensures each { IfOk result (λ store. AllByRecursion IsReadEvent store.events) }
 {
-    let ring = match secrets.ring.copy(rt.alloc()) {
+    let ring = match secrets.ring.copy(alloc) {
         Ok(ring) => ring,
         Err(_) => return Err(Fail::new("no ring")),
     };
-    match open_store(
-        rt.alloc(),
-        disks.a,
-        disks.b,
-        secrets.seal_key.as_slice(),
-        ring,
-    ) {
+    match open_store(alloc, disks.a, disks.b, secrets.seal_key.as_slice(), ring) {
         Ok(store) => Ok(store),
         Err(_) => Err(Fail::new("no store")),
     }
 }
 
 /// The store after a script.
-pub fn opened(rt: &HostRuntime, script: &str) -> Result<Store<MemoryDisk>, Fail>
+pub fn opened<R: Threads + Wait + Sync>(
+    rt: &R,
+    alloc: Global,
+    script: &str,
+) -> Result<Store<MemoryDisk>, Fail>
     ensures running { IfOk result (λ store. store.stop ≡ None) }
     ensures each { IfOk result (λ store. AllByRecursion IsReadEvent store.events) }
 {
-    let secrets = match secrets(rt) {
+    let secrets = match secrets(alloc) {
         Ok(secrets) => secrets,
         Err(fault) => return Err(fault),
     };
-    match set_up(rt, &secrets, script) {
-        Ok(disks) => open(rt, &secrets, disks),
+    match set_up(rt, alloc, &secrets, script) {
+        Ok(disks) => open(alloc, &secrets, disks),
         Err(fault) => Err(fault),
     }
 }
