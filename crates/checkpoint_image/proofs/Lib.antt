@@ -1,0 +1,7 @@
+pub mod ChainLemmas
+pub mod FieldLemmas
+pub mod ImageLemmas
+pub mod LoopLemmas
+pub mod NodeLemmas
+pub mod OrderLemmas
+pub mod WorldLemmas
