@@ -1,6 +1,7 @@
 -- The fields of nodes: what is read is spelled so, and what is spelled so is read.
-use Rattle.std.proofs.Common.{◌≡◌, ℕ, ◌<◌, ◌≤◌, Bool, true, false, cond, eqb, ltb, List, [], ◌∷◌, ◌++◌, length, Option, Some, None, Ok, Err, refl, sym, ap, subst, ◌∙◌, arith, nat_cmp, Ordering, Less, Equal, Greater, is_lt}
+use Rattle.std.proofs.Common.{◌≡◌, ℕ, ◌^◌, ◌<◌, Bool, true, false, cond, eqb, ltb, List, [], ◌∷◌, ◌++◌, length, Option, Some, None, Ok, Err, refl, sym, ap, subst, ◌∙◌, arith, nat_cmp, Ordering, Less, Equal, Greater, is_lt}
 use Rattle.std.specs.Prelude.{IsTrue}
+use Rattle.std.specs.Int.{w64}
 use Rattle.std.specs.Cmp.Lexicographic.{slice_cmp}
 use Rattle.std.proofs.lemmas.Bool.{eqb-true, ltb-true, lt-ltb, and_parts, and_from, false≢true}
 use Rattle.bl_syntax.specs.declared.codec_fault.CodecFault.TheVariants as faults
@@ -8,7 +9,7 @@ use Rattle.bl_syntax.specs.Spelling.{with_length}
 use Rattle.bl_syntax.specs.Reading.{◌>>=◌, place}
 use Rattle.bl_syntax.specs.Codec.{AreBytes, IsCodec}
 use Rattle.bl_syntax.proofs.CodecLemmas.{bind_ok, by_test, ok_is, bind_memoryless, codec}
-use Rattle.bl_syntax.proofs.FieldLemmas.{coded_found, coded_again, coded_memoryless, word_found, word_again, word_memoryless}
+use Rattle.bl_syntax.proofs.FieldLemmas.{wide64, number_again, coded_found, coded_again, coded_memoryless, word_found, word_again, word_memoryless}
 use Rattle.bl_syntax.proofs.WordLemmas.{IsBetween}
 use Rattle.procap.proofs.ItemsLemmas.{test_memoryless}
 use Rattle.file_world.specs.declared.operation.Kind.{Kind}
@@ -61,8 +62,8 @@ after_found previous input bytes rest number fits e =
     subst (λ (p : ℕ × List ℕ). IsNumberAfter previous p.0 × (bytes ≡ number_spelling p.0 ++ p.1)) (ok_is a.0 (number, rest) found) ((ltb-true previous a.0.0 is, it.0), it.1)) (λ _ fault. absurd cc)
 
 after_again : (previous input number : ℕ) (rest : List ℕ) → IsNumberAfter previous number → number_after previous input (number_spelling number ++ rest) ≡ Ok (number, rest)
-unfolding number_after
-after_again previous input number rest h = rw (u64_codec.again input number rest h.1, lt-ltb previous number h.0) refl
+unfolding number_after number_spelling
+after_again previous input number rest h = rw (number_again w64 (2 ^ 64) wide64 number rest h.1, lt-ltb previous number h.0) refl
 
 after_memoryless : (previous input : ℕ) (bytes : List ℕ) → number_after previous input bytes ≡ Err faults.NoMemory → ⊥
 unfolding number_after
@@ -72,9 +73,6 @@ after_memoryless previous input bytes e =
 
 pub after_codec : (previous : ℕ) → IsCodec (IsNumberAfter previous) number_spelling (number_after previous)
 after_codec previous = codec (IsNumberAfter previous) number_spelling (number_after previous) (after_found previous) (λ input number rest h. after_again previous input number rest h) (after_memoryless previous)
-
-pub less_from_lt : (a b : ℕ) → a < b → nat_cmp a b ≡ Less
-less_from_lt a b lt = rw (lt-ltb a b lt) refl
 
 -- ---- names
 

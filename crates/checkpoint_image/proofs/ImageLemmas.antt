@@ -1,6 +1,6 @@
 -- Images: what is read is spelled so, and what is spelled so is read.
 use Rattle.std.proofs.Common.{◌≡◌, ℕ, ℤ, ◌-◌, List, [], ◌∷◌, ◌++◌, length, Result, Ok, Err, refl, sym, ap, ◌∙◌, append_assoc, arith}
-use Rattle.std.specs.Prelude.{IsErr, is_err}
+use Rattle.std.specs.Prelude.{IsErr}
 use Rattle.std.proofs.lemmas.List.{append-nil, length-append}
 use Rattle.bl_syntax.specs.declared.codec_fault.CodecFault.{CodecFault}
 use Rattle.bl_syntax.specs.declared.codec_fault.CodecFault.TheVariants as faults
@@ -124,11 +124,11 @@ whole_again base h =
     ap (image_at (length (image_spelling base))) (sym (append-nil (image_spelling base))) ∙ image_codec.again (length (image_spelling base)) base [] h in
     rw read refl
 
-not_canonical : ℕ → Result BaseView CodecFault
+abbrev not_canonical : ℕ → Result BaseView CodecFault
 not_canonical at = Err (faults.NotCanonical at)
 
 pub left_over : (base : BaseView) (byte : ℕ) (rest : List ℕ) → IsSpellableImage base → whole_image (image_spelling base ++ byte ∷ rest) ≡ Err (faults.NotCanonical (length (image_spelling base)))
-unfolding whole_image not_canonical
+unfolding whole_image
 left_over base byte rest h =
     let bytes : List ℕ = image_spelling base ++ byte ∷ rest in
     let read : image_at (length bytes) bytes ≡ Ok (base, byte ∷ rest) = image_codec.again (length bytes) base (byte ∷ rest) h in

@@ -1,5 +1,6 @@
 pub mod ChainLemmas
 pub mod FieldLemmas
+pub mod FittingLemmas
 pub mod ImageLemmas
 pub mod LoopLemmas
 pub mod NodeLemmas

@@ -54,12 +54,12 @@ nothing_before (Err fault) = refl
 
 -- an item of a list of which all have something
 pub all_read : {A : Type 0} (P : A → Type 0) (items : List A) (place : ℕ) (item : A) → AllByRecursion P items → place < length items → item ≡ get_or items place item → P item
-all_read {A} P items place item all lt is = subst P (sym is) (at items place all lt)
+all_read {A} P items place item all lt is = subst P (sym is) (there items place all lt)
   where
-    at : (xs : List A) (i : ℕ) → AllByRecursion P xs → i < length xs → P (get_or xs i item)
-    at [] i each within = absurd (omega (arith, within))
-    at (x ∷ xs) zero each within = each.0
-    at (x ∷ xs) (suc i) each within = at xs i each.1 (omega (arith, within))
+    there : (xs : List A) (i : ℕ) → AllByRecursion P xs → i < length xs → P (get_or xs i item)
+    there [] i each within = absurd (omega (arith, within))
+    there (x ∷ xs) zero each within = each.0
+    there (x ∷ xs) (suc i) each within = there xs i each.1 (omega (arith, within))
 
 -- one item more
 pub all_more : {A : Type 0} (P : A → Type 0) (items : List A) (place : ℕ) (item : A) → place < length items → item ≡ get_or items place item → AllByRecursion P (take place items) → P item → AllByRecursion P (take (place + 1) items)

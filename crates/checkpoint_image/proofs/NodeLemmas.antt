@@ -4,8 +4,7 @@ use Rattle.std.specs.Prelude.{IsTrue}
 use Rattle.std.specs.List.{AllByRecursion}
 use Rattle.std.specs.Map.{keys_of}
 use Rattle.std.specs.Cmp.Lexicographic.{slice_cmp}
-use Rattle.std.specs.Cmp.{nat_cmp_total}
-use Rattle.std.proofs.lemmas.Cmp.{nat_list_cmp_total}
+use Rattle.std.proofs.lemmas.Cmp.{nat_cmp_total, nat_list_cmp_total}
 use Rattle.bl_syntax.specs.Names.{is_principal_name, is_text}
 use Rattle.bl_syntax.specs.Spelling.{with_length}
 use Rattle.bl_syntax.specs.Reading.{name_at, text_at}
@@ -18,7 +17,7 @@ use Rattle.file_world.specs.declared.operation.Kind.{Kind}
 use Rattle.file_world.specs.FileNames.{is_attribute_name}
 use Rattle.file_world.specs.Attributes.{Attributes}
 use Rattle.file_world.specs.World.{Item}
-use Rattle.file_world.proofs.RowLemmas.{lt_from_less}
+use Rattle.file_world.proofs.RowLemmas.{lt_from_less, less_from_lt}
 use Rattle.record_parts.specs.Fields.{u64_at, number_spelling, IsSpellableNumber, sized_bytes_spelling, sized_bytes_at, FitsFourBytes}
 use Rattle.record_parts.proofs.CodecLemmas.{made_codec, same_codec}
 use Rattle.record_parts.proofs.FieldsLemmas.{u64_codec, sized_bytes_codec}
@@ -26,7 +25,7 @@ use Rattle.checkpoint_image.specs.Chain.{AreShortChained, AreLongChained, short_
 use Rattle.checkpoint_image.specs.NodeSpelling.{attribute_spelling, node_head_spelling, node_tail_spelling, node_spelling, nodes_spelling, AreSpellableAttributes, IsSpellableNode, AreSpellableNodes}
 use Rattle.checkpoint_image.specs.NodeReading.{kind_at, number_after, owned_at, kinded_at, node_head_at, attribute_name_at, attribute_at, name_of, attributes_at, held_at, node_name_at, node_tail_at, node_fields_at, node_of_fields, node_at, number_of, nodes_at}
 use Rattle.checkpoint_image.proofs.ChainLemmas.{short_codec, long_codec}
-use Rattle.checkpoint_image.proofs.FieldLemmas.{AnyKind, kind_spelling, kind_codec, IsNumberAfter, after_codec, less_from_lt, IsNameOrNone, node_name_codec, IsNameAfter, name_after_parts, name_after_from, attribute_name_codec, after_none}
+use Rattle.checkpoint_image.proofs.FieldLemmas.{AnyKind, kind_spelling, kind_codec, IsNumberAfter, after_codec, IsNameOrNone, node_name_codec, IsNameAfter, name_after_parts, name_after_from, attribute_name_codec, after_none}
 use Rattle.checkpoint_image.proofs.OrderLemmas.{IsAfter, chained, each_fits, rising}
 
 abbrev IsName : List ℕ → Type 0
@@ -76,7 +75,7 @@ abbrev IsAttribute : Attribute → Type 0
 IsAttribute attribute = IsTrue (is_attribute_name attribute.0) × IsText attribute.1
 
 abbrev IsAttributeAfter : List ℕ → Attribute → Type 0
-IsAttributeAfter = IsAfter (slice_cmp nat_cmp) nat_list_cmp_total IsAttribute
+IsAttributeAfter = IsAfter (slice_cmp nat_cmp) IsAttribute
 
 attribute_codec : (previous : List ℕ) → IsCodec (IsAttributeAfter previous) attribute_spelling (attribute_at previous)
 unfolding both_at attribute_at
@@ -106,13 +105,13 @@ AreAttributes = AreShortChained IsAttributeAfter name_of []
 
 attributes_from : (attributes : Attributes) → AreAttributes attributes → AreSpellableAttributes attributes
 attributes_from attributes h =
-    let each = each_fits (slice_cmp nat_cmp) nat_list_cmp_total IsAttribute [] attributes h.chained in
+    let each = each_fits (slice_cmp nat_cmp) IsAttribute [] attributes h.chained in
     record { few = h.few; named = all_named attributes each; texts = all_texts attributes each; rising = rising (slice_cmp nat_cmp) nat_list_cmp_total IsAttribute [] attributes h.chained }
 
 attributes_are : (attributes : Attributes) → AreSpellableAttributes attributes → AreAttributes attributes
 attributes_are attributes h = record {
   few = h.few;
-  chained = chained (slice_cmp nat_cmp) nat_list_cmp_total IsAttribute [] attributes (all_after_none attributes h.named) h.rising (all_attributes attributes h.named h.texts);
+  chained = chained (slice_cmp nat_cmp) IsAttribute [] attributes (all_after_none attributes h.named) h.rising (all_attributes attributes h.named h.texts);
 }
 
 attributes_codec : IsCodec AreSpellableAttributes (list_spelling attribute_spelling) attributes_at
@@ -155,7 +154,7 @@ abbrev fields_of_node : ℕ × Item → Fields
 fields_of_node row = ((row.0, (row.1.kind, (row.1.owner, row.1.place.directory))), (row.1.place.name, (row.1.attributes, row.1.contents)))
 
 abbrev IsNodeAfter : ℕ → ℕ × Item → Type 0
-IsNodeAfter = IsAfter nat_cmp nat_cmp_total IsSpellableNode
+IsNodeAfter = IsAfter nat_cmp IsSpellableNode
 
 node_from : (previous : ℕ) (f : Fields) → AreBoth (IsHead previous) IsTail f → IsNodeAfter previous (node_of_fields f)
 node_from previous f h =
@@ -190,10 +189,10 @@ all_above_zero [] each = tt
 all_above_zero (row ∷ rows) each = (less_from_lt 0 row.0 each.0.above_zero, all_above_zero rows each.1)
 
 nodes_from : (rows : List (ℕ × Item)) → AreNodes rows → AreSpellableNodes rows
-nodes_from rows h = record { few = h.few; each = each_fits nat_cmp nat_cmp_total IsSpellableNode 0 rows h.chained; rising = rising nat_cmp nat_cmp_total IsSpellableNode 0 rows h.chained }
+nodes_from rows h = record { few = h.few; each = each_fits nat_cmp IsSpellableNode 0 rows h.chained; rising = rising nat_cmp nat_cmp_total IsSpellableNode 0 rows h.chained }
 
 nodes_are : (rows : List (ℕ × Item)) → AreSpellableNodes rows → AreNodes rows
-nodes_are rows h = record { few = h.few; chained = chained nat_cmp nat_cmp_total IsSpellableNode 0 rows (all_above_zero rows h.each) h.rising h.each }
+nodes_are rows h = record { few = h.few; chained = chained nat_cmp IsSpellableNode 0 rows (all_above_zero rows h.each) h.rising h.each }
 
 pub nodes_codec : IsCodec AreSpellableNodes nodes_spelling nodes_at
 nodes_codec =

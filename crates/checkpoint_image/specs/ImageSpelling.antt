@@ -7,8 +7,12 @@ use Rattle.access_history.specs.declared.event.Issue.{Issue}
 use Rattle.access_history.specs.Base.{BaseView}
 use Rattle.record_parts.specs.Fields.{number_spelling, IsSpellableNumber, FitsFourBytes, moment_spelling}
 use Rattle.record_parts.specs.RecordSpelling.{registered_spelling, IsSpellableRegistered, issued_spelling, IsSpellableIssued}
+use Rattle.node_rows.specs.declared.rows.TreeRow.{TreeRow}
+use Rattle.node_rows.specs.declared.rows.MetaRow.{MetaRow}
+use Rattle.node_rows.specs.Rows.{item_rows, AreOfSameNodes}
+use Rattle.checkpoint_image.specs.declared.image.Image.{Image}
 use Rattle.checkpoint_image.specs.Chain.{long_list_spelling}
-use Rattle.checkpoint_image.specs.NodeSpelling.{nodes_spelling, AreSpellableNodes}
+use Rattle.checkpoint_image.specs.NodeSpelling.{nodes_spelling, AreSpellableNodes, HasFittingParts}
 
 -- the greatest moment so far, the number of the last event, and the number of the next node
 unfoldable pub head_spelling : ℤ → ℕ → ℕ → List ℕ
@@ -62,3 +66,15 @@ HasFittingSignature entry = FitsFourBytes entry.signature
 -- the numbers that a proof cites fit their count
 abbrev pub HasFewCited : Issue → Type 0
 HasFewCited issue = length issue.cited ≤ 255
+
+-- nodes that may be written: few enough, in rows of the same nodes, whose names, attributes and contents fit their fields
+pub record HaveFittingRows (trees : List TreeRow) (metas : List MetaRow) : Type 0 where
+  pub few : length trees < 2 ^ 32
+  pub same : AreOfSameNodes trees metas
+  pub parts : AllByRecursion (λ row. HasFittingParts row.1) (item_rows trees metas)
+
+-- an image that may be written
+pub record HasFittingFields (image : Image) : Type 0 where
+  pub statements : AreSpelledIn HasFittingSignature image.statements
+  pub issues : AreSpelledIn HasFewCited image.issues
+  pub nodes : HaveFittingRows image.tree image.meta

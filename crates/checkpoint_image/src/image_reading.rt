@@ -5,6 +5,7 @@ ghost use Rattle.bl_syntax.specs.Reading.{GivesReading};
 ghost use Rattle.bl_syntax.specs.Codec.{GivesReadingOrReports};
 ghost use Rattle.node_rows.specs.Rows.{item_rows, AreOfSameNodes};
 ghost use Rattle.checkpoint_image.specs.Chain.{chain_at, alone, nothing_left};
+ghost use Rattle.checkpoint_image.specs.ImageSpelling.{HasFittingFields};
 ghost use Rattle.checkpoint_image.specs.ImageReading.{counts_at, head_at, entry_at, statements_at, issue_at, issues_at, issues_and_nodes_at, lists_at, image_at, base_of_image};
 
 use crate::fields::moment_field_at;
@@ -185,10 +186,9 @@ fn lists_at(
     }
 }
 
-/// Reads an image at the front of `bytes`, the rest of an input of `input` bytes: the state and the bytes after it, or the
-/// first fault. Its rows are of the same nodes.
+// The parts of an image.
 #[tactic(auto, using(bl_syntax::proofs::ReportsFaultLemmas::hands_on, bl_syntax::proofs::ReportsFaultLemmas::stops), unfolding(crate::specs::ImageReading::parts_at))]
-pub fn image_at(alloc: Global, input: usize, bytes: &[u8]) -> Result<(Image, &[u8]), CodecFault>
+fn parts_at(alloc: Global, input: usize, bytes: &[u8]) -> Result<(Image, &[u8]), CodecFault>
     ensures read { GivesReadingOrReports (λ x. (base_of_image x.0, x.1.now)) result (image_at input bytes.now) }
     ensures same { IfOk result (λ x. AreOfSameNodes x.0.tree x.0.meta) }
 {
@@ -210,4 +210,13 @@ pub fn image_at(alloc: Global, input: usize, bytes: &[u8]) -> Result<(Image, &[u
             )),
         },
     }
+}
+
+/// Reads an image at the front of `bytes`, the rest of an input of `input` bytes: the state and the bytes after it, or the
+/// first fault. Its rows are of the same nodes, and it may be written again.
+pub fn image_at(alloc: Global, input: usize, bytes: &[u8]) -> Result<(Image, &[u8]), CodecFault>
+    ensures read { GivesReadingOrReports (λ x. (base_of_image x.0, x.1.now)) result (image_at input bytes.now) }
+    ensures fits { IfOk result (λ x. HasFittingFields x.0) }
+{
+    parts_at(alloc, input, bytes)
 }

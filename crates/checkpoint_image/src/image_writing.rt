@@ -1,12 +1,11 @@
 //! Writing the image of a state. Each writer adds its part at the end, or nothing.
 
-ghost use Rattle.std.specs.Prelude.{◌≡◌, ◌≤◌, ◌<◌, ◌^◌, ◌++◌, OnOk, OnErr, length};
+ghost use Rattle.std.specs.Prelude.{◌≡◌, ◌++◌, OnOk, OnErr};
 ghost use Rattle.std.specs.List.{AllByRecursion, flat_map};
 ghost use Rattle.bl_syntax.specs.BeginsWith.{BeginsWith};
-ghost use Rattle.bl_syntax.specs.TimeOrder.{IsMoment};
-ghost use Rattle.node_rows.specs.Rows.{item_rows, AreOfSameNodes};
-ghost use Rattle.checkpoint_image.specs.NodeSpelling.{nodes_spelling, HasFittingParts};
-ghost use Rattle.checkpoint_image.specs.ImageSpelling.{head_spelling, entry_spelling, IsSpellableEntry, statements_spelling, issue_spelling, IsSpellableIssue, issues_spelling, image_spelling, HasFittingSignature, HasFewCited};
+ghost use Rattle.node_rows.specs.Rows.{item_rows};
+ghost use Rattle.checkpoint_image.specs.NodeSpelling.{nodes_spelling};
+ghost use Rattle.checkpoint_image.specs.ImageSpelling.{head_spelling, entry_spelling, IsSpellableEntry, statements_spelling, issue_spelling, IsSpellableIssue, issues_spelling, image_spelling, AreSpelledIn, HasFittingSignature, HasFewCited, HaveFittingRows, HasFittingFields};
 ghost use Rattle.checkpoint_image.specs.ImageReading.{base_of_image};
 
 use crate::fields::{put_moment, put_number};
@@ -45,8 +44,7 @@ fn add_head(moment: i64, count: u64, next: u64, out: &mut Bytes) -> Result<(), N
 
 /// Adds how many statements there are, fewer than 2^32, and each with its signature of fewer than 2^32 bytes.
 pub fn write_statements(statements: &[Registered], out: &mut Bytes) -> Result<(), NoMemory>
-    requires few { length statements.now < 2 ^ 32 }
-    requires fit { AllByRecursion HasFittingSignature statements.now }
+    requires { AreSpelledIn HasFittingSignature statements.now }
     ensures ok { OnOk result (out.new ≡ out.old ++ statements_spelling statements.now) }
     ensures spelled { OnOk result (AllByRecursion IsSpellableEntry statements.now) }
     ensures err { OnErr result (out.new ≡ out.old) }
@@ -62,8 +60,7 @@ pub fn write_statements(statements: &[Registered], out: &mut Bytes) -> Result<()
 // Adds these, or a front of them.
 #[tactic(auto, using(bl_syntax::proofs::BeginsWithLemmas::writing))]
 fn add_statements(statements: &[Registered], out: &mut Bytes) -> Result<(), NoMemory>
-    requires few { length statements.now < 2 ^ 32 }
-    requires fit { AllByRecursion HasFittingSignature statements.now }
+    requires { AreSpelledIn HasFittingSignature statements.now }
     ensures ok { OnOk result (out.new ≡ out.old ++ statements_spelling statements.now) }
     ensures spelled { OnOk result (AllByRecursion IsSpellableEntry statements.now) }
     ensures err { OnErr result (BeginsWith out.new out.old) }
@@ -97,8 +94,7 @@ fn add_entry(entry: &Registered, out: &mut Bytes) -> Result<(), NoMemory>
 
 /// Adds how many issues there are, fewer than 2^32, and each. Each proof cites at most 255 numbers.
 pub fn write_issues(issues: &[Issue], out: &mut Bytes) -> Result<(), NoMemory>
-    requires few { length issues.now < 2 ^ 32 }
-    requires fit { AllByRecursion HasFewCited issues.now }
+    requires { AreSpelledIn HasFewCited issues.now }
     ensures ok { OnOk result (out.new ≡ out.old ++ issues_spelling issues.now) }
     ensures spelled { OnOk result (AllByRecursion IsSpellableIssue issues.now) }
     ensures err { OnErr result (out.new ≡ out.old) }
@@ -114,8 +110,7 @@ pub fn write_issues(issues: &[Issue], out: &mut Bytes) -> Result<(), NoMemory>
 // Adds these, or a front of them.
 #[tactic(auto, using(bl_syntax::proofs::BeginsWithLemmas::writing))]
 fn add_issues(issues: &[Issue], out: &mut Bytes) -> Result<(), NoMemory>
-    requires few { length issues.now < 2 ^ 32 }
-    requires fit { AllByRecursion HasFewCited issues.now }
+    requires { AreSpelledIn HasFewCited issues.now }
     ensures ok { OnOk result (out.new ≡ out.old ++ issues_spelling issues.now) }
     ensures spelled { OnOk result (AllByRecursion IsSpellableIssue issues.now) }
     ensures err { OnErr result (BeginsWith out.new out.old) }
@@ -150,9 +145,7 @@ fn add_issue(issue: &Issue, out: &mut Bytes) -> Result<(), NoMemory>
 /// Adds how many nodes there are, fewer than 2^32, and each. The rows are of the same nodes, and the lengths of their names
 /// and contents and the numbers of their attributes fit their fields.
 pub fn write_nodes(trees: &[TreeRow], metas: &[MetaRow], out: &mut Bytes) -> Result<(), NoMemory>
-    requires few { length trees.now < 2 ^ 32 }
-    requires same { AreOfSameNodes trees.now metas.now }
-    requires fit { AllByRecursion (λ row. HasFittingParts row.1) (item_rows trees.now metas.now) }
+    requires { HaveFittingRows trees.now metas.now }
     ensures ok { OnOk result (out.new ≡ out.old ++ nodes_spelling (item_rows trees.now metas.now)) }
     ensures err { OnErr result (out.new ≡ out.old) }
 {
@@ -167,9 +160,7 @@ pub fn write_nodes(trees: &[TreeRow], metas: &[MetaRow], out: &mut Bytes) -> Res
 // Adds these, or a front of them.
 #[tactic(auto, using(bl_syntax::proofs::BeginsWithLemmas::writing))]
 fn add_nodes(trees: &[TreeRow], metas: &[MetaRow], out: &mut Bytes) -> Result<(), NoMemory>
-    requires few { length trees.now < 2 ^ 32 }
-    requires same { AreOfSameNodes trees.now metas.now }
-    requires fit { AllByRecursion (λ row. HasFittingParts row.1) (item_rows trees.now metas.now) }
+    requires { HaveFittingRows trees.now metas.now }
     ensures ok { OnOk result (out.new ≡ out.old ++ nodes_spelling (item_rows trees.now metas.now)) }
     ensures err { OnErr result (BeginsWith out.new out.old) }
 {
@@ -179,13 +170,7 @@ fn add_nodes(trees: &[TreeRow], metas: &[MetaRow], out: &mut Bytes) -> Result<()
 
 /// Adds the image of a state, or nothing.
 pub fn write_image(image: &Image, out: &mut Bytes) -> Result<(), NoMemory>
-    requires few_statements { length image.now.statements < 2 ^ 32 }
-    requires statements { AllByRecursion HasFittingSignature image.now.statements }
-    requires few_issues { length image.now.issues < 2 ^ 32 }
-    requires issues { AllByRecursion HasFewCited image.now.issues }
-    requires few_nodes { length image.now.tree < 2 ^ 32 }
-    requires same { AreOfSameNodes image.now.tree image.now.meta }
-    requires nodes { AllByRecursion (λ row. HasFittingParts row.1) (item_rows image.now.tree image.now.meta) }
+    requires { HasFittingFields image.now }
     ensures ok { OnOk result (out.new ≡ out.old ++ image_spelling (base_of_image image.now)) }
     ensures statements_spelled { OnOk result (AllByRecursion IsSpellableEntry image.now.statements) }
     ensures issues_spelled { OnOk result (AllByRecursion IsSpellableIssue image.now.issues) }
@@ -202,13 +187,7 @@ pub fn write_image(image: &Image, out: &mut Bytes) -> Result<(), NoMemory>
 // Adds the image of a state, or a front of it.
 #[tactic(auto, using(bl_syntax::proofs::BeginsWithLemmas::writing), unfolding(crate::specs::ImageSpelling::image_spelling))]
 fn add_image(image: &Image, out: &mut Bytes) -> Result<(), NoMemory>
-    requires few_statements { length image.now.statements < 2 ^ 32 }
-    requires statements { AllByRecursion HasFittingSignature image.now.statements }
-    requires few_issues { length image.now.issues < 2 ^ 32 }
-    requires issues { AllByRecursion HasFewCited image.now.issues }
-    requires few_nodes { length image.now.tree < 2 ^ 32 }
-    requires same { AreOfSameNodes image.now.tree image.now.meta }
-    requires nodes { AllByRecursion (λ row. HasFittingParts row.1) (item_rows image.now.tree image.now.meta) }
+    requires { HasFittingFields image.now }
     ensures ok { OnOk result (out.new ≡ out.old ++ image_spelling (base_of_image image.now)) }
     ensures statements_spelled { OnOk result (AllByRecursion IsSpellableEntry image.now.statements) }
     ensures issues_spelled { OnOk result (AllByRecursion IsSpellableIssue image.now.issues) }
