@@ -4,6 +4,7 @@ use Rattle.std.specs.List.{AllByRecursion, flat_map}
 use Rattle.std.proofs.lemmas.List.{append-nil, take_all, take_more}
 use Rattle.bl_syntax.specs.declared.codec_fault.CodecFault.{CodecFault}
 use Rattle.bl_syntax.specs.Reading.{◌>>=◌, Reading}
+use Rattle.bl_syntax.specs.BeginsWith.{BeginsWith}
 use Rattle.bl_syntax.specs.Codec.{ReportsFault}
 use Rattle.bl_syntax.proofs.ReportsFaultLemmas.{hands_on}
 use Rattle.bl_syntax.proofs.GrantLemmas.{AllByRecursion-push}
@@ -91,3 +92,29 @@ row_at [] metas place tree meta same lt = absurd (omega (arith, lt))
 row_at (t ∷ trees) [] place tree meta same lt = absurd same
 row_at (t ∷ trees) (m ∷ metas) zero tree meta same lt = refl
 row_at (t ∷ trees) (m ∷ metas) (suc place) tree meta same lt = row_at trees metas place tree meta same.1.1 (omega (arith, lt))
+
+-- two rows that are read at a place are those of the node there
+pub row_read : (trees : List TreeRow) (metas : List MetaRow) (place : ℕ) (tree : TreeRow) (meta : MetaRow) → AreOfSameNodes trees metas → place < length trees → tree ≡ get_or trees place tree → meta ≡ get_or metas place meta
+    → item_row tree meta ≡ get_or (item_rows trees metas) place (item_row tree meta)
+row_read trees metas place tree meta same lt is_tree is_meta =
+    ap (λ (t : TreeRow). item_row t meta) is_tree ∙ ap (λ (m : MetaRow). item_row (get_or trees place tree) m) is_meta ∙ sym (row_at trees metas place tree meta same lt)
+
+-- ---- what is written one after the other
+
+flat_map_push : {A : Type 0} (spelling : A → List ℕ) (items : List A) (item : A) → flat_map spelling (items ++ item ∷ []) ≡ flat_map spelling items ++ spelling item
+flat_map_push spelling [] item = append-nil (spelling item)
+flat_map_push spelling (x ∷ xs) item = ap (λ (b : List ℕ). spelling x ++ b) (flat_map_push spelling xs item) ∙ sym (append_assoc (spelling x) (flat_map spelling xs) (spelling item))
+
+pub written_more : {A : Type 0} (spelling : A → List ℕ) (items : List A) (place : ℕ) (item : A) (start out new : List ℕ) → place < length items → item ≡ get_or items place item → out ≡ start ++ flat_map spelling (take place items) → new ≡ out ++ spelling item
+    → new ≡ start ++ flat_map spelling (take (place + 1) items)
+written_more {A} spelling items place item start out new within read before added =
+    let more : take (place + 1) items ≡ take place items ++ item ∷ [] = take_more items place item within ∙ ap (λ (x : A). take place items ++ x ∷ []) (sym read) in
+    let spelled : flat_map spelling (take (place + 1) items) ≡ flat_map spelling (take place items) ++ spelling item = ap (flat_map spelling) more ∙ flat_map_push spelling (take place items) item in
+    added ∙ ap (λ (b : List ℕ). b ++ spelling item) before ∙ append_assoc start (flat_map spelling (take place items)) (spelling item) ∙ ap (λ (b : List ℕ). start ++ b) (sym spelled)
+
+pub written_all : {A : Type 0} (spelling : A → List ℕ) (items : List A) (place : ℕ) (start out : List ℕ) → length items ≤ place → out ≡ start ++ flat_map spelling (take place items) → out ≡ start ++ flat_map spelling items
+written_all {A} spelling items place start out le before = before ∙ ap (λ (xs : List A). start ++ flat_map spelling xs) (take_all items place le)
+
+-- what begins with what was written so far begins with what stood there before
+pub begins : (start more out new : List ℕ) → out ≡ start ++ more → BeginsWith new out → BeginsWith new start
+begins start more out new before h = record { rest = more ++ h.rest; parts = h.parts ∙ ap (λ (b : List ℕ). b ++ h.rest) before ∙ append_assoc start more h.rest }

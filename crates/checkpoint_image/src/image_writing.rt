@@ -70,6 +70,7 @@ fn add_statements(statements: &[Registered], out: &mut Bytes) -> Result<(), NoMe
 }
 
 // Adds each statement, or a front of them.
+#[tactic(auto, using(bl_syntax::proofs::BeginsWithLemmas::writing))]
 fn add_each_statement(statements: &[Registered], out: &mut Bytes) -> Result<(), NoMemory>
     requires { AllByRecursion HasFittingSignature statements.now }
     ensures ok { OnOk result (out.new ≡ out.old ++ flat_map entry_spelling statements.now) }
@@ -120,6 +121,7 @@ fn add_issues(issues: &[Issue], out: &mut Bytes) -> Result<(), NoMemory>
 }
 
 // Adds each issue, or a front of them.
+#[tactic(auto, using(bl_syntax::proofs::BeginsWithLemmas::writing))]
 fn add_each_issue(issues: &[Issue], out: &mut Bytes) -> Result<(), NoMemory>
     requires { AllByRecursion HasFewCited issues.now }
     ensures ok { OnOk result (out.new ≡ out.old ++ flat_map issue_spelling issues.now) }

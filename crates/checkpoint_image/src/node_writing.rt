@@ -88,6 +88,7 @@ fn add_node(tree: &TreeRow, meta: &MetaRow, out: &mut Bytes) -> Result<(), NoMem
 }
 
 /// Adds each node, or a front of them. The rows are of the same nodes.
+#[tactic(auto, using(bl_syntax::proofs::BeginsWithLemmas::writing))]
 pub(crate) fn add_each_node(
     trees: &[TreeRow],
     metas: &[MetaRow],
@@ -99,7 +100,9 @@ pub(crate) fn add_each_node(
     ensures err { OnErr result (BeginsWith out.new out.old) }
 {
     for place in 0..trees.len() {
-        add_node(&trees[place], &metas[place], out)?;
+        let tree = &trees[place];
+        let meta = &metas[place];
+        add_node(tree, meta, out)?;
     }
     Ok(())
 }
