@@ -16,7 +16,7 @@ ghost use Rattle.checkpoint_image.specs.NodeReading.{kind_of, kind_at, number_af
 use bl_syntax::fields::{place, put, second_bytes, u32_at, u32_bytes, u64_at, u64_bytes};
 use bl_syntax::{Bytes, CodecFault, NoMemory, Sequence, Short, is_moment};
 use file_world::Kind;
-use node_rows::names::{attribute_name, node_name_or_none};
+use node_rows::names::{is_attribute_name, node_name_or_none};
 use std::alloc::Global;
 use std::cmp::Ordering;
 
@@ -67,13 +67,20 @@ fn compare(one: &[u8], other: &[u8]) -> Ordering
     one.cmp(&other)
 }
 
-// The name of an attribute that comes after the previous one in byte order; none exactly if the bytes are none.
+// Whether the bytes name an attribute and come after the previous name in byte order.
+fn is_name_after(previous: &[u8], name: &[u8]) -> bool
+    ensures { result ≡ is_name_after previous.now name.now }
+{
+    is_attribute_name(name) && compare(previous, name).is_lt()
+}
+
+// The name of an attribute that comes after the previous one, in a place of fixed size; none exactly if the bytes are none.
 fn name_after(previous: &[u8], name: &[u8]) -> Option<Short<64>>
     ensures named { IsSome result ↔ IsTrue (is_name_after previous.now name.now) }
     ensures same { IfSome result (λ short. short ≡ name.now) }
 {
-    if compare(previous, name).is_lt() {
-        attribute_name(name)
+    if is_name_after(previous, name) {
+        Some(Short::new(name))
     } else {
         None
     }

@@ -85,15 +85,3 @@ pub fn is_attribute_name(name: &[u8]) -> bool
         }
     }
 }
-
-/// The name of an attribute in a place of fixed size; none exactly if the bytes are none.
-pub fn attribute_name(name: &[u8]) -> Option<Short<64>>
-    ensures named { IsSome result ↔ IsTrue (is_attribute_name name.now) }
-    ensures same { IfSome result (λ short. short ≡ name.now) }
-{
-    if is_attribute_name(name) {
-        Some(Short::new(name))
-    } else {
-        None
-    }
-}
