@@ -70,7 +70,7 @@ all_more {A} P items place item within read before here =
 
 -- all items
 pub all_all : {A : Type 0} (P : A → Type 0) (items : List A) (place : ℕ) → length items ≤ place → AllByRecursion P (take place items) → AllByRecursion P items
-all_all P items place le all = subst (AllByRecursion P) (take_all items place le) all
+all_all P items place le all = subst (AllByRecursion P) (take_all place items le) all
 
 -- ---- rows
 
@@ -113,7 +113,7 @@ written_more {A} spelling items place item start out new within read before adde
     added ∙ ap (λ (b : List ℕ). b ++ spelling item) before ∙ append_assoc start (flat_map spelling (take place items)) (spelling item) ∙ ap (λ (b : List ℕ). start ++ b) (sym spelled)
 
 pub written_all : {A : Type 0} (spelling : A → List ℕ) (items : List A) (place : ℕ) (start out : List ℕ) → length items ≤ place → out ≡ start ++ flat_map spelling (take place items) → out ≡ start ++ flat_map spelling items
-written_all {A} spelling items place start out le before = before ∙ ap (λ (xs : List A). start ++ flat_map spelling xs) (take_all items place le)
+written_all {A} spelling items place start out le before = before ∙ ap (λ (xs : List A). start ++ flat_map spelling xs) (take_all place items le)
 
 -- what begins with what was written so far begins with what stood there before
 pub begins : (start more out new : List ℕ) → out ≡ start ++ more → BeginsWith new out → BeginsWith new start

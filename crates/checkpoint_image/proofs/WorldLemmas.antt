@@ -78,9 +78,10 @@ node_spelled world is number item e =
 
 pub worlds_have_images : (world : World) → IsWorld world → AreSpellableNodes world.rows
 worlds_have_images world is =
+    let tree_row : ℕ × Item → ℕ × Node = λ row. (row.0, node_of row.1) in
     let rising : IsStrictlySortedBy nat_cmp (keys_of world.rows) = subst (IsStrictlySortedBy nat_cmp) (keys-part node_of world.rows) is.tree.rising in
     record {
-      few = omega (arith, is.tree.few, length-map world.rows (λ (row : ℕ × Item). (row.0, node_of row.1)));
+      few = omega (arith, is.tree.few, length-map world.rows tree_row);
       each = all_found IsSpellableNode world.rows rising (node_spelled world is);
       rising = rising;
     }

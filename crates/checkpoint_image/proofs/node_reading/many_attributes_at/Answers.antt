@@ -1,4 +1,4 @@
-use Rattle.std.proofs.Common.{[]}
+use Rattle.std.proofs.Common.{ℕ, List, [], ap, sym, ◌∙◌}
 use Rattle.bl_syntax.proofs.ReportsFaultLemmas.{stops}
 use Rattle.checkpoint_image.specs.Chain.{chain_at}
 use Rattle.checkpoint_image.specs.NodeReading.{attribute_at, name_of}
@@ -7,11 +7,13 @@ use Rattle.checkpoint_image.proofs.node_reading.many_attributes_at.Goals as goal
 
 pub returns-in-Err : goal.returns-in-Err
 returns-in-Err c =
-    ends c.in-Err.fault (λ previous. attribute_at previous c.args.input) name_of c.loop.attributes c.args.count c.loop.counter c.loop.previous c.loop.rest.now (chain_at (λ previous. attribute_at previous c.args.input) name_of c.args.count [] c.args.bytes.now) c.loop-test.true (stops c.in-Err.fault (attribute_at c.loop.previous c.args.input c.loop.rest.now) c.in-Err.ensures) c.loop.invariant
+    let read = ap (λ (p : List ℕ). attribute_at p c.args.input c.loop.rest.now) (sym c.bytes.ensures) ∙ c.in-Err.ensures in
+    ends c.in-Err.fault (λ previous. attribute_at previous c.args.input) name_of c.loop.attributes c.args.count c.loop.counter c.loop.previous c.loop.rest.now (chain_at (λ previous. attribute_at previous c.args.input) name_of c.args.count [] c.args.bytes.now) c.loop-test.true (stops c.in-Err.fault (attribute_at c.loop.previous c.args.input c.loop.rest.now) read) c.loop.invariant
 
 pub loop-preserved : goal.loop-preserved
 loop-preserved c =
-    rw c.in_ok-push-in-Ok.ensures.ok (goes_on (λ previous. attribute_at previous c.args.input) name_of c.loop.attributes c.args.count c.loop.counter c.loop.previous c.loop.rest.now (c.in-Ok.name, c.in-Ok.value) c.in-Ok.behind.now (chain_at (λ previous. attribute_at previous c.args.input) name_of c.args.count [] c.args.bytes.now) c.loop-test.true c.in-Ok.ensures c.loop.invariant)
+    let read = ap (λ (p : List ℕ). attribute_at p c.args.input c.loop.rest.now) (sym c.bytes.ensures) ∙ c.in-Ok.ensures in
+    rw c.in_ok-push-in-Ok.ensures.ok (goes_on (λ previous. attribute_at previous c.args.input) name_of c.loop.attributes c.args.count c.loop.counter c.loop.previous c.loop.rest.now (c.in-Ok.name, c.in-Ok.value) c.in-Ok.behind.now (chain_at (λ previous. attribute_at previous c.args.input) name_of c.args.count [] c.args.bytes.now) c.loop-test.true read c.loop.invariant)
 
 pub returns : goal.returns
 returns c = is_done (λ previous. attribute_at previous c.args.input) name_of c.loop.attributes c.args.count c.loop.counter c.loop.previous c.loop.rest.now (chain_at (λ previous. attribute_at previous c.args.input) name_of c.args.count [] c.args.bytes.now) c.loop-test.false c.loop.invariant
