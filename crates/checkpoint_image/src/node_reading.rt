@@ -11,9 +11,9 @@ use crate::fields::{
     attribute_name_at, kind_at, node_name_at, number_after, sized_bytes_at,
 };
 use bl_syntax::fields::{name_at, text_at, u32_at, u64_at};
-use bl_syntax::{Bytes, CodecFault, NoMemory, NodeId, Principal, Sequence, Short, Text};
+use bl_syntax::{Bytes, CodecFault, NoMemory, NodeId, Principal, Sequence, Short};
 use file_world::Kind;
-use node_rows::{MetaRow, MetaRows, RowAttributes, TreeRow, TreeRows};
+use node_rows::{MetaRow, MetaRows, RowAttribute, RowAttributes, TreeRow, TreeRows};
 use std::alloc::Global;
 
 /// An owner, and the number of a directory.
@@ -68,14 +68,14 @@ fn attribute_at<'a>(
     previous: &[u8],
     input: usize,
     bytes: &'a [u8],
-) -> Result<(Short<64>, Text, &'a [u8]), CodecFault>
-    ensures { GivesReading (λ x. ((x.0, x.1), x.2.now)) result (attribute_at previous.now input bytes.now) }
+) -> Result<(RowAttribute, &'a [u8]), CodecFault>
+    ensures { GivesReading (λ x. (x.0, x.1.now)) result (attribute_at previous.now input bytes.now) }
 {
     match attribute_name_at(previous, input, bytes) {
         Err(fault) => Err(fault),
         Ok((name, rest)) => match text_at(input, rest) {
             Err(fault) => Err(fault),
-            Ok((value, rest)) => Ok((name, value, rest)),
+            Ok((value, rest)) => Ok(((name, value), rest)),
         },
     }
 }
@@ -95,9 +95,9 @@ fn many_attributes_at(
     for _ in 0..count {
         match attribute_at(previous.bytes(), input, rest) {
             Err(fault) => return Err(fault),
-            Ok((name, value, behind)) => {
-                attributes.push((name, value))?;
-                previous = name;
+            Ok((attribute, behind)) => {
+                previous = attribute.0;
+                attributes.push(attribute)?;
                 rest = behind;
             }
         }

@@ -26,7 +26,7 @@ loop-place-preserved c =
     (row_read c.args.trees.now c.args.metas.now c.loop-place.place tree meta c.requires.same c.loop-place-test.true c.index-trees-place.is c.index-metas-place.is)
     c.loop-place.invariant c.in_ok-add_node.ensures.ok
 
-pub returns : goal.returns
-returns c =
+pub returns-clause-ok : goal.returns-clause-ok
+returns-clause-ok c =
     written_all node_spelling (item_rows c.args.trees.now c.args.metas.now) c.loop-place.place c.args.out.now c.loop-place.out
     (omega (arith, as_many_rows c.args.trees.now c.args.metas.now c.requires.same, c.loop-place-test.false)) c.loop-place.invariant
