@@ -2,8 +2,13 @@
 _pcfs() {
     local word=${COMP_WORDS[COMP_CWORD]}
     case $COMP_CWORD in
-    1) COMPREPLY=($(compgen -W 'init script' -- "$word")) ;;
-    2) [ "${COMP_WORDS[1]}" = script ] && COMPREPLY=($(compgen -W '--stored' -- "$word")) ;;
+    1) COMPREPLY=($(compgen -W 'audit check init load script serve' -- "$word")) ;;
+    2)
+        case ${COMP_WORDS[1]} in
+        script) COMPREPLY=($(compgen -W '--stored' -- "$word")) ;;
+        audit) COMPREPLY=($(compgen -W '--pieces' -- "$word")) ;;
+        esac
+        ;;
     esac
 }
 complete -F _pcfs pcfs

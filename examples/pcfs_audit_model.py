@@ -1,7 +1,6 @@
 #!/usr/bin/env python3
 """Makes histories with one changed byte, each with the report that an audit owes it, by the plain model of pcfs_model.py.
 
-    pcfs_audit_model.py script ROUNDS SEED             prints the script that `load` runs
     pcfs_audit_model.py changes COUNT SEED < SCRIPT    prints rows for crates/audit_rows: the history that the script makes under
                                                       the secrets of `load`, and COUNT cases, each with one byte of it changed
 
@@ -13,51 +12,14 @@ import random
 import sys
 
 import pcfs_model
-from pcfs_model import Bad, Bytes, FIELDS, LAST, OPERATIONS, Proof, Reply, Server, Undecided
+from pcfs_model import Bad, Bytes, FIELDS, LAST, LOAD_SECRETS, OPERATIONS, Proof, Reply, Server, Undecided
 from pcfs_model import data, grant_bytes, grant_of, is_stated, is_text, most, name, need, node, nodes_of, offset, principal, read_line, read_procap, term_bytes, value
 from pcfs_client import short, tag_of
 
-SECRETS = "seal 02\nkey admin 01"
 RULES = {rule: 0x01 + place for place, rule in enumerate("init consR interR andR orR1 orR2 trueR impR forallR existsR saysR atR".split())}
 RULES.update({rule: 0x11 + place for place, rule in enumerate("consL interL andL orL falseL impL forallL existsL saysL claim atL".split())})
 NAMED = {tag: rule for rule, tag in RULES.items()}
 CODES = "read write truncate list lookup create mkdir unlink rename getattr setattr delattr chown".split()
-
-
-# ---- the generated script ------------------------------------------------------------------------------------------
-
-
-def generated(rounds, seed):
-    state, issues = seed, 8
-
-    def draw(limit):
-        nonlocal state
-        state = (state * 6364136223846793005 + 1442695040888963407) % 2**64
-        return (state >> 33) % limit
-
-    yield "at 1000"
-    for user in range(8):
-        yield f"register - admin says may(u{user},#1,write) from 0 to 100000"
-        yield f"verify u{user} #1 write {user + 1} saysR(claim(0,init(1)))"
-    yield "register - admin says forall F:file. forall K:principal. owner(F,K) => may(K,F,write) from 0 to 100000"
-    yield "register - admin says forall F:file. may(admin,F,govern) from 0 to 100000"
-    for place in range(1, rounds + 1):
-        user, file, kind, choice = draw(8), 2 + draw(16), draw(4), draw(8)
-        yield f"at {1000 + 10 * place}"
-        if kind == 0 or (kind == 2 and issues == 8):
-            yield f"as u{user}"
-            yield f"do create #1 f{place} @{user + 1}"
-        elif kind == 3:
-            yield f"verify admin #{file} govern 10 saysR(claim(0,forallL(1,#{file},init(2))))"
-            issues += 1
-            yield "as admin"
-            yield f"do chown #{file} u{choice} @{issues}"
-        else:
-            if kind == 1:
-                yield f"verify u{user} #{file} write 9 saysR(claim(0,forallL(1,#{file},forallL(2,u{user},impL(3,ctime,ctime,interR,init(4))))))"
-                issues += 1
-            yield f"as u{user}"
-            yield f"do write #{file} 0 {place:08} @{issues if kind == 1 else 9 + choice % (issues - 8)}"
 
 
 # ---- bytes of events -----------------------------------------------------------------------------------------------
@@ -278,7 +240,7 @@ def changed_at(payload, draw):
 
 
 def changes(script, count, seed):
-    recorder = Recorder(SECRETS)
+    recorder = Recorder(LOAD_SECRETS)
     for line in script:
         recorder.answer(line)
     payloads = recorder.events
@@ -289,7 +251,7 @@ def changes(script, count, seed):
     for payload in payloads:
         print(f"event {payload.hex()}")
     at = sorted(draw.randrange(len(events)) for _ in range(count))
-    auditor = Auditor(SECRETS)
+    auditor = Auditor(LOAD_SECRETS)
     for place, event in enumerate(events):
         for number in range(at.count(place)):
             case = changed_at(payloads[place], draw)
@@ -311,9 +273,6 @@ def changes(script, count, seed):
 def main():
     sys.setrecursionlimit(20_000)
     match sys.argv[1:]:
-        case ["script", rounds, seed]:
-            for line in generated(int(rounds), int(seed)):
-                print(line)
         case ["changes", count, seed]:
             changes(sys.stdin.read().splitlines(), int(count), int(seed))
         case _:

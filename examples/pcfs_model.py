@@ -4,6 +4,8 @@
     pcfs_model.py script SECRETS < SCRIPT       prints the reply to each line
     pcfs_model.py rows FILE..                   compares the replies that files of rows want (crates/pcfs_rows) with its own
     pcfs_model.py random SEED COUNT             prints a script with COUNT random lines, most of them operations
+    pcfs_model.py generated ROUNDS SEED         prints the script that `load ROUNDS SEED` runs
+    pcfs_model.py load ROUNDS SEED              prints the line that `load ROUNDS SEED` writes
 
 It reads right texts alone: a line whose statement or proof has a fault, one of its limits included, is answered `?`.
 """
@@ -1073,6 +1075,55 @@ class Drawn:
                 yield self.tell(self.operation())
 
 
+# ---- generated scripts ---------------------------------------------------------------------------------------------
+
+
+LOAD_SECRETS = "seal 02\nkey admin 01"
+
+
+def generated(rounds, seed):
+    """The lines of the script of so many rounds with that seed."""
+    state, issues = seed, 8
+
+    def draw(limit):
+        nonlocal state
+        state = (state * 6364136223846793005 + 1442695040888963407) % 2**64
+        return (state >> 33) % limit
+
+    yield "at 1000"
+    for user in range(8):
+        yield f"register - admin says may(u{user},#1,write) from 0 to 100000"
+        yield f"verify u{user} #1 write {user + 1} saysR(claim(0,init(1)))"
+    yield "register - admin says forall F:file. forall K:principal. owner(F,K) => may(K,F,write) from 0 to 100000"
+    yield "register - admin says forall F:file. may(admin,F,govern) from 0 to 100000"
+    for place in range(1, rounds + 1):
+        user, file, kind, choice = draw(8), 2 + draw(16), draw(4), draw(8)
+        yield f"at {1000 + 10 * place}"
+        if kind == 0 or (kind == 2 and issues == 8):
+            yield f"as u{user}"
+            yield f"do create #1 f{place} @{user + 1}"
+        elif kind == 3:
+            yield f"verify admin #{file} govern 10 saysR(claim(0,forallL(1,#{file},init(2))))"
+            issues += 1
+            yield "as admin"
+            yield f"do chown #{file} u{choice} @{issues}"
+        else:
+            if kind == 1:
+                yield f"verify u{user} #{file} write 9 saysR(claim(0,forallL(1,#{file},forallL(2,u{user},impL(3,ctime,ctime,interR,init(4))))))"
+                issues += 1
+            yield f"as u{user}"
+            yield f"do write #{file} 0 {place:08} @{issues if kind == 1 else 9 + choice % (issues - 8)}"
+
+
+def load(rounds, seed):
+    """How many of the replies to the generated script begin with each word, and the number of the last event."""
+    server = Server(LOAD_SECRETS)
+    words = [server.answer(line).split(" ")[0] for line in generated(rounds, seed)]
+    done, denied, refused = (words.count(word) for word in ("ok", "denied", "refused"))
+    others = len(words) - done - denied - refused
+    return f"lines {len(words)} ok {done} denied {denied} refused {refused} other {others} events {server.count}"
+
+
 def main():
     sys.setrecursionlimit(20_000)  # formulas and proofs may be deep
     match sys.argv[1:]:
@@ -1088,6 +1139,11 @@ def main():
         case ["random", seed, count]:
             for line in Drawn(int(seed)).lines(int(count)):
                 print(line)
+        case ["generated", rounds, seed]:
+            for line in generated(int(rounds), int(seed)):
+                print(line)
+        case ["load", rounds, seed]:
+            print(load(int(rounds), int(seed)))
         case _:
             sys.exit(__doc__)
 

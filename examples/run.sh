@@ -129,6 +129,25 @@ for seed in 1 2 3 4 5; do
     fi
 done
 
+# of generated scripts the program counts the replies that the model gives, and those that it gives itself to the lines that the model makes
+counted() {
+    awk '{ count[$1]++ } END { print NR, count["ok"] + 0, count["denied"] + 0, count["refused"] + 0 }'
+}
+mkdir load
+printf 'seal 02\nkey admin 01\n' > load/pcfs.secrets
+for numbers in "0 7" "1 0" "1 7" "500 1"; do
+    read -r rounds seed <<< "$numbers"
+    line=$("$program" load "$rounds" "$seed") || true
+    replies=$(cd load && python3 "$here/pcfs_model.py" generated "$rounds" "$seed" | "$program" script | counted)
+    if [ "$line" = "$(python3 "$here/pcfs_model.py" load "$rounds" "$seed")" ] && [ "$(cut -d " " -f 2,4,6,8 <<< "$line")" = "$replies" ]; then
+        echo "agrees load $numbers"
+        agree=$((agree + 1))
+    else
+        echo "differs load $numbers"
+        differ=$((differ + 1))
+    fi
+done
+
 # and so are the lines of worked runs, by what they want
 if python3 "$here/pcfs_model.py" rows "$here"/../crates/pcfs_rows/data/*.rows > rows; then
     echo "agrees rows"

@@ -15,7 +15,6 @@ use Rattle.line_forms.specs.Lines.{IsAsked, kinds_said, IsLineIn}
 use Rattle.line_forms.specs.Modes.{modes_of, is_in, is_session}
 use Rattle.line_forms.proofs.SaidLemmas.{form_in_mode}
 use Rattle.line_writing.specs.LineTexts.{asked_text}
-use Rattle.line_writing.specs.RoundTrip.{IsSayable}
 use Rattle.line_writing.proofs.HeadLemmas.{name_of, head_said}
 use Rattle.line_writing.proofs.RowLemmas.{tail_of, tail_ends, retold, row}
 use Rattle.line_writing.proofs.Values.{Values, puts, AllWrite, words_text}
@@ -60,13 +59,13 @@ head_is : (mode : Mode) (form : Form) (behind : List ℕ) → IsSpaced behind �
 head_is mode form behind at is = subst (λ (b : List ℕ). head_in mode (name_of form ++ b) ≡ Ok (form, b)) (sym at) (head_said mode form (after_first behind) is)
 
 -- with these values in its words
-again : (mode : Mode) (form : Form) (vs : Values (kinds_said mode form)) (text : List ℕ) (asked : Line) → AllWrite (kinds_said mode form) vs → IsTrue (is_in mode (modes_of form)) → IsAsked form (puts (kinds_said mode form) vs blank) text asked → IsSayable asked
+again : (mode : Mode) (form : Form) (vs : Values (kinds_said mode form)) (text : List ℕ) (asked : Line) → AllWrite (kinds_said mode form) vs → IsTrue (is_in mode (modes_of form)) → IsAsked form (puts (kinds_said mode form) vs blank) text asked
     → IsLineIn mode (asked_text asked) asked
-again mode form vs text asked written is h say =
+again mode form vs text asked written is h =
     let a = puts (kinds_said mode form) vs blank in
     let tail = tail_of asked in
     let behind = words_text (kinds_said mode form) vs tail in
-    let told = retold form a text asked h say in
+    let told = retold form a text asked h in
     let words : AreWords (kinds_said mode form) behind blank a tail = written_words (kinds_said mode form) vs blank tail written (tail_ends asked) in
     let counted : is_counted form behind ≡ may_end (has_text form) (Some tail) = ap (may_end (has_text form)) (after_read (is_session mode) (kinds_of form) behind blank a tail words) in
     subst (λ (line : List ℕ). IsLineIn mode line asked) (sym (row (is_session mode) form vs text asked h))
@@ -78,7 +77,7 @@ again mode form vs text asked written is h say =
       asked = told.asks;
     })
 
-pub round_trip : {mode : Mode} {line : List ℕ} {asked : Line} → IsLineIn mode line asked → IsSayable asked → IsLineIn mode (asked_text asked) asked
-round_trip {mode} {line} {asked} h say =
+pub round_trip : {mode : Mode} {line : List ℕ} {asked : Line} → IsLineIn mode line asked → IsLineIn mode (asked_text asked) asked
+round_trip {mode} {line} {asked} h =
     let read = read_values (kinds_said mode h.form) h.has_words.behind blank h.arguments h.rest h.has_words.words in
-    again mode h.form read.values (text_of h.rest) asked read.written (form_in_mode h) (subst (λ (a : Arguments). IsAsked h.form a (text_of h.rest) asked) read.after_is h.asked) say
+    again mode h.form read.values (text_of h.rest) asked read.written (form_in_mode h) (subst (λ (a : Arguments). IsAsked h.form a (text_of h.rest) asked) read.after_is h.asked)

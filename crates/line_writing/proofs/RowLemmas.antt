@@ -11,6 +11,8 @@ use Rattle.bl_text.specs.Printed.{statement_text}
 use Rattle.bl_text.proofs.RoundTripLemmas.{printed_statement}
 use Rattle.proof_text.specs.Printed.{proof_text}
 use Rattle.proof_text.proofs.RoundTripLemmas.{text_is_read}
+use Rattle.text_laws.proofs.PrintableLemmas.{proof_printable}
+use Rattle.text_laws.proofs.SpellableLemmas.{statement_spellable}
 use Rattle.line_words.specs.Kinds.{blank, kinds_in}
 use Rattle.line_words.specs.declared.arguments.Arguments.{Arguments}
 use Rattle.line_forms.specs.declared.command.Command.{Command}
@@ -26,7 +28,6 @@ use Rattle.line_forms.specs.Heads.{may_end, text_of}
 use Rattle.line_forms.specs.Lines.{IsAsked}
 use Rattle.line_forms.specs.Making.{op_of}
 use Rattle.line_writing.specs.LineTexts.{named_text, value_text, asked_text}
-use Rattle.line_writing.specs.RoundTrip.{IsSayable}
 use Rattle.line_writing.proofs.HeadLemmas.{name_of}
 use Rattle.line_writing.proofs.Values.{Values, puts, words_text}
 
@@ -67,27 +68,22 @@ pub record IsRetold (form : Form) (a : Arguments) (asked : Line) : Type 0 where
   pub asks : IsAsked form a (text_of (tail_of asked)) asked
   pub counted : IsTrue (may_end (has_text form) (Some (tail_of asked)))
 
-pub retold : (form : Form) (a : Arguments) (text : List ℕ) (asked : Line) → IsAsked form a text asked → IsSayable asked → IsRetold form a asked
-retold At a text asked h say = subst (IsRetold At a) (sym h) (record { asks = refl; counted = refl })
-retold As a text asked h say = subst (IsRetold As a) (sym h) (record { asks = refl; counted = refl })
-retold Login a text asked h say = subst (IsRetold Login a) (sym h) (record { asks = refl; counted = refl })
-retold Register a text asked h say =
-    let spelled = subst IsSayable h.2 say in
-    subst (IsRetold Register a) (sym h.2) (record { asks = (h.0, printed_statement h.0 spelled, refl); counted = refl })
-retold Procap a text asked h say = subst (IsRetold Procap a) (sym h) (record { asks = refl; counted = refl })
-retold Verify a text asked h say =
-    let said = subst IsSayable h.2 say in
-    subst (IsRetold Verify a) (sym h.2) (record { asks = (h.0, text_is_read h.0 said, refl); counted = refl })
-retold Check a text asked h say =
-    let said = subst IsSayable h.2 say in
-    subst (IsRetold Check a) (sym h.2) (record { asks = (h.0, text_is_read h.0 said, refl); counted = refl })
-retold (Do operation) a text asked h say = subst (IsRetold (Do operation) a) (sym h) (record { asks = refl; counted = refl })
-retold Statement a text asked h say =
-    let spelled = subst IsSayable h.2 say in
-    subst (IsRetold Statement a) (sym h.2) (record { asks = (h.0, printed_statement h.0 spelled, refl); counted = refl })
-retold Goal a text asked h say =
-    let said = subst IsSayable h.2 say in
-    subst (IsRetold Goal a) (sym h.2) (record { asks = (h.0, text_is_read h.0 said, refl); counted = refl })
+pub retold : (form : Form) (a : Arguments) (text : List ℕ) (asked : Line) → IsAsked form a text asked → IsRetold form a asked
+retold At a text asked h = subst (IsRetold At a) (sym h) (record { asks = refl; counted = refl })
+retold As a text asked h = subst (IsRetold As a) (sym h) (record { asks = refl; counted = refl })
+retold Login a text asked h = subst (IsRetold Login a) (sym h) (record { asks = refl; counted = refl })
+retold Register a text asked h =
+    subst (IsRetold Register a) (sym h.2) (record { asks = (h.0, printed_statement h.0 (statement_spellable h.1), refl); counted = refl })
+retold Procap a text asked h = subst (IsRetold Procap a) (sym h) (record { asks = refl; counted = refl })
+retold Verify a text asked h =
+    subst (IsRetold Verify a) (sym h.2) (record { asks = (h.0, text_is_read h.0 (proof_printable h.1), refl); counted = refl })
+retold Check a text asked h =
+    subst (IsRetold Check a) (sym h.2) (record { asks = (h.0, text_is_read h.0 (proof_printable h.1), refl); counted = refl })
+retold (Do operation) a text asked h = subst (IsRetold (Do operation) a) (sym h) (record { asks = refl; counted = refl })
+retold Statement a text asked h =
+    subst (IsRetold Statement a) (sym h.2) (record { asks = (h.0, printed_statement h.0 (statement_spellable h.1), refl); counted = refl })
+retold Goal a text asked h =
+    subst (IsRetold Goal a) (sym h.2) (record { asks = (h.0, text_is_read h.0 (proof_printable h.1), refl); counted = refl })
 
 -- ---- rows
 

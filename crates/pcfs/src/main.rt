@@ -1,17 +1,21 @@
 //! The file server as a program: `pcfs script` answers the lines of its standard input on its standard output, over a
 //! store in memory, or with `--stored` over the one in the files `pcfs.a` and `pcfs.b` of the current folder, which
-//! `pcfs init` makes.
+//! `pcfs init` makes. `pcfs serve PORT COUNT` gives each of so many connections to that port of 127.0.0.1 a session over that
+//! store.
 //!
-//! It ends with the status that `pcfs_top::run::run_alone` answers, or with 19, if the secrets file is bad or cannot be
-//! read. Where there is no memory for its words or its secrets, that is 9. Words that are not UTF-8 count as none. The
-//! secrets stand in the file `pcfs.secrets` of the current folder; if there is no such file, the key of the seal is
-//! empty and nobody has a key to sign with.
+//! It ends with the status that `pcfs_run::run` returns, or with 19, if the secrets file is bad or cannot be read. If there is
+//! no memory for its words or its secrets, that is 9. Words that are not UTF-8 count as none. The secrets stand in the file
+//! `pcfs.secrets` of the current folder; if there is no such file, the key of the seal is empty and nobody has a key to
+//! sign with. A status of `run` other than 0 is reported on the standard error.
 #![tactic(auto)]
 
 use bl_syntax::Bytes;
-use pcfs_ports::{FileDisk, StdSink, StdSource, TakeFault, read_to_end};
+use log::{Log, warn};
+use pcfs_ports::{
+    FileDisk, StdSink, StdSource, SystemClock, TakeFault, TcpPort, UrandomNonces, read_to_end,
+};
+use pcfs_run::run;
 use pcfs_secrets::{SecretFault, Secrets};
-use pcfs_top::run::run_alone;
 use std::io::{self, ErrorKind};
 use std::process::ExitCode;
 use std::rt::Files;
@@ -93,6 +97,13 @@ fn refuse<R: Print>(rt: &R, lacking: Lacking) -> u8 {
     }
 }
 
+// Reports a status other than 0 in one line on the standard error. A line that cannot be written is dropped.
+fn report<R: Log>(rt: &R, status: u8) {
+    if status != 0 {
+        warn!(rt; "status {status}");
+    }
+}
+
 fn main(rt: HostRuntime) -> ExitCode {
     // A standard stream that was closed leaves its descriptor to the next file that is opened, and in that of a disk
     // replies would be written. So these hold the descriptors; of a folder each read and each write fails.
@@ -114,7 +125,10 @@ fn main(rt: HostRuntime) -> ExitCode {
     let mut output = StdSink::new(io::writer(&rt));
     let a = FileDisk::new(&rt, FIRST_FILE);
     let b = FileDisk::new(&rt, SECOND_FILE);
-    let ended = run_alone(
+    let clock = SystemClock::new(&rt);
+    let mut net = TcpPort::new(&rt);
+    let mut nonces = UrandomNonces::new(&rt);
+    let ended = run(
         &rt,
         rt.alloc(),
         &words,
@@ -123,6 +137,10 @@ fn main(rt: HostRuntime) -> ExitCode {
         &mut output,
         a,
         b,
+        &clock,
+        &mut net,
+        &mut nonces,
     );
+    report(&rt, ended.status);
     ExitCode::from(ended.status)
 }

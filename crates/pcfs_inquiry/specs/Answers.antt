@@ -49,11 +49,11 @@ pub record HasLongLine (lines : List (List ℕ)) : Type 0 where
   pub among : Contains lines line
   pub long : 262144 < length line
 
--- The status that the inquiry in an input ends with, and the line that it has to write. `left` and `faults` are what the input has left and the count of its faults.
+-- The status that the inquiry in an input ends with, and the line that it has to write. A line that is too long comes before any other fault, wherever it stands. `left` and `faults` are what the input has left and the count of its faults.
 pub data InquiryEnds (left left_after : Option (List ℕ)) (faults faults_after : ℕ) : ℕ → List ℕ → Type 0 where
-  answered : (bytes : List ℕ) (statements : List StatementView) (goal : Goal) (proof : ProofView) → ReadsToEnd left left_after bytes → IsInquiry (lines_of bytes) statements goal proof →
+  answered : (bytes : List ℕ) (statements : List StatementView) (goal : Goal) (proof : ProofView) → ReadsToEnd left left_after bytes → (HasLongLine (lines_of bytes) → ⊥) → IsInquiry (lines_of bytes) statements goal proof →
       InquiryEnds left left_after faults faults_after 0 (verdict_text (verdict statements goal proof))
-  bad_line : (bytes : List ℕ) (number : ℕ) (fault : LineFault) → ReadsToEnd left left_after bytes → HasFirstFault (lines_of bytes) number fault → InquiryEnds left left_after faults faults_after 12 (bad_line_text number fault)
+  bad_line : (bytes : List ℕ) (number : ℕ) (fault : LineFault) → ReadsToEnd left left_after bytes → (HasLongLine (lines_of bytes) → ⊥) → HasFirstFault (lines_of bytes) number fault → InquiryEnds left left_after faults faults_after 12 (bad_line_text number fault)
   long_line : (bytes : List ℕ) → ReadsToEnd left left_after bytes → HasLongLine (lines_of bytes) → InquiryEnds left left_after faults faults_after 2 (codes "bad 3")
   read_fault : HasRisen faults faults_after → InquiryEnds left left_after faults faults_after 6 (codes "readfault")
   too_long : TakesFirst 1073741824 left left_after → InquiryEnds left left_after faults faults_after 13 (codes "toolong")

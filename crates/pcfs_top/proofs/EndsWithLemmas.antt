@@ -11,7 +11,6 @@ use Rattle.journal_core.specs.Area.{IsShut, Closed, StandsForBody, area_bytes, g
 use Rattle.access_history.specs.declared.event.Event.{Event}
 use Rattle.access_history.specs.History.{authority_with}
 use Rattle.access_history.specs.Lawful.{IsLawful}
-use Rattle.access_history.specs.Replay.{fresh}
 use Rattle.policy_statement.specs.Ring.{KeyView}
 use Rattle.pcfs_secrets.specs.declared.secrets.Secrets.{Secrets}
 use Rattle.pcfs_store.specs.Formats.{IsNewStore, IsNoneOrFresh, PairsLeft}
@@ -29,13 +28,20 @@ use Rattle.recover.specs.Opening.{IsNotOpened, IsNewestClosed}
 use Rattle.recover.specs.Opening as opening
 use Rattle.pcfs_session.specs.Asker.{Asker, first_asker}
 use Rattle.pcfs_session.specs.InterpreterView.{standing_over}
+use Rattle.pcfs_session.specs.LineAnswer.{authority_under}
 use Rattle.pcfs_session.specs.Streams.{Streams}
-use Rattle.pcfs_top.specs.LastLine.{IsTold, IsUntold}
+use Rattle.pcfs_audit.specs.ReportText.{report_text}
+use Rattle.command_words.specs.Tasks.{AskForNoRun, AsksFor}
+use Rattle.command_words.specs.declared.words.Task.TheVariants.{Stored, Init, Audit, Load}
+use Rattle.pcfs_tools.specs.Audited.{TellsAudit, reported, unreported, audit_status}
+use Rattle.pcfs_tools.specs.LastLine.{IsTold, IsUntold}
+use Rattle.pcfs_tools.specs.Load.{IsLoaded}
+use Rattle.pcfs_tools.specs.ScriptStatus.{AnswersInput}
+use Rattle.pcfs_tools.proofs.MemoryLemmas.{secrets_of}
 use Rattle.pcfs_top.specs.Ports.{Disks, Ports, Rests, AreBytesKept}
-use Rattle.pcfs_top.specs.Run.{AreKnown, IsScript, IsStored, IsInit, HasNoArea, IsNotLost, IsOpened, IsNewestOf, Returns, HasCause, EndsWith, MemoryEnds, TellsUnopened, TellsUnmade, damaged_text}
+use Rattle.pcfs_top.specs.Run.{AreOfStore, of_script, of_audit, HasNoArea, IsNotLost, IsOpened, IsNewestOf, Returns, HasCause, EndsWith, TellsUnopened, TellsUnmade, damaged_text}
 use Rattle.pcfs_top.specs.Run as run
-use Rattle.pcfs_top.specs.ScriptStatus.{ScriptStatus, AnswersInput}
-use Rattle.pcfs_session.specs.ScriptRun.{Standing, IsLawfulStanding, fresh_start, script_pass}
+use Rattle.pcfs_session.specs.ScriptRun.{IsLawfulStanding, script_pass}
 use Rattle.pcfs_session.specs.Stored.{StoreGoesOn}
 use Rattle.pcfs_session.proofs.StoredLemmas.{HasRisen-earlier, none_some}
 
@@ -45,18 +51,6 @@ use Rattle.pcfs_session.proofs.StoredLemmas.{HasRisen-earlier, none_some}
 lawful_start : {D : Type 0} (s : StoreView D) → IsLawful (authority_with s.key s.ring) s.base s.events → IsLawfulStanding (standing_over s None (first_asker script_pass))
 lawful_start s lawful = record { lawful = lawful; asker = record { moment = record { not_before = omega (arith, ints); not_after = omega (arith, ints) }; named = refl } }
 
-abbrev secrets_of : List ℕ → List KeyView → Secrets
-secrets_of key ring = record { seal_key = key; ring = ring }
-
--- over a new store it begins as over one before its first event
-pub fresh_over : {D : Type 0} (secrets : Secrets) (s : StoreView D) → IsNewStore secrets.seal_key secrets.ring s → standing_over s None (first_asker script_pass) ≡ fresh_start secrets
-fresh_over secrets s new =
-    ap (λ (k : List ℕ). record (standing_over s None (first_asker script_pass)) { secrets = secrets_of k s.ring }) new.key_is
-    ∙ ap (λ (r : List KeyView). record (standing_over s None (first_asker script_pass)) { secrets = secrets_of secrets.seal_key r }) new.ring_is
-    ∙ ap (λ b. record (standing_over s None (first_asker script_pass)) { secrets = secrets; base = b }) new.base_is
-    ∙ ap (λ (es : List Event). record (standing_over s None (first_asker script_pass)) { secrets = secrets; base = fresh; events = es }) new.no_events
-    ∙ ap (λ (n : ℕ). record (standing_over s None (first_asker script_pass)) { secrets = secrets; base = fresh; events = []; used = n }) new.used_is
-
 -- ---- a last line
 
 told_as : (words : List (String Global)) (secrets : Secrets) (rests : Rests) (before after : Ports) (status : ℕ) (line : List ℕ) (result : ℕ) → HasCause secrets words rests before.disks after.disks status line → after.streams.left ≡ before.streams.left →
@@ -64,22 +58,14 @@ told_as : (words : List (String Global)) (secrets : Secrets) (rests : Rests) (be
 told_as words secrets rests before after status line result cause left (inl told) = subst (EndsWith secrets words rests before after) (sym told.0) (run.told status line cause left told.1)
 told_as words secrets rests before after status line result cause left (inr failed) = subst (EndsWith secrets words rests before after) (sym failed.0) (run.cut_short status line cause left failed.1 failed.2)
 
-untold_as : (words : List (String Global)) (secrets : Secrets) (rests : Rests) (before after : Ports) (result : ℕ) → (IsScript words → ⊥) → AreKnown words → AreBytesKept before.disks after.disks → after.streams.left ≡ before.streams.left →
+untold_as : (words : List (String Global)) (secrets : Secrets) (rests : Rests) (before after : Ports) (result : ℕ) → AreBytesKept before.disks after.disks → after.streams.left ≡ before.streams.left →
     IsUntold before.streams.held result after.streams.held → EndsWith secrets words rests before after result
-untold_as words secrets rests before after result other known kept left untold = subst (EndsWith secrets words rests before after) (sym untold.0) (run.out_of_memory other known kept left untold.1)
+untold_as words secrets rests before after result kept left untold = subst (EndsWith secrets words rests before after) (sym untold.0) (run.out_of_memory kept left untold.1)
 
 -- the words are no command
-pub EndsWith-usage : (words : List (String Global)) (secrets : Secrets) (rests : Rests) (before after : Ports) (result : ℕ) → (AreKnown words → ⊥) → after.disks ≡ before.disks → after.streams.left ≡ before.streams.left →
+pub EndsWith-usage : (words : List (String Global)) (secrets : Secrets) (rests : Rests) (before after : Ports) (result : ℕ) → AskForNoRun words → after.disks ≡ before.disks → after.streams.left ≡ before.streams.left →
     IsTold 1 (codes "usage") before.streams.held before.streams.write_faults result after.streams.held after.streams.write_faults → EndsWith secrets words rests before after result
 EndsWith-usage words secrets rests before after result unknown same left told = told_as words secrets rests before after 1 (codes "usage") result (run.usage unknown same) left told
-
--- ---- words
-
-not_script : (words : List (String Global)) → IsStored words → IsScript words → ⊥
-not_script words stored script = let both = sym stored ∙ script in absurd cc
-
-not_init : (words : List (String Global)) → IsInit words → IsScript words → ⊥
-not_init words init script = let both = sym init ∙ script in absurd cc
 
 -- ---- areas
 
@@ -100,7 +86,7 @@ none_of (Some m) None x y is = none_some x (sym is)
 none_of (Some m) (Some n) x y is = none_some (one_of x y (nat_lt m n)) (sym is)
 
 -- if no area counts, neither is open
-has_no_area : (x y : List ℕ) → newest x y ≡ None → HasNoArea x y
+pub has_no_area : (x y : List ℕ) → newest x y ≡ None → HasNoArea x y
 has_no_area x y none = let both = none_of (generation_of x) (generation_of y) x y none in (shut_of x both.0, shut_of y both.1)
 
 told_some : (o : Option (List ℕ)) (P : List ℕ → Type 0) (bytes : List ℕ) → o ≡ Some bytes → P bytes → IfSome o P
@@ -109,13 +95,13 @@ told_some o P bytes is holds = subst (λ (p : Option (List ℕ)). IfSome p P) (s
 -- ---- disks
 
 module _ {D : Type 0} (clock : D → ℕ) (left_since : D → ℕ → List ℕ → Type 0) (image : D → Option (List ℕ)) (faults : D → ℕ) where
-  abbrev disks_of : D → D → Disks
+  abbrev pub disks_of : D → D → Disks
   disks_of a b = record { a = image a; b = image b; a_faults = faults a; b_faults = faults b }
 
-  abbrev AtRest : D → D → Type 0
+  abbrev pub AtRest : D → D → Type 0
   AtRest a b = IsPinned clock left_since image a × IsPinned clock left_since image b
 
-  abbrev rests_of : D → D → D → D → Rests
+  abbrev pub rests_of : D → D → D → D → Rests
   rests_of a b a' b' = record { before = AtRest a b; after = AtRest a' b' }
 
   -- the laws of a disk
@@ -129,7 +115,7 @@ module _ {D : Type 0} (clock : D → ℕ) (left_since : D → ℕ → List ℕ �
   both_pinned false active other one two = (one, two)
   both_pinned true active other one two = (two, one)
 
-  pinned_at : (s : StoreView D) (a' b' : D) → a' ≡ first_disk s → b' ≡ second_disk s → IsReady clock left_since image s → AtRest a' b'
+  pub pinned_at : (s : StoreView D) (a' b' : D) → a' ≡ first_disk s → b' ≡ second_disk s → IsReady clock left_since image s → AtRest a' b'
   pinned_at s a' b' a_is b_is ready =
       let both = both_pinned s.second_active s.active s.other ready.rests.pinned ready.other_pinned in
       (subst (IsPinned clock left_since image) (sym a_is) both.0, subst (IsPinned clock left_since image) (sym b_is) both.1)
@@ -160,7 +146,7 @@ module _ {D : Type 0} (clock : D → ℕ) (left_since : D → ℕ → List ℕ �
     generation_at active told =
         let t = tellable_store s store in generation_begins active s.generation fresh_image (payloads_of s.events) t.generated t.fits (body_at active told).front
 
-    newest_of : (x y : List ℕ) → image (first_disk s) ≡ Some x → image (second_disk s) ≡ Some y → IsNewestOf s.generation s.base s.events x y
+    pub newest_of : (x y : List ℕ) → image (first_disk s) ≡ Some x → image (second_disk s) ≡ Some y → IsNewestOf s.generation s.base s.events x y
     newest_of = told_pairs image s.second_active s.active s.other (IsNewestOf s.generation s.base s.events) (λ a o is_a is_o.
         let t = tellable_store s store in
         record {
@@ -169,14 +155,14 @@ module _ {D : Type 0} (clock : D → ℕ) (left_since : D → ℕ → List ℕ �
           stands = record { image = fresh_image; is_image = t.is_image; spelled = t.spelled; is_area = record { generated = t.generated; fits = t.fits; stands = body_at a is_a } };
         })
 
-    counts_now : (x y : List ℕ) → image (first_disk s) ≡ Some x → image (second_disk s) ≡ Some y → newer (generation_of x) (generation_of y) ≡ Some s.second_active
+    pub counts_now : (x y : List ℕ) → image (first_disk s) ≡ Some x → image (second_disk s) ≡ Some y → newer (generation_of x) (generation_of y) ≡ Some s.second_active
     counts_now = told_pairs image s.second_active s.active s.other (λ x y. newer (generation_of x) (generation_of y) ≡ Some s.second_active)
         (λ a o is_a is_o. counts_at s.second_active a o s.generation (generation_at a is_a) (behind_at o is_o))
 
   same_some : (x y : List ℕ) → Some x ≡ Some y → x ≡ y
   same_some x y is = cc
 
-  closed_of : (s : StoreView D) → IsStore s → IsReady clock left_since image s → (x y : List ℕ) → image (first_disk s) ≡ Some x → image (second_disk s) ≡ Some y → IsNewestClosed s.generation s.events x y
+  pub closed_of : (s : StoreView D) → IsStore s → IsReady clock left_since image s → (x y : List ℕ) → image (first_disk s) ≡ Some x → image (second_disk s) ≡ Some y → IsNewestClosed s.generation s.events x y
   closed_of s store ready = told_pairs image s.second_active s.active s.other (IsNewestClosed s.generation s.events) (λ a o is_a is_o.
       let current = ready_current clock left_since image s ready in
       record {
@@ -186,14 +172,14 @@ module _ {D : Type 0} (clock : D → ℕ) (left_since : D → ℕ → List ℕ �
       })
 
   -- the disk that does not count
-  other_same : (second : Bool) (active active' other : D) (x y : Option (List ℕ)) → image (one_of active other second) ≡ x → image (one_of other active second) ≡ y →
+  pub other_same : (second : Bool) (active active' other : D) (x y : Option (List ℕ)) → image (one_of active other second) ≡ x → image (one_of other active second) ≡ y →
       one_of (image (one_of other active' second)) (image (one_of active' other second)) second ≡ one_of y x second
   other_same false active active' other x y is_x is_y = is_y
   other_same true active active' other x y is_x is_y = is_x
 
   -- ---- a store that is made
 
-  module _ (words : List (String Global)) (secrets : Secrets) (a b : D) (is : IsInit words) where
+  module _ (words : List (String Global)) (secrets : Secrets) (a b : D) (is : AsksFor words Init) where
     on_first : (s : StoreView D) → s.second_active ≡ false → first_disk s ≡ s.active
     on_first s first = ap (λ (w : Bool). one_of s.active s.other w) first
 
@@ -243,12 +229,12 @@ module _ {D : Type 0} (clock : D → ℕ) (left_since : D → ℕ → List ℕ �
     EndsWith-unmade before after result formats.Disk a' b' already same risen lost left tells =
         told_as words secrets (rests_of a b a' b') (record { streams = before; disks = disks_of a b }) (record { streams = after; disks = disks_of a' b' }) 5 (codes "stopped") result (run.not_made is (risen refl) lost) left tells
     EndsWith-unmade before after result formats.NoMemory a' b' already same risen lost left tells =
-        untold_as words secrets (rests_of a b a' b') (record { streams = before; disks = disks_of a b }) (record { streams = after; disks = disks_of a' b' }) result (not_init words is) (run.is_init is) (kept a' b' (same (λ e. absurd cc))) left tells
+        untold_as words secrets (rests_of a b a' b') (record { streams = before; disks = disks_of a b }) (record { streams = after; disks = disks_of a' b' }) result (kept a' b' (same (λ e. absurd cc))) left tells
 
     -- memory ran out at first
     pub EndsWith-unbegun : (before after : Streams) → after.left ≡ before.left → after.held ≡ before.held → EndsWith secrets words (rests_of a b a b) (record { streams = before; disks = disks_of a b }) (record { streams = after; disks = disks_of a b }) 9
     EndsWith-unbegun before after left held =
-        untold_as words secrets (rests_of a b a b) (record { streams = before; disks = disks_of a b }) (record { streams = after; disks = disks_of a b }) 9 (not_init words is) (run.is_init is) (record { a_stays = refl; b_stays = refl }) left (refl, held)
+        untold_as words secrets (rests_of a b a b) (record { streams = before; disks = disks_of a b }) (record { streams = after; disks = disks_of a b }) 9 (record { a_stays = refl; b_stays = refl }) left (refl, held)
 
   -- ---- a store that is opened
 
@@ -258,7 +244,7 @@ module _ {D : Type 0} (clock : D → ℕ) (left_since : D → ℕ → List ℕ �
       lawful_start s (subst (λ (k : List ℕ). IsLawful (authority_with k s.ring) s.base s.events) (sym opened.key_is)
       (subst (λ (r : List KeyView). IsLawful (authority_with secrets.seal_key r) s.base s.events) (sym opened.ring_is) opened.lawful))
 
-  module _ (words : List (String Global)) (secrets : Secrets) (a b : D) (is : IsStored words) where
+  module _ (words : List (String Global)) (secrets : Secrets) (a b : D) (over : AreOfStore words) where
     same_bytes : (fault : OpenFault) (a' b' : D) → (fault ≡ opens.Disk → ⊥) → IsNotOpened clock left_since image faults a b (authority_with secrets.seal_key secrets.ring) fault a' b' → AreBytesKept (disks_of a b) (disks_of a' b')
     same_bytes fault a' b' not_disk n = record { a_stays = n.first_same not_disk; b_stays = n.second_same not_disk }
 
@@ -266,21 +252,21 @@ module _ {D : Type 0} (clock : D → ℕ) (left_since : D → ℕ → List ℕ �
         EndsWith secrets words (rests_of a b a' b') (record { streams = before; disks = disks_of a b }) (record { streams = after; disks = disks_of a' b' }) result
     EndsWith-unopened before after result opens.NoStore a' b' n left tells =
         told_as words secrets (rests_of a b a' b') (record { streams = before; disks = disks_of a b }) (record { streams = after; disks = disks_of a' b' }) 4 (codes "nostore") result
-        (run.no_store is (λ x y is_x is_y. has_no_area x y (n.cause x y is_x is_y)) (same_bytes opens.NoStore a' b' (λ e. absurd cc) n)) left tells
+        (run.no_store over (λ x y is_x is_y. has_no_area x y (n.cause x y is_x is_y)) (same_bytes opens.NoStore a' b' (λ e. absurd cc) n)) left tells
     EndsWith-unopened before after result (opens.Damaged number damage) a' b' n left (inl tells) =
         told_as words secrets (rests_of a b a' b') (record { streams = before; disks = disks_of a b }) (record { streams = after; disks = disks_of a' b' }) 3 (damaged_text number damage) result
-        (run.damaged number damage is n.cause (same_bytes (opens.Damaged number damage) a' b' (λ e. absurd cc) n)) left tells
+        (run.damaged number damage over n.cause (same_bytes (opens.Damaged number damage) a' b' (λ e. absurd cc) n)) left tells
     EndsWith-unopened before after result (opens.Damaged number damage) a' b' n left (inr tells) =
-        untold_as words secrets (rests_of a b a' b') (record { streams = before; disks = disks_of a b }) (record { streams = after; disks = disks_of a' b' }) result (not_script words is) (run.is_stored is) (same_bytes (opens.Damaged number damage) a' b' (λ e. absurd cc) n) left tells
+        untold_as words secrets (rests_of a b a' b') (record { streams = before; disks = disks_of a b }) (record { streams = after; disks = disks_of a' b' }) result (same_bytes (opens.Damaged number damage) a' b' (λ e. absurd cc) n) left tells
     EndsWith-unopened before after result opens.Disk a' b' n left tells =
         told_as words secrets (rests_of a b a' b') (record { streams = before; disks = disks_of a b }) (record { streams = after; disks = disks_of a' b' }) 5 (codes "stopped") result
-        (run.not_opened is n.cause (λ rest. record { a_stays = n.first_handled.stays rest.0; b_stays = n.second_handled.stays rest.1 })) left tells
+        (run.not_opened over n.cause (λ rest. record { a_stays = n.first_handled.stays rest.0; b_stays = n.second_handled.stays rest.1 })) left tells
     EndsWith-unopened before after result opens.NoMemory a' b' n left tells =
-        untold_as words secrets (rests_of a b a' b') (record { streams = before; disks = disks_of a b }) (record { streams = after; disks = disks_of a' b' }) result (not_script words is) (run.is_stored is) (same_bytes opens.NoMemory a' b' (λ e. absurd cc) n) left tells
+        untold_as words secrets (rests_of a b a' b') (record { streams = before; disks = disks_of a b }) (record { streams = after; disks = disks_of a' b' }) result (same_bytes opens.NoMemory a' b' (λ e. absurd cc) n) left tells
 
     pub EndsWith-unread : (before after : Streams) → after.left ≡ before.left → after.held ≡ before.held → EndsWith secrets words (rests_of a b a b) (record { streams = before; disks = disks_of a b }) (record { streams = after; disks = disks_of a b }) 9
     EndsWith-unread before after left held =
-        untold_as words secrets (rests_of a b a b) (record { streams = before; disks = disks_of a b }) (record { streams = after; disks = disks_of a b }) 9 (not_script words is) (run.is_stored is) (record { a_stays = refl; b_stays = refl }) left (refl, held)
+        untold_as words secrets (rests_of a b a b) (record { streams = before; disks = disks_of a b }) (record { streams = after; disks = disks_of a b }) 9 (record { a_stays = refl; b_stays = refl }) left (refl, held)
 
     is_opened : (s : StoreView D) → IsStore s → opening.IsOpened clock left_since image faults a b secrets.seal_key secrets.ring s → IsOpened secrets s.generation (disks_of a b) (standing_over s None (first_asker script_pass))
     is_opened s store opened = record {
@@ -293,6 +279,19 @@ module _ {D : Type 0} (clock : D → ℕ) (left_since : D → ℕ → List ℕ �
       found = opened.newest_history;
     }
 
+    -- an audit leaves the disks as they were
+    pub EndsWith-audited : (pieces : Option ℕ) (before after : Streams) (result : ℕ) (s : StoreView D) (a' b' : D) → AsksFor words (Audit pieces) → IsStore s → opening.IsOpened clock left_since image faults a b secrets.seal_key secrets.ring s →
+        TellsAudit (authority_under secrets) s.base s.events before.held before.write_faults result after.held after.write_faults → after.left ≡ before.left → a' ≡ first_disk s → b' ≡ second_disk s →
+        EndsWith secrets words (rests_of a b a' b') (record { streams = before; disks = disks_of a b }) (record { streams = after; disks = disks_of a' b' }) result
+    EndsWith-audited pieces before after result s a' b' asks store opened (reported report is tells) left a_is b_is =
+        told_as words secrets (rests_of a b a' b') (record { streams = before; disks = disks_of a b }) (record { streams = after; disks = disks_of a' b' }) (audit_status report.rows) (report_text report) result
+        (run.audited pieces s.generation (standing_over s None (first_asker script_pass)) report asks (is_opened s store opened) is (record { a_stays = ap image a_is ∙ opened.first_read.same; b_stays = ap image b_is ∙ opened.second_read.same })
+        (subst (IsPinned clock left_since image) (sym a_is) opened.first_read.pinned, subst (IsPinned clock left_since image) (sym b_is) opened.second_read.pinned)) left tells
+    EndsWith-audited pieces before after result s a' b' asks store opened (unreported untold) left a_is b_is =
+        untold_as words secrets (rests_of a b a' b') (record { streams = before; disks = disks_of a b }) (record { streams = after; disks = disks_of a' b' }) result
+        (record { a_stays = ap image a_is ∙ opened.first_read.same; b_stays = ap image b_is ∙ opened.second_read.same }) left untold
+
+  module _ (words : List (String Global)) (secrets : Secrets) (a b : D) (is : AsksFor words Stored) where
     -- of one of two disks a count rose since the start
     risen_since : (s s' : StoreView D) → opening.IsOpened clock left_since image faults a b secrets.seal_key secrets.ring s → HasRisen (faults (first_disk s)) (faults (first_disk s')) ⊎ HasRisen (faults (second_disk s)) (faults (second_disk s')) →
         HasRisen (faults a) (faults (first_disk s')) ⊎ HasRisen (faults b) (faults (second_disk s'))
@@ -333,14 +332,20 @@ module _ {D : Type 0} (clock : D → ℕ) (left_since : D → ℕ → List ℕ �
     EndsWith-stored may_stay before after result s s' asker a' b' store store' opened answers a_is b_is =
         subst (λ (x : D). EndsWith secrets words (rests_of a b x b') (record { streams = before; disks = disks_of a b }) (record { streams = after; disks = disks_of x b' }) result) (sym a_is)
         (subst (λ (y : D). EndsWith secrets words (rests_of a b (first_disk s') y) (record { streams = before; disks = disks_of a b }) (record { streams = after; disks = disks_of (first_disk s') y }) result) (sym b_is)
-        (run.stored result s.generation (standing_over s None (first_asker script_pass)) (standing_over s' answers.met asker) is (is_opened s store opened) (returns_of may_stay s s' answers.met asker store store' opened answers.goes_on) answers.ends))
+        (run.stored result s.generation (standing_over s None (first_asker script_pass)) (standing_over s' answers.met asker) is (is_opened words secrets a b (of_script is) s store opened) (returns_of may_stay s s' answers.met asker store store' opened answers.goes_on) answers.ends))
 
--- ---- a script in memory
+-- ---- no memory for the words
 
-pub MemoryEnds-ran : (secrets : Secrets) (before after : Streams) (start end : Standing) (status result : ℕ) → start ≡ fresh_start secrets → ScriptStatus start end before after status →
-    ((status ≡ 5) × (result ≡ 9)) ⊎ ((status ≡ 5 → ⊥) × (result ≡ status)) → MemoryEnds secrets before after result
-MemoryEnds-ran secrets before after start end status result same ends (inl is) =
-    subst (MemoryEnds secrets before after) (sym is.1)
-    (run.disk_failed end (subst (λ (n : ℕ). ScriptStatus (fresh_start secrets) end before after n) is.0 (subst (λ (s : Standing). ScriptStatus s end before after status) same ends)))
-MemoryEnds-ran secrets before after start end status result same ends (inr is) =
-    subst (MemoryEnds secrets before after) (sym is.1) (run.ended status end is.0 (subst (λ (s : Standing). ScriptStatus s end before after status) same ends))
+pub EndsWith-unasked : (words : List (String Global)) (secrets : Secrets) (rests : Rests) (before after : Ports) → after.disks ≡ before.disks → after.streams.left ≡ before.streams.left → after.streams.held ≡ before.streams.held → EndsWith secrets words rests before after 9
+EndsWith-unasked words secrets rests before after same left held = run.out_of_memory (record { a_stays = ap (λ (d : Disks). d.a) same; b_stays = ap (λ (d : Disks). d.b) same }) left held
+
+-- ---- a large run
+
+pub EndsWith-loaded : (words : List (String Global)) (secrets : Secrets) (rests : Rests) (before after : Ports) (rounds seed result : ℕ) → AsksFor words (Load rounds seed) → after.disks ≡ before.disks → after.streams.left ≡ before.streams.left →
+    ((told : List ℕ) × IsLoaded rounds seed told × IsTold 0 told before.streams.held before.streams.write_faults result after.streams.held after.streams.write_faults) ⊎ IsUntold before.streams.held result after.streams.held →
+    EndsWith secrets words rests before after result
+EndsWith-loaded words secrets rests before after rounds seed result is same left (inl loaded) =
+    told_as words secrets rests before after 0 loaded.0 result (run.loaded rounds seed loaded.0 is loaded.1 same) left loaded.2
+EndsWith-loaded words secrets rests before after rounds seed result is same left (inr untold) =
+    untold_as words secrets rests before after result
+    (record { a_stays = ap (λ (d : Disks). d.a) same; b_stays = ap (λ (d : Disks). d.b) same }) left untold

@@ -1,3 +1,1 @@
 pub mod EndsWithLemmas
-pub mod StatusLemmas
-pub mod WordsLemmas

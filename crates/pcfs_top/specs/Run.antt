@@ -1,7 +1,6 @@
 -- How a run of the program ends: its status, what it took, what it wrote, and what it leaves on its disks. If a port does not tell its bytes, nothing is said of them (this project's own).
-use Rattle.std.specs.Prelude.{◌≡◌, ◌⊎◌, ℕ, List, [], ◌∷◌, ◌++◌, String, map, codes, length, Bool, Option, Some, None, IfSome}
+use Rattle.std.specs.Prelude.{◌≡◌, ◌⊎◌, ℕ, List, [], ◌++◌, String, codes, length, Bool, Option, Some, None, IfSome}
 use Rattle.std.specs.Fmt.{decimal}
-use Rattle.std.specs.String.{string_bytes}
 use Rattle.std.specs.declared.alloc.Global.{Global}
 use Rattle.pcfs_ports.specs.Faults.{HasRisen}
 use Rattle.pcfs_ports.specs.Told.{with_back, HoldsSome}
@@ -25,29 +24,24 @@ use Rattle.pcfs_secrets.specs.declared.secrets.Secrets.{Secrets}
 use Rattle.pcfs_session.specs.Asker.{first_asker}
 use Rattle.pcfs_session.specs.LineAnswer.{authority_under}
 use Rattle.pcfs_session.specs.ScriptEnds.{with_line_end}
-use Rattle.pcfs_session.specs.ScriptRun.{Standing, IsLawfulStanding, fresh_start, script_pass}
-use Rattle.pcfs_session.specs.Streams.{Streams}
-use Rattle.pcfs_top.specs.LastLine.{IsTold, IsUntold}
+use Rattle.pcfs_session.specs.ScriptRun.{Standing, IsLawfulStanding, script_pass}
+use Rattle.pcfs_audit.specs.Report.{IsReport}
+use Rattle.pcfs_audit.specs.ReportText.{report_text}
+use Rattle.pcfs_audit.specs.declared.report.Report.{Report}
+use Rattle.command_words.specs.Tasks.{AskForNoRun, AsksFor}
+use Rattle.command_words.specs.declared.words.Task.TheVariants.{Script, Stored, Init, Audit, Check, Load}
+use Rattle.pcfs_tools.specs.Audited.{audit_status}
+use Rattle.pcfs_tools.specs.Inquired.{TellsInquiry}
+use Rattle.pcfs_tools.specs.LastLine.{IsTold, IsUntold}
+use Rattle.pcfs_tools.specs.Load.{IsLoaded}
+use Rattle.pcfs_tools.specs.Memory.{MemoryEnds}
+use Rattle.pcfs_tools.specs.ScriptStatus.{ScriptStatus}
 use Rattle.pcfs_top.specs.Ports.{Disks, Ports, Rests, IfTold, HasDiskFailed, AreBytesKept}
-use Rattle.pcfs_top.specs.ScriptStatus.{ScriptStatus}
 
--- the words are the one word `script`
-abbrev pub IsScript : List (String Global) → Type 0
-IsScript words = map string_bytes words ≡ codes "script" ∷ []
-
--- the words are `script --stored`
-abbrev pub IsStored : List (String Global) → Type 0
-IsStored words = map string_bytes words ≡ codes "script" ∷ codes "--stored" ∷ []
-
--- the words are the one word `init`
-abbrev pub IsInit : List (String Global) → Type 0
-IsInit words = map string_bytes words ≡ codes "init" ∷ []
-
--- the words ask for something
-pub data AreKnown (words : List (String Global)) : Type 0 where
-  is_script : IsScript words → AreKnown words
-  is_stored : IsStored words → AreKnown words
-  is_init : IsInit words → AreKnown words
+-- the words ask for a script over the store in the areas, or for an audit of it
+pub data AreOfStore (words : List (String Global)) : Type 0 where
+  of_script : AsksFor words Stored → AreOfStore words
+  of_audit : (pieces : Option ℕ) → AsksFor words (Audit pieces) → AreOfStore words
 
 -- the number under which a damage is reported
 abbrev pub damage_number : Damage → ℕ
@@ -67,7 +61,7 @@ damaged_text record_number damage = codes "damaged " ++ (decimal record_number +
 abbrev pub HasNoArea : List ℕ → List ℕ → Type 0
 HasNoArea x y = IsShut x × IsShut y
 
--- a store was opened whose area has this generation, and a script begins over it: its history is that of the newest area, and lawful, and the area has so many bytes before its closed gate
+-- a store was opened whose area has this generation, and a script or an audit begins over it: its history is that of the newest area, and lawful, and the area has so many bytes before its closed gate
 pub record IsOpened (secrets : Secrets) (generation : ℕ) (before : Disks) (start : Standing) : Type 0 where
   pub secrets_are : start.secrets ≡ secrets
   pub asker_is : start.asker ≡ first_asker script_pass
@@ -93,11 +87,6 @@ pub record Returns (rests : Rests) (generation : ℕ) (before after : Disks) (st
   pub survives : IfTold before (λ x y. IsNewestClosed generation start.events x y → (met : Event) → end.met ≡ Some met → IfTold after (SurvivesWithOrWithout end.base end.events met))
   pub other_stays : IfTold before (λ x y. (second : Bool) → newer (generation_of x) (generation_of y) ≡ Some second → one_of after.b after.a second ≡ one_of before.b before.a second)
 
--- how a script in memory ends: its own disks fail only if memory runs out
-pub data MemoryEnds (secrets : Secrets) (before after : Streams) : ℕ → Type 0 where
-  ended : (status : ℕ) (end : Standing) → (status ≡ 5 → ⊥) → ScriptStatus (fresh_start secrets) end before after status → MemoryEnds secrets before after status
-  disk_failed : (end : Standing) → ScriptStatus (fresh_start secrets) end before after 5 → MemoryEnds secrets before after 9
-
 -- What is left where the making of a store met the fault of a disk: if an area was open, all bytes are as they were; if none was, none is, or the new one. The second disk is as it was.
 pub record IsNotLost (before after : Disks) : Type 0 where
   pub b_stays : after.b ≡ before.b
@@ -106,13 +95,16 @@ pub record IsNotLost (before after : Disks) : Type 0 where
 
 -- what a run has to write if it ends with this status without an answer to a line: one line with the cause
 pub data HasCause (secrets : Secrets) (words : List (String Global)) (rests : Rests) (before after : Disks) : ℕ → List ℕ → Type 0 where
-  usage : (AreKnown words → ⊥) → after ≡ before → HasCause secrets words rests before after 1 (codes "usage")
-  made : IsInit words → IfTold before (λ x y. HasNoArea x y × (rests.after × IfSome after.a (Closed (area_bytes 1 fresh_image [])))) → after.b ≡ before.b → HasCause secrets words rests before after 0 (codes "ok")
-  exists : IsInit words → IfTold before (λ x y. HasNoArea x y → ⊥) → AreBytesKept before after → HasCause secrets words rests before after 10 (codes "exists")
-  not_made : IsInit words → HasDiskFailed before after → (rests.before → IsNotLost before after) → HasCause secrets words rests before after 5 (codes "stopped")
-  no_store : IsStored words → IfTold before HasNoArea → AreBytesKept before after → HasCause secrets words rests before after 4 (codes "nostore")
-  damaged : (number : ℕ) (damage : Damage) → IsStored words → IfTold before (IsNewestDamaged (authority_under secrets) number damage) → AreBytesKept before after → HasCause secrets words rests before after 3 (damaged_text number damage)
-  not_opened : IsStored words → HasDiskFailed before after → (rests.before → AreBytesKept before after) → HasCause secrets words rests before after 5 (codes "stopped")
+  usage : AskForNoRun words → after ≡ before → HasCause secrets words rests before after 1 (codes "usage")
+  made : AsksFor words Init → IfTold before (λ x y. HasNoArea x y × (rests.after × IfSome after.a (Closed (area_bytes 1 fresh_image [])))) → after.b ≡ before.b → HasCause secrets words rests before after 0 (codes "ok")
+  exists : AsksFor words Init → IfTold before (λ x y. HasNoArea x y → ⊥) → AreBytesKept before after → HasCause secrets words rests before after 10 (codes "exists")
+  not_made : AsksFor words Init → HasDiskFailed before after → (rests.before → IsNotLost before after) → HasCause secrets words rests before after 5 (codes "stopped")
+  no_store : AreOfStore words → IfTold before HasNoArea → AreBytesKept before after → HasCause secrets words rests before after 4 (codes "nostore")
+  damaged : (number : ℕ) (damage : Damage) → AreOfStore words → IfTold before (IsNewestDamaged (authority_under secrets) number damage) → AreBytesKept before after → HasCause secrets words rests before after 3 (damaged_text number damage)
+  not_opened : AreOfStore words → HasDiskFailed before after → (rests.before → AreBytesKept before after) → HasCause secrets words rests before after 5 (codes "stopped")
+  audited : (pieces : Option ℕ) (generation : ℕ) (start : Standing) (report : Report) → AsksFor words (Audit pieces) → IsOpened secrets generation before start → IsReport (authority_under secrets) start.base start.events report →
+      AreBytesKept before after → rests.after → HasCause secrets words rests before after (audit_status report.rows) (report_text report)
+  loaded : (rounds seed : ℕ) (told : List ℕ) → AsksFor words (Load rounds seed) → IsLoaded rounds seed told → after ≡ before → HasCause secrets words rests before after 0 told
 
 -- what is reported of why no store was opened
 abbrev pub TellsUnopened : OpenFault → Option (List ℕ) → ℕ → ℕ → Option (List ℕ) → ℕ → Type 0
@@ -128,13 +120,15 @@ TellsUnmade formats.Disk held faults result held_after faults_after = IsTold 5 (
 TellsUnmade formats.NoMemory held faults result held_after faults_after = IsUntold held result held_after
 
 -- The status that a run ends with, and its cause. A script in memory ends as its lines say, and leaves the disks alone; its own disks are in memory, and fail only if memory runs out. A script over the areas
--- begins where they stand. Any other run writes its line, or the output failed and holds some first part of it. Memory may run out before a store is made or opened, and then nothing changes.
+-- begins where they stand. An inquiry ends as its lines say, and leaves the disks alone. Any other run writes its line, or the output failed and holds some first part of it; an audit, the lines of its report. Memory may run out before
+-- that, and then nothing changes.
 pub data EndsWith (secrets : Secrets) (words : List (String Global)) (rests : Rests) (before after : Ports) : ℕ → Type 0 where
-  in_memory : (status : ℕ) → IsScript words → after.disks ≡ before.disks → MemoryEnds secrets before.streams after.streams status → EndsWith secrets words rests before after status
-  stored : (status generation : ℕ) (start end : Standing) → IsStored words → IsOpened secrets generation before.disks start → Returns rests generation before.disks after.disks start end → ScriptStatus start end before.streams after.streams status →
+  in_memory : (status : ℕ) → AsksFor words Script → after.disks ≡ before.disks → MemoryEnds secrets before.streams after.streams status → EndsWith secrets words rests before after status
+  stored : (status generation : ℕ) (start end : Standing) → AsksFor words Stored → IsOpened secrets generation before.disks start → Returns rests generation before.disks after.disks start end → ScriptStatus start end before.streams after.streams status →
       EndsWith secrets words rests before after status
   told : (status : ℕ) (line : List ℕ) → HasCause secrets words rests before.disks after.disks status line → after.streams.left ≡ before.streams.left → after.streams.held ≡ with_back before.streams.held (with_line_end line) →
       EndsWith secrets words rests before after status
   cut_short : (status : ℕ) (line : List ℕ) → HasCause secrets words rests before.disks after.disks status line → after.streams.left ≡ before.streams.left → HasRisen before.streams.write_faults after.streams.write_faults →
       HoldsSome before.streams.held after.streams.held (with_line_end line) → EndsWith secrets words rests before after 7
-  out_of_memory : (IsScript words → ⊥) → AreKnown words → AreBytesKept before.disks after.disks → after.streams.left ≡ before.streams.left → after.streams.held ≡ before.streams.held → EndsWith secrets words rests before after 9
+  inquired : (status : ℕ) → AsksFor words Check → after.disks ≡ before.disks → TellsInquiry before.streams after.streams status → EndsWith secrets words rests before after status
+  out_of_memory : AreBytesKept before.disks after.disks → after.streams.left ≡ before.streams.left → after.streams.held ≡ before.streams.held → EndsWith secrets words rests before after 9

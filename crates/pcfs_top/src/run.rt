@@ -1,20 +1,22 @@
 //! A run of the program: its words, its input and its output and its disks, and the status that it ends with.
 
-ghost use Rattle.std.specs.Prelude.{◌≡◌, ◌⊎◌, ℕ, List, Option, String, IfOk};
+ghost use Rattle.std.specs.Prelude.{◌≡◌, ◌≤◌, ℕ, List, Option, String, IfOk, IfSome};
 ghost use Rattle.std.specs.declared.alloc.Global.{Global};
 ghost use Rattle.pcfs_ports.specs.Disk.{IsPinned};
-ghost use Rattle.pcfs_store.specs.Formats.{IsNewStore};
 ghost use Rattle.pcfs_session.specs.ScriptEnds.{with_line_end};
-ghost use Rattle.pcfs_top.specs.Run.{IsStored, IsInit, MemoryEnds, EndsWith, TellsUnopened, TellsUnmade, damage_number, damaged_text};
+ghost use Rattle.command_words.specs.Tasks.{AsksFor, IsFit};
+ghost use Rattle.command_words.specs.declared.words.Task.TheVariants.{Stored, Init, Audit};
+ghost use Rattle.pcfs_top.specs.Run.{EndsWith, TellsUnopened, TellsUnmade, damage_number, damaged_text};
 
-use crate::answering::{DISK_FAULT, DONE, OUT_OF_MEMORY, run_over, tell};
-use crate::words::{Task, task_of};
 use bl_syntax::decimal::put_counted;
-use bl_syntax::{Bytes, NoMemory, Numbers};
+use bl_syntax::{Bytes, NoMemory};
+use command_words::{Task, task_of};
 use op_gate::Damage;
-use pcfs_ports::{Disk, MemoryDisk, Sink, Source};
+use pcfs_ports::{Disk, Sink, Source};
 use pcfs_secrets::Secrets;
-use pcfs_store::{FormatFault, Store, format_store};
+use pcfs_store::{FormatFault, format_store};
+use pcfs_tools::answering::{DISK_FAULT, DONE, OUT_OF_MEMORY, run_over, tell};
+use pcfs_tools::{audit_history, inquire, load, run_in_memory};
 use recover::{OpenFault, open_store};
 use std::alloc::Global;
 use std::sync::Wait;
@@ -32,59 +34,12 @@ const NO_STORE: u8 = 4;
 /// An area is open.
 const ALREADY_STORE: u8 = 10;
 
-/// Replies of a script in memory are written once they have this many bytes or more, and before more of the input is taken.
-const ENOUGH: usize = 65_536;
-
 /// How a run ended: its status, and the disks as they came back.
 #[derive(Debug, Drop)]
 pub struct Ended<D> {
     pub status: u8,
     pub a: D,
     pub b: D,
-}
-
-// A store before its first event on disks in memory.
-fn memory_store(alloc: Global, secrets: &Secrets) -> Result<Store<MemoryDisk>, NoMemory>
-    ensures { IfOk result (IsNewStore secrets.now.seal_key secrets.now.ring) }
-{
-    let a = MemoryDisk::new(alloc, Bytes::new(alloc), Numbers::new(alloc))?;
-    let b = MemoryDisk::new(alloc, Bytes::new(alloc), Numbers::new(alloc))?;
-    let ring = secrets.ring.copy(alloc)?;
-    match format_store(alloc, a, b, secrets.seal_key.as_slice(), ring) {
-        Ok(store) => Ok(store),
-        Err(_) => Err(NoMemory),
-    }
-}
-
-// The status of a script in memory: its disks fail only if memory runs out.
-fn memory_status(status: u8) -> u8
-    ensures { ((status ≡ 5) × (result ≡ 9)) ⊎ ((status ≡ 5 → ⊥) × (result ≡ status)) }
-{
-    if status == DISK_FAULT {
-        OUT_OF_MEMORY
-    } else {
-        status
-    }
-}
-
-// Runs the script in the input over a store in memory.
-fn run_in_memory<I: Source, O: Sink>(
-    alloc: Global,
-    secrets: &Secrets,
-    input: &mut I,
-    output: &mut O,
-) -> u8
-    ensures { MemoryEnds secrets.now
-        (record { left = I.left input.old; read_faults = I.faults input.old; held = O.held output.old; write_faults = O.faults output.old })
-        (record { left = I.left input.new; read_faults = I.faults input.new; held = O.held output.new; write_faults = O.faults output.new }) result }
-{
-    match memory_store(alloc, secrets) {
-        Ok(store) => {
-            let (status, _store) = run_over(alloc, store, input, ENOUGH, output);
-            memory_status(status)
-        }
-        Err(_) => OUT_OF_MEMORY,
-    }
 }
 
 // The number under which a damage is reported.
@@ -123,8 +78,8 @@ fn tell_damage<O: Sink>(alloc: Global, output: &mut O, record_number: u64, damag
     }
 }
 
-// Writes why no store was opened, and returns the status to end with.
-fn tell_unopened<O: Sink>(alloc: Global, output: &mut O, fault: OpenFault) -> u8
+/// Writes why no store was opened, and returns the status to end with.
+pub fn tell_unopened<O: Sink>(alloc: Global, output: &mut O, fault: OpenFault) -> u8
     ensures { TellsUnopened fault (O.held output.old) (O.faults output.old) result (O.held output.new) (O.faults output.new) }
 {
     match fault {
@@ -144,7 +99,7 @@ fn run_stored<I: Source, O: Sink, D: Disk>(
     a: D,
     b: D,
 ) -> Ended<D>
-    ensures { (words : List (String Global)) → IsStored words → EndsWith secrets.now words (record { before = IsPinned D.clock D.left_since D.image a × IsPinned D.clock D.left_since D.image b; after = IsPinned D.clock D.left_since D.image result.a × IsPinned D.clock D.left_since D.image result.b })
+    ensures { (words : List (String Global)) → AsksFor words Stored → EndsWith secrets.now words (record { before = IsPinned D.clock D.left_since D.image a × IsPinned D.clock D.left_since D.image b; after = IsPinned D.clock D.left_since D.image result.a × IsPinned D.clock D.left_since D.image result.b })
         (record { streams = record { left = I.left input.old; read_faults = I.faults input.old; held = O.held output.old; write_faults = O.faults output.old }; disks = record { a = D.image a; b = D.image b; a_faults = D.faults a; b_faults = D.faults b } })
         (record { streams = record { left = I.left input.new; read_faults = I.faults input.new; held = O.held output.new; write_faults = O.faults output.new }; disks = record { a = D.image result.a; b = D.image result.b; a_faults = D.faults result.a; b_faults = D.faults result.b } }) result.status }
 {
@@ -172,6 +127,48 @@ fn run_stored<I: Source, O: Sink, D: Disk>(
     }
 }
 
+// Audits the history of the store on the disks, which stay as they are.
+fn audit_stored<R: Threads + Sync, O: Sink, D: Disk>(
+    rt: &R,
+    alloc: Global,
+    secrets: &Secrets,
+    pieces: Option<usize>,
+    output: &mut O,
+    a: D,
+    b: D,
+) -> Ended<D>
+    requires some { IfSome pieces (λ n. 1 ≤ n) }
+    ensures { (words : List (String Global)) (left : Option (List ℕ)) (read_faults : ℕ) → AsksFor words (Audit pieces) → EndsWith secrets.now words (record { before = IsPinned D.clock D.left_since D.image a × IsPinned D.clock D.left_since D.image b; after = IsPinned D.clock D.left_since D.image result.a × IsPinned D.clock D.left_since D.image result.b })
+        (record { streams = record { left = left; read_faults = read_faults; held = O.held output.old; write_faults = O.faults output.old }; disks = record { a = D.image a; b = D.image b; a_faults = D.faults a; b_faults = D.faults b } })
+        (record { streams = record { left = left; read_faults = read_faults; held = O.held output.new; write_faults = O.faults output.new }; disks = record { a = D.image result.a; b = D.image result.b; a_faults = D.faults result.a; b_faults = D.faults result.b } }) result.status }
+{
+    let ring = match secrets.ring.copy(alloc) {
+        Ok(ring) => ring,
+        Err(_) => return Ended {
+            status: OUT_OF_MEMORY,
+            a,
+            b,
+        },
+    };
+    match open_store(alloc, a, b, secrets.seal_key.as_slice(), ring) {
+        Ok(store) => {
+            store.keeps();
+            let status = audit_history(rt, alloc, secrets, store.gate().history(), pieces, output);
+            let (first, second) = store.into_disks();
+            Ended {
+                status,
+                a: first,
+                b: second,
+            }
+        }
+        Err((fault, a, b)) => Ended {
+            status: tell_unopened(alloc, output, fault),
+            a,
+            b,
+        },
+    }
+}
+
 // Writes why no store was made, and returns the status to end with.
 fn tell_unmade<O: Sink>(output: &mut O, fault: FormatFault) -> u8
     ensures { TellsUnmade fault (O.held output.old) (O.faults output.old) result (O.held output.new) (O.faults output.new) }
@@ -185,7 +182,7 @@ fn tell_unmade<O: Sink>(output: &mut O, fault: FormatFault) -> u8
 
 // Makes a store before its first event on the first disk.
 fn init<O: Sink, D: Disk>(alloc: Global, secrets: &Secrets, output: &mut O, a: D, b: D) -> Ended<D>
-    ensures { (words : List (String Global)) (left : Option (List ℕ)) (read_faults : ℕ) → IsInit words → EndsWith secrets.now words (record { before = IsPinned D.clock D.left_since D.image a × IsPinned D.clock D.left_since D.image b; after = IsPinned D.clock D.left_since D.image result.a × IsPinned D.clock D.left_since D.image result.b })
+    ensures { (words : List (String Global)) (left : Option (List ℕ)) (read_faults : ℕ) → AsksFor words Init → EndsWith secrets.now words (record { before = IsPinned D.clock D.left_since D.image a × IsPinned D.clock D.left_since D.image b; after = IsPinned D.clock D.left_since D.image result.a × IsPinned D.clock D.left_since D.image result.b })
         (record { streams = record { left = left; read_faults = read_faults; held = O.held output.old; write_faults = O.faults output.old }; disks = record { a = D.image a; b = D.image b; a_faults = D.faults a; b_faults = D.faults b } })
         (record { streams = record { left = left; read_faults = read_faults; held = O.held output.new; write_faults = O.faults output.new }; disks = record { a = D.image result.a; b = D.image result.b; a_faults = D.faults result.a; b_faults = D.faults result.b } }) result.status }
 {
@@ -214,18 +211,70 @@ fn init<O: Sink, D: Disk>(alloc: Global, secrets: &Secrets, output: &mut O, a: D
     }
 }
 
+// Does what was asked for.
+fn run_task<R: Threads + Wait + Sync, I: Source, O: Sink, D: Disk>(
+    rt: &R,
+    alloc: Global,
+    task: Task,
+    secrets: &Secrets,
+    input: &mut I,
+    output: &mut O,
+    a: D,
+    b: D,
+) -> Ended<D>
+    requires fit { IsFit task }
+    ensures { (words : List (String Global)) → AsksFor words task → EndsWith secrets.now words (record { before = IsPinned D.clock D.left_since D.image a × IsPinned D.clock D.left_since D.image b; after = IsPinned D.clock D.left_since D.image result.a × IsPinned D.clock D.left_since D.image result.b })
+        (record {
+          streams = record { left = I.left input.old; read_faults = I.faults input.old; held = O.held output.old; write_faults = O.faults output.old };
+          disks = record { a = D.image a; b = D.image b; a_faults = D.faults a; b_faults = D.faults b };
+        })
+        (record {
+          streams = record { left = I.left input.new; read_faults = I.faults input.new; held = O.held output.new; write_faults = O.faults output.new };
+          disks = record { a = D.image result.a; b = D.image result.b; a_faults = D.faults result.a; b_faults = D.faults result.b };
+        }) result.status }
+{
+    match task {
+        Task::Script => Ended {
+            status: run_in_memory(alloc, secrets, input, output),
+            a,
+            b,
+        },
+        Task::Stored => run_stored(alloc, secrets, input, output, a, b),
+        Task::Init => init(alloc, secrets, output, a, b),
+        Task::Audit(pieces) => audit_stored(rt, alloc, secrets, pieces, output, a, b),
+        Task::Check => Ended {
+            status: inquire(alloc, input, output),
+            a,
+            b,
+        },
+        Task::Load(rounds, seed) => Ended {
+            status: load(alloc, rounds, seed, output),
+            a,
+            b,
+        },
+        Task::Serve(_, _) => Ended {
+            status: tell(output, b"usage\n", USAGE),
+            a,
+            b,
+        },
+    }
+}
+
 /// Runs the program: with the word `script` the lines of the input are answered over a store in memory, with
-/// `script --stored` over the one on the disks; with `init` a store is made on the first disk. Procaps are sealed under
-/// the key of the secrets, and statements are accepted whose signature their ring accepts.
+/// `script --stored` over the one on the disks; with `init` a store is made on the first disk. With `audit` the history of
+/// the one on the disks is audited, with `audit --pieces N` in so many pieces; with `check` the inquiry in the input is
+/// answered; with `load N S` the script that so many rounds and that seed generate is run over a store in memory. Procaps are
+/// sealed under the key of the secrets, and statements are accepted whose signature their ring accepts.
 ///
 /// Returns the disks and the status to end with: 0, all is done, and of `init` the last line is `ok`; 1, the words are
 /// others, and the last line is `usage`; 2, a line has more than 262,144 bytes: `bad 3`; 3, the newest area is damaged, and
 /// the last line is `damaged` with the number of the record and the cause; 4, neither area is open: `nostore`; 5, a disk
 /// failed: `stopped`; 6, the input failed: `readfault`; 7, the output failed, and may lack any of its end; 9, memory ran out,
-/// without a last line; 10, an area is open already: `exists`; 13, the input has 1 GiB or more: `toolong`. At 2, 5, 6 and 13
-/// the replies to the lines before come before that line.
+/// without a last line; 10, an area is open already: `exists`; 11, the report of the audit has a row; 12, a line of the
+/// inquiry is wrong: `line` with its number, `bad`, and the fault; 13, the input has 1 GiB or more: `toolong`. At 2, 5, 6 and
+/// 13 the replies of a script to the lines before come before that line.
 pub fn run_alone<R: Threads + Wait + Sync, I: Source, O: Sink, D: Disk>(
-    _rt: &R,
+    rt: &R,
     alloc: Global,
     words: &Vec<String>,
     secrets: &Secrets,
@@ -244,16 +293,15 @@ pub fn run_alone<R: Threads + Wait + Sync, I: Source, O: Sink, D: Disk>(
           disks = record { a = D.image result.a; b = D.image result.b; a_faults = D.faults result.a; b_faults = D.faults result.b };
         }) result.status }
 {
-    match task_of(words) {
-        Some(Task::Script) => Ended {
-            status: run_in_memory(alloc, secrets, input, output),
+    match task_of(alloc, words) {
+        Ok(Some(task)) => run_task(rt, alloc, task, secrets, input, output, a, b),
+        Ok(None) => Ended {
+            status: tell(output, b"usage\n", USAGE),
             a,
             b,
         },
-        Some(Task::Stored) => run_stored(alloc, secrets, input, output, a, b),
-        Some(Task::Init) => init(alloc, secrets, output, a, b),
-        None => Ended {
-            status: tell(output, b"usage\n", USAGE),
+        Err(_) => Ended {
+            status: OUT_OF_MEMORY,
             a,
             b,
         },

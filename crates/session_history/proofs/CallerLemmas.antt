@@ -1,10 +1,12 @@
--- Each operation that a session is given is by somebody who logged in over its nonce.
-use Rattle.std.proofs.Common.{◌≡◌, ◌∙◌, ℕ, List, [], ◌∷◌, ◌++◌, Bool, true, false, Option, Some, None, refl, sym, ap, subst}
+-- In a session that is given entries somebody logged in over its nonce by one of its lines, and each operation among them is by who did.
+use Rattle.std.proofs.Common.{◌≡◌, ◌∙◌, ℕ, List, [], ◌∷◌, ◌++◌, Bool, true, false, Option, Some, None, refl, sym, ap, subst, append_assoc}
 use Rattle.std.specs.Prelude.{ℤ}
 use Rattle.std.specs.List.{AllByRecursion}
 use Rattle.policy_statement.specs.Messages.{login_message}
 use Rattle.policy_statement.specs.Ring.{KeyView, is_accepted}
+use Rattle.proof_verifier.specs.CheckedView.{checked_view}
 use Rattle.access_history.specs.declared.event.Event.{Event}
+use Rattle.access_history.specs.declared.event.Event.TheVariants.{Registered, Issued, Acted}
 use Rattle.access_history.specs.declared.request.StepRequest.{StepRequest}
 use Rattle.access_history.specs.declared.request.StepRequest.TheVariants as steps
 use Rattle.access_history.specs.declared.reply.StepReply.{StepReply}
@@ -16,7 +18,7 @@ use Rattle.line_forms.specs.declared.asked.Line.TheVariants as lines
 use Rattle.line_forms.specs.declared.command.Command.{Command}
 use Rattle.line_forms.specs.declared.command.Command.TheVariants.{At, As, Register, Procap, Verify, Check, Do}
 use Rattle.line_wire.specs.declared.reply.LineReply.{LineReply}
-use Rattle.pcfs_store.specs.Entries.{Root, StoreEntry, happened, state_of_entries}
+use Rattle.pcfs_store.specs.Entries.{Root, StoreEntry, happened, stopped, state_of_entries}
 use Rattle.session_history.specs.declared.request.TurnRequest.{TurnRequest}
 use Rattle.session_history.specs.declared.request.TurnRequest.TheVariants.{Step, Cite, Login}
 use Rattle.session_history.specs.declared.reply.TurnReply.{TurnReply}
@@ -29,21 +31,17 @@ use Rattle.session_history.specs.Turn as turns
 use Rattle.session_history.specs.Tasks.{IsUserTask, IsCommandTask, IsReadTask, IsTaskOf, faulty, read}
 use Rattle.session_history.specs.Placed.{IsTold, LinePlaced, at_once, in_a_turn, proves_none, issues, is_done, state_after, LinesPlaced, no_line, one_more}
 use Rattle.session_history.specs.Placed as places
-use Rattle.session_history.specs.Laws.{IsByAccepted}
-
--- the ring accepts a signature of this name over the nonce
-abbrev HasSigned : List KeyView → List ℕ → List ℕ → Type 0
-HasSigned ring nonce who = (signature : List ℕ) × (is_accepted ring who (login_message who nonce) signature ≡ true)
+use Rattle.session_history.specs.Laws.{HasSigned, IsByAccepted}
 
 -- so of who is logged in
-abbrev IsCallerAccepted : List KeyView → List ℕ → Option (List ℕ) → Type 0
-IsCallerAccepted ring nonce None = Unit {0}
-IsCallerAccepted ring nonce (Some who) = HasSigned ring nonce who
+abbrev IsCallerAccepted : List KeyView → List ℕ → List (List ℕ) → Option (List ℕ) → Type 0
+IsCallerAccepted ring nonce heard None = Unit {0}
+IsCallerAccepted ring nonce heard (Some who) = HasSigned ring nonce heard who
 
--- who acts by a task that takes one turn
+-- who acts by a task that takes one turn; somebody does who registers or issues
 abbrev ActsAs : (List ℕ → Type 0) → TurnRequest → Type 0
-ActsAs P (Step (steps.Register statement signature)) = Unit {0}
-ActsAs P (Step (steps.Issue checked)) = Unit {0}
+ActsAs P (Step (steps.Register statement signature)) = (who : List ℕ) × P who
+ActsAs P (Step (steps.Issue checked)) = (who : List ℕ) × P who
 ActsAs P (Step (steps.Act who op procaps)) = P who
 ActsAs P (Step (steps.ShowProcap number who)) = Unit {0}
 ActsAs P (Cite numbers) = Unit {0}
@@ -52,76 +50,82 @@ ActsAs P (Login who nonce signature) = Unit {0}
 abbrev IsActedAs : (List ℕ → Type 0) → LineTask → Type 0
 IsActedAs P (tasks.Reply reply) = Unit {0}
 IsActedAs P (tasks.Turn request) = ActsAs P request
-IsActedAs P (tasks.Proof goal numbers proof) = Unit {0}
+IsActedAs P (tasks.Proof goal numbers proof) = (who : List ℕ) × P who
 
 -- ---- what an answer keeps
 
-event_by : (ring : List KeyView) (nonce : List ℕ) (authority : Authority) (state : BaseView) (pass : ℕ) (clock : ℤ) (request : StepRequest) (reply : StepReply) (event : Event) → ActsAs (HasSigned ring nonce) (Step request) →
-    Answers authority state pass clock request reply (Some event) → IsByAccepted ring nonce (happened event)
-event_by ring nonce authority state pass clock request reply event acts (registered statement signature may) = tt
-event_by ring nonce authority state pass clock request reply event acts (issued checked rising granted stand) = tt
-event_by ring nonce authority state pass clock request reply event acts (acted caller op procaps admitted free) = acts
+event_by : (ring : List KeyView) (nonce : List ℕ) (heard : List (List ℕ)) (authority : Authority) (state : BaseView) (pass : ℕ) (clock : ℤ) (request : StepRequest) (reply : StepReply) (event : Event) → ActsAs (HasSigned ring nonce heard) (Step request) →
+    Answers authority state pass clock request reply (Some event) → IsByAccepted ring nonce heard (happened event)
+event_by ring nonce heard authority state pass clock request reply event acts (registered statement signature may) = acts
+event_by ring nonce heard authority state pass clock request reply event acts (issued checked rising granted stand) = acts
+event_by ring nonce heard authority state pass clock request reply event acts (acted caller op procaps admitted free) = acts
 
-abbrev IsEventBy : List KeyView → List ℕ → Option Event → Type 0
-IsEventBy ring nonce None = Unit {0}
-IsEventBy ring nonce (Some event) = IsByAccepted ring nonce (happened event)
+abbrev IsEventBy : List KeyView → List ℕ → List (List ℕ) → Option Event → Type 0
+IsEventBy ring nonce heard None = Unit {0}
+IsEventBy ring nonce heard (Some event) = IsByAccepted ring nonce heard (happened event)
 
-of_answer : (ring : List KeyView) (nonce : List ℕ) (authority : Authority) (state : BaseView) (pass : ℕ) (clock : ℤ) (request : StepRequest) (reply : StepReply) (event : Option Event) → ActsAs (HasSigned ring nonce) (Step request) →
-    Answers authority state pass clock request reply event → IsEventBy ring nonce event
-of_answer ring nonce authority state pass clock request reply None acts answers = tt
-of_answer ring nonce authority state pass clock request reply (Some event) acts answers = event_by ring nonce authority state pass clock request reply event acts answers
+of_answer : (ring : List KeyView) (nonce : List ℕ) (heard : List (List ℕ)) (authority : Authority) (state : BaseView) (pass : ℕ) (clock : ℤ) (request : StepRequest) (reply : StepReply) (event : Option Event) → ActsAs (HasSigned ring nonce heard) (Step request) →
+    Answers authority state pass clock request reply event → IsEventBy ring nonce heard event
+of_answer ring nonce heard authority state pass clock request reply None acts answers = tt
+of_answer ring nonce heard authority state pass clock request reply (Some event) acts answers = event_by ring nonce heard authority state pass clock request reply event acts answers
 
-of_turn_answer : (ring : List KeyView) (nonce : List ℕ) (root : Root) (state : BaseView) (pass : ℕ) (clock : ℤ) (request : TurnRequest) (answer : TurnReply) (event : Option Event) → ActsAs (HasSigned ring nonce) request →
-    AnswersTurn root state pass clock request answer event → IsEventBy ring nonce event
-of_turn_answer ring nonce root state pass clock _ _ _ acts (turns.steps request reply event answers) = of_answer ring nonce (authority_of_root root) state pass clock request reply event acts answers
-of_turn_answer ring nonce root state pass clock _ _ _ acts (turns.cites numbers cited found) = tt
-of_turn_answer ring nonce root state pass clock _ _ _ acts (turns.cites_none numbers number absent) = tt
-of_turn_answer ring nonce root state pass clock _ _ _ acts (turns.logs_in who nonce' signature is) = tt
-of_turn_answer ring nonce root state pass clock _ _ _ acts (turns.rejects who nonce' signature is) = tt
+of_turn_answer : (ring : List KeyView) (nonce : List ℕ) (heard : List (List ℕ)) (root : Root) (state : BaseView) (pass : ℕ) (clock : ℤ) (request : TurnRequest) (answer : TurnReply) (event : Option Event) → ActsAs (HasSigned ring nonce heard) request →
+    AnswersTurn root state pass clock request answer event → IsEventBy ring nonce heard event
+of_turn_answer ring nonce heard root state pass clock _ _ _ acts (turns.steps request reply event answers) = of_answer ring nonce heard (authority_of_root root) state pass clock request reply event acts answers
+of_turn_answer ring nonce heard root state pass clock _ _ _ acts (turns.cites numbers cited found) = tt
+of_turn_answer ring nonce heard root state pass clock _ _ _ acts (turns.cites_none numbers number absent) = tt
+of_turn_answer ring nonce heard root state pass clock _ _ _ acts (turns.logs_in who nonce' signature is) = tt
+of_turn_answer ring nonce heard root state pass clock _ _ _ acts (turns.rejects who nonce' signature is) = tt
 
-turn_by : (ring : List KeyView) (nonce : List ℕ) (gives : ℤ → Type 0) (p : StorePass) (before : List StoreEntry) (request : TurnRequest) (reply : TurnReply) (given : List StoreEntry) → ActsAs (HasSigned ring nonce) request →
-    Turn gives p before request reply given → AllByRecursion (IsByAccepted ring nonce) given
-turn_by ring nonce gives p before request _ _ acts (turns.was_stopped is) = tt
-turn_by ring nonce gives p before request _ _ acts (turns.answered clock answer running shown answers) = tt
-turn_by ring nonce gives p before request _ _ acts (turns.full clock answer event running shown answers is_full) = tt
-turn_by ring nonce gives p before request _ _ acts (turns.kept clock answer event running shown answers room) = (of_turn_answer ring nonce p.root (state_of_entries p.root before) p.number clock request answer (Some event) acts answers, tt)
-turn_by ring nonce gives p before request _ _ acts (turns.failed clock answer event running shown answers room) = (tt, tt)
-turn_by ring nonce gives p before request _ _ acts turns.without_memory = tt
+-- where there is an event, somebody logged in
+somebody : (ring : List KeyView) (nonce : List ℕ) (heard : List (List ℕ)) (event : Event) → IsByAccepted ring nonce heard (happened event) → (who : List ℕ) × HasSigned ring nonce heard who
+somebody ring nonce heard (Registered pass statement signature) by_some = by_some
+somebody ring nonce heard (Issued pass cited proof grant) by_some = by_some
+somebody ring nonce heard (Acted pass caller op procaps moment) by_some = (caller, by_some)
 
-line_by : (ring : List KeyView) (nonce : List ℕ) (gives : ℤ → Type 0) (p : StorePass) (history : List StoreEntry) (from : ℕ) (task : LineTask) (reply : LineReply) (to : ℕ) (given : List StoreEntry) → IsActedAs (HasSigned ring nonce) task →
-    LinePlaced gives p history from task reply to given → AllByRecursion (IsByAccepted ring nonce) given
-line_by ring nonce gives p history from _ _ _ _ acts (at_once reply) = tt
-line_by ring nonce gives p history from _ _ _ _ acts (in_a_turn request replied reply to given turn is) = turn_by ring nonce gives p turn.before request replied given acts turn.turn
-line_by ring nonce gives p history from _ _ _ _ acts (places.cites_none goal numbers proof replied reply to given turn is) = turn_by ring nonce gives p turn.before (Cite numbers) replied given tt turn.turn
-line_by ring nonce gives p history from _ _ _ _ acts (proves_none goal numbers proof cites fault to turn verdict_is) = tt
-line_by ring nonce gives p history from _ _ _ _ acts (issues goal numbers proof cites g at replied reply to given turn verdict_is second is) = turn_by ring nonce gives p second.before _ replied given tt second.turn
-line_by ring nonce gives p history from _ _ _ _ acts (places.without_memory task) = tt
+turn_by : (ring : List KeyView) (nonce : List ℕ) (heard : List (List ℕ)) (gives : ℤ → Type 0) (p : StorePass) (before : List StoreEntry) (request : TurnRequest) (reply : TurnReply) (given : List StoreEntry) → ActsAs (HasSigned ring nonce heard) request →
+    Turn gives p before request reply given → AllByRecursion (IsByAccepted ring nonce heard) given
+turn_by ring nonce heard gives p before request _ _ acts (turns.was_stopped is) = tt
+turn_by ring nonce heard gives p before request _ _ acts (turns.answered clock answer running shown answers) = tt
+turn_by ring nonce heard gives p before request _ _ acts (turns.full clock answer event running shown answers is_full) = tt
+turn_by ring nonce heard gives p before request _ _ acts (turns.kept clock answer event running shown answers room) = (of_turn_answer ring nonce heard p.root (state_of_entries p.root before) p.number clock request answer (Some event) acts answers, tt)
+turn_by ring nonce heard gives p before request _ _ acts (turns.failed clock answer event running shown answers room) = (somebody ring nonce heard event (of_turn_answer ring nonce heard p.root (state_of_entries p.root before) p.number clock request answer (Some event) acts answers), tt)
+turn_by ring nonce heard gives p before request _ _ acts turns.without_memory = tt
+
+line_by : (ring : List KeyView) (nonce : List ℕ) (heard : List (List ℕ)) (gives : ℤ → Type 0) (p : StorePass) (history : List StoreEntry) (from : ℕ) (task : LineTask) (reply : LineReply) (to : ℕ) (given : List StoreEntry) → IsActedAs (HasSigned ring nonce heard) task →
+    LinePlaced gives p history from task reply to given → AllByRecursion (IsByAccepted ring nonce heard) given
+line_by ring nonce heard gives p history from _ _ _ _ acts (at_once reply) = tt
+line_by ring nonce heard gives p history from _ _ _ _ acts (in_a_turn request replied reply to given turn is) = turn_by ring nonce heard gives p turn.before request replied given acts turn.turn
+line_by ring nonce heard gives p history from _ _ _ _ acts (places.cites_none goal numbers proof replied reply to given turn is) = turn_by ring nonce heard gives p turn.before (Cite numbers) replied given tt turn.turn
+line_by ring nonce heard gives p history from _ _ _ _ acts (proves_none goal numbers proof cites fault to turn verdict_is) = tt
+line_by ring nonce heard gives p history from _ _ _ _ acts (issues goal numbers proof cites g at replied reply to given turn verdict_is second is) = turn_by ring nonce heard gives p second.before (Step (steps.Issue (checked_view cites goal proof g))) replied given acts second.turn
+line_by ring nonce heard gives p history from _ _ _ _ acts (places.without_memory task) = tt
 
 -- ---- who acts by a line
 
-user_acts : (ring : List KeyView) (nonce who : List ℕ) (command : Command) (task : LineTask) → HasSigned ring nonce who → IsUserTask who command task → IsActedAs (HasSigned ring nonce) task
-user_acts ring nonce who (At second) task signed is = absurd is
-user_acts ring nonce who (As other) task signed is = absurd is
-user_acts ring nonce who (Register None statement) task signed is = absurd is
-user_acts ring nonce who (Register (Some signature) statement) task signed is = subst (IsActedAs (HasSigned ring nonce)) (sym is) tt
-user_acts ring nonce who (Procap number) task signed is = subst (IsActedAs (HasSigned ring nonce)) (sym is) tt
-user_acts ring nonce who (Verify goal numbers proof) task signed is = subst (IsActedAs (HasSigned ring nonce)) (sym is) tt
-user_acts ring nonce who (Check goal numbers proof) task signed is = absurd is
-user_acts ring nonce who (Do op given) task signed is = subst (IsActedAs (HasSigned ring nonce)) (sym is.2) signed
+user_acts : (ring : List KeyView) (nonce : List ℕ) (heard : List (List ℕ)) (who : List ℕ) (command : Command) (task : LineTask) → HasSigned ring nonce heard who → IsUserTask who command task → IsActedAs (HasSigned ring nonce heard) task
+user_acts ring nonce heard who (At second) task signed is = absurd is
+user_acts ring nonce heard who (As other) task signed is = absurd is
+user_acts ring nonce heard who (Register None statement) task signed is = absurd is
+user_acts ring nonce heard who (Register (Some signature) statement) task signed is = subst (IsActedAs (HasSigned ring nonce heard)) (sym is) (who, signed)
+user_acts ring nonce heard who (Procap number) task signed is = subst (IsActedAs (HasSigned ring nonce heard)) (sym is) tt
+user_acts ring nonce heard who (Verify goal numbers proof) task signed is = subst (IsActedAs (HasSigned ring nonce heard)) (sym is) (who, signed)
+user_acts ring nonce heard who (Check goal numbers proof) task signed is = absurd is
+user_acts ring nonce heard who (Do op given) task signed is = subst (IsActedAs (HasSigned ring nonce heard)) (sym is.2) signed
 
-command_acts : (ring : List KeyView) (nonce : List ℕ) (caller : Option (List ℕ)) (command : Command) (task : LineTask) → IsCallerAccepted ring nonce caller → IsCommandTask caller command task → IsActedAs (HasSigned ring nonce) task
-command_acts ring nonce None command task accepted is = subst (IsActedAs (HasSigned ring nonce)) (sym is) tt
-command_acts ring nonce (Some who) command task accepted is = user_acts ring nonce who command task accepted is
+command_acts : (ring : List KeyView) (nonce : List ℕ) (heard : List (List ℕ)) (caller : Option (List ℕ)) (command : Command) (task : LineTask) → IsCallerAccepted ring nonce heard caller → IsCommandTask caller command task → IsActedAs (HasSigned ring nonce heard) task
+command_acts ring nonce heard None command task accepted is = subst (IsActedAs (HasSigned ring nonce heard)) (sym is) tt
+command_acts ring nonce heard (Some who) command task accepted is = user_acts ring nonce heard who command task accepted is
 
-read_acts : (ring : List KeyView) (nonce : List ℕ) (s : SessionState) (said : Line) (task : LineTask) → IsCallerAccepted ring nonce s.caller → IsReadTask s said task → IsActedAs (HasSigned ring nonce) task
-read_acts ring nonce s (lines.Command command) task accepted is = command_acts ring nonce s.caller command task accepted is
-read_acts ring nonce s (lines.Login who signature) task accepted is = subst (IsActedAs (HasSigned ring nonce)) (sym is) tt
-read_acts ring nonce s (lines.Statement statement) task accepted is = absurd is
-read_acts ring nonce s (lines.Goal goal proof) task accepted is = absurd is
+read_acts : (ring : List KeyView) (nonce : List ℕ) (heard : List (List ℕ)) (s : SessionState) (said : Line) (task : LineTask) → IsCallerAccepted ring nonce heard s.caller → IsReadTask s said task → IsActedAs (HasSigned ring nonce heard) task
+read_acts ring nonce heard s (lines.Command command) task accepted is = command_acts ring nonce heard s.caller command task accepted is
+read_acts ring nonce heard s (lines.Login who signature) task accepted is = subst (IsActedAs (HasSigned ring nonce heard)) (sym is) tt
+read_acts ring nonce heard s (lines.Statement statement) task accepted is = absurd is
+read_acts ring nonce heard s (lines.Goal goal proof) task accepted is = absurd is
 
-task_acts : (ring : List KeyView) (nonce : List ℕ) (s : SessionState) (line : List ℕ) (task : LineTask) → IsCallerAccepted ring nonce s.caller → IsTaskOf s line task → IsActedAs (HasSigned ring nonce) task
-task_acts ring nonce s line _ accepted (faulty fault bad) = tt
-task_acts ring nonce s line _ accepted (read said task is reads) = read_acts ring nonce s said task accepted reads
+task_acts : (ring : List KeyView) (nonce : List ℕ) (heard : List (List ℕ)) (s : SessionState) (line : List ℕ) (task : LineTask) → IsCallerAccepted ring nonce heard s.caller → IsTaskOf s line task → IsActedAs (HasSigned ring nonce heard) task
+task_acts ring nonce heard s line _ accepted (faulty fault bad) = tt
+task_acts ring nonce heard s line _ accepted (read said task is reads) = read_acts ring nonce heard s said task accepted reads
 
 -- ---- who is logged in after a line
 
@@ -181,33 +185,81 @@ done_turn turn_replies.Full reply is done = let no : false ≡ true = sym (ap is
 done_turn turn_replies.Stopped reply is done = let no : false ≡ true = sym (ap is_done is) ∙ done in absurd cc
 done_turn turn_replies.NoMemory reply is done = let no : false ≡ true = sym (ap is_done is) ∙ done in absurd cc
 
+-- ---- more lines
+
+module _ (ring : List KeyView) (nonce : List ℕ) (heard more : List (List ℕ)) where
+  signed_more : (who : List ℕ) → HasSigned ring nonce heard who → HasSigned ring nonce (heard ++ more) who
+  signed_more who h = record {
+    before = h.before;
+    line = h.line;
+    after = h.after ++ more;
+    among = ap (λ (l : List (List ℕ)). l ++ more) h.among ∙ append_assoc h.before (h.line ∷ h.after) more;
+    state = h.state;
+    signature = h.signature;
+    asks = h.asks;
+    accepted = h.accepted;
+  }
+
+  caller_more : (caller : Option (List ℕ)) → IsCallerAccepted ring nonce heard caller → IsCallerAccepted ring nonce (heard ++ more) caller
+  caller_more None accepted = tt
+  caller_more (Some who) accepted = signed_more who accepted
+
+  event_more : (event : Event) → IsByAccepted ring nonce heard (happened event) → IsByAccepted ring nonce (heard ++ more) (happened event)
+  event_more (Registered pass statement signature) h = (h.0, signed_more h.0 h.1)
+  event_more (Issued pass cited proof grant) h = (h.0, signed_more h.0 h.1)
+  event_more (Acted pass caller op procaps moment) h = signed_more caller h
+
+  all_more : (given : List StoreEntry) → AllByRecursion (IsByAccepted ring nonce heard) given → AllByRecursion (IsByAccepted ring nonce (heard ++ more)) given
+  all_more [] all = tt
+  all_more (happened event ∷ given) all = (event_more event all.0, all_more given all.1)
+  all_more (stopped pass ∷ given) all = ((all.0.0, signed_more all.0.0 all.0.1), all_more given all.1)
+
 -- what is kept of who is logged in
-record IsSignedState (ring : List KeyView) (nonce : List ℕ) (s : SessionState) : Type 0 where
+record IsSignedState (ring : List KeyView) (nonce : List ℕ) (heard : List (List ℕ)) (s : SessionState) : Type 0 where
   nonce_is : s.nonce ≡ nonce
-  accepted : IsCallerAccepted ring nonce s.caller
+  accepted : IsCallerAccepted ring nonce heard s.caller
 
-login_state : (ring : List KeyView) (nonce : List ℕ) (s : SessionState) (who over signature : List ℕ) (reply : LineReply) (done : Bool) → is_done reply ≡ done → over ≡ s.nonce → IsSignedState ring nonce s →
-    (is_done reply ≡ true → is_accepted ring who (login_message who over) signature ≡ true) → IsSignedState ring nonce (state_after s (tasks.Turn (Login who over signature)) reply)
-login_state ring nonce s who over signature reply true is same signed accepted =
-    subst (λ (d : Bool). IsSignedState ring nonce (places.after_login s who d)) (sym is)
-    (record { nonce_is = signed.nonce_is; accepted = (signature, subst (λ (n : List ℕ). is_accepted ring who (login_message who n) signature ≡ true) (same ∙ signed.nonce_is) (accepted is)) })
-login_state ring nonce s who over signature reply false is same signed accepted = subst (λ (d : Bool). IsSignedState ring nonce (places.after_login s who d)) (sym is) signed
+state_more : (ring : List KeyView) (nonce : List ℕ) (heard more : List (List ℕ)) (s : SessionState) → IsSignedState ring nonce heard s → IsSignedState ring nonce (heard ++ more) s
+state_more ring nonce heard more s signed = record { nonce_is = signed.nonce_is; accepted = caller_more ring nonce heard more s.caller signed.accepted }
 
-after_line : (gives : ℤ → Type 0) (p : StorePass) (history : List StoreEntry) (nonce : List ℕ) (s : SessionState) (from : ℕ) (task : LineTask) (reply : LineReply) (to : ℕ) (given : List StoreEntry) → LogsInOver s.nonce task → IsSignedState p.root.ring nonce s →
-    LinePlaced gives p history from task reply to given → IsSignedState p.root.ring nonce (state_after s task reply)
-after_line gives p history nonce s from _ _ _ _ over signed (at_once reply) = signed
-after_line gives p history nonce s from _ _ _ _ over signed (in_a_turn (Step request) replied reply to given turn is) = signed
-after_line gives p history nonce s from _ _ _ _ over signed (in_a_turn (Cite numbers) replied reply to given turn is) = signed
-after_line gives p history nonce s from _ _ _ _ over signed (in_a_turn (Login who n signature) replied reply to given turn is) =
-    login_state p.root.ring nonce s who n signature reply (is_done reply) refl over signed (λ done. turn_signed gives p turn.before who n signature replied given turn.turn (done_turn replied reply is done))
-after_line gives p history nonce s from _ _ _ _ over signed (places.cites_none goal numbers proof replied reply to given turn is) = signed
-after_line gives p history nonce s from _ _ _ _ over signed (proves_none goal numbers proof cites fault to turn verdict_is) = signed
-after_line gives p history nonce s from _ _ _ _ over signed (issues goal numbers proof cites g at replied reply to given turn verdict_is second is) = signed
-after_line gives p history nonce s from _ _ _ _ over signed (places.without_memory (tasks.Reply reply)) = signed
-after_line gives p history nonce s from _ _ _ _ over signed (places.without_memory (tasks.Turn (Step request))) = signed
-after_line gives p history nonce s from _ _ _ _ over signed (places.without_memory (tasks.Turn (Cite numbers))) = signed
-after_line gives p history nonce s from _ _ _ _ over signed (places.without_memory (tasks.Turn (Login who n signature))) = signed
-after_line gives p history nonce s from _ _ _ _ over signed (places.without_memory (tasks.Proof goal numbers proof)) = signed
+login_state : (ring : List KeyView) (nonce : List ℕ) (heard : List (List ℕ)) (line : List ℕ) (s : SessionState) (who over signature : List ℕ) (reply : LineReply) (done : Bool) → is_done reply ≡ done → over ≡ s.nonce → IsTaskOf s line (tasks.Turn (Login who over signature)) →
+    IsSignedState ring nonce heard s → (is_done reply ≡ true → is_accepted ring who (login_message who over) signature ≡ true) → IsSignedState ring nonce (heard ++ line ∷ []) (state_after s (tasks.Turn (Login who over signature)) reply)
+login_state ring nonce heard line s who over signature reply true is same asks signed accepted =
+    subst (λ (d : Bool). IsSignedState ring nonce (heard ++ line ∷ []) (places.after_login s who d)) (sym is)
+    (record {
+      nonce_is = signed.nonce_is;
+      accepted = record {
+        before = heard;
+        line = line;
+        after = [];
+        among = refl;
+        state = s;
+        signature = signature;
+        asks = subst (λ (n : List ℕ). IsTaskOf s line (tasks.Turn (Login who n signature))) (same ∙ signed.nonce_is) asks;
+        accepted = subst (λ (n : List ℕ). is_accepted ring who (login_message who n) signature ≡ true) (same ∙ signed.nonce_is) (accepted is);
+      };
+    })
+login_state ring nonce heard line s who over signature reply false is same asks signed accepted =
+    subst (λ (d : Bool). IsSignedState ring nonce (heard ++ line ∷ []) (places.after_login s who d)) (sym is) (state_more ring nonce heard (line ∷ []) s signed)
+
+module _ (gives : ℤ → Type 0) (p : StorePass) (history : List StoreEntry) (nonce : List ℕ) (heard : List (List ℕ)) (line : List ℕ) (s : SessionState) (from : ℕ) (signed : IsSignedState p.root.ring nonce heard s) where
+  same_state : IsSignedState p.root.ring nonce (heard ++ line ∷ []) s
+  same_state = state_more p.root.ring nonce heard (line ∷ []) s signed
+
+  after_line : (task : LineTask) (reply : LineReply) (to : ℕ) (given : List StoreEntry) → IsTaskOf s line task → LogsInOver s.nonce task → LinePlaced gives p history from task reply to given → IsSignedState p.root.ring nonce (heard ++ line ∷ []) (state_after s task reply)
+  after_line _ _ _ _ asks over (at_once reply) = same_state
+  after_line _ _ _ _ asks over (in_a_turn (Step request) replied reply to given turn is) = same_state
+  after_line _ _ _ _ asks over (in_a_turn (Cite numbers) replied reply to given turn is) = same_state
+  after_line _ _ _ _ asks over (in_a_turn (Login who n signature) replied reply to given turn is) =
+      login_state p.root.ring nonce heard line s who n signature reply (is_done reply) refl over asks signed (λ done. turn_signed gives p turn.before who n signature replied given turn.turn (done_turn replied reply is done))
+  after_line _ _ _ _ asks over (places.cites_none goal numbers proof replied reply to given turn is) = same_state
+  after_line _ _ _ _ asks over (proves_none goal numbers proof cites fault to turn verdict_is) = same_state
+  after_line _ _ _ _ asks over (issues goal numbers proof cites g at replied reply to given turn verdict_is second is) = same_state
+  after_line _ _ _ _ asks over (places.without_memory (tasks.Reply reply)) = same_state
+  after_line _ _ _ _ asks over (places.without_memory (tasks.Turn (Step request))) = same_state
+  after_line _ _ _ _ asks over (places.without_memory (tasks.Turn (Cite numbers))) = same_state
+  after_line _ _ _ _ asks over (places.without_memory (tasks.Turn (Login who n signature))) = same_state
+  after_line _ _ _ _ asks over (places.without_memory (tasks.Proof goal numbers proof)) = same_state
 
 -- ---- sessions
 
@@ -215,21 +267,21 @@ all_of_both : (P : StoreEntry → Type 0) (xs ys : List StoreEntry) → AllByRec
 all_of_both P [] ys one other = other
 all_of_both P (x ∷ xs) ys one other = (one.0, all_of_both P xs ys one.1 other)
 
-record IsBySession (ring : List KeyView) (nonce : List ℕ) (end : SessionState) (given : List StoreEntry) : Type 0 where
-  state : IsSignedState ring nonce end
-  all : AllByRecursion (IsByAccepted ring nonce) given
+record IsBySession (ring : List KeyView) (nonce : List ℕ) (heard : List (List ℕ)) (end : SessionState) (given : List StoreEntry) : Type 0 where
+  state : IsSignedState ring nonce heard end
+  all : AllByRecursion (IsByAccepted ring nonce heard) given
 
-by_session : (gives : ℤ → Type 0) (p : StorePass) (history : List StoreEntry) (nonce : List ℕ) (start : SessionState) (from : ℕ) (lines : List (List ℕ)) (answers : List LineReply) (end : SessionState) (to : ℕ) (given : List StoreEntry) →
-    IsSignedState p.root.ring nonce start → LinesPlaced gives p history start from lines answers end to given → IsBySession p.root.ring nonce end given
+by_session : (gives : ℤ → Type 0) (p : StorePass) (history : List StoreEntry) (nonce : List ℕ) (start : SessionState) (from : ℕ) (heard : List (List ℕ)) (answers : List LineReply) (end : SessionState) (to : ℕ) (given : List StoreEntry) →
+    IsSignedState p.root.ring nonce [] start → LinesPlaced gives p history start from heard answers end to given → IsBySession p.root.ring nonce heard end given
 by_session gives p history nonce start from _ _ _ _ _ signed no_line = record { state = signed; all = tt }
-by_session gives p history nonce start from _ _ _ _ _ signed (one_more lines answers s at given line task reply to others placed is here) =
-    let before = by_session gives p history nonce start from lines answers s at given signed placed in
+by_session gives p history nonce start from _ _ _ _ _ signed (one_more heard answers s at given line task reply to others placed is here) =
+    let before = by_session gives p history nonce start from heard answers s at given signed placed in
+    let here_by = line_by p.root.ring nonce heard gives p history at task reply to others (task_acts p.root.ring nonce heard s line task before.state.accepted is) here in
     record {
-      state = after_line gives p history nonce s at task reply to others (task_over s line task is) before.state here;
-      all = all_of_both (IsByAccepted p.root.ring nonce) given others before.all
-          (line_by p.root.ring nonce gives p history at task reply to others (task_acts p.root.ring nonce s line task before.state.accepted is) here);
+      state = after_line gives p history nonce heard line s at before.state task reply to others is (task_over s line task is) here;
+      all = all_of_both (IsByAccepted p.root.ring nonce (heard ++ line ∷ [])) given others (all_more p.root.ring nonce heard (line ∷ []) given before.all) (all_more p.root.ring nonce heard (line ∷ []) others here_by);
     }
 
-pub callers_accepted : (gives : ℤ → Type 0) (p : StorePass) (history : List StoreEntry) (nonce : List ℕ) (from : ℕ) (lines : List (List ℕ)) (answers : List LineReply) (end : SessionState) (to : ℕ) (given : List StoreEntry) →
-    LinesPlaced gives p history (guest_with nonce) from lines answers end to given → AllByRecursion (IsByAccepted p.root.ring nonce) given
-callers_accepted gives p history nonce from lines answers end to given placed = (by_session gives p history nonce (guest_with nonce) from lines answers end to given (record { nonce_is = refl; accepted = tt }) placed).all
+pub callers_accepted : (gives : ℤ → Type 0) (p : StorePass) (history : List StoreEntry) (nonce : List ℕ) (from : ℕ) (heard : List (List ℕ)) (answers : List LineReply) (end : SessionState) (to : ℕ) (given : List StoreEntry) →
+    LinesPlaced gives p history (guest_with nonce) from heard answers end to given → AllByRecursion (IsByAccepted p.root.ring nonce heard) given
+callers_accepted gives p history nonce from heard answers end to given placed = (by_session gives p history nonce (guest_with nonce) from heard answers end to given (record { nonce_is = refl; accepted = tt }) placed).all

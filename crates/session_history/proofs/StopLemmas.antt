@@ -1,6 +1,7 @@
--- A line is told that the store is stopped only where a Stop is among the entries up to its place.
+-- A turn or a line is told that the store is stopped only where a mark is among the entries up to its place.
 use Rattle.std.proofs.Common.{◌≡◌, ◌∙◌, ◌+◌, ◌⊎◌, inl, inr, ℕ, List, [], ◌∷◌, ◌++◌, true, Option, Some, None, length, take, refl, sym, ap, append_assoc, length-append}
 use Rattle.std.specs.Prelude.{ℤ}
+use Rattle.std.proofs.lemmas.Bool.{false≢true}
 use Rattle.std.proofs.Math.Seq.{take-append_seam}
 use Rattle.access_history.specs.declared.event.Event.{Event}
 use Rattle.access_history.specs.Base.{BaseView}
@@ -12,7 +13,7 @@ use Rattle.access_history.specs.declared.request.StepRequest.TheVariants as requ
 use Rattle.line_forms.specs.declared.fault.LineFault.{LineFault}
 use Rattle.line_wire.specs.declared.reply.LineReply.{LineReply}
 use Rattle.line_wire.specs.declared.reply.LineReply.TheVariants as replies
-use Rattle.pcfs_store.specs.Entries.{Root, StoreEntry, happened, stopped, state_of_entries}
+use Rattle.pcfs_store.specs.Entries.{Root, StoreEntry, happened, stopped, events_among, state_of_entries}
 use Rattle.session_history.specs.declared.request.TurnRequest.{TurnRequest}
 use Rattle.session_history.specs.declared.request.TurnRequest.TheVariants.{Step, Login}
 use Rattle.session_history.specs.declared.reply.TurnReply.{TurnReply}
@@ -27,7 +28,7 @@ use Rattle.session_history.specs.Tasks.{IsUserTask, IsCommandTask, IsReadTask, I
 use Rattle.session_history.specs.Placed.{IsTold, LinePlaced, at_once, in_a_turn, proves_none, issues}
 use Rattle.session_history.specs.Placed as places
 
--- ---- entries with a Stop
+-- ---- entries with a mark
 
 stop_before : (xs ys : List StoreEntry) → has_stop xs ≡ true → has_stop (xs ++ ys) ≡ true
 stop_before [] ys is = absurd cc
@@ -49,13 +50,36 @@ answer_goes root state pass clock _ _ _ (cites_none numbers number absent) is = 
 answer_goes root state pass clock _ _ _ (logs_in who nonce signature accepted) is = cc
 answer_goes root state pass clock _ _ _ (rejects who nonce signature refused) is = cc
 
-stop_there : (gives : ℤ → Type 0) (p : StorePass) (before : List StoreEntry) (request : TurnRequest) (reply : TurnReply) (given : List StoreEntry) → Turn gives p before request reply given → reply ≡ turn_replies.Stopped → has_stop (before ++ given) ≡ true
+pub stop_there : (gives : ℤ → Type 0) (p : StorePass) (before : List StoreEntry) (request : TurnRequest) (reply : TurnReply) (given : List StoreEntry) → Turn gives p before request reply given → reply ≡ turn_replies.Stopped → has_stop (before ++ given) ≡ true
 stop_there gives p before request _ _ (was_stopped stop) is = stop_before before [] stop
 stop_there gives p before request _ _ (answered clock reply running shown answers) is = absurd (answer_goes p.root (state_of_entries p.root before) p.number clock request reply None answers is)
 stop_there gives p before request _ _ (full clock reply event running shown answers is_full) is = absurd cc
 stop_there gives p before request _ _ (kept clock reply event running shown answers room) is = absurd (answer_goes p.root (state_of_entries p.root before) p.number clock request reply (Some event) answers is)
 stop_there gives p before request _ _ (failed clock reply event running shown answers room) is = stop_within before [] p.number
 stop_there gives p before request _ _ turns.without_memory is = absurd cc
+
+-- it keeps no event then
+none_kept : (gives : ℤ → Type 0) (p : StorePass) (before : List StoreEntry) (request : TurnRequest) (reply : TurnReply) (given : List StoreEntry) → Turn gives p before request reply given → reply ≡ turn_replies.Stopped → events_among given ≡ []
+none_kept gives p before request _ _ (was_stopped stop) is = refl
+none_kept gives p before request _ _ (answered clock reply running shown answers) is = refl
+none_kept gives p before request _ _ (full clock reply event running shown answers is_full) is = refl
+none_kept gives p before request _ _ (kept clock reply event running shown answers room) is = absurd (answer_goes p.root (state_of_entries p.root before) p.number clock request reply (Some event) answers is)
+none_kept gives p before request _ _ (failed clock reply event running shown answers room) is = refl
+none_kept gives p before request _ _ turns.without_memory is = refl
+
+-- and a turn that adds a mark is told so
+mark_told : (gives : ℤ → Type 0) (p : StorePass) (before : List StoreEntry) (request : TurnRequest) (reply : TurnReply) (given : List StoreEntry) → Turn gives p before request reply given → has_stop given ≡ true → reply ≡ turn_replies.Stopped
+mark_told gives p before request _ _ (was_stopped stop) mark = refl
+mark_told gives p before request _ _ (answered clock reply running shown answers) mark = absurd (false≢true mark)
+mark_told gives p before request _ _ (full clock reply event running shown answers is_full) mark = absurd (false≢true mark)
+mark_told gives p before request _ _ (kept clock reply event running shown answers room) mark = absurd (false≢true mark)
+mark_told gives p before request _ _ (failed clock reply event running shown answers room) mark = refl
+mark_told gives p before request _ _ turns.without_memory mark = absurd (false≢true mark)
+
+pub stops_told : (gives : ℤ → Type 0) (p : StorePass) (before : List StoreEntry) (request : TurnRequest) (reply : TurnReply) (given : List StoreEntry) → Turn gives p before request reply given →
+    (reply ≡ turn_replies.Stopped → (has_stop (before ++ given) ≡ true) × (events_among given ≡ [])) × (has_stop given ≡ true → reply ≡ turn_replies.Stopped)
+stops_told gives p before request reply given turn =
+    (λ is. (stop_there gives p before request reply given turn is, none_kept gives p before request reply given turn is), λ mark. mark_told gives p before request reply given turn mark)
 
 -- the entries up to where a turn came
 front_of : (history before given after : List StoreEntry) (to : ℕ) → history ≡ before ++ (given ++ after) → to ≡ length before + length given → take to history ≡ before ++ given
@@ -68,7 +92,7 @@ turn_stopped gives p history from request reply to given t is = ap has_stop (fro
 
 -- ---- lines
 
-stopped_turn : (found : TurnReply) (reply : LineReply) → IsTold found reply → reply ≡ replies.Stopped → found ≡ turn_replies.Stopped
+pub stopped_turn : (found : TurnReply) (reply : LineReply) → IsTold found reply → reply ≡ replies.Stopped → found ≡ turn_replies.Stopped
 stopped_turn (turn_replies.Step answer) reply is same = let both : replies.Step answer ≡ replies.Stopped = sym is ∙ same in absurd cc
 stopped_turn (turn_replies.Cited cited) reply is same = absurd is
 stopped_turn turn_replies.LoggedIn reply is same = let both : replies.Done ≡ replies.Stopped = sym is ∙ same in absurd cc

@@ -1,6 +1,6 @@
 -- A turn has an end, and over a lawful history one at a moment, if it is not disturbed.
 use Rattle.std.proofs.Common.{◌≡◌, ◌∙◌, ◌+◌, ◌-◌, ◌^◌, ◌<◌, ◌≤◌, ◌⊎◌, inl, inr, ℕ, List, [], ◌∷◌, Bool, true, false, true≢false, Option, Some, None, length, refl, sym, ap, subst, arith}
-use Rattle.std.specs.Prelude.{ℤ, ◌≢◌}
+use Rattle.std.specs.Prelude.{ℤ}
 use Rattle.std.proofs.lemmas.Bool.{cases_lt}
 use Rattle.policy_statement.specs.Messages.{login_message}
 use Rattle.policy_statement.specs.Ring.{is_accepted}

@@ -1,5 +1,5 @@
 -- Laws of turns, lines and sessions: what is placed stays placed, what is given is the pass's own, places do not go back, and each line and each turn has one outcome.
-use Rattle.std.specs.Prelude.{◌+◌, ◌⊎◌, [], false, ◌≡◌, ◌≢◌, ℕ, ℤ, ◌≤◌, List, ◌++◌, length, take, true}
+use Rattle.std.specs.Prelude.{◌+◌, ◌⊎◌, [], ◌∷◌, false, ◌≡◌, ◌≢◌, ℕ, ℤ, ◌≤◌, List, ◌++◌, length, take, true}
 use Rattle.std.specs.List.{AllByRecursion}
 use Rattle.policy_statement.specs.Messages.{login_message}
 use Rattle.policy_statement.specs.Ring.{KeyView, is_accepted}
@@ -9,12 +9,14 @@ use Rattle.line_wire.specs.declared.reply.LineReply.{LineReply}
 use Rattle.line_wire.specs.declared.reply.LineReply.TheVariants as replies
 use Rattle.pcfs_store.specs.Entries.{StoreEntry, happened, stopped, events_among}
 use Rattle.session_history.specs.declared.request.TurnRequest.{TurnRequest}
+use Rattle.session_history.specs.declared.request.TurnRequest.TheVariants.{Login}
 use Rattle.session_history.specs.declared.reply.TurnReply.{TurnReply}
 use Rattle.session_history.specs.declared.reply.TurnReply.TheVariants as turn_replies
 use Rattle.session_history.specs.Passes.{AllOfPass, has_stop}
 use Rattle.session_history.specs.Turn.{StorePass, authority_of_root, Turn, TurnPlaced, IsTurnFormed}
 use Rattle.session_history.specs.SessionState.{SessionState, guest_with}
 use Rattle.session_history.specs.declared.task.LineTask.{LineTask}
+use Rattle.session_history.specs.declared.task.LineTask.TheVariants as tasks
 use Rattle.session_history.specs.Tasks.{IsTaskOf, IsTaskFormed, IsNamed}
 use Rattle.session_history.specs.Placed.{LinePlaced, LinesPlaced}
 
@@ -47,22 +49,38 @@ abbrev pub PlacesGoOn : (ℤ → Type 0) → Type 0
 PlacesGoOn gives = (p : StorePass) (history : List StoreEntry) (start : SessionState) (from : ℕ) (lines : List (List ℕ)) (answers : List LineReply) (end : SessionState) (to : ℕ) (given : List StoreEntry) →
     from ≤ length history → LinesPlaced gives p history start from lines answers end to given → (from ≤ to) × (to ≤ length history)
 
--- a line is told that the store is stopped only where a Stop is among the entries up to its place
+-- A turn that is told that the store is stopped keeps no event, and there is a mark, which it found or which it adds; and a turn that adds a mark is told so.
+abbrev pub StopsAreTold : (ℤ → Type 0) → Type 0
+StopsAreTold gives = (p : StorePass) (before : List StoreEntry) (request : TurnRequest) (reply : TurnReply) (given : List StoreEntry) → Turn gives p before request reply given →
+    (reply ≡ turn_replies.Stopped → (has_stop (before ++ given) ≡ true) × (events_among given ≡ [])) × (has_stop given ≡ true → reply ≡ turn_replies.Stopped)
+
+-- a line is told that the store is stopped only where a mark is among the entries up to its place
 abbrev pub StoppedAfterStop : (ℤ → Type 0) → Type 0
 StoppedAfterStop gives = (p : StorePass) (history : List StoreEntry) (s : SessionState) (from : ℕ) (line : List ℕ) (task : LineTask) (to : ℕ) (given : List StoreEntry) →
     IsTaskOf s line task → LinePlaced gives p history from task replies.Stopped to given → has_stop (take to history) ≡ true
 
--- an operation among them is by somebody of whom the ring accepts a signature over this nonce
-abbrev pub IsByAccepted : List KeyView → List ℕ → StoreEntry → Type 0
-IsByAccepted ring nonce (happened (Acted pass caller op procaps moment)) = (signature : List ℕ) × (is_accepted ring caller (login_message caller nonce) signature ≡ true)
-IsByAccepted ring nonce (happened (Registered pass statement signature)) = Unit {0}
-IsByAccepted ring nonce (happened (Issued pass cited proof grant)) = Unit {0}
-IsByAccepted ring nonce (stopped pass) = Unit {0}
+-- One of these lines asks that this name be logged in over this nonce, by a signature that it brings and the ring accepts.
+pub record HasSigned (ring : List KeyView) (nonce : List ℕ) (heard : List (List ℕ)) (who : List ℕ) : Type 0 where
+  pub before : List (List ℕ)
+  pub line : List ℕ
+  pub after : List (List ℕ)
+  pub among : heard ≡ before ++ line ∷ after
+  pub state : SessionState
+  pub signature : List ℕ
+  pub asks : IsTaskOf state line (tasks.Turn (Login who nonce signature))
+  pub accepted : is_accepted ring who (login_message who nonce) signature ≡ true
 
--- each operation that a session is given is by somebody who logged in over its nonce
+-- somebody logged in by one of these lines over this nonce, and an operation is by who did
+abbrev pub IsByAccepted : List KeyView → List ℕ → List (List ℕ) → StoreEntry → Type 0
+IsByAccepted ring nonce heard (happened (Acted pass caller op procaps moment)) = HasSigned ring nonce heard caller
+IsByAccepted ring nonce heard (happened (Registered pass statement signature)) = (who : List ℕ) × HasSigned ring nonce heard who
+IsByAccepted ring nonce heard (happened (Issued pass cited proof grant)) = (who : List ℕ) × HasSigned ring nonce heard who
+IsByAccepted ring nonce heard (stopped pass) = (who : List ℕ) × HasSigned ring nonce heard who
+
+-- In a session that is given entries somebody logged in over its nonce, by one of its lines; and each operation among them is by who logged in so.
 abbrev pub CallersAreAccepted : (ℤ → Type 0) → Type 0
 CallersAreAccepted gives = (p : StorePass) (history : List StoreEntry) (nonce : List ℕ) (from : ℕ) (lines : List (List ℕ)) (answers : List LineReply) (end : SessionState) (to : ℕ) (given : List StoreEntry) →
-    LinesPlaced gives p history (guest_with nonce) from lines answers end to given → AllByRecursion (IsByAccepted p.root.ring nonce) given
+    LinesPlaced gives p history (guest_with nonce) from lines answers end to given → AllByRecursion (IsByAccepted p.root.ring nonce lines) given
 
 -- ---- one outcome
 

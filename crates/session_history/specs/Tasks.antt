@@ -2,7 +2,6 @@
 use Rattle.std.specs.Prelude.{◌≡◌, ℕ, List, map, Option, Some, None, IsTrue}
 use Rattle.bl_syntax.specs.Citable.{AreCitable}
 use Rattle.bl_syntax.specs.Names.{is_principal_name}
-use Rattle.bl_syntax.specs.declared.grant.Goal.{Goal}
 use Rattle.procap.specs.declared.procap.Procap.{Procap as Sealed}
 use Rattle.proof_term.specs.Limits.{HasTimesInRange}
 use Rattle.access_history.specs.declared.request.StepRequest.TheVariants as steps

@@ -1,7 +1,7 @@
 //! Laws of the definitions. The functions do nothing: each contract is a law. Where the moments of a clock occur, it holds
 //! of each clock.
 
-ghost use Rattle.session_history.specs.Laws.{TurnsStayPlaced, LinesStayPlaced, SessionsStayPlaced, GivenAreOfPass, PlacesGoOn, StoppedAfterStop, CallersAreAccepted, LinesAreAnswered, LinesHaveATask, LinesHaveOneTask, TasksAreFormed, TurnsHaveAnEnd, LinesHaveAnEnd, NothingAfterStop, TurnsHaveOneEnd};
+ghost use Rattle.session_history.specs.Laws.{TurnsStayPlaced, LinesStayPlaced, SessionsStayPlaced, GivenAreOfPass, PlacesGoOn, StopsAreTold, StoppedAfterStop, CallersAreAccepted, LinesAreAnswered, LinesHaveATask, LinesHaveOneTask, TasksAreFormed, TurnsHaveAnEnd, LinesHaveAnEnd, NothingAfterStop, TurnsHaveOneEnd};
 
 use pcfs_ports::Clock;
 
@@ -14,8 +14,8 @@ pub fn what_is_placed_stays_placed<C: Clock>(clock: &C)
     let _ = clock;
 }
 
-/// The entries that a session is given are of its own pass, and each operation among them is by somebody who logged in over
-/// the session's nonce.
+/// The entries that a session is given are of its own pass. If there are any, one of its lines logged somebody in over its
+/// nonce, by a signature that the ring accepts; and each operation among them is by who logged in so.
 pub fn given_entries_are_of_the_session<C: Clock>(clock: &C)
     ensures pass { GivenAreOfPass (C.gives clock.now) }
     ensures callers { CallersAreAccepted (C.gives clock.now) }
@@ -31,8 +31,10 @@ pub fn places_go_on<C: Clock>(clock: &C)
     let _ = clock;
 }
 
-/// A line is told that the store is stopped only if a disk failed before, and then no turn decides anything.
+/// A turn is told that the store is stopped if it adds a mark, and only if there is one; it keeps no event then. So a line is
+/// told so only after a mark, and after one no turn decides anything.
 pub fn a_stop_is_the_end<C: Clock>(clock: &C)
+    ensures turns { StopsAreTold (C.gives clock.now) }
     ensures told { StoppedAfterStop (C.gives clock.now) }
     ensures nothing { NothingAfterStop (C.gives clock.now) }
 {

@@ -32,13 +32,13 @@ use Rattle.session_history.proofs.AskingLemmas.{asks_something}
 use Rattle.shared_store.specs.declared.entry.LockEntry.{LockEntry}
 use Rattle.shared_store.specs.LockHistory.{numbered, lock_history}
 use Rattle.shared_store.specs.Turning.{pass_at}
-use Rattle.shared_store.specs.Asking.{entries_seen, PassGoesOn, HasAsked}
+use Rattle.shared_store.specs.Asking.{entries_seen, HasHistory, PassGoesOn, HasAsked}
 use Rattle.shared_store.proofs.HistoryLemmas.{numbered_both}
 use Rattle.session_lines.specs.Replied.{HasTold, HasIssued, refuted, granted, without_memory, HasDone, HasReplied}
 use Rattle.session_lines.proofs.ReplyLemmas.{cites_nothing_more, state_without_memory}
 
 -- a beginning is not longer than the whole
-shorter : {A : Type 0} (xs ys : List A) → IsPrefix xs ys → length xs ≤ length ys
+pub shorter : {A : Type 0} (xs ys : List A) → IsPrefix xs ys → length xs ≤ length ys
 shorter xs ys begins = let whole : length (xs ++ begins.0) ≡ length ys = ap length begins.1 in omega (arith, whole, length-append xs begins.0)
 
 -- a turn is not before an earlier place
@@ -86,13 +86,17 @@ module _ {D : Type 0} (gives : ℤ → Type 0) where
 
   -- ---- tasks
 
+  -- after a turn what the pass has seen is a history
+  knows : (request : TurnRequest) (old new : PassView (LockEntry D)) (reply : TurnReply) → HasAsked gives request old new reply → (opening : StoreView D) × HasHistory opening new
+  knows request old new reply a = (a.root, record { entries = a.found ++ a.given; seen_is = a.seen_is })
+
   pub done_at_once : (old : PassView (LockEntry D)) (reply : LineReply) → HasDone gives (tasks.Reply reply) old old reply
   done_at_once old reply =
-      record { given = []; goes_on = stays old; placed = λ from within. record { to = from; within = within; placed = λ opening entries begins. at_once reply } }
+      record { given = []; goes_on = stays old; placed = λ from within. record { to = from; within = within; placed = λ opening entries begins. at_once reply }; known = λ needs some. absurd needs }
 
   pub done_without_memory : (old : PassView (LockEntry D)) (task : LineTask) → HasDone gives task old old replies.NoMemory
   done_without_memory old task =
-      record { given = []; goes_on = stays old; placed = λ from within. record { to = from; within = within; placed = λ opening entries begins. places.without_memory task } }
+      record { given = []; goes_on = stays old; placed = λ from within. record { to = from; within = within; placed = λ opening entries begins. places.without_memory task }; known = λ needs some. absurd (some refl) }
 
   pub done_turn : (old new : PassView (LockEntry D)) (request : TurnRequest) (reply : LineReply) → HasTold gives request old new reply → HasDone gives (tasks.Turn request) old new reply
   done_turn old new request reply t =
@@ -105,6 +109,7 @@ module _ {D : Type 0} (gives : ℤ → Type 0) where
           within = omega arith;
           placed = λ opening entries begins. in_a_turn request t.replied reply (entries_seen new) a.given (earlier gives (pass_at opening old.number) entries from (entries_seen old) request t.replied (entries_seen new) a.given within (a.placed opening entries begins)) t.says;
         };
+        known = λ needs some. knows request old new t.replied a;
       }
 
   module _ (goal : Goal) (numbers : List ℕ) (proof : ProofView) where
@@ -118,6 +123,7 @@ module _ {D : Type 0} (gives : ℤ → Type 0) where
             within = omega arith;
             placed = λ opening entries begins. cites_none goal numbers proof found reply (entries_seen new) a.given (earlier gives (pass_at opening old.number) entries from (entries_seen old) (Cite numbers) found (entries_seen new) a.given within (a.placed opening entries begins)) says;
           };
+          known = λ needs some. knows (Cite numbers) old new found a;
         }
 
     module _ (cites : List CiteOf) (old mid : PassView (LockEntry D)) (a : HasAsked gives (Cite numbers) old mid (turn_replies.Cited cites)) where
@@ -138,6 +144,7 @@ module _ {D : Type 0} (gives : ℤ → Type 0) where
             given = [];
             goes_on = goes_by_nothing old mid a.given none_given a.goes_on;
             placed = λ from within. record { to = entries_seen mid; within = omega arith; placed = λ opening entries begins. proves_none goal numbers proof cites fault (entries_seen mid) (cited_in opening entries from within begins) is };
+            known = λ needs some. knows (Cite numbers) old mid (turn_replies.Cited cites) a;
           })
       by_check new _ (granted g reply is t) =
           let b = t.asked in
@@ -152,6 +159,7 @@ module _ {D : Type 0} (gives : ℤ → Type 0) where
                   (cited_in opening entries from within (prefix_trans mid.seen new.seen (lock_history opening entries) b.goes_on.seen begins)) is
                   (subst (λ (n : ℕ). TurnPlaced gives (pass_at opening n) entries (entries_seen mid) (Step (Issue (checked_view cites goal proof g))) t.replied (entries_seen new) b.given) a.goes_on.number (b.placed opening entries begins)) t.says;
             };
+            known = λ needs some. knows (Step (Issue (checked_view cites goal proof g))) mid new t.replied b;
           }
       by_check new _ (without_memory same) =
           subst (λ (n : PassView (LockEntry D)). HasDone gives (tasks.Proof goal numbers proof) old n replies.NoMemory) (sym same)
@@ -159,6 +167,7 @@ module _ {D : Type 0} (gives : ℤ → Type 0) where
             given = [];
             goes_on = goes_by_nothing old mid a.given none_given a.goes_on;
             placed = λ from within. record { to = from; within = seen_more from within; placed = λ opening entries begins. places.without_memory (tasks.Proof goal numbers proof) };
+            known = λ needs some. absurd (some refl);
           })
         where
           seen_more : (from : ℕ) → from ≤ entries_seen old → from ≤ entries_seen mid

@@ -1,7 +1,9 @@
 -- What a turn replies, and who is logged in after it.
-use Rattle.std.proofs.Common.{◌≡◌, ℕ, List, [], Bool, true, false, Option, Some, None, refl}
-use Rattle.std.specs.Prelude.{ℤ, if◌then◌else◌}
+use Rattle.std.proofs.Common.{◌≡◌, ◌∙◌, ◌⊎◌, inl, inr, ℕ, List, [], Bool, true, false, Option, Some, None, refl, sym}
+use Rattle.std.specs.Prelude.{ℤ, ◌≢◌, if◌then◌else◌}
 use Rattle.proof_verifier.specs.declared.cites.Cite.{Cite as CiteOf}
+use Rattle.proof_verifier.specs.declared.fault.CheckFault.{CheckFault}
+use Rattle.proof_verifier.specs.declared.fault.CheckFault.TheVariants as check_faults
 use Rattle.line_wire.specs.declared.reply.LineReply.{LineReply}
 use Rattle.line_wire.specs.declared.reply.LineReply.TheVariants as replies
 use Rattle.access_history.specs.declared.event.Event.{Event}
@@ -52,6 +54,11 @@ cites_nothing_more gives p before numbers _ _ (turns.full clock reply event runn
 cites_nothing_more gives p before numbers _ _ (turns.kept clock reply event running shown answers room) = absurd (keeps_no_event p.root (state_of_entries p.root before) p.number clock numbers reply event answers)
 cites_nothing_more gives p before numbers _ _ (turns.failed clock reply event running shown answers room) = absurd (keeps_no_event p.root (state_of_entries p.root before) p.number clock numbers reply event answers)
 cites_nothing_more gives p before numbers _ _ turns.without_memory = refl
+
+-- what is told of a proof that was refused is not that the store is stopped
+pub unproved_not_stopped : (fault : CheckFault) (reply : LineReply) → (reply ≡ replies.NoMemory) ⊎ ((reply ≡ replies.Unproved fault) × (fault ≢ check_faults.NoMemory)) → reply ≡ replies.Stopped → ⊥
+unproved_not_stopped fault reply (inl is) same = let both : replies.NoMemory ≡ replies.Stopped = sym is ∙ same in cc
+unproved_not_stopped fault reply (inr is) same = let both : replies.Unproved fault ≡ replies.Stopped = sym is.0 ∙ same in cc
 
 -- ---- who is logged in
 

@@ -1,2 +1,3 @@
 pub mod Logins
 pub mod Replied
+pub mod Laws

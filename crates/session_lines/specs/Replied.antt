@@ -1,5 +1,6 @@
 -- What becomes of a line of a session, and of its parts, while others have their turns (this project's own).
-use Rattle.std.specs.Prelude.{◌≡◌, ℕ, ℤ, ◌≤◌, List, Ok, Err}
+use Rattle.std.specs.Prelude.{◌≡◌, ◌≢◌, ℕ, ℤ, ◌≤◌, List, length, Ok, Err}
+use mathlib.Core.List.{IsPrefix}
 use Rattle.tree_lock.specs.Seen.{PassView}
 use Rattle.bl_syntax.specs.declared.grant.Goal.{Goal}
 use Rattle.bl_syntax.specs.Grant.{GrantView}
@@ -13,16 +14,25 @@ use Rattle.access_history.specs.declared.request.StepRequest.TheVariants.{Issue}
 use Rattle.line_wire.specs.declared.reply.LineReply.{LineReply}
 use Rattle.line_wire.specs.declared.reply.LineReply.TheVariants as replies
 use Rattle.pcfs_store.specs.Entries.{StoreEntry}
+use Rattle.pcfs_store.specs.StoreView.{StoreView}
 use Rattle.session_history.specs.declared.request.TurnRequest.{TurnRequest}
 use Rattle.session_history.specs.declared.request.TurnRequest.TheVariants.{Step}
 use Rattle.session_history.specs.declared.reply.TurnReply.{TurnReply}
 use Rattle.session_history.specs.declared.task.LineTask.{LineTask}
+use Rattle.session_history.specs.declared.task.LineTask.TheVariants as tasks
 use Rattle.session_history.specs.SessionState.{SessionState}
 use Rattle.session_history.specs.Tasks.{IsTaskOf}
 use Rattle.session_history.specs.Placed.{IsTold, LinePlaced, state_after}
 use Rattle.shared_store.specs.declared.entry.LockEntry.{LockEntry}
+use Rattle.shared_store.specs.LockHistory.{lock_history}
 use Rattle.shared_store.specs.Turning.{pass_at}
-use Rattle.shared_store.specs.Asking.{entries_seen, PassGoesOn, InEachHistory, HasAsked}
+use Rattle.shared_store.specs.Asking.{entries_seen, HasHistory, PassGoesOn, InEachHistory, HasAsked}
+
+-- the task is done in turns
+abbrev pub NeedsTurns : LineTask → Type 0
+NeedsTurns (tasks.Reply reply) = ⊥
+NeedsTurns (tasks.Turn request) = Unit {0}
+NeedsTurns (tasks.Proof goal numbers proof) = Unit {0}
 
 module _ {D : Type 0} (gives : ℤ → Type 0) where
   -- the pass took a turn, and this is told of it
@@ -43,11 +53,12 @@ module _ {D : Type 0} (gives : ℤ → Type 0) where
     pub within : to ≤ entries_seen new
     pub placed : InEachHistory new (λ opening entries. LinePlaced gives (pass_at opening old.number) entries from task reply to given)
 
-  -- the task was done: the pass goes on, and the reply is placed
+  -- The task was done: the pass goes on, and the reply is placed. If it took turns, what the pass has seen is the history of a store.
   pub record HasDone (task : LineTask) (old new : PassView (LockEntry D)) (reply : LineReply) : Type 0 where
     pub given : List StoreEntry
     pub goes_on : PassGoesOn old new given
     pub placed : (from : ℕ) → from ≤ entries_seen old → IsPlacedFrom task old new reply given from
+    pub known : NeedsTurns task → reply ≢ replies.NoMemory → (opening : StoreView D) × HasHistory opening new
 
   -- The line was answered: it asks for a task, which was done, and the session is in the state after it.
   pub record HasReplied (state : SessionState) (line : List ℕ) (old new : PassView (LockEntry D)) (after : SessionState) (reply : LineReply) : Type 0 where
@@ -55,3 +66,11 @@ module _ {D : Type 0} (gives : ℤ → Type 0) where
     pub is_task : IsTaskOf state line task
     pub after_is : after ≡ state_after state task reply
     pub done : HasDone task old new reply
+
+  -- What the pass has seen is the history of this store, which begins with these entries; and after them the reply is placed in it.
+  pub record IsPlacedAfter (opening : StoreView D) (earlier : List StoreEntry) (task : LineTask) (old new : PassView (LockEntry D)) (reply : LineReply) (given : List StoreEntry) : Type 0 where
+    pub entries : List StoreEntry
+    pub seen_is : new.seen ≡ lock_history opening entries
+    pub begins : IsPrefix earlier entries
+    pub to : ℕ
+    pub placed : LinePlaced gives (pass_at opening old.number) entries (length earlier) task reply to given

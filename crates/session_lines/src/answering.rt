@@ -4,6 +4,7 @@ ghost use Rattle.std.specs.Prelude.{◌≡◌, if◌then◌else◌};
 ghost use Rattle.session_history.specs.Turn.{IsTurnFormed};
 ghost use Rattle.session_history.specs.Tasks.{IsSingle};
 ghost use Rattle.session_history.specs.Placed.{is_done};
+ghost use Rattle.shared_store.specs.Asking.{HasSeenFault};
 ghost use Rattle.session_lines.specs.Logins.{name_or, caller_after};
 ghost use Rattle.session_lines.specs.Replied.{HasTold, HasReplied};
 
@@ -44,6 +45,7 @@ fn answer_in_turn<R: Wait, D: Disk, C: Clock>(
     requires single { IsSingle request }
     ensures told { HasTold (C.gives clock.now) request pass.old pass.new result }
     ensures caller { caller.new ≡ caller_after caller.old request result }
+    ensures stopped { result ≡ LineReply.Stopped → HasSeenFault D.faults pass.new }
 {
     let who = login_name(&request);
     let reply = take_turn(rt, alloc, lock, pass, clock, request);
@@ -54,7 +56,8 @@ fn answer_in_turn<R: Wait, D: Disk, C: Clock>(
 /// Answers a line, given without its end, of a session with this nonce and this caller.
 ///
 /// Each turn that it takes is placed, whatever others do, in each history that begins with what the pass has seen then. A
-/// proof is checked between its two turns, outside the lock. If memory runs out, the reply says so.
+/// proof is checked between its two turns, outside the lock. If memory runs out, the reply says so. `Stopped` comes only if a
+/// disk failed: the pass has seen the mark, and a count has risen since the store was opened.
 pub fn answer_line<R: Wait, D: Disk, C: Clock, K: Checker>(
     rt: &R,
     alloc: Global,
@@ -67,7 +70,8 @@ pub fn answer_line<R: Wait, D: Disk, C: Clock, K: Checker>(
     checker: &mut K,
 ) -> LineReply
     requires { pass.old.lock ≡ lock.now }
-    ensures { HasReplied (C.gives clock.now) (record { nonce = nonce.now; caller = caller.old }) line.now pass.old pass.new (record { nonce = nonce.now; caller = caller.new }) result }
+    ensures replied { HasReplied (C.gives clock.now) (record { nonce = nonce.now; caller = caller.old }) line.now pass.old pass.new (record { nonce = nonce.now; caller = caller.new }) result }
+    ensures stopped { result ≡ LineReply.Stopped → HasSeenFault D.faults pass.new }
 {
     match task_of(alloc, nonce, caller, line) {
         Ok(LineTask::Reply(reply)) => reply,

@@ -6,6 +6,7 @@
 
 mod answering;
 mod checker;
+pub mod laws;
 mod proving;
 mod tasks;
 mod telling;

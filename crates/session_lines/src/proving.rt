@@ -3,6 +3,7 @@
 
 ghost use Rattle.std.specs.Prelude.{◌≡◌};
 ghost use Rattle.bl_syntax.specs.Citable.{AreCitable};
+ghost use Rattle.shared_store.specs.Asking.{HasSeenFault};
 ghost use Rattle.session_lines.specs.Replied.{HasDone, HasIssued};
 
 use crate::checker::Checker;
@@ -32,7 +33,8 @@ fn issue<R: Wait, D: Disk, C: Clock, K: Checker>(
     checker: &mut K,
 ) -> LineReply
     requires { pass.old.lock ≡ lock.now }
-    ensures { HasIssued (C.gives clock.now) cites.now goal.now proof.now pass.old pass.new result }
+    ensures issued { HasIssued (C.gives clock.now) cites.now goal.now proof.now pass.old pass.new result }
+    ensures stopped { result ≡ LineReply.Stopped → HasSeenFault D.faults pass.new }
 {
     match checker.check(alloc, cites, goal, proof) {
         Ok(checked) => take_turn(
@@ -61,7 +63,8 @@ pub fn prove<R: Wait, D: Disk, C: Clock, K: Checker>(
 ) -> LineReply
     requires lock { pass.old.lock ≡ lock.now }
     requires citable { AreCitable numbers }
-    ensures { HasDone (C.gives clock.now) (LineTask.Proof goal numbers proof) pass.old pass.new result }
+    ensures done { HasDone (C.gives clock.now) (LineTask.Proof goal numbers proof) pass.old pass.new result }
+    ensures stopped { result ≡ LineReply.Stopped → HasSeenFault D.faults pass.new }
 {
     let request = FormedRequest::new(TurnRequest::Cite(numbers));
     match ask(rt, alloc, lock, pass, clock, request) {

@@ -4,6 +4,7 @@ ghost use Rattle.std.specs.Prelude.{◌≡◌, ◌≢◌, ◌⊎◌};
 ghost use Rattle.session_history.specs.Placed.{IsTold, is_done};
 ghost use Rattle.session_history.specs.Turn.{IsTurnFormed};
 ghost use Rattle.session_history.specs.Tasks.{IsSingle};
+ghost use Rattle.shared_store.specs.Asking.{HasSeenFault};
 ghost use Rattle.session_lines.specs.Logins.{IsTellable, login_name};
 ghost use Rattle.session_lines.specs.Replied.{HasTold};
 
@@ -42,7 +43,7 @@ pub fn unproved(fault: CheckFault) -> LineReply
     }
 }
 
-/// Takes a turn that asks for no statements, and says what the line is told.
+/// Takes a turn that asks for no statements, and says what the line is told: `Stopped` only if a disk failed.
 pub fn take_turn<R: Wait, D: Disk, C: Clock>(
     rt: &R,
     alloc: Global,
@@ -54,7 +55,8 @@ pub fn take_turn<R: Wait, D: Disk, C: Clock>(
     requires lock { pass.old.lock ≡ lock.now }
     requires formed { IsTurnFormed request }
     requires single { IsSingle request }
-    ensures { HasTold (C.gives clock.now) request pass.old pass.new result }
+    ensures told { HasTold (C.gives clock.now) request pass.old pass.new result }
+    ensures stopped { result ≡ LineReply.Stopped → HasSeenFault D.faults pass.new }
 {
     let found = ask(rt, alloc, lock, pass, clock, FormedRequest::new(request));
     told(found)

@@ -24,9 +24,9 @@ use Rattle.pcfs_store.specs.StoreView.{StoreView, authority_of_store, AnswersIn,
 use Rattle.pcfs_store.specs.Ready.{IsReady, IsCurrent, StopsNow, SurvivesWithOrWithout}
 use Rattle.pcfs_store.specs.Steps.{Steps}
 use Rattle.pcfs_store.specs.Steps as steps
-use Rattle.shared_store.specs.GoesOn.{HasGoneOn}
+use Rattle.shared_store.specs.GoesOn.{HasMet, HasGoneOn}
 
-none_some : {P : Type 0} (stop : Option ℕ) (pass : ℕ) → stop ≡ None → stop ≡ Some pass → P
+pub none_some : {P : Type 0} (stop : Option ℕ) (pass : ℕ) → stop ≡ None → stop ≡ Some pass → P
 none_some stop pass none some = let both : ◌≡◌ {A = Option ℕ} None (Some pass) = sym none ∙ some in absurd cc
 
 -- a count that rose and then did not fall has risen
@@ -98,6 +98,23 @@ module _ {D : Type 0} (clock : D → ℕ) (left_since : D → ℕ → List ℕ �
   pub stepped_shown : (old new : StoreView D) (pass : ℕ) (given moment : ℤ) (request : StepRequest) (result : StoreReply) → given ≡ moment → Stepped old pass given request result new → Stepped old pass moment request result new
   stepped_shown old new pass given moment request result is s = subst (λ (m : ℤ). Stepped old pass m request result new) is s
 
+  -- the store that a step leaves in which the disk failed
+  abbrev stopped_at : StoreView D → D → ℕ → StoreView D
+  stopped_at old active pass = record old { active = active; stop = Some pass }
+
+  met_in : (old : StoreView D) (active : D) (pass other : ℕ) (moment : ℤ) (request : StepRequest) → IsMoment moment → IsWellFormed request → (2 ^ 48 - 1 ≤ (replay old.base old.events).count → ⊥) →
+      (reply : StepReply) × (event : Event) × AnswersIn old pass moment request reply (Some event) × StopsNow clock left_since image (stopped_at old active pass) (SurvivesWithOrWithout old.base old.events event) → ◌≡◌ {A = Option ℕ} (Some pass) (Some other) →
+      HasMet clock left_since image (stopped_at old active pass) other
+  met_in old active pass other moment request at formed below m some =
+      let same : pass ≡ other = cc in
+      subst (HasMet clock left_since image (stopped_at old active pass)) same
+      (record {
+        met = m.1;
+        asked = record { moment = moment; request = request; reply = m.0; in_range = at; well_formed = formed; answers = m.2 };
+        follows = λ lawful. lawful_more (authority_of_store old) old.base old.events pass moment request m.0 m.1 at formed below m.2 lawful;
+        survives = m.3;
+      })
+
   module _ (opening : StoreView D) where
     -- the store did not change but in its active disk and its events, and is not stopped
     running_on : (old new : StoreView D) (pass : ℕ) (moment : ℤ) (request : StepRequest) (result : StoreReply) → HasGoneOn clock left_since image faults opening old → Stepped old pass moment request result new → old.stop ≡ None → new.stop ≡ None →
@@ -145,7 +162,7 @@ module _ {D : Type 0} (clock : D → ℕ) (left_since : D → ℕ → List ℕ �
       other_stays = g.other_stays;
       ready = λ first none. none_some (Some pass) pass none refl;
       current = λ first none. none_some (Some pass) pass none refl;
-      halts = λ first other some. let m = s.met (g.ready first running) refl in (m.1, m.3);
+      halts = λ first other some. met_in old active pass other moment request at formed (λ many. room (inr many)) (s.met (g.ready first running) refl) some;
       failed = λ other some. ⊎_elim
           (λ (r : HasRisen (faults (first_disk old)) (faults (one_of active old.other old.second_active))). inl (risen_since (faults (first_disk opening)) (faults (first_disk old)) (faults (one_of active old.other old.second_active)) g.first_never_falls r))
           (λ (r : HasRisen (faults (second_disk old)) (faults (one_of old.other active old.second_active))). inr (risen_since (faults (second_disk opening)) (faults (second_disk old)) (faults (one_of old.other active old.second_active)) g.second_never_falls r))

@@ -3,15 +3,21 @@ use Rattle.std.proofs.Common.{◌≡◌, ◌∙◌, ℕ, zero, suc, List, [], �
 use Rattle.std.specs.Prelude.{slice_get, slice_set}
 use Rattle.std.specs.List.{AllByRecursion}
 use mathlib.Core.List.{IsPrefix}
-use Rattle.tree_lock.specs.Seen.{DoormanView, Retired}
+use mathlib.Core.Logic.{dite}
+use native.Mathlib.Decide.{ℕ_discrete}
+use Rattle.tree_lock.specs.Entries.{of_number}
+use Rattle.tree_lock.specs.Seen.{DoormanView, Retired, AreOwn}
 use Rattle.tree_lock.specs.Closing.{IsClosed}
 use Rattle.tree_lock.specs.Merge.{Merges, ends, takes, IsMerge}
+use Rattle.tree_lock.proofs.EntryLemmas.{of_number-here, of_number-else}
 use Rattle.tree_lock.proofs.MergeLemmas.{closed_merges}
-use Rattle.pcfs_store.specs.Entries.{StoreEntry, entries_of}
+use Rattle.pcfs_store.specs.Entries.{StoreEntry, happened, stopped, entries_of}
+use Rattle.pcfs_store.specs.StoreView.{StoreView}
+use Rattle.session_history.specs.Passes.{event_pass, AllOfPass}
 use Rattle.shared_store.specs.declared.entry.LockEntry.{LockEntry}
 use Rattle.shared_store.specs.declared.entry.LockEntry.TheVariants.{Opened, Happened, Stopped}
 use Rattle.shared_store.specs.OpenedView.{OpenedView}
-use Rattle.shared_store.specs.LockHistory.{lock_history, lock_entries, before_others, bare}
+use Rattle.shared_store.specs.LockHistory.{numbered, lock_history, lock_entries, before_others, bare}
 use Rattle.shared_store.specs.Merged.{AreMerged}
 use Rattle.shared_store.proofs.HistoryLemmas.{opened_alike, entries_after}
 
@@ -51,6 +57,26 @@ module _ {D : Type 0} where
   both_maps [] = refl
   both_maps (r ∷ rs) = ap (λ (ls : List (List StoreEntry)). bare r.1 ∷ ls) (both_maps rs)
 
+  -- ---- entries under a number carry it
+
+  under : (n k : ℕ) (e : LockEntry D) (es : List (ℕ × LockEntry D)) → (k ≡ n → AllOfPass n (before_others e (bare (of_number n es)))) → AllOfPass n (bare (of_number n es)) → AllOfPass n (bare (of_number n ((k, e) ∷ es)))
+  under n k e es here rest = dite (ℕ_discrete k n)
+      (λ is. subst (λ (l : List (ℕ × LockEntry D)). AllOfPass n (bare l)) (sym (of_number-here n (k, e) es is)) (here is))
+      (λ ne. subst (λ (l : List (ℕ × LockEntry D)). AllOfPass n (bare l)) (sym (of_number-else n (k, e) es ne)) rest)
+
+own_entries : (D : Type 0) (n : ℕ) (entries : List StoreEntry) → AllOfPass n (bare (of_number n (numbered {D = D} entries)))
+own_entries D n [] = tt
+own_entries D n (happened event ∷ entries) = under n (event_pass event) (Happened event) (numbered {D = D} entries) (λ is. (is, own_entries D n entries)) (own_entries D n entries)
+own_entries D n (stopped pass ∷ entries) = under n pass (Stopped pass) (numbered {D = D} entries) (λ is. (is, own_entries D n entries)) (own_entries D n entries)
+
+module _ {D : Type 0} where
+  own_history : (n : ℕ) (opening : StoreView D) (entries : List StoreEntry) → AllOfPass n (bare (of_number n (lock_history opening entries)))
+  own_history n opening entries = under n 0 (Opened opening) (numbered entries) (λ is. own_entries D n entries) (own_entries D n entries)
+
+  all_own : (opening : StoreView D) (entries : List StoreEntry) (retired : List (Retired (LockEntry D))) → AreOwn (lock_history opening entries) retired → AllByRecursion (λ (r : Retired (LockEntry D)). AllOfPass r.0 (bare r.1)) retired
+  all_own opening entries [] own = tt
+  all_own opening entries (r ∷ rs) own = (subst (λ (l : List (ℕ × LockEntry D)). AllOfPass r.0 (bare l)) own.0 (own_history r.0 opening entries), all_own opening entries rs own.1)
+
   pub closed_are_merged : (first last : OpenedView D) (door : DoormanView (LockEntry D)) → door.opening ≡ lock_entries first → IsClosed door (lock_entries last) →
       (last.opening ≡ first.opening) × AreMerged (entries_of first.store) door.retired (entries_of last.store)
   closed_are_merged first last door is closed =
@@ -62,5 +88,6 @@ module _ {D : Type 0} where
           rest = bare m.rest;
           parts = entries_after first.opening last.opening (entries_of first.store) (entries_of last.store) begins;
           merged = subst (λ (ls : List (List StoreEntry)). Merges ls (bare m.rest)) (both_maps door.retired) (merges_bare (map (λ (r : Retired (LockEntry D)). r.1) door.retired) m.rest m.merged);
+          of_passes = all_own last.opening (entries_of last.store) door.retired closed.knows.own;
         },
       )

@@ -37,6 +37,7 @@ use Rattle.session_history.specs.Turn as turns
 use Rattle.shared_store.specs.GoesOn.{HasGoneOn}
 use Rattle.shared_store.specs.OpenedView.{OpenedView}
 use Rattle.shared_store.specs.Turning.{turn_reply, pass_at, HasTurned}
+use Rattle.shared_store.proofs.GoesOnLemmas.{none_some}
 
 -- ---- entries of a store
 
@@ -50,6 +51,14 @@ runs s running = stop_among s.events s.stop ∙ running
 
 pub stands : {D : Type 0} (s : StoreView D) → is_some s.stop ≡ true → has_stop (entries_of s) ≡ true
 stands s stop = stop_among s.events s.stop ∙ stop
+
+some_stop : (stop : Option ℕ) → is_some stop ≡ true → (pass : ℕ) × (stop ≡ Some pass)
+some_stop None is = absurd (false≢true is)
+some_stop (Some pass) is = (pass, refl)
+
+-- a store is stopped if its entries have a mark
+pub stop_of : {D : Type 0} (s : StoreView D) → has_stop (entries_of s) ≡ true → (pass : ℕ) × (s.stop ≡ Some pass)
+stop_of s mark = some_stop s.stop (sym (stop_among s.events s.stop) ∙ mark)
 
 -- what a store says of its stop
 pub is_stopped : (stop : Option ℕ) (found : Bool) → IsTrue found ↔ IsSome stop → found ≡ true → is_some stop ≡ true
@@ -68,6 +77,9 @@ stop_more : (events : List Event) (stop : Option ℕ) (pass : ℕ) → stop ≡ 
 stop_more events (Some other) pass none = absurd cc
 stop_more [] None pass none = refl
 stop_more (e ∷ events) None pass none = ap (λ (l : List StoreEntry). happened e ∷ l) (stop_more events None pass none)
+
+one_pass : (pass stopper : ℕ) → ◌≡◌ {A = Option ℕ} (Some pass) (Some stopper) → stopper ≡ pass
+one_pass pass stopper is = cc
 
 module _ {D : Type 0} (clock : D → ℕ) (left_since : D → ℕ → List ℕ → Type 0) (image : D → Option (List ℕ)) (faults : D → ℕ) (opening now : StoreView D) (g : HasGoneOn clock left_since image faults opening now) where
   -- the state to which the entries lead is the store's
@@ -91,38 +103,43 @@ module _ {D : Type 0} (clock : D → ℕ) (left_since : D → ℕ → List ℕ �
 
   -- a step
   by_step : (new : StoreView D) (pass : ℕ) (moment : ℤ) (request : StepRequest) (reply : StoreReply) → IsStore now → Steps faults now pass moment request reply new →
-      HasTurned (λ m. m ≡ moment) (requests.Step request) (record { store = now; opening = opening }) pass (record { store = new; opening = opening }) (turn_reply reply)
+      HasTurned faults (λ m. m ≡ moment) (requests.Step request) (record { store = now; opening = opening }) pass (record { store = new; opening = opening }) (turn_reply reply)
   by_step _ pass moment request _ store (steps.answered reply running answers) = record {
     given = [];
     opening_stays = refl;
     grows = sym (append-nil (entries_of now));
     turn = turns.answered moment (turn_replies.Step reply) (runs now (ap is_some running)) refl (turns.steps request reply None (there pass moment request reply None answers));
+    stops = λ stopper was is. none_some now.stop stopper was is;
   }
   by_step _ pass moment request _ store (steps.kept reply event active running answers room) = record {
     given = happened event ∷ [];
     opening_stays = refl;
     grows = event_more now.events event now.stop running;
     turn = turns.kept moment (turn_replies.Step reply) event (runs now (ap is_some running)) refl (turns.steps request reply (Some event) (there pass moment request reply (Some event) answers)) (λ is_full. room (full_here event store is_full));
+    stops = λ stopper was is. none_some now.stop stopper was is;
   }
   by_step _ pass moment request _ store (steps.full reply event running answers is_full) = record {
     given = [];
     opening_stays = refl;
     grows = sym (append-nil (entries_of now));
     turn = turns.full moment (turn_replies.Step reply) event (runs now (ap is_some running)) refl (turns.steps request reply (Some event) (there pass moment request reply (Some event) answers)) (full_there event store is_full);
+    stops = λ stopper was is. none_some now.stop stopper was is;
   }
   by_step _ pass moment request _ store (steps.failed reply event active running answers room risen) = record {
     given = stopped pass ∷ [];
     opening_stays = refl;
     grows = stop_more now.events now.stop pass running;
     turn = turns.failed moment (turn_replies.Step reply) event (runs now (ap is_some running)) refl (turns.steps request reply (Some event) (there pass moment request reply (Some event) answers)) (λ is_full. room (full_here event store is_full));
+    stops = λ stopper was is. (one_pass pass stopper is, risen);
   }
   by_step _ pass moment request _ store (steps.stopped earlier is) = record {
     given = [];
     opening_stays = refl;
     grows = sym (append-nil (entries_of now));
     turn = turns.was_stopped (stands now (ap is_some is));
+    stops = λ stopper was now_is. none_some now.stop stopper was now_is;
   }
-  by_step _ pass moment request _ store (steps.without_memory running) = record { given = []; opening_stays = refl; grows = sym (append-nil (entries_of now)); turn = turns.without_memory }
+  by_step _ pass moment request _ store (steps.without_memory running) = record { given = []; opening_stays = refl; grows = sym (append-nil (entries_of now)); turn = turns.without_memory; stops = λ stopper was is. none_some now.stop stopper was is }
 
   -- a look at the store, which adds nothing
   abbrev Looks : TurnRequest → TurnReply → Type 0
@@ -179,22 +196,22 @@ module _ {D : Type 0} (clock : D → ℕ) (left_since : D → ℕ → List ℕ �
 
 pub turned_by_step : {D : Type 0} (clock : D → ℕ) (left_since : D → ℕ → List ℕ → Type 0) (image : D → Option (List ℕ)) (faults : D → ℕ) (opening old new : StoreView D) (pass : ℕ) (moment : ℤ) (request : StepRequest) (reply : StoreReply) (told : TurnReply) →
     HasGoneOn clock left_since image faults opening old → IsStore old → Steps faults old pass moment request reply new → told ≡ turn_reply reply →
-    HasTurned (λ m. m ≡ moment) (requests.Step request) (record { store = old; opening = opening }) pass (record { store = new; opening = opening }) told
+    HasTurned faults (λ m. m ≡ moment) (requests.Step request) (record { store = old; opening = opening }) pass (record { store = new; opening = opening }) told
 turned_by_step clock left_since image faults opening old new pass moment request reply told g store stepped is =
-    subst (λ (r : TurnReply). HasTurned (λ m. m ≡ moment) (requests.Step request) (record { store = old; opening = opening }) pass (record { store = new; opening = opening }) r) (sym is)
+    subst (λ (r : TurnReply). HasTurned faults (λ m. m ≡ moment) (requests.Step request) (record { store = old; opening = opening }) pass (record { store = new; opening = opening }) r) (sym is)
     (by_step clock left_since image faults opening old g new pass moment request reply store stepped)
 
 -- a look is a turn that leaves all as it was
-pub turned_by_look : {D : Type 0} (s : OpenedView D) (pass : ℕ) (moment : ℤ) (asked request : TurnRequest) (reply : TurnReply) → asked ≡ request → ((n : ℕ) (m : ℤ) → Turn (λ k. k ≡ m) (pass_at s.opening n) (entries_of s.store) asked reply []) →
-    HasTurned (λ m. m ≡ moment) request s pass s reply
-turned_by_look s pass moment asked request reply is looks =
-    subst (λ (r : TurnRequest). HasTurned (λ m. m ≡ moment) r s pass s reply) is (record { given = []; opening_stays = refl; grows = sym (append-nil (entries_of s.store)); turn = looks pass moment })
+pub turned_by_look : {D : Type 0} (faults : D → ℕ) (s : OpenedView D) (pass : ℕ) (moment : ℤ) (asked request : TurnRequest) (reply : TurnReply) → asked ≡ request → ((n : ℕ) (m : ℤ) → Turn (λ k. k ≡ m) (pass_at s.opening n) (entries_of s.store) asked reply []) →
+    HasTurned faults (λ m. m ≡ moment) request s pass s reply
+turned_by_look faults s pass moment asked request reply is looks =
+    subst (λ (r : TurnRequest). HasTurned faults (λ m. m ≡ moment) r s pass s reply) is (record { given = []; opening_stays = refl; grows = sym (append-nil (entries_of s.store)); turn = looks pass moment; stops = λ stopper was now_is. none_some s.store.stop stopper was now_is })
 
 -- a step is one that was asked for, at the moment that was shown
-pub turned_by_request : {D : Type 0} (before after : OpenedView D) (pass : ℕ) (shown moment : ℤ) (asked request : TurnRequest) (reply : TurnReply) → shown ≡ moment → asked ≡ request → HasTurned (λ m. m ≡ shown) asked before pass after reply →
-    HasTurned (λ m. m ≡ moment) request before pass after reply
-turned_by_request before after pass shown moment asked request reply is same turned =
-    subst (λ (k : ℤ). HasTurned (λ m. m ≡ k) request before pass after reply) is (subst (λ (r : TurnRequest). HasTurned (λ m. m ≡ shown) r before pass after reply) same turned)
+pub turned_by_request : {D : Type 0} (faults : D → ℕ) (before after : OpenedView D) (pass : ℕ) (shown moment : ℤ) (asked request : TurnRequest) (reply : TurnReply) → shown ≡ moment → asked ≡ request → HasTurned faults (λ m. m ≡ shown) asked before pass after reply →
+    HasTurned faults (λ m. m ≡ moment) request before pass after reply
+turned_by_request faults before after pass shown moment asked request reply is same turned =
+    subst (λ (k : ℤ). HasTurned faults (λ m. m ≡ k) request before pass after reply) is (subst (λ (r : TurnRequest). HasTurned faults (λ m. m ≡ shown) r before pass after reply) same turned)
 
 -- the moment was one that the clock gives
 pub turn_shown : (gives : ℤ → Type 0) (p : StorePass) (before : List StoreEntry) (request : TurnRequest) (moment : ℤ) (reply : TurnReply) (given : List StoreEntry) → gives moment →

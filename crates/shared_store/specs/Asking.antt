@@ -1,13 +1,14 @@
 -- What a pass knows after a turn at a shared store (this project's own).
-use Rattle.std.specs.Prelude.{◌≡◌, ℕ, ℤ, ◌-◌, List, ◌++◌, length}
+use Rattle.std.specs.Prelude.{◌≡◌, ℕ, ℤ, ◌-◌, List, ◌++◌, length, Some}
 use mathlib.Core.List.{IsPrefix}
 use Rattle.tree_lock.specs.Seen.{PassView}
-use Rattle.pcfs_store.specs.Entries.{StoreEntry}
+use Rattle.pcfs_store.specs.Entries.{StoreEntry, entries_of}
 use Rattle.pcfs_store.specs.StoreView.{StoreView}
 use Rattle.session_history.specs.declared.request.TurnRequest.{TurnRequest}
 use Rattle.session_history.specs.declared.reply.TurnReply.{TurnReply}
 use Rattle.session_history.specs.Turn.{Turn, TurnPlaced}
 use Rattle.shared_store.specs.declared.entry.LockEntry.{LockEntry}
+use Rattle.shared_store.specs.GoesOn.{HasCountRisen}
 use Rattle.shared_store.specs.LockHistory.{numbered, lock_history}
 use Rattle.shared_store.specs.Turning.{pass_at}
 
@@ -33,12 +34,23 @@ module _ {D : Type 0} where
   abbrev pub InEachHistory : PassView (LockEntry D) → (StoreView D → List StoreEntry → Type 0) → Type 0
   InEachHistory pass P = (opening : StoreView D) (entries : List StoreEntry) → IsPrefix pass.seen (lock_history opening entries) → P opening entries
 
-  -- The pass took a turn, after what it had seen before, at the end of what it has seen now: of a store that was opened as `root`, it found the entries `found`, and added the given ones. So it is in each history that begins with that.
+  -- The pass took a turn at the end of what it has seen now: of a store that was opened as `root`, it found the entries `found`, and all that it had seen before was among them; and it added the given ones. So it is in each history that
+  -- begins with that.
   pub record HasAsked (gives : ℤ → Type 0) (request : TurnRequest) (old new : PassView (LockEntry D)) (reply : TurnReply) : Type 0 where
     pub given : List StoreEntry
     pub goes_on : PassGoesOn old new given
     pub root : StoreView D
     pub found : List StoreEntry
+    pub found_seen : IsPrefix old.seen (lock_history root found)
     pub seen_is : new.seen ≡ lock_history root (found ++ given)
     pub turn : Turn gives (pass_at root old.number) found request reply given
     pub placed : InEachHistory new (λ opening entries. TurnPlaced gives (pass_at opening old.number) entries (entries_seen old) request reply (entries_seen new) given)
+
+  -- The pass has seen that a disk failed: of a store that was opened as `root` and left as `after`, it has seen all entries, of which the last is the mark of the turn of the pass of this number; and a count has risen since the opening.
+  pub record HasSeenFault (faults : D → ℕ) (pass : PassView (LockEntry D)) : Type 0 where
+    pub root : StoreView D
+    pub after : StoreView D
+    pub number : ℕ
+    pub seen : IsPrefix (lock_history root (entries_of after)) pass.seen
+    pub stop : after.stop ≡ Some number
+    pub since : HasCountRisen faults root after

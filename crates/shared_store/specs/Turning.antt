@@ -1,5 +1,6 @@
 -- One turn at a shared store (this project's own).
-use Rattle.std.specs.Prelude.{◌≡◌, ℕ, ℤ, List, ◌++◌}
+use Rattle.std.specs.Prelude.{◌≡◌, ℕ, ℤ, List, ◌++◌, Some, None}
+use Rattle.pcfs_ports.specs.Faults.{HasRisen}
 use Rattle.pcfs_store.specs.declared.reply.StoreReply.{StoreReply}
 use Rattle.pcfs_store.specs.declared.reply.StoreReply.TheVariants as stores
 use Rattle.pcfs_store.specs.Entries.{StoreEntry, root_of, entries_of}
@@ -8,6 +9,7 @@ use Rattle.session_history.specs.declared.request.TurnRequest.{TurnRequest}
 use Rattle.session_history.specs.declared.reply.TurnReply.{TurnReply}
 use Rattle.session_history.specs.declared.reply.TurnReply.TheVariants as turn_replies
 use Rattle.session_history.specs.Turn.{StorePass, Turn}
+use Rattle.shared_store.specs.GoesOn.{HasCountRisen}
 use Rattle.shared_store.specs.OpenedView.{OpenedView}
 
 -- what a turn replies for which the store says this
@@ -21,9 +23,15 @@ turn_reply stores.NoMemory = turn_replies.NoMemory
 abbrev pub pass_at : {D : Type 0} → StoreView D → ℕ → StorePass
 pass_at opening number = record { root = root_of opening; number = number }
 
--- A turn of the pass took the store from `before` to `after`: it added entries at the end, and its reply is that of a turn which finds those before.
-pub record HasTurned {D : Type 0} (gives : ℤ → Type 0) (request : TurnRequest) (before : OpenedView D) (pass : ℕ) (after : OpenedView D) (reply : TurnReply) : Type 0 where
+-- A turn of the pass took the store from `before` to `after`: it added entries at the end, and its reply is that of a turn which finds those before. If it was this turn that stopped the store, the count of the disk with the area rose in it.
+pub record HasTurned {D : Type 0} (faults : D → ℕ) (gives : ℤ → Type 0) (request : TurnRequest) (before : OpenedView D) (pass : ℕ) (after : OpenedView D) (reply : TurnReply) : Type 0 where
   pub given : List StoreEntry
   pub opening_stays : after.opening ≡ before.opening
   pub grows : entries_of after.store ≡ entries_of before.store ++ given
   pub turn : Turn gives (pass_at before.opening pass) (entries_of before.store) request reply given
+  pub stops : (stopper : ℕ) → before.store.stop ≡ None → after.store.stop ≡ Some stopper → (stopper ≡ pass) × HasRisen (faults before.store.active) (faults after.store.active)
+
+-- What a turn does at the store: so it turned; and if the store is stopped then, in this turn or in an earlier one, a count has risen since the opening.
+pub record TakesTurn {D : Type 0} (faults : D → ℕ) (gives : ℤ → Type 0) (request : TurnRequest) (before : OpenedView D) (pass : ℕ) (after : OpenedView D) (reply : TurnReply) : Type 0 where
+  pub turned : HasTurned faults gives request before pass after reply
+  pub failed : (stopper : ℕ) → after.store.stop ≡ Some stopper → HasCountRisen faults after.opening after.store

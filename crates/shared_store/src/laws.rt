@@ -1,11 +1,19 @@
-//! A law of shared stores. The function does nothing: its contract is the law.
+//! Laws of shared stores. The functions do nothing: each contract is a law.
 
-ghost use Rattle.shared_store.specs.Laws.{ClosedAreMerged};
+ghost use Rattle.shared_store.specs.Laws.{ClosedAreMerged, TurnsFindWhatWasTold};
 
-use pcfs_ports::Disk;
+use pcfs_ports::{Clock, Disk};
 
 /// When all passes were taken in, the entries of the store are those with which the lock was made, and then a merge of
 /// the passes' own; and the store was opened as it was then.
 pub fn closed_stores_are_merges<D: Disk>()
     ensures { ClosedAreMerged D }
 {}
+
+/// A turn finds all entries that a pass had seen when something was told under it, if the pass that takes the turn had seen
+/// as much before.
+pub fn turns_find_what_was_told<D: Disk, C: Clock>(clock: &C)
+    ensures { TurnsFindWhatWasTold D (C.gives clock.now) }
+{
+    let _ = clock;
+}

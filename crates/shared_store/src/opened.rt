@@ -73,6 +73,13 @@ impl<D: Disk> OpenedStore<D> {
         OpenedStore { store, opening }
     }
 
+    // What it keeps at every moment.
+    pub(crate) fn keeps(&self)
+        ensures { HasGoneOn D.clock D.left_since D.image D.faults self.now.opening self.now.store }
+    {
+        let _ = &self.store;
+    }
+
     /// The store.
     pub fn into_store(self) -> Store<D>
         ensures same { result ≡ self.store }
@@ -86,7 +93,7 @@ impl<D: Disk> OpenedStore<D> {
     fn step(&mut self, alloc: Global, pass: u64, request: StepRequest, clock: i64) -> TurnReply
         requires in_range { IsMoment clock }
         requires well_formed { IsWellFormed request }
-        ensures { HasTurned (λ moment. moment ≡ clock) (TurnRequest.Step request) self.old pass self.new result }
+        ensures { HasTurned D.faults (λ moment. moment ≡ clock) (TurnRequest.Step request) self.old pass self.new result }
     {
         self.store.keeps();
         let reply = self.store.step(alloc, pass, request, clock);
@@ -143,7 +150,7 @@ impl<D: Disk> OpenedStore<D> {
         clock: i64,
     ) -> TurnReply
         requires { IsMoment clock }
-        ensures { HasTurned (λ moment. moment ≡ clock) request self.old pass self.new result }
+        ensures { HasTurned D.faults (λ moment. moment ≡ clock) request self.old pass self.new result }
     {
         match request.into_request() {
             TurnRequest::Step(request) => self.step(alloc, pass, request, clock),

@@ -26,9 +26,9 @@ pub struct StoreTurn<'c, C> {
 impl<'c, D: Disk, C: Clock> Job<OpenedStore<D>> for StoreTurn<'c, C> {
     type Out = TurnReply;
 
-    ghost use Rattle.shared_store.specs.Turning.{HasTurned};
+    ghost use Rattle.shared_store.specs.Turning.{TakesTurn};
 
-    ghost done = { λ turn before pass after reply. HasTurned (C.gives turn.clock.now) turn.request before pass after reply };
+    ghost done = { λ turn before pass after reply. TakesTurn D.faults (C.gives turn.clock.now) turn.request before pass after reply };
 
     fn work(self, value: &mut OpenedStore<D>, pass: u64) -> TurnReply {
         let StoreTurn {
@@ -37,6 +37,8 @@ impl<'c, D: Disk, C: Clock> Job<OpenedStore<D>> for StoreTurn<'c, C> {
             request,
         } = self;
         let moment = clock.now();
-        value.answer(alloc, pass, request, moment)
+        let reply = value.answer(alloc, pass, request, moment);
+        value.keeps();
+        reply
     }
 }

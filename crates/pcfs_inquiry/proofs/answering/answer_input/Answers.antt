@@ -1,5 +1,6 @@
 -- Each end has its line.
 use Rattle.std.proofs.Common.{List, ap, subst, sym, ℕ, ◌∙◌, Err}
+use Rattle.std.proofs.lemmas.Bool.{false≢true}
 use Rattle.std.specs.Prelude.{codes}
 use Rattle.line_text.specs.Lines.{lines_of}
 use Rattle.bl_syntax.specs.Statement.{StatementView}
@@ -33,7 +34,7 @@ returns-in-Ok-read_inquiry g c =
     let same = ap statements_of read.cites_are ∙ statements_of-numbered 1 read.statements in
     let is = subst (λ (bytes : List ℕ). IsInquiry (lines_of bytes) read.statements inquiry.goal inquiry.proof) c.as_slice-2.ensures read.is_inquiry in
     let ends = subst (λ (ss : List StatementView). InquiryEnds (g.I.Source.left c.args.input.now) (g.I.Source.left c.read_to_end.new.input) (g.I.Source.faults c.args.input.now) (g.I.Source.faults c.read_to_end.new.input) 0 (verdict_text (verdict ss inquiry.goal inquiry.proof))) (sym same)
-    (answered _ read.statements inquiry.goal inquiry.proof c.in-Ok.ensures.ok is) in
+    (answered _ read.statements inquiry.goal inquiry.proof c.in-Ok.ensures.ok (λ has. false≢true (sym c.if-has_long_line.false ∙ c.has_long_line.ensures.1 (subst (λ (bytes : List ℕ). HasLongLine (lines_of bytes)) (sym c.as_slice.ensures) has))) is) in
     ends_with c.end_with-in-Ok-read_inquiry.result c.answer.result 0 (verdict_text (verdict (statements_of inquiry.cites) inquiry.goal inquiry.proof))
     (InquiryEnds (g.I.Source.left c.args.input.now) (g.I.Source.left c.read_to_end.new.input) (g.I.Source.faults c.args.input.now) (g.I.Source.faults c.read_to_end.new.input))
     c.end_with-in-Ok-read_inquiry.ensures.status c.end_with-in-Ok-read_inquiry.ensures.line c.answer.ensures ends
@@ -41,7 +42,7 @@ returns-in-Ok-read_inquiry g c =
 pub returns-in-Err-Bad : goal.returns-in-Err-Bad
 returns-in-Err-Bad g c =
     let has = rw c.in-Err-Bad.field-0-is at c.in-Err-Bad.ensures in
-    let ends = bad_line _ c.in-Err-Bad.number c.in-Err-Bad.fault c.in-Ok.ensures.ok (subst (λ (bytes : List ℕ). HasFirstFault (lines_of bytes) c.in-Err-Bad.number c.in-Err-Bad.fault) c.as_slice-2.ensures has) in
+    let ends = bad_line _ c.in-Err-Bad.number c.in-Err-Bad.fault c.in-Ok.ensures.ok (λ has. false≢true (sym c.if-has_long_line.false ∙ c.has_long_line.ensures.1 (subst (λ (bytes : List ℕ). HasLongLine (lines_of bytes)) (sym c.as_slice.ensures) has))) (subst (λ (bytes : List ℕ). HasFirstFault (lines_of bytes) c.in-Err-Bad.number c.in-Err-Bad.fault) c.as_slice-2.ensures has) in
     ends_with c.end_with-in-Err-Bad.result c.bad_line.result 12 (bad_line_text c.in-Err-Bad.number c.in-Err-Bad.fault)
     (InquiryEnds (g.I.Source.left c.args.input.now) (g.I.Source.left c.read_to_end.new.input) (g.I.Source.faults c.args.input.now) (g.I.Source.faults c.read_to_end.new.input))
     c.end_with-in-Err-Bad.ensures.status c.end_with-in-Err-Bad.ensures.line c.bad_line.ensures ends

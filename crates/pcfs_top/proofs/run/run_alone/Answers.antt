@@ -1,18 +1,17 @@
--- Each command ends as it should.
-use Rattle.std.proofs.Common.{refl, subst}
-use Rattle.pcfs_top.specs.Run as run
-use Rattle.pcfs_top.specs.Words.{AsksFor}
-use Rattle.pcfs_top.proofs.EndsWithLemmas.{EndsWith-usage}
+-- What the words ask for is done.
+use Rattle.std.proofs.Common.{refl}
+use Rattle.command_words.proofs.TaskLemmas.{fits, nothing_asked}
+use Rattle.pcfs_top.proofs.EndsWithLemmas.{EndsWith-unasked, EndsWith-usage}
 use Rattle.pcfs_top.proofs.run.run_alone.Goals as goal
 
-pub returns-in-Some-Script : goal.returns-in-Some-Script
-returns-in-Some-Script g c = run.in_memory _ (subst (AsksFor c.args.words.now.items) c.in-Some-Script.field-0-is c.in-Some-Script.ensures) refl c.run_in_memory.ensures
+pub run_task-requires-clause-fit : goal.run_task-requires-clause-fit
+run_task-requires-clause-fit g c _ _ = fits c.args.words.now.items c.in-Ok-Some.task (rw c.in-Ok-Some.field-0-is at c.in-Ok-Some.ensures)
 
-pub returns-in-None : goal.returns-in-None
-returns-in-None g c = EndsWith-usage c.args.words.now.items c.args.secrets.now _ _ _ _ c.in-None.ensures refl refl c.tell.ensures
+pub returns-in-Ok-Some : goal.returns-in-Ok-Some
+returns-in-Ok-Some g c = c.run_task.ensures c.args.words.now.items (rw c.in-Ok-Some.field-0-is at c.in-Ok-Some.ensures)
 
-pub returns-in-Some-Stored : goal.returns-in-Some-Stored
-returns-in-Some-Stored g c = c.run_stored.ensures c.args.words.now.items (subst (AsksFor c.args.words.now.items) c.in-Some-Stored.field-0-is c.in-Some-Stored.ensures)
+pub returns-in-Ok-None : goal.returns-in-Ok-None
+returns-in-Ok-None g c = EndsWith-usage c.args.words.now.items c.args.secrets.now _ _ _ _ (nothing_asked c.args.words.now.items (rw c.in-Ok-None.field-0-is at c.in-Ok-None.ensures)) refl refl c.tell.ensures
 
-pub returns-in-Some-Init : goal.returns-in-Some-Init
-returns-in-Some-Init g c = c.init.ensures c.args.words.now.items _ _ (subst (AsksFor c.args.words.now.items) c.in-Some-Init.field-0-is c.in-Some-Init.ensures)
+pub returns-in-Err : goal.returns-in-Err
+returns-in-Err g c = EndsWith-unasked c.args.words.now.items c.args.secrets.now _ _ _ refl refl refl

@@ -2,18 +2,19 @@
 use Rattle.std.proofs.Common.{refl, subst}
 use Rattle.recover.specs.Opening.{IsOpened, IsNotOpened}
 use Rattle.access_history.specs.History.{authority_with}
+use Rattle.pcfs_top.specs.Run.{of_script}
 use Rattle.pcfs_top.proofs.EndsWithLemmas.{EndsWith-stored, EndsWith-unopened, EndsWith-unread, opened_start}
 use Rattle.pcfs_top.proofs.run.run_stored.Goals as goal
 
 pub returns-in-Err : goal.returns-in-Err
-returns-in-Err g c words is = EndsWith-unread g.D.Disk.clock g.D.Disk.left_since g.D.Disk.image g.D.Disk.faults words c.args.secrets.now c.args.a c.args.b is _ _ refl refl
+returns-in-Err g c words is = EndsWith-unread g.D.Disk.clock g.D.Disk.left_since g.D.Disk.image g.D.Disk.faults words c.args.secrets.now c.args.a c.args.b (of_script is) _ _ refl refl
 
 pub returns-in-Err-open_store : goal.returns-in-Err-open_store
 returns-in-Err-open_store g c words is =
     let not_opened =
     subst (λ k. IsNotOpened g.D.Disk.clock g.D.Disk.left_since g.D.Disk.image g.D.Disk.faults c.args.a c.args.b (authority_with k c.args.secrets.now.ring) c.in-Err-open_store.fault c.in-Err-open_store.a c.in-Err-open_store.b) c.as_slice.ensures
     (subst (λ r. IsNotOpened g.D.Disk.clock g.D.Disk.left_since g.D.Disk.image g.D.Disk.faults c.args.a c.args.b (authority_with c.as_slice.result.now r) c.in-Err-open_store.fault c.in-Err-open_store.a c.in-Err-open_store.b) c.in-Ok.ensures c.in-Err-open_store.ensures.err) in
-    EndsWith-unopened g.D.Disk.clock g.D.Disk.left_since g.D.Disk.image g.D.Disk.faults words c.args.secrets.now c.args.a c.args.b is _ _ _ c.in-Err-open_store.fault _ _ not_opened refl c.tell_unopened.ensures
+    EndsWith-unopened g.D.Disk.clock g.D.Disk.left_since g.D.Disk.image g.D.Disk.faults words c.args.secrets.now c.args.a c.args.b (of_script is) _ _ _ c.in-Err-open_store.fault _ _ not_opened refl c.tell_unopened.ensures
 
 pub run_over-status-requires-clause-lawful : goal.run_over-status-requires-clause-lawful
 run_over-status-requires-clause-lawful g c =

@@ -2,16 +2,23 @@
 use Rattle.std.proofs.Common.{subst}
 use Rattle.session_history.specs.declared.request.TurnRequest.{TurnRequest}
 use Rattle.session_history.specs.declared.reply.TurnReply.TheVariants.{Cited}
+use Rattle.session_history.proofs.StopLemmas.{stopped_turn}
 use Rattle.shared_store.specs.Asking.{HasAsked}
 use Rattle.session_lines.proofs.DoneLemmas.{done_proof, done_uncited}
 use Rattle.session_lines.proofs.proving.prove.Goals as goal
 
-pub returns-in-Cited : goal.returns-in-Cited
-returns-in-Cited g c =
+pub returns-in-Cited-clause-done : goal.returns-in-Cited-clause-done
+returns-in-Cited-clause-done g c =
     done_proof (g.C.Clock.gives c.args.clock.now) c.args.goal c.args.numbers c.args.proof c.in-Cited.cites c.args.pass.now c.ask.new.pass c.issue.new.pass c.issue.result
-    (subst (λ (r : TurnRequest). HasAsked (g.C.Clock.gives c.args.clock.now) r c.args.pass.now c.ask.new.pass (Cited c.in-Cited.cites)) c.new-request.ensures c.in-Cited.ensures) c.issue.ensures
+    (subst (λ (r : TurnRequest). HasAsked (g.C.Clock.gives c.args.clock.now) r c.args.pass.now c.ask.new.pass (Cited c.in-Cited.cites)) c.new-request.ensures c.in-Cited.ensures.asked) c.issue.ensures.issued
 
-pub returns : goal.returns
-returns g c =
+pub returns-in-Cited-clause-stopped : goal.returns-in-Cited-clause-stopped
+returns-in-Cited-clause-stopped g c = c.issue.ensures.stopped
+
+pub returns-clause-done : goal.returns-clause-done
+returns-clause-done g c =
     done_uncited (g.C.Clock.gives c.args.clock.now) c.args.goal c.args.numbers c.args.proof c.args.pass.now c.ask.new.pass c.ask.result c.told.result
-    (subst (λ (r : TurnRequest). HasAsked (g.C.Clock.gives c.args.clock.now) r c.args.pass.now c.ask.new.pass c.ask.result) c.new-request.ensures c.ask.ensures) c.told.ensures
+    (subst (λ (r : TurnRequest). HasAsked (g.C.Clock.gives c.args.clock.now) r c.args.pass.now c.ask.new.pass c.ask.result) c.new-request.ensures c.ask.ensures.asked) c.told.ensures
+
+pub returns-clause-stopped : goal.returns-clause-stopped
+returns-clause-stopped g c = λ is. c.ask.ensures.stopped (stopped_turn c.ask.result c.told.result c.told.ensures is)

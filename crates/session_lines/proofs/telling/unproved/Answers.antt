@@ -1,4 +1,4 @@
-use Rattle.std.proofs.Common.{inl, inr, refl}
+use Rattle.std.proofs.Common.{inl, refl}
 use Rattle.session_lines.proofs.telling.unproved.Goals as goal
 
 pub returns-in-NoMemory : goal.returns-in-NoMemory

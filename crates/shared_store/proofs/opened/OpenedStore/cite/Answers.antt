@@ -1,5 +1,5 @@
 -- The gate looks the statements up, unless the store is stopped.
-use Rattle.std.proofs.Common.{◌≡◌, ◌∙◌, [], true, false, subst, refl}
+use Rattle.std.proofs.Common.{◌≡◌, [], true, false, subst, refl}
 use Rattle.pcfs_store.specs.Entries.{entries_of}
 use Rattle.session_history.specs.declared.request.TurnRequest.TheVariants as requests
 use Rattle.access_history.specs.declared.reply.StepReply.TheVariants.{Absent}

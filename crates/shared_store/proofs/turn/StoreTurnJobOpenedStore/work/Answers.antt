@@ -8,9 +8,12 @@ use Rattle.shared_store.proofs.TurningLemmas.{turned_by_request}
 use Rattle.shared_store.proofs.turn.StoreTurnJobOpenedStore.work.Goals as goal
 
 pub returns-clause-done : goal.returns-clause-done
-returns-clause-done g c =
-    turned_shown (g.C.Clock.gives c.args.self.clock.now) c.args.self.request c.args.value.now c.answer.new.self c.args.pass c.now-moment.result c.answer.result c.now-moment.ensures.given
-    (turned_by_request c.args.value.now c.answer.new.self c.args.pass _ c.now-moment.result c.args.self.request c.args.self.request c.answer.result (to_z-of_z w64 c.now-moment.result (SFits-moment c.now-moment.result c.now-moment.ensures.in_range)) refl c.answer.ensures)
+returns-clause-done g c = record {
+  turned =
+      turned_shown g.D.Disk.faults (g.C.Clock.gives c.args.self.clock.now) c.args.self.request c.args.value.now c.answer-reply.new.self c.args.pass c.now-moment.result c.answer-reply.result c.now-moment.ensures.given
+      (turned_by_request g.D.Disk.faults c.args.value.now c.answer-reply.new.self c.args.pass _ c.now-moment.result c.args.self.request c.args.self.request c.answer-reply.result (to_z-of_z w64 c.now-moment.result (SFits-moment c.now-moment.result c.now-moment.ensures.in_range)) refl c.answer-reply.ensures);
+  failed = c.keeps.ensures.failed;
+}
 
 pub returns-clause-appends : goal.returns-clause-appends
-returns-clause-appends g c = appends _ c.args.self.request c.args.value.now c.answer.new.self c.args.pass c.answer.result c.answer.ensures
+returns-clause-appends g c = appends g.D.Disk.faults _ c.args.self.request c.args.value.now c.answer-reply.new.self c.args.pass c.answer-reply.result c.answer-reply.ensures

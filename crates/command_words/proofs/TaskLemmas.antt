@@ -1,0 +1,136 @@
+-- What a command asks for by its name and what is given to it.
+use Rattle.std.proofs.Common.{◌≡◌, inl, inr, false, refl, ◌^◌, ◌-◌, ℕ, List, [], ap₂, sym, subst, ◌∙◌, Option, Some, None}
+use Rattle.std.specs.Prelude.{Box, MatchOption, codes, String, option_map}
+use Rattle.std.specs.Box.{box_value}
+use Rattle.std.specs.Str.{bytes_eq}
+use Rattle.std.proofs.lemmas.Bool.{false≢true}
+use Rattle.std.proofs.lemmas.Slice.Eq.{bytes_eq-Decides}
+use Rattle.std.specs.declared.alloc.Global.{Global}
+use Rattle.clap.specs.Words.{HasKind, IsAmong, Kinds, Row, Text, fault_of, first_of, found_of, kind_of, rows_of, subcommand_of}
+use Rattle.clap.specs.Simple.{subcommand_rows}
+use Rattle.clap.specs.declared.error.Error.{Error}
+use Rattle.clap.specs.declared.error.kind.ErrorKind.TheVariants as kinds
+use Rattle.clap.specs.declared.parser.matches.ArgMatches.TheViews.{out-SubCommand}
+use Rattle.clap.specs.declared.parser.matches.SubCommand.{SubCommand}
+use Rattle.command_words.specs.Commands.{program}
+use Rattle.command_words.specs.CommandWords.{GivesNumber, GivesPieces}
+use Rattle.command_words.specs.Tasks.{AreKnown, AskForNoRun, AsksFor, Finds, IsFit, IsServing, IsTaskOf, texts_of}
+use Rattle.command_words.specs.declared.words.Task.{Task}
+use Rattle.command_words.specs.declared.words.Task.TheVariants.{Script, Stored, Init, Audit, Check, Load, Serve}
+
+-- ---- names
+
+-- these texts are apart
+differ : (x y : Text) → bytes_eq x y ≡ false → x ≡ y → ⊥
+differ x y apart same = false≢true (sym apart ∙ (bytes_eq-Decides x y).1 same)
+
+-- ---- one command
+
+module _ (given : List Row) where
+  pub no_audit : ((pieces : Option ℕ) → GivesPieces given pieces → ⊥) → (task : Task) → IsTaskOf (codes "audit") given task → ⊥
+  no_audit none Script is = absurd (differ (codes "audit") (codes "script") refl is.0)
+  no_audit none Stored is = absurd (differ (codes "audit") (codes "script") refl is.0)
+  no_audit none Init is = absurd (differ (codes "audit") (codes "init") refl is)
+  no_audit none (Audit pieces) is = none pieces is.1
+  no_audit none Check is = absurd (differ (codes "audit") (codes "check") refl is)
+  no_audit none (Load rounds seed) is = absurd (differ (codes "audit") (codes "load") refl is.0)
+  no_audit none (Serve port count) is = absurd (differ (codes "audit") (codes "serve") refl is.0)
+
+  -- pieces are given, but as no such number
+  pub no_pieces : (text : Text) → first_of (codes "pieces") given ≡ Some text → ((n : ℕ) → GivesNumber 1 64 (codes "pieces") given n → ⊥) → (pieces : Option ℕ) → GivesPieces given pieces → ⊥
+  no_pieces text is none None nothing = let e : Some text ≡ None = sym is ∙ nothing in absurd cc
+  no_pieces text is none (Some n) says = none n says
+
+  pub no_load : ((rounds seed : ℕ) → GivesNumber 0 20000 (codes "rounds") given rounds → GivesNumber 0 (2 ^ 64 - 1) (codes "seed") given seed → ⊥) → (task : Task) → IsTaskOf (codes "load") given task → ⊥
+  no_load none Script is = absurd (differ (codes "load") (codes "script") refl is.0)
+  no_load none Stored is = absurd (differ (codes "load") (codes "script") refl is.0)
+  no_load none Init is = absurd (differ (codes "load") (codes "init") refl is)
+  no_load none (Audit pieces) is = absurd (differ (codes "load") (codes "audit") refl is.0)
+  no_load none Check is = absurd (differ (codes "load") (codes "check") refl is)
+  no_load none (Load rounds seed) is = none rounds seed is.1 is.2
+  no_load none (Serve port count) is = absurd (differ (codes "load") (codes "serve") refl is.0)
+
+  pub no_serve : ((port count : ℕ) → GivesNumber 1 65535 (codes "port") given port → GivesNumber 1 1000000 (codes "count") given count → ⊥) → (task : Task) → IsTaskOf (codes "serve") given task → ⊥
+  no_serve none Script is = absurd (differ (codes "serve") (codes "script") refl is.0)
+  no_serve none Stored is = absurd (differ (codes "serve") (codes "script") refl is.0)
+  no_serve none Init is = absurd (differ (codes "serve") (codes "init") refl is)
+  no_serve none (Audit pieces) is = absurd (differ (codes "serve") (codes "audit") refl is.0)
+  no_serve none Check is = absurd (differ (codes "serve") (codes "check") refl is)
+  no_serve none (Load rounds seed) is = absurd (differ (codes "serve") (codes "load") refl is.0)
+  no_serve none (Serve port count) is = none port count is.1 is.2
+
+  -- the name is no command's
+  pub no_command : (name : Text) → (name ≡ codes "script" → ⊥) → (name ≡ codes "init" → ⊥) → (name ≡ codes "audit" → ⊥) → (name ≡ codes "check" → ⊥) → (name ≡ codes "load" → ⊥) → (name ≡ codes "serve" → ⊥) → (task : Task) → IsTaskOf name given task → ⊥
+  no_command name no_script no_init no_audit no_check no_load no_serve Script is = no_script is.0
+  no_command name no_script no_init no_audit no_check no_load no_serve Stored is = no_script is.0
+  no_command name no_script no_init no_audit no_check no_load no_serve Init is = no_init is
+  no_command name no_script no_init no_audit no_check no_load no_serve (Audit pieces) is = no_audit is.0
+  no_command name no_script no_init no_audit no_check no_load no_serve Check is = no_check is
+  no_command name no_script no_init no_audit no_check no_load no_serve (Load rounds seed) is = no_load is.0
+  no_command name no_script no_init no_audit no_check no_load no_serve (Serve port count) is = no_serve is.0
+
+  -- it is this command's
+  pub as_named : (name literal : Text) (task : Option Task) → name ≡ literal → MatchOption task ((t : Task) → IsTaskOf literal given t → ⊥) (IsTaskOf literal given) → MatchOption task ((t : Task) → IsTaskOf name given t → ⊥) (IsTaskOf name given)
+  as_named name literal task is says = subst (λ (n : Text). MatchOption task ((t : Task) → IsTaskOf n given t → ⊥) (IsTaskOf n given)) (sym is) says
+
+-- ---- what was found
+
+same_some : {X : Type 0} (x y : X) → Some x ≡ Some y → x ≡ y
+same_some x y is = cc
+
+module _ {Z : Type 0} where
+  -- a command was found under this name, with this given to it
+  pub found_is : (sub : Option (Box SubCommand Z)) (name : Text) (given : List Row) → Some name ≡ option_map (λ b. (out-SubCommand (box_value b)).name.now) sub → Some given ≡ option_map (λ p. p.1) (subcommand_rows sub) → subcommand_rows sub ≡ Some (name, given)
+  found_is None name given is_name is_given = absurd cc
+  found_is (Some b) name given is_name is_given =
+      ap₂ (λ (n : Text) (g : List Row). Some (n, g)) (same_some (out-SubCommand (box_value b)).name.now name (sym is_name)) (same_some (rows_of (found_of (out-SubCommand (box_value b)).matches)) given (sym is_given))
+
+pub finds_named : (found : Option (Text × List Row)) (name : Text) (given : List Row) (task : Option Task) → found ≡ Some (name, given) → MatchOption task ((t : Task) → IsTaskOf name given t → ⊥) (IsTaskOf name given) → MatchOption task ((t : Task) → Finds found t → ⊥) (Finds found)
+finds_named found name given task is says = subst (λ (f : Option (Text × List Row)). MatchOption task ((t : Task) → Finds f t → ⊥) (Finds f)) (sym is) says
+
+-- ---- the words
+
+module _ (words : List (String Global)) where
+  -- they were taken
+  pub asks_found : (found : Option (Text × List Row)) (task : Option Task) → fault_of program (texts_of words) ≡ [] → found ≡ subcommand_of program (texts_of words) → MatchOption task ((t : Task) → Finds found t → ⊥) (Finds found) → MatchOption task (AreKnown words → ⊥) (AsksFor words)
+  asks_found found None taken is none = λ known. none known.0 (subst (λ (f : Option (Text × List Row)). Finds f known.0) (sym is) known.1.finds)
+  asks_found found (Some task) taken is finds = record { taken = taken; finds = subst (λ (f : Option (Text × List Row)). Finds f task) is finds }
+
+  -- they were not, and memory did not run out
+  pub asks_nothing : (e : Error) (ks : Kinds) → ks ≡ fault_of program (texts_of words) → HasKind ks e → (kind_of e ≡ kinds.OutOfMemory → ⊥) → AreKnown words → ⊥
+  asks_nothing e ks is (inl memory) other known = other memory
+  asks_nothing e ks is (inr among) other known = subst (IsAmong (kind_of e)) (is ∙ known.1.taken) among
+
+-- ---- what follows from what the words ask for
+
+fits_found : (found : Option (Text × List Row)) (task : Task) → Finds found task → IsFit task
+fits_found None task finds = absurd finds
+fits_found (Some f) Script finds = tt
+fits_found (Some f) Stored finds = tt
+fits_found (Some f) Init finds = tt
+fits_found (Some f) (Audit None) finds = tt
+fits_found (Some f) (Audit (Some n)) finds = finds.1.not_below
+fits_found (Some f) Check finds = tt
+fits_found (Some f) (Load rounds seed) finds = finds.1.not_above
+fits_found (Some f) (Serve port count) finds = tt
+
+-- what is asked for has its numbers in their ranges
+pub fits : (words : List (String Global)) (task : Task) → AsksFor words task → IsFit task
+fits words task asks = fits_found (subcommand_of program (texts_of words)) task asks.finds
+
+serving_only : (found : Option (Text × List Row)) (port count : ℕ) → Finds found (Serve port count) → (task : Task) → Finds found task → IsServing task
+serving_only None port count serves task finds = absurd serves
+serving_only (Some f) port count serves Script finds = absurd (differ (codes "serve") (codes "script") refl (sym serves.0 ∙ finds.0))
+serving_only (Some f) port count serves Stored finds = absurd (differ (codes "serve") (codes "script") refl (sym serves.0 ∙ finds.0))
+serving_only (Some f) port count serves Init finds = absurd (differ (codes "serve") (codes "init") refl (sym serves.0 ∙ finds))
+serving_only (Some f) port count serves (Audit pieces) finds = absurd (differ (codes "serve") (codes "audit") refl (sym serves.0 ∙ finds.0))
+serving_only (Some f) port count serves Check finds = absurd (differ (codes "serve") (codes "check") refl (sym serves.0 ∙ finds))
+serving_only (Some f) port count serves (Load rounds seed) finds = absurd (differ (codes "serve") (codes "load") refl (sym serves.0 ∙ finds.0))
+serving_only (Some f) port count serves (Serve other more) finds = tt
+
+-- if sessions are asked for, nothing else is
+pub serves_alone : (words : List (String Global)) (port count : ℕ) → AsksFor words (Serve port count) → AskForNoRun words
+serves_alone words port count serves task asks = serving_only (subcommand_of program (texts_of words)) port count serves.finds task asks.finds
+
+pub nothing_asked : (words : List (String Global)) → (AreKnown words → ⊥) → AskForNoRun words
+nothing_asked words unknown task asks = absurd (unknown (task, asks))

@@ -1,0 +1,17 @@
+-- What is given to a command, as `clap` finds it in the words (this project's own).
+use Rattle.std.specs.Prelude.{◌≡◌, ◌≤◌, ℕ, List, codes, Option, Some, None}
+use Rattle.clap.specs.Words.{Row, Text, first_of}
+use Rattle.line_words.specs.Numbers.{IsLongNumber}
+
+-- a number from the one to the other is given under this name, in decimal without leading zeros
+pub record GivesNumber (least most : ℕ) (name : Text) (given : List Row) (number : ℕ) : Type 0 where
+  pub text : Text
+  pub is_given : first_of name given ≡ Some text
+  pub says : IsLongNumber text number
+  pub not_below : least ≤ number
+  pub not_above : number ≤ most
+
+-- how many pieces are asked for: from 1 to 64, or nothing is said
+abbrev pub GivesPieces : List Row → Option ℕ → Type 0
+GivesPieces given None = first_of (codes "pieces") given ≡ None
+GivesPieces given (Some pieces) = GivesNumber 1 64 (codes "pieces") given pieces

@@ -1,0 +1,61 @@
+-- What the words of a command ask for (this project's own). They are read as `clap` reads them.
+use Rattle.std.specs.Prelude.{◌≡◌, ◌≤◌, ◌^◌, ◌-◌, List, [], String, map, codes, Option, Some, None, IfSome}
+use Rattle.std.specs.String.{string_bytes}
+use Rattle.std.specs.declared.alloc.Global.{Global}
+use Rattle.clap.specs.Words.{Row, Text, fault_of, first_of, subcommand_of}
+use Rattle.command_words.specs.declared.words.Task.{Task}
+use Rattle.command_words.specs.declared.words.Task.TheVariants.{Script, Stored, Init, Audit, Check, Load, Serve}
+use Rattle.command_words.specs.CommandWords.{GivesNumber, GivesPieces}
+use Rattle.command_words.specs.Commands.{program}
+
+-- the command of this name with what is given to it asks for this
+abbrev pub IsTaskOf : Text → List Row → Task → Type 0
+IsTaskOf name given Script = (name ≡ codes "script") × (first_of (codes "stored") given ≡ Some (codes "true") → ⊥)
+IsTaskOf name given Stored = (name ≡ codes "script") × (first_of (codes "stored") given ≡ Some (codes "true"))
+IsTaskOf name given Init = name ≡ codes "init"
+IsTaskOf name given (Audit pieces) = (name ≡ codes "audit") × GivesPieces given pieces
+IsTaskOf name given Check = name ≡ codes "check"
+IsTaskOf name given (Load rounds seed) = (name ≡ codes "load") × GivesNumber 0 20000 (codes "rounds") given rounds × GivesNumber 0 (2 ^ 64 - 1) (codes "seed") given seed
+IsTaskOf name given (Serve port count) = (name ≡ codes "serve") × GivesNumber 1 65535 (codes "port") given port × GivesNumber 1 1000000 (codes "count") given count
+
+-- the command that was found asks for this
+abbrev pub Finds : Option (Text × List Row) → Task → Type 0
+Finds None task = ⊥
+Finds (Some found) task = IsTaskOf found.0 found.1 task
+
+-- the words as texts
+abbrev pub texts_of : List (String Global) → List Text
+texts_of words = map string_bytes words
+
+-- `clap` takes the words, and finds in them a command that asks for this
+pub record AsksFor (words : List (String Global)) (task : Task) : Type 0 where
+  pub taken : fault_of program (texts_of words) ≡ []
+  pub finds : Finds (subcommand_of program (texts_of words)) task
+
+-- the words ask for something
+abbrev pub AreKnown : List (String Global) → Type 0
+AreKnown words = (task : Task) × AsksFor words task
+
+-- the numbers of what is asked for are in their ranges
+abbrev pub IsFit : Task → Type 0
+IsFit Script = Unit {0}
+IsFit Stored = Unit {0}
+IsFit Init = Unit {0}
+IsFit (Audit pieces) = IfSome pieces (λ n. 1 ≤ n)
+IsFit Check = Unit {0}
+IsFit (Load rounds seed) = rounds ≤ 20000
+IsFit (Serve port count) = Unit {0}
+
+-- sessions are asked for, which need more ports than a run without them
+abbrev pub IsServing : Task → Type 0
+IsServing Script = ⊥
+IsServing Stored = ⊥
+IsServing Init = ⊥
+IsServing (Audit pieces) = ⊥
+IsServing Check = ⊥
+IsServing (Load rounds seed) = ⊥
+IsServing (Serve port count) = Unit {0}
+
+-- the words ask for nothing, unless it is sessions
+abbrev pub AskForNoRun : List (String Global) → Type 0
+AskForNoRun words = (task : Task) → AsksFor words task → IsServing task

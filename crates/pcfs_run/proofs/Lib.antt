@@ -1,0 +1,4 @@
+pub mod PassLemmas
+pub mod SentLemmas
+pub mod ServeWordsLemmas
+pub mod ServedLemmas

@@ -1,0 +1,65 @@
+-- What a closed lock says of the passes of connections.
+use Rattle.std.proofs.Common.{◌≡◌, ◌∙◌, ℕ, ◌≤◌, List, [], ◌∷◌, map, length, eqb, refl, sym, ap, subst, arith}
+use Rattle.std.specs.List.{AllByRecursion, IsDistinct}
+use Rattle.std.proofs.lemmas.List.{length-map, append-nil}
+use Rattle.tree_lock.specs.Merge.{Merges, ends}
+use Rattle.tree_lock.specs.Seen.{DoormanView, Retired}
+use Rattle.tree_lock.specs.Closing.{IsClosed}
+use Rattle.pcfs_store.specs.Entries.{StoreEntry, entries_of}
+use Rattle.pcfs_store.specs.StoreView.{StoreView}
+use Rattle.session_history.specs.Passes.{AllOfPass}
+use Rattle.shared_store.specs.declared.entry.LockEntry.{LockEntry}
+use Rattle.shared_store.specs.LockHistory.{lock_entries, bare}
+use Rattle.shared_store.specs.OpenedView.{OpenedView}
+use Rattle.shared_store.proofs.MergedLemmas.{closed_are_merged}
+use Rattle.pcfs_run.specs.Passes.{IsGrown}
+
+module _ {D : Type 0} where
+  -- the passes that were taken in, each with its own entries without their numbers
+  abbrev passes_of : List (Retired (LockEntry D)) → List (ℕ × List StoreEntry)
+  passes_of retired = map (λ (r : Retired (LockEntry D)). (r.0, bare r.1)) retired
+
+  numbers_same : (retired : List (Retired (LockEntry D))) → map (λ (p : ℕ × List StoreEntry). p.0) (passes_of retired) ≡ map (λ (r : Retired (LockEntry D)). r.0) retired
+  numbers_same [] = refl
+  numbers_same (r ∷ rs) = ap (λ (ns : List ℕ). r.0 ∷ ns) (numbers_same rs)
+
+  lists_same : (retired : List (Retired (LockEntry D))) → map (λ (p : ℕ × List StoreEntry). p.1) (passes_of retired) ≡ map (λ (r : Retired (LockEntry D)). bare r.1) retired
+  lists_same [] = refl
+  lists_same (r ∷ rs) = ap (λ (ls : List (List StoreEntry)). bare r.1 ∷ ls) (lists_same rs)
+
+  within_of : (made : ℕ) (retired : List (Retired (LockEntry D))) → AllByRecursion (λ (r : Retired (LockEntry D)). (1 ≤ r.0) × (r.0 ≤ made)) retired → AllByRecursion (λ (p : ℕ × List StoreEntry). (1 ≤ p.0) × (p.0 ≤ made)) (passes_of retired)
+  within_of made [] all = tt
+  within_of made (r ∷ rs) all = (all.0, within_of made rs all.1)
+
+  own_of : (retired : List (Retired (LockEntry D))) → AllByRecursion (λ (r : Retired (LockEntry D)). AllOfPass r.0 (bare r.1)) retired → AllByRecursion (λ (p : ℕ × List StoreEntry). AllOfPass p.0 p.1) (passes_of retired)
+  own_of [] all = tt
+  own_of (r ∷ rs) all = (all.0, own_of rs all.1)
+
+  -- a lock was made over the first store, all its passes were taken in, and the last store came out
+  pub IsGrown-closed : (first last : OpenedView D) (door : DoormanView (LockEntry D)) (attended count : ℕ) → door.opening ≡ lock_entries first → IsClosed door (lock_entries last) → attended ≤ length door.retired → door.made ≤ count →
+      IsGrown attended count first.store last.store
+  IsGrown-closed first last door attended count is closed each few =
+      let m = (closed_are_merged first last door is closed).1 in
+      let all : length (passes_of door.retired) ≡ length door.retired = length-map door.retired (λ (r : Retired (LockEntry D)). (r.0, bare r.1)) in
+      record {
+        added = m.rest;
+        parts = m.parts;
+        of_passes = record {
+          passes = passes_of door.retired;
+          distinct = subst (IsDistinct eqb) (sym (numbers_same door.retired)) closed.knows.numbers.distinct;
+          within = subst (λ (n : ℕ). AllByRecursion (λ (p : ℕ × List StoreEntry). (1 ≤ p.0) × (p.0 ≤ n)) (passes_of door.retired)) (sym (all ∙ closed.all)) (within_of door.made door.retired closed.knows.numbers.within);
+          own = own_of door.retired m.of_passes;
+          merged = subst (λ (ls : List (List StoreEntry)). Merges ls m.rest) (sym (lists_same door.retired)) m.merged;
+          each = subst (λ (n : ℕ). attended ≤ n) (sym all) each;
+          few = subst (λ (n : ℕ). n ≤ count) (sym (all ∙ closed.all)) few;
+        };
+      }
+
+  -- no lock was made, and nobody had a pass
+  pub IsGrown-none : (s : StoreView D) (count : ℕ) → IsGrown 0 count s s
+  unfolding IsDistinct
+  IsGrown-none s count = record {
+    added = [];
+    parts = sym (append-nil (entries_of s));
+    of_passes = record { passes = []; distinct = tt; within = tt; own = tt; merged = ends tt; each = omega arith; few = omega arith };
+  }

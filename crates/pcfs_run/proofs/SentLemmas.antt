@@ -1,0 +1,101 @@
+-- A store may go to another thread.
+use denote.RattleType.{RattleType}
+use denote.Param.Send.{IsSend, sendable, view_send}
+use denote.Param.SendFields.{declared_send, as_row_send}
+use Rattle.pcfs_store.specs.contracts.store.Store.TheInside as inside
+use Rattle.shared_store.specs.contracts.opened.OpenedStore.TheInside as opened
+use Rattle.journal_core.proofs.area.Area.TheSendSync as area
+use Rattle.std.proofs.Crossing.{crosses}
+use Rattle.std.proofs.MapsCrossing as maps
+use Rattle.bl_syntax.proofs.formula.Formula.TheLaws.TheKnot.{send-Formula}
+use Rattle.proof_term.proofs.proof.Proof.TheLaws.TheKnot.{send-Proof, hole_send-Proof}
+use Rattle.file_world.proofs.operation.Op.TheSendSync as op
+use Rattle.bl_syntax.proofs.lists.Sequence.TheSendSync as sequence
+use Rattle.bl_syntax.proofs.grant.Grant.TheSendSync as grant
+use Rattle.procap.proofs.procap.Procap.TheSendSync as procap
+use Rattle.bl_syntax.proofs.names.Principal.TheSendSync as principal
+use Rattle.bl_syntax.specs.contracts.formula.Formula as Formula
+use Rattle.bl_syntax.specs.contracts.statement.Statement as Statement
+use Rattle.proof_term.specs.contracts.proof.Proof as Proof
+use Rattle.proof_term.specs.contracts.tree.ProofTree as ProofTree
+use Rattle.pcfs_hmac.specs.contracts.keyed.Mac as Mac
+use Rattle.procap.specs.contracts.sealing.SealKey as SealKey
+use Rattle.policy_statement.specs.contracts.ring.Keyring as Keyring
+use Rattle.policy_statement.specs.contracts.registry.Registry as Registry
+use Rattle.access_history.specs.contracts.event.Event as Event
+use Rattle.access_history.specs.contracts.event.Addition as Addition
+use Rattle.access_history.specs.contracts.event.Issue as Issue
+use Rattle.access_history.specs.contracts.base.Base as Base
+use Rattle.access_history.specs.contracts.history.History as History
+use Rattle.world_state.specs.contracts.world.World as World
+use Rattle.op_gate.specs.contracts.planned.Pending as Pending
+use Rattle.op_gate.specs.contracts.gate.Gate as Gate
+use Rattle.pcfs_ports.specs.declared.disk.Disk as Disk
+use Rattle.pcfs_store.specs.contracts.store.Store as Store
+use Rattle.shared_store.specs.contracts.opened.OpenedStore as Opened
+
+formula_send : IsSend Formula.the_row
+formula_send = search (sendable, crosses, send-Formula) depth 100 fits 20000
+
+statement_send : IsSend Statement.the_row
+statement_send = search (sendable, crosses, send-Formula) depth 100 fits 20000
+
+proof_send : IsSend Proof.the_row
+proof_send = search (sendable, crosses, send-Proof) depth 100 fits 20000
+
+tree_send : IsSend ProofTree.the_row
+tree_send = search (sendable, crosses, send-Proof, hole_send-Proof) depth 100 fits 20000
+
+mac_send : IsSend Mac.the_row
+mac_send = search (sendable, crosses) depth 100 fits 20000
+
+key_send : IsSend SealKey.the_row
+key_send = search (sendable, crosses, mac_send) depth 100 fits 20000
+
+ring_send : IsSend Keyring.the_row
+ring_send = search (sendable, crosses, mac_send) depth 100 fits 20000
+
+registry_send : IsSend Registry.the_row
+registry_send = search (sendable, crosses, statement_send) depth 100 fits 20000
+
+world_send : IsSend World.the_row
+world_send = search (sendable, crosses, maps.crosses) depth 100 fits 20000
+
+event_send : IsSend Event.the_row
+event_send = search (sendable, crosses, statement_send, tree_send, op.the_field_send, sequence.the_send, grant.the_send, procap.the_send, principal.the_send) depth 100 fits 20000
+
+issue_send : IsSend Issue.the_row
+issue_send = search (sendable, crosses, tree_send) depth 100 fits 20000
+
+addition_send : IsSend Addition.the_row
+addition_send = search (sendable, crosses, statement_send, tree_send) depth 100 fits 20000
+
+base_send : IsSend Base.the_row
+base_send = search (sendable, crosses, world_send, statement_send, issue_send) depth 100 fits 20000
+
+history_send : IsSend History.the_row
+history_send = search (sendable, crosses, key_send, ring_send, base_send, event_send, world_send, registry_send, issue_send) depth 100 fits 20000
+
+event_field : IsSend Event.the_field.row
+event_field = search (sendable, crosses, statement_send, tree_send, op.the_field_send, sequence.the_send, grant.the_send, procap.the_send, principal.the_send) depth 100 fits 20000
+
+addition_field : IsSend Addition.the_field.row
+addition_field = search (sendable, crosses, statement_send, tree_send) depth 100 fits 20000
+
+pending_send : IsSend Pending.the_row
+pending_send = search (sendable, crosses, event_field, addition_field) depth 100 fits 20000
+
+pub gate_send : IsSend Gate.the_row
+gate_send = search (sendable, crosses, history_send, pending_send) depth 100 fits 20000
+
+store_inside : (D : RattleType) (g : Disk.Ghosts D.Denot) → IsSend D → IsSend (inside.the_row D g)
+store_inside D g send = search (sendable, as_row_send, declared_send, crosses, area.the_send, gate_send, send) depth 100 fits 20000
+
+pub store_send : (D : RattleType) (g : Disk.Ghosts D.Denot) → IsSend D → IsSend (Store.the_row D g)
+store_send D g send = view_send (inside.the_row D g) _ _ _ _ (store_inside D g send)
+
+opened_inside : (D : RattleType) (g : Disk.Ghosts D.Denot) → IsSend D → IsSend (opened.the_row D g)
+opened_inside D g send = search (sendable, as_row_send, declared_send, crosses, store_send, send) depth 100 fits 20000
+
+pub opened_send : (D : RattleType) (g : Disk.Ghosts D.Denot) → IsSend D → IsSend (Opened.the_row D g)
+opened_send D g send = view_send (opened.the_row D g) _ _ _ _ (opened_inside D g send)

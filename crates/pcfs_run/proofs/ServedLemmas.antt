@@ -1,0 +1,234 @@
+-- How a run ends that serves.
+use Rattle.std.proofs.Common.{◌≡◌, ◌∙◌, ◌⊎◌, inl, inr, ℕ, ◌≤◌, List, [], ◌∷◌, ◌++◌, map, Bool, Option, Some, None, codes, decimal, refl, sym, ap, subst, arith, add-zero}
+use Rattle.pcfs_ports.specs.Accepted.{FallsBy}
+use Rattle.pcfs_ports.specs.Faults.{HasRisen}
+use Rattle.access_history.specs.Answer.{Answers}
+use Rattle.access_history.specs.Base.{BaseView}
+use Rattle.access_history.specs.History.{authority_with}
+use Rattle.access_history.specs.Lawful.{IsLawful}
+use Rattle.access_history.specs.Replay.{fresh, replay}
+use Rattle.access_history.specs.declared.event.Event.{Event}
+use Rattle.access_history.proofs.HeadlineLemmas.{Headline-lawful}
+use Rattle.policy_statement.specs.Ring.{KeyView}
+use Rattle.pcfs_secrets.specs.declared.secrets.Secrets.{Secrets}
+use Rattle.pcfs_server.specs.Ends.{number_of}
+use Rattle.pcfs_server.specs.declared.end.ServeEnd.{ServeEnd}
+use Rattle.pcfs_server.specs.declared.end.ServeEnd.TheVariants as serve_ends
+use Rattle.pcfs_session.specs.LineAnswer.{authority_under}
+use Rattle.pcfs_session.specs.Streams.{Streams}
+use Rattle.pcfs_session.proofs.StoredLemmas.{HasRisen-earlier}
+use Rattle.pcfs_store.specs.Entries.{StoreEntry, happened, stopped, stop_entries, entries_of, events_among}
+use Rattle.pcfs_store.specs.Newest.{one_of}
+use Rattle.pcfs_store.specs.Ready.{IsReady, SurvivesWithOrWithout}
+use Rattle.pcfs_store.specs.StoreView.{StoreView, IsStore, first_disk, second_disk}
+use Rattle.pcfs_store.proofs.EntryLemmas.{events-entries}
+use Rattle.recover.specs.declared.fault.OpenFault.{OpenFault}
+use Rattle.recover.specs.declared.fault.OpenFault.TheVariants as opens
+use Rattle.recover.specs.Opening.{IsNotOpened, IsNewestClosed}
+use Rattle.recover.specs.Opening as opening
+use Rattle.shared_store.specs.GoesOn.{HasGoneOn}
+use Rattle.pcfs_tools.specs.LastLine.{IsTold}
+use Rattle.pcfs_top.specs.Ports.{Rests, IfTold, AreBytesKept}
+use Rattle.pcfs_top.specs.Run.{IsNewestOf, TellsUnopened, damaged_text}
+use Rattle.pcfs_top.proofs.EndsWithLemmas.{disks_of, rests_of, newest_of, counts_now, closed_of, pinned_at, other_same, has_no_area}
+use Rattle.pcfs_run.specs.Passes.{IsGrown, stop_among}
+use Rattle.pcfs_run.specs.Served.{Net, ServePorts, IsNetKept, AreAttended, IsMet, IsServed, TellsServed, ServeWrites, EndsServing, all_served, net_failed}
+use Rattle.pcfs_run.specs.Served as serving
+
+-- ---- entries
+
+events-append : (xs ys : List StoreEntry) → events_among (xs ++ ys) ≡ events_among xs ++ events_among ys
+events-append [] ys = refl
+events-append (happened event ∷ xs) ys = ap (λ (l : List Event). event ∷ l) (events-append xs ys)
+events-append (stopped pass ∷ xs) ys = events-append xs ys
+
+-- the mark among a store's entries is its stop
+stop-entries : (events : List Event) (stop : Option ℕ) → stop_among (map happened events ++ stop_entries stop) ≡ stop
+stop-entries [] None = refl
+stop-entries [] (Some pass) = refl
+stop-entries (event ∷ events) stop = stop-entries events stop
+
+stop-append : (xs ys : List StoreEntry) → stop_among xs ≡ None → stop_among (xs ++ ys) ≡ stop_among ys
+stop-append [] ys none = refl
+stop-append (happened event ∷ xs) ys none = stop-append xs ys none
+stop-append (stopped pass ∷ xs) ys none = absurd cc
+
+same_place : (x y : Bool) → Some x ≡ Some y → x ≡ y
+same_place x y is = cc
+
+-- ---- connections
+
+-- nothing was asked of the listener
+FallsBy-none : (waiting : Option ℕ) → FallsBy 0 waiting waiting
+FallsBy-none None = refl
+FallsBy-none (Some left) = ap Some (sym (add-zero left))
+
+-- memory ran out before the first connection
+pub AreAttended-none : (count : ℕ) (net : Net) → 1 ≤ count → AreAttended count net net (serve_ends.NoMemory 0)
+AreAttended-none count net some = record { taken = inl (FallsBy-none net.waiting); cause = omega (arith, some); risen = λ failed. absurd failed }
+
+module _ {D : Type 0} (clock : D → ℕ) (left_since : D → ℕ → List ℕ → Type 0) (image : D → Option (List ℕ)) (faults : D → ℕ) (secrets : Secrets) (a b : D) where
+  abbrev Opened : StoreView D → Type 0
+  Opened s = opening.IsOpened clock left_since image faults a b secrets.seal_key secrets.ring s
+
+  -- of one of two disks a count rose since the start
+  risen_since : (s s' : StoreView D) → Opened s → HasRisen (faults (first_disk s)) (faults (first_disk s')) ⊎ HasRisen (faults (second_disk s)) (faults (second_disk s')) →
+      HasRisen (faults a) (faults (first_disk s')) ⊎ HasRisen (faults b) (faults (second_disk s'))
+  risen_since s s' opened (inl risen) = inl (HasRisen-earlier (faults a) (faults (first_disk s)) (faults (first_disk s')) opened.first_read.handled.never_falls risen)
+  risen_since s s' opened (inr risen) = inr (HasRisen-earlier (faults b) (faults (second_disk s)) (faults (second_disk s')) opened.second_read.handled.never_falls risen)
+
+  -- ---- a store that was opened and served
+
+  module _ (may_stay : (d : D) (bytes : List ℕ) → image d ≡ Some bytes → left_since d (clock d) bytes) (s s' : StoreView D) (store : IsStore s) (store' : IsStore s') (opened : Opened s) (goes : HasGoneOn clock left_since image faults s s') where
+    -- what holds under the store's own key, ring and base does under those of the run
+    under : (P : List ℕ → List KeyView → BaseView → Type 0) → P s'.key s'.ring s'.base → P secrets.seal_key secrets.ring fresh
+    under P holds =
+        subst (λ (base : BaseView). P secrets.seal_key secrets.ring base) (goes.base_stays ∙ opened.base_is)
+        (subst (λ (ring : List KeyView). P secrets.seal_key ring s'.base) (goes.ring_stays ∙ opened.ring_is)
+        (subst (λ (key : List ℕ). P key s'.ring s'.base) (goes.key_stays ∙ opened.key_is) holds))
+
+    lawful_first : IsLawful (authority_with s.key s.ring) s.base s.events
+    lawful_first =
+        subst (λ (key : List ℕ). IsLawful (authority_with key s.ring) s.base s.events) (sym opened.key_is)
+        (subst (λ (ring : List KeyView). IsLawful (authority_with secrets.seal_key ring) s.base s.events) (sym opened.ring_is) opened.lawful)
+
+    lawful_then : IsLawful (authority_with s'.key s'.ring) s'.base s'.events
+    lawful_then = goes.lawful lawful_first
+
+    lawful_now : IsLawful (authority_under secrets) fresh s'.events
+    lawful_now = under (λ key ring base. IsLawful (authority_with key ring) base s'.events) lawful_then
+
+    other_is : one_of (image (second_disk s')) (image (first_disk s')) s.second_active ≡ one_of (image b) (image a) s.second_active
+    other_is =
+        ap (λ (o : D). one_of (image (one_of o s'.active s'.second_active)) (image (one_of s'.active o s'.second_active)) s.second_active) goes.other_stays
+        ∙ ap (λ (w : Bool). one_of (image (one_of s.other s'.active w)) (image (one_of s'.active s.other w)) s.second_active) goes.place_stays
+        ∙ other_same clock left_since image faults s.second_active s.active s'.active s.other (image a) (image b) opened.first_read.same opened.second_read.same
+
+    -- the mark is none of the opening
+    added_stop : (attended count : ℕ) (grown : IsGrown attended count s s') → stop_among grown.added ≡ s'.stop
+    added_stop attended count grown =
+        sym (stop-append (entries_of s) grown.added (stop-entries s.events s.stop ∙ opened.running)) ∙ ap stop_among (sym grown.parts) ∙ stop-entries s'.events s'.stop
+
+    added_events : (attended count : ℕ) (grown : IsGrown attended count s s') → s'.events ≡ s.events ++ events_among grown.added
+    added_events attended count grown =
+        sym (events-entries s'.events s'.stop) ∙ ap events_among grown.parts ∙ events-append (entries_of s) grown.added ∙ ap (λ (l : List Event). l ++ events_among grown.added) (events-entries s.events s.stop)
+
+    -- the event that met the fault
+    is_met : IsReady clock left_since image s → (pass : ℕ) → s'.stop ≡ Some pass → (met : Event) × IsMet secrets s'.events pass met × IfTold (disks_of clock left_since image faults (first_disk s') (second_disk s')) (SurvivesWithOrWithout fresh s'.events met)
+    is_met ready pass is =
+        let halts = goes.halts ready pass is in
+        let asked = halts.asked in (
+          halts.met,
+          record {
+            moment = asked.moment;
+            request = asked.request;
+            reply = asked.reply;
+            in_range = asked.in_range;
+            well_formed = asked.well_formed;
+            answers = under (λ key ring base. Answers (authority_with key ring) (replay base s'.events) pass asked.moment asked.request asked.reply (Some halts.met)) asked.answers;
+            lawful = under (λ key ring base. IsLawful (authority_with key ring) base (s'.events ++ halts.met ∷ [])) (halts.follows lawful_then);
+          },
+          λ x y is_x is_y. under (λ key ring base. SurvivesWithOrWithout base s'.events halts.met x y) (halts.survives x y (may_stay (first_disk s') x is_x) (may_stay (second_disk s') y is_y)),
+        )
+
+    is_served : (attended count : ℕ) (stop : Option ℕ) → s'.stop ≡ stop → IsGrown attended count s s' →
+        IsServed secrets (rests_of clock left_since image faults a b (first_disk s') (second_disk s')) (disks_of clock left_since image faults a b) (disks_of clock left_since image faults (first_disk s') (second_disk s')) attended count stop
+    is_served attended count stop is grown = record {
+      generation = s.generation;
+      opened = s.events;
+      added = grown.added;
+      events = s'.events;
+      found = opened.newest_history;
+      of_passes = grown.of_passes;
+      stop_is = added_stop attended count grown ∙ is;
+      events_are = added_events attended count grown;
+      lawful = lawful_now;
+      headline = Headline-lawful (authority_under secrets) fresh s'.events lawful_now;
+      whole = λ runs x y is_x is_y x' y' is_x' is_y'.
+          under (λ key ring base. IsNewestOf s.generation base s'.events x' y')
+          (subst (λ (n : ℕ). IsNewestOf n s'.base s'.events x' y') goes.generation_stays
+          (newest_of clock left_since image faults s' store' (goes.current (opened.current x y is_x is_y) (is ∙ runs)) x' y' is_x' is_y'));
+      closed = λ runs x y is_x is_y gate.
+          let ready = goes.ready (opened.ready x y is_x is_y gate) (is ∙ runs) in (
+            pinned_at clock left_since image faults s' (first_disk s') (second_disk s') refl refl ready,
+            λ x' y' is_x' is_y'. subst (λ (n : ℕ). IsNewestClosed n s'.events x' y') goes.generation_stays (closed_of clock left_since image faults s' store' ready x' y' is_x' is_y'),
+          );
+      risen = λ pass stops. risen_since s s' opened (goes.failed pass (is ∙ stops));
+      survives = λ pass stops x y is_x is_y gate. is_met (opened.ready x y is_x is_y gate) pass (is ∙ stops);
+      other_stays = λ x y is_x is_y second counts.
+          let now = counts_now clock left_since image faults s store (opened.current x y is_x is_y) x y (opened.first_read.same ∙ is_x) (opened.second_read.same ∙ is_y) in
+          subst (λ (w : Bool). one_of (image (second_disk s')) (image (first_disk s')) w ≡ one_of (image b) (image a) w) (same_place s.second_active second (sym now ∙ counts)) other_is;
+    }
+
+    -- ---- its last line
+
+    module _ (before after : Streams) (net net' : Net) (count : ℕ) where
+      abbrev Here : ServePorts
+      Here = record { ports = record { streams = before; disks = disks_of clock left_since image faults a b }; net = net }
+
+      abbrev There : ServePorts
+      There = record { ports = record { streams = after; disks = disks_of clock left_since image faults (first_disk s') (second_disk s') }; net = net' }
+
+      abbrev Around : Rests
+      Around = rests_of clock left_since image faults a b (first_disk s') (second_disk s')
+
+      -- a line is told, or the output fails
+      told_as : (status : ℕ) (line : List ℕ) (result : ℕ) → ServeWrites secrets count Around Here There status line → IsTold status line before.held before.write_faults result after.held after.write_faults → EndsServing secrets count Around Here There result
+      told_as status line result writes (inl told) = subst (EndsServing secrets count Around Here There) (sym told.0) (serving.told status line writes told.1)
+      told_as status line result writes (inr failed) = subst (EndsServing secrets count Around Here There) (sym failed.0) (serving.cut_short status line writes failed.1 failed.2)
+
+      told_running : (end : ServeEnd) (result : ℕ) → s'.stop ≡ None → IsGrown (number_of end) count s s' → AreAttended count net net' end → TellsServed end before.held before.write_faults result after.held after.write_faults → EndsServing secrets count Around Here There result
+      told_running (serve_ends.Done n) result runs grown attended (inl told) =
+          told_as 0 (codes "served " ++ decimal n) result (serving.served (serve_ends.Done n) 0 (codes "served " ++ decimal n) (is_served n count None runs grown) attended (all_served n)) told
+      told_running (serve_ends.Done n) result runs grown attended (inr untold) =
+          subst (EndsServing secrets count Around Here There) (sym untold.0) (serving.out_of_memory (serve_ends.Done n) (λ e. e) (is_served n count None runs grown) attended untold.1)
+      told_running (serve_ends.NetFault n) result runs grown attended told =
+          told_as 8 (codes "netfault") result (serving.served (serve_ends.NetFault n) 8 (codes "netfault") (is_served n count None runs grown) attended (net_failed n)) told
+      told_running (serve_ends.NoMemory n) result runs grown attended untold =
+          subst (EndsServing secrets count Around Here There) (sym untold.0) (serving.out_of_memory (serve_ends.NoMemory n) (λ e. e) (is_served n count None runs grown) attended untold.1)
+
+      told_end : (stop : Option ℕ) (end : ServeEnd) (result : ℕ) → s'.stop ≡ stop → IsGrown (number_of end) count s s' → AreAttended count net net' end →
+          ((pass : ℕ) → s'.stop ≡ Some pass → IsTold 5 (codes "stopped") before.held before.write_faults result after.held after.write_faults) →
+          (s'.stop ≡ None → TellsServed end before.held before.write_faults result after.held after.write_faults) → EndsServing secrets count Around Here There result
+      told_end None end result is grown attended stops runs = told_running end result is grown attended (runs is)
+      told_end (Some pass) end result is grown attended stops runs =
+          told_as 5 (codes "stopped") result (serving.disk_failed end pass (is_served (number_of end) count (Some pass) is grown) attended) (stops pass is)
+
+      pub EndsServing-served : (end : ServeEnd) (result : ℕ) (a' b' : D) → IsGrown (number_of end) count s s' → AreAttended count net net' end →
+          ((pass : ℕ) → s'.stop ≡ Some pass → IsTold 5 (codes "stopped") before.held before.write_faults result after.held after.write_faults) →
+          (s'.stop ≡ None → TellsServed end before.held before.write_faults result after.held after.write_faults) → a' ≡ first_disk s' → b' ≡ second_disk s' →
+          EndsServing secrets count (rests_of clock left_since image faults a b a' b') Here (record { ports = record { streams = after; disks = disks_of clock left_since image faults a' b' }; net = net' }) result
+      EndsServing-served end result a' b' grown attended stops runs a_is b_is =
+          subst (λ (x : D). EndsServing secrets count (rests_of clock left_since image faults a b x b') Here (record { ports = record { streams = after; disks = disks_of clock left_since image faults x b' }; net = net' }) result) (sym a_is)
+          (subst (λ (y : D). EndsServing secrets count (rests_of clock left_since image faults a b (first_disk s') y) Here (record { ports = record { streams = after; disks = disks_of clock left_since image faults (first_disk s') y }; net = net' }) result) (sym b_is)
+          (told_end s'.stop end result refl grown attended stops runs))
+
+  -- ---- no store was opened
+
+  module _ (before after : Streams) (net net' : Net) (count : ℕ) (a' b' : D) (net_kept : IsNetKept net net') where
+    abbrev First : ServePorts
+    First = record { ports = record { streams = before; disks = disks_of clock left_since image faults a b }; net = net }
+
+    abbrev Last : ServePorts
+    Last = record { ports = record { streams = after; disks = disks_of clock left_since image faults a' b' }; net = net' }
+
+    abbrev Between : Rests
+    Between = rests_of clock left_since image faults a b a' b'
+
+    abbrev Ends : ℕ → Type 0
+    Ends status = EndsServing secrets count Between First Last status
+
+    tells : (status : ℕ) (line : List ℕ) (result : ℕ) → ServeWrites secrets count Between First Last status line → IsTold status line before.held before.write_faults result after.held after.write_faults → Ends result
+    tells status line result writes (inl told) = subst Ends (sym told.0) (serving.told status line writes told.1)
+    tells status line result writes (inr failed) = subst Ends (sym failed.0) (serving.cut_short status line writes failed.1 failed.2)
+
+    kept : (fault : OpenFault) → (fault ≡ opens.Disk → ⊥) → IsNotOpened clock left_since image faults a b (authority_with secrets.seal_key secrets.ring) fault a' b' → AreBytesKept (disks_of clock left_since image faults a b) (disks_of clock left_since image faults a' b')
+    kept fault not_disk n = record { a_stays = n.first_same not_disk; b_stays = n.second_same not_disk }
+
+    pub EndsServing-unopened : (fault : OpenFault) (result : ℕ) → IsNotOpened clock left_since image faults a b (authority_with secrets.seal_key secrets.ring) fault a' b' → TellsUnopened fault before.held before.write_faults result after.held after.write_faults → Ends result
+    EndsServing-unopened opens.NoStore result n told = tells 4 (codes "nostore") result (serving.no_store (λ x y is_x is_y. has_no_area x y (n.cause x y is_x is_y)) (kept opens.NoStore (λ e. absurd cc) n) net_kept) told
+    EndsServing-unopened (opens.Damaged number damage) result n (inl told) =
+        tells 3 (damaged_text number damage) result (serving.damaged number damage n.cause (kept (opens.Damaged number damage) (λ e. absurd cc) n) net_kept) told
+    EndsServing-unopened (opens.Damaged number damage) result n (inr untold) = subst Ends (sym untold.0) (serving.unopened (kept (opens.Damaged number damage) (λ e. absurd cc) n) net_kept untold.1)
+    EndsServing-unopened opens.Disk result n told = tells 5 (codes "stopped") result (serving.not_opened n.cause (λ rest. record { a_stays = n.first_handled.stays rest.0; b_stays = n.second_handled.stays rest.1 }) net_kept) told
+    EndsServing-unopened opens.NoMemory result n untold = subst Ends (sym untold.0) (serving.unopened (kept opens.NoMemory (λ e. absurd cc) n) net_kept untold.1)

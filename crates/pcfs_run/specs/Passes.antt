@@ -1,0 +1,30 @@
+-- What the sessions of connections added to a store (this project's own).
+use Rattle.std.specs.Prelude.{◌≡◌, ℕ, ◌≤◌, List, [], ◌∷◌, ◌++◌, map, length, eqb, Option, Some, None}
+use Rattle.std.specs.List.{AllByRecursion, IsDistinct}
+use Rattle.tree_lock.specs.Merge.{Merges}
+use Rattle.pcfs_store.specs.Entries.{StoreEntry, happened, stopped, entries_of}
+use Rattle.pcfs_store.specs.StoreView.{StoreView}
+use Rattle.session_history.specs.Passes.{AllOfPass}
+
+-- These entries were added in the turns of passes, each with a number of its own from 1 on: a pass has the entries of its turns, which carry its number, and all that were added are a merge of these lists. There are no more than `count` passes, and no
+-- fewer than connections that were attended.
+pub record AreOfPasses (attended count : ℕ) (added : List StoreEntry) : Type 0 where
+  pub passes : List (ℕ × List StoreEntry)
+  pub distinct : IsDistinct eqb (map (λ p. p.0) passes)
+  pub within : AllByRecursion (λ p. (1 ≤ p.0) × (p.0 ≤ length passes)) passes
+  pub own : AllByRecursion (λ p. AllOfPass p.0 p.1) passes
+  pub merged : Merges (map (λ p. p.1) passes) added
+  pub each : attended ≤ length passes
+  pub few : length passes ≤ count
+
+-- from one store to another the entries grew by those of the passes of connections
+pub record IsGrown {D : Type 0} (attended count : ℕ) (old new : StoreView D) : Type 0 where
+  pub added : List StoreEntry
+  pub parts : entries_of new ≡ entries_of old ++ added
+  pub of_passes : AreOfPasses attended count added
+
+-- the pass in whose turn a disk failed, if the mark of that is among the entries
+abbrev pub stop_among : List StoreEntry → Option ℕ
+stop_among [] = None
+stop_among (happened event ∷ entries) = stop_among entries
+stop_among (stopped pass ∷ entries) = Some pass

@@ -1,0 +1,121 @@
+-- How a run ends that gives connections sessions over the store in the areas. If a port does not tell what it has, nothing is said of that (this project's own).
+use Rattle.std.specs.Prelude.{◌≡◌, ◌⊎◌, ℕ, ℤ, List, [], ◌∷◌, ◌++◌, String, codes, Bool, Option, Some, None}
+use Rattle.std.specs.Fmt.{decimal}
+use Rattle.std.specs.declared.alloc.Global.{Global}
+use Rattle.bl_syntax.specs.TimeOrder.{IsMoment}
+use Rattle.pcfs_ports.specs.Faults.{HasRisen}
+use Rattle.pcfs_ports.specs.Told.{with_back, HoldsSome}
+use Rattle.journal_core.specs.Area.{generation_of}
+use Rattle.access_history.specs.Answer.{Answers}
+use Rattle.access_history.specs.Headline.{Headline}
+use Rattle.access_history.specs.Lawful.{IsLawful}
+use Rattle.access_history.specs.Replay.{fresh, replay}
+use Rattle.access_history.specs.WellFormed.{IsWellFormed}
+use Rattle.access_history.specs.declared.event.Event.{Event}
+use Rattle.access_history.specs.declared.request.StepRequest.{StepRequest}
+use Rattle.access_history.specs.declared.reply.StepReply.{StepReply}
+use Rattle.op_gate.specs.declared.damage.Damage.{Damage}
+use Rattle.pcfs_secrets.specs.declared.secrets.Secrets.{Secrets}
+use Rattle.pcfs_server.specs.declared.end.ServeEnd.{ServeEnd}
+use Rattle.pcfs_server.specs.declared.end.ServeEnd.TheVariants as serve_ends
+use Rattle.pcfs_server.specs.Ends.{number_of, HasTaken, HasCause, IsNetFault}
+use Rattle.pcfs_session.specs.LineAnswer.{authority_under}
+use Rattle.pcfs_session.specs.ScriptEnds.{with_line_end}
+use Rattle.pcfs_store.specs.Entries.{StoreEntry, events_among}
+use Rattle.pcfs_store.specs.Newest.{newer, one_of}
+use Rattle.pcfs_store.specs.Ready.{SurvivesWithOrWithout}
+use Rattle.recover.specs.Opening.{IsNewestHistory, IsNewestDamaged, IsNewestClosed}
+use Rattle.pcfs_tools.specs.LastLine.{IsTold, IsUntold}
+use Rattle.pcfs_top.specs.Ports.{Disks, Ports, Rests, IfTold, HasDiskFailed, AreBytesKept}
+use Rattle.pcfs_top.specs.Run.{IsNewestOf, HasNoArea, EndsWith, damaged_text}
+use Rattle.pcfs_run.specs.Passes.{AreOfPasses, stop_among}
+use Rattle.pcfs_run.specs.ServeWords.{IsServe}
+
+-- what a listener and nonces tell at one moment: how many connections are still to come, if that is told; whether none comes any more; and how many faults the listener has had, and the nonces
+pub record Net : Type 1 where
+  pub waiting : Option ℕ
+  pub over : Type 0
+  pub faults : ℕ
+  pub nonce_faults : ℕ
+
+-- what all ports of a run tell at one moment
+pub record ServePorts : Type 1 where
+  pub ports : Ports
+  pub net : Net
+
+-- they tell what they did before
+pub record IsNetKept (before after : Net) : Type 0 where
+  pub waiting_stays : after.waiting ≡ before.waiting
+  pub faults_stay : after.faults ≡ before.faults
+  pub nonce_faults_stay : after.nonce_faults ≡ before.nonce_faults
+
+-- The serving of connections ended so: the listener gave as many as were attended; it is done only if these are `count` or no more come; and it failed only if the count of faults of the listener rose, or that of the nonces.
+pub record AreAttended (count : ℕ) (before after : Net) (end : ServeEnd) : Type 0 where
+  pub taken : HasTaken end before.waiting after.waiting
+  pub cause : HasCause end count after.over after.waiting
+  pub risen : IsNetFault end → HasRisen before.faults after.faults ⊎ HasRisen before.nonce_faults after.nonce_faults
+
+-- The event is what the answer to a request of the pass keeps, over the history of these events, which it goes on lawfully.
+pub record IsMet (secrets : Secrets) (events : List Event) (pass : ℕ) (met : Event) : Type 0 where
+  pub moment : ℤ
+  pub request : StepRequest
+  pub reply : StepReply
+  pub in_range : IsMoment moment
+  pub well_formed : IsWellFormed request
+  pub answers : Answers (authority_under secrets) (replay fresh events) pass moment request reply (Some met)
+  pub lawful : IsLawful (authority_under secrets) fresh (events ++ met ∷ [])
+
+-- The store on the disks was opened, and connections had sessions over it. The history that was found is that of the newest area. Its events at the end are those, and then the ones that the sessions' passes added; they are lawful, so the headline
+-- holds of them. Unless a disk failed, the newest area has the generation of the opened one, and stands for all these events; and if the opened one had its closed gate, it has too, and nothing is pending. If one failed in a turn of some pass, its count
+-- rose; and if the opened area had its closed gate, the newest one stands for these events, or for them with the one that met the fault. The other area is as it was.
+pub record IsServed (secrets : Secrets) (rests : Rests) (before after : Disks) (attended count : ℕ) (stop : Option ℕ) : Type 0 where
+  pub generation : ℕ
+  pub opened : List Event
+  pub added : List StoreEntry
+  pub events : List Event
+  pub found : IfTold before (IsNewestHistory (authority_under secrets) generation opened)
+  pub of_passes : AreOfPasses attended count added
+  pub stop_is : stop_among added ≡ stop
+  pub events_are : events ≡ opened ++ events_among added
+  pub lawful : IsLawful (authority_under secrets) fresh events
+  pub headline : Headline (authority_under secrets) fresh events (replay fresh events).world
+  pub whole : stop ≡ None → IfTold before (λ x y. IfTold after (IsNewestOf generation fresh events))
+  pub closed : stop ≡ None → IfTold before (λ x y. IsNewestClosed generation opened x y → rests.after × IfTold after (IsNewestClosed generation events))
+  pub risen : (pass : ℕ) → stop ≡ Some pass → HasDiskFailed before after
+  pub survives : (pass : ℕ) → stop ≡ Some pass → IfTold before (λ x y. IsNewestClosed generation opened x y → (met : Event) × IsMet secrets events pass met × IfTold after (SurvivesWithOrWithout fresh events met))
+  pub other_stays : IfTold before (λ x y. (second : Bool) → newer (generation_of x) (generation_of y) ≡ Some second → one_of after.b after.a second ≡ one_of before.b before.a second)
+
+-- what is written at an end at which no disk has failed, and the status: a line; or memory ran out, and nothing is
+abbrev pub TellsServed : ServeEnd → Option (List ℕ) → ℕ → ℕ → Option (List ℕ) → ℕ → Type 0
+TellsServed (serve_ends.Done n) held faults result held_after faults_after = IsTold 0 (codes "served " ++ decimal n) held faults result held_after faults_after ⊎ IsUntold held result held_after
+TellsServed (serve_ends.NetFault n) held faults result held_after faults_after = IsTold 8 (codes "netfault") held faults result held_after faults_after
+TellsServed (serve_ends.NoMemory n) held faults result held_after faults_after = IsUntold held result held_after
+
+-- the status at such an end, and its line
+pub data IsServeLine : ServeEnd → ℕ → List ℕ → Type 0 where
+  all_served : (n : ℕ) → IsServeLine (serve_ends.Done n) 0 (codes "served " ++ decimal n)
+  net_failed : (n : ℕ) → IsServeLine (serve_ends.NetFault n) 8 (codes "netfault")
+
+-- What such a run has to write that ends with this status: one line. If no store was opened, the listener and the nonces tell what they did before.
+pub data ServeWrites (secrets : Secrets) (count : ℕ) (rests : Rests) (before after : ServePorts) : ℕ → List ℕ → Type 0 where
+  served : (end : ServeEnd) (status : ℕ) (line : List ℕ) → IsServed secrets rests before.ports.disks after.ports.disks (number_of end) count None → AreAttended count before.net after.net end → IsServeLine end status line →
+      ServeWrites secrets count rests before after status line
+  disk_failed : (end : ServeEnd) (pass : ℕ) → IsServed secrets rests before.ports.disks after.ports.disks (number_of end) count (Some pass) → AreAttended count before.net after.net end → ServeWrites secrets count rests before after 5 (codes "stopped")
+  no_store : IfTold before.ports.disks HasNoArea → AreBytesKept before.ports.disks after.ports.disks → IsNetKept before.net after.net → ServeWrites secrets count rests before after 4 (codes "nostore")
+  damaged : (number : ℕ) (damage : Damage) → IfTold before.ports.disks (IsNewestDamaged (authority_under secrets) number damage) → AreBytesKept before.ports.disks after.ports.disks → IsNetKept before.net after.net →
+      ServeWrites secrets count rests before after 3 (damaged_text number damage)
+  not_opened : HasDiskFailed before.ports.disks after.ports.disks → (rests.before → AreBytesKept before.ports.disks after.ports.disks) → IsNetKept before.net after.net → ServeWrites secrets count rests before after 5 (codes "stopped")
+
+-- The status that such a run ends with. Its line was written; or the output failed, and holds some first part of it; or memory ran out, before the store was opened or after it was served with no fault of the listener or the nonces, and nothing was written.
+pub data EndsServing (secrets : Secrets) (count : ℕ) (rests : Rests) (before after : ServePorts) : ℕ → Type 0 where
+  told : (status : ℕ) (line : List ℕ) → ServeWrites secrets count rests before after status line → after.ports.streams.held ≡ with_back before.ports.streams.held (with_line_end line) → EndsServing secrets count rests before after status
+  cut_short : (status : ℕ) (line : List ℕ) → ServeWrites secrets count rests before after status line → HasRisen before.ports.streams.write_faults after.ports.streams.write_faults →
+      HoldsSome before.ports.streams.held after.ports.streams.held (with_line_end line) → EndsServing secrets count rests before after 7
+  unopened : AreBytesKept before.ports.disks after.ports.disks → IsNetKept before.net after.net → after.ports.streams.held ≡ before.ports.streams.held → EndsServing secrets count rests before after 9
+  out_of_memory : (end : ServeEnd) → (IsNetFault end → ⊥) → IsServed secrets rests before.ports.disks after.ports.disks (number_of end) count None → AreAttended count before.net after.net end → after.ports.streams.held ≡ before.ports.streams.held →
+      EndsServing secrets count rests before after 9
+
+-- How a run ends: it serves, and takes nothing of its input; or it is a run of another command, and the listener and the nonces tell what they did before.
+pub data RunEnds (secrets : Secrets) (words : List (String Global)) (rests : Rests) (before after : ServePorts) : ℕ → Type 0 where
+  serves : (status port count : ℕ) → IsServe words port count → after.ports.streams.left ≡ before.ports.streams.left → after.ports.streams.read_faults ≡ before.ports.streams.read_faults → EndsServing secrets count rests before after status → RunEnds secrets words rests before after status
+  alone : (status : ℕ) → ((port count : ℕ) → IsServe words port count → ⊥) → EndsWith secrets words rests before.ports after.ports status → IsNetKept before.net after.net → RunEnds secrets words rests before after status

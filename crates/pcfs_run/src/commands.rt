@@ -1,0 +1,134 @@
+//! A run of the program that may serve: its words, its ports, and the status that it ends with.
+
+ghost use Rattle.std.specs.Prelude.{◌≤◌, ℕ, List, Option};
+ghost use Rattle.pcfs_ports.specs.Disk.{IsPinned};
+ghost use Rattle.pcfs_run.specs.Served.{EndsServing, RunEnds};
+
+use crate::serving::serve_store;
+use crate::telling::tell_end;
+use crate::words::serving_of;
+use pcfs_ports::{Clock, Disk, Listener, Nonces, Sink, Source};
+use pcfs_secrets::Secrets;
+use pcfs_tools::answering::OUT_OF_MEMORY;
+use pcfs_top::run::{Ended, run_alone, tell_unopened};
+use recover::open_store;
+use std::alloc::Global;
+use std::sync::Wait;
+use std::thread::Threads;
+
+// Opens the store on the disks, and gives connections sessions over it.
+fn serve<
+    R: Threads + Wait + Sync,
+    O: Sink,
+    D: Disk + Send,
+    C: Clock + Sync,
+    L: Listener,
+    N: Nonces + Sync,
+>(
+    rt: &R,
+    alloc: Global,
+    secrets: &Secrets,
+    output: &mut O,
+    a: D,
+    b: D,
+    port: u16,
+    count: u64,
+    clock: &C,
+    net: &mut L,
+    nonces: &mut N,
+) -> Ended<D>
+    requires some { 1 ≤ count }
+    requires few { count ≤ 1000000 }
+    ensures { (left : Option (List ℕ)) (read_faults : ℕ) → EndsServing secrets.now count (record { before = IsPinned D.clock D.left_since D.image a × IsPinned D.clock D.left_since D.image b; after = IsPinned D.clock D.left_since D.image result.a × IsPinned D.clock D.left_since D.image result.b })
+        (record {
+          ports = record {
+            streams = record { left = left; read_faults = read_faults; held = O.held output.old; write_faults = O.faults output.old };
+            disks = record { a = D.image a; b = D.image b; a_faults = D.faults a; b_faults = D.faults b };
+          };
+          net = record { waiting = L.waiting net.old; over = L.over net.old; faults = L.faults net.old; nonce_faults = N.faults nonces.old };
+        })
+        (record {
+          ports = record {
+            streams = record { left = left; read_faults = read_faults; held = O.held output.new; write_faults = O.faults output.new };
+            disks = record { a = D.image result.a; b = D.image result.b; a_faults = D.faults result.a; b_faults = D.faults result.b };
+          };
+          net = record { waiting = L.waiting net.new; over = L.over net.new; faults = L.faults net.new; nonce_faults = N.faults nonces.new };
+        }) result.status }
+{
+    let ring = match secrets.ring.copy(alloc) {
+        Ok(ring) => ring,
+        Err(_) => return Ended {
+            status: OUT_OF_MEMORY,
+            a,
+            b,
+        },
+    };
+    match open_store(alloc, a, b, secrets.seal_key.as_slice(), ring) {
+        Ok(store) => {
+            store.keeps();
+            let (end, store) = serve_store(rt, alloc, store, port, count, clock, net, nonces);
+            store.keeps();
+            let status = tell_end(alloc, output, end, &store);
+            let (a, b) = store.into_disks();
+            Ended { status, a, b }
+        }
+        Err((fault, a, b)) => Ended {
+            status: tell_unopened(alloc, output, fault),
+            a,
+            b,
+        },
+    }
+}
+
+/// Runs the program: with `serve`, a port and a number of connections, each of so many that come to that port has a session
+/// over the store on the disks, 64 at once; every other command is that of `run_alone`. The words are tested first, then the
+/// store is opened, and only then the port is listened on.
+///
+/// Returns the disks and the status to end with. With `serve` that is 0, so many were attended or no more come, and the last
+/// line is `served` with their number; 3, 4, 7 or 9 as for `run_alone`; 5, a disk failed: `stopped`, also if the listener
+/// failed too; 8, the listener failed or there was no nonce: `netfault`. A denial, a refusal and a fault of a session's own
+/// input or output leave the status as it is.
+pub fn run<
+    R: Threads + Wait + Sync,
+    I: Source,
+    O: Sink,
+    D: Disk + Send,
+    C: Clock + Sync,
+    L: Listener,
+    N: Nonces + Sync,
+>(
+    rt: &R,
+    alloc: Global,
+    words: &Vec<String>,
+    secrets: &Secrets,
+    input: &mut I,
+    output: &mut O,
+    a: D,
+    b: D,
+    clock: &C,
+    net: &mut L,
+    nonces: &mut N,
+) -> Ended<D>
+    ensures { RunEnds secrets.now words.now.items (record { before = IsPinned D.clock D.left_since D.image a × IsPinned D.clock D.left_since D.image b; after = IsPinned D.clock D.left_since D.image result.a × IsPinned D.clock D.left_since D.image result.b })
+        (record {
+          ports = record {
+            streams = record { left = I.left input.old; read_faults = I.faults input.old; held = O.held output.old; write_faults = O.faults output.old };
+            disks = record { a = D.image a; b = D.image b; a_faults = D.faults a; b_faults = D.faults b };
+          };
+          net = record { waiting = L.waiting net.old; over = L.over net.old; faults = L.faults net.old; nonce_faults = N.faults nonces.old };
+        })
+        (record {
+          ports = record {
+            streams = record { left = I.left input.new; read_faults = I.faults input.new; held = O.held output.new; write_faults = O.faults output.new };
+            disks = record { a = D.image result.a; b = D.image result.b; a_faults = D.faults result.a; b_faults = D.faults result.b };
+          };
+          net = record { waiting = L.waiting net.new; over = L.over net.new; faults = L.faults net.new; nonce_faults = N.faults nonces.new };
+        }) result.status }
+{
+    match serving_of(words) {
+        Some((port, count)) => serve(
+            rt, alloc, secrets, output, a, b, port, count, clock, net, nonces,
+        ),
+        None => run_alone(rt, alloc, words, secrets, input, output, a, b),
+    }
+}

@@ -1,0 +1,140 @@
+//! Sessions over a store, one for each connection.
+
+ghost use Rattle.std.specs.Prelude.{◌≡◌, ◌≤◌, length, None};
+ghost use Rattle.std.specs.List.{AllByRecursion};
+ghost use Rattle.journal_records.specs.EventSpelling.{IsReadEvent};
+ghost use Rattle.pcfs_server.specs.Ends.{number_of};
+ghost use Rattle.shared_store.specs.GoesOn.{HasGoneOn};
+ghost use Rattle.pcfs_run.specs.Passes.{IsGrown};
+ghost use Rattle.pcfs_run.specs.Served.{AreAttended};
+
+use pcfs_ports::{Clock, Disk, Listener, Nonces};
+use pcfs_server::{ServeEnd, serve_conns};
+use pcfs_store::Store;
+use session_service::{SessionDoor, SessionService};
+use shared_store::OpenedStore;
+use std::alloc::Global;
+use std::sync::Wait;
+use std::thread::Threads;
+use tree_lock::{Doorman, TreeLock};
+
+/// How many connections are attended at once, at most.
+const AT_ONCE: usize = 64;
+
+// Attends connections by this door, and returns how that ended. The door has the same nonces afterwards.
+fn attend_all<
+    'a,
+    R: Threads + Wait + Sync,
+    D: Disk + Send,
+    C: Clock + Sync,
+    L: Listener,
+    N: Nonces + Sync,
+>(
+    rt: &R,
+    alloc: Global,
+    service: &SessionService<'a, OpenedStore<D>, C, N>,
+    front: &mut SessionDoor<'a, OpenedStore<D>, N>,
+    port: u16,
+    count: u64,
+    net: &mut L,
+) -> ServeEnd
+    requires lock { front.old.door.lock ≡ service.now.lock.now }
+    requires unmade { front.old.door.made ≡ 0 }
+    requires unserved { front.old.served ≡ 0 }
+    requires few { count ≤ 1000000 }
+    ensures same_reference { front.new.nonces.ghost_name ≡ front.old.nonces.ghost_name }
+    ensures lock { front.new.door.lock ≡ service.now.lock.now }
+    ensures out { front.new.door.out ≡ front.old.door.out }
+    ensures opening { front.new.door.opening ≡ front.old.door.opening }
+    ensures each { number_of result ≤ length front.new.door.retired }
+    ensures made { front.new.door.made ≤ count }
+    ensures attended { AreAttended count
+        (record { waiting = L.waiting net.old; over = L.over net.old; faults = L.faults net.old; nonce_faults = N.faults front.old.nonces.now })
+        (record { waiting = L.waiting net.new; over = L.over net.new; faults = L.faults net.new; nonce_faults = N.faults front.new.nonces.now }) result }
+{
+    serve_conns(rt, alloc, net, service, front, port, count, AT_ONCE)
+}
+
+// Gives connections sessions over what the lock keeps, and returns how that ended, and the doorman.
+fn serve_under<
+    R: Threads + Wait + Sync,
+    D: Disk + Send,
+    C: Clock + Sync,
+    L: Listener,
+    N: Nonces + Sync,
+>(
+    rt: &R,
+    alloc: Global,
+    lock: &TreeLock<OpenedStore<D>>,
+    door: Doorman<OpenedStore<D>>,
+    port: u16,
+    count: u64,
+    clock: &C,
+    net: &mut L,
+    nonces: &mut N,
+) -> (ServeEnd, Doorman<OpenedStore<D>>)
+    requires lock { door.lock ≡ lock.now }
+    requires unmade { door.made ≡ 0 }
+    requires few { count ≤ 1000000 }
+    ensures lock { result.1.lock ≡ lock.now }
+    ensures out { result.1.out ≡ door.out }
+    ensures opening { result.1.opening ≡ door.opening }
+    ensures each { number_of result.0 ≤ length result.1.retired }
+    ensures made { result.1.made ≤ count }
+    ensures attended { AreAttended count
+        (record { waiting = L.waiting net.old; over = L.over net.old; faults = L.faults net.old; nonce_faults = N.faults nonces.old })
+        (record { waiting = L.waiting net.new; over = L.over net.new; faults = L.faults net.new; nonce_faults = N.faults nonces.new }) result.0 }
+{
+    let service: SessionService<'_, OpenedStore<D>, C, N> = SessionService::new(lock, clock);
+    let mut front = SessionDoor {
+        door,
+        nonces: &mut *nonces,
+        served: 0,
+    };
+    let end = attend_all(rt, alloc, &service, &mut front, port, count, net);
+    let SessionDoor {
+        door,
+        nonces: lent,
+        served: _,
+    } = front;
+    let _ = lent;
+    (end, door)
+}
+
+/// Gives connections sessions over the store, and returns how that ended, and the store.
+pub fn serve_store<
+    R: Threads + Wait + Sync,
+    D: Disk + Send,
+    C: Clock + Sync,
+    L: Listener,
+    N: Nonces + Sync,
+>(
+    rt: &R,
+    alloc: Global,
+    store: Store<D>,
+    port: u16,
+    count: u64,
+    clock: &C,
+    net: &mut L,
+    nonces: &mut N,
+) -> (ServeEnd, Store<D>)
+    requires running { store.stop ≡ None }
+    requires each { AllByRecursion IsReadEvent store.events }
+    requires some { 1 ≤ count }
+    requires few { count ≤ 1000000 }
+    ensures gone_on { HasGoneOn D.clock D.left_since D.image D.faults store result.1 }
+    ensures grown { IsGrown (number_of result.0) count store result.1 }
+    ensures attended { AreAttended count
+        (record { waiting = L.waiting net.old; over = L.over net.old; faults = L.faults net.old; nonce_faults = N.faults nonces.old })
+        (record { waiting = L.waiting net.new; over = L.over net.new; faults = L.faults net.new; nonce_faults = N.faults nonces.new }) result.0 }
+{
+    let opened = OpenedStore::new(store);
+    match TreeLock::new(alloc, opened) {
+        Ok((lock, door)) => {
+            let (end, door) = serve_under(rt, alloc, &lock, door, port, count, clock, net, nonces);
+            let closed = lock.close(door);
+            (end, closed.into_store())
+        }
+        Err(opened) => (ServeEnd::NoMemory(0), opened.into_store()),
+    }
+}

@@ -1,0 +1,4 @@
+pub mod LoadLemmas
+pub mod MemoryLemmas
+pub mod StatusLemmas
+pub mod TellingLemmas

@@ -1,0 +1,1 @@
+-- By the length of the rows.

@@ -1,0 +1,6 @@
+pub mod Audited
+pub mod Inquired
+pub mod LastLine
+pub mod Load
+pub mod Memory
+pub mod ScriptStatus

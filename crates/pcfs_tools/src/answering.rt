@@ -1,0 +1,80 @@
+//! A script over a store, and the status to end with.
+
+ghost use Rattle.std.specs.Prelude.{◌≡◌, ◌⊎◌, None};
+ghost use Rattle.pcfs_ports.specs.Faults.{HasRisen};
+ghost use Rattle.pcfs_ports.specs.Told.{with_back, HoldsSome};
+ghost use Rattle.pcfs_session.specs.Asker.{Asker, first_asker};
+ghost use Rattle.pcfs_session.specs.InterpreterView.{standing_over};
+ghost use Rattle.pcfs_session.specs.ScriptRun.{IsLawfulStanding, script_pass};
+ghost use Rattle.pcfs_tools.specs.ScriptStatus.{TellsEnd, AnswersInput};
+
+use pcfs_ports::{Disk, Sink, Source, write_all};
+use pcfs_session::{ScriptEnd, script_session};
+use pcfs_store::Store;
+use std::alloc::Global;
+
+/// Everything was done.
+pub const DONE: u8 = 0;
+
+/// A line was too long.
+const LINE_TOO_LONG: u8 = 2;
+
+/// A disk failed.
+pub const DISK_FAULT: u8 = 5;
+
+/// The input failed.
+const READ_FAULT: u8 = 6;
+
+/// The output failed, and may lack any of its end.
+pub const WRITE_FAULT: u8 = 7;
+
+/// Memory ran out.
+pub const OUT_OF_MEMORY: u8 = 9;
+
+/// The input was too long.
+const TOO_LONG: u8 = 13;
+
+/// Writes a last line, and returns the status, or that the output failed.
+pub fn tell<O: Sink>(output: &mut O, line: &[u8], status: u8) -> u8
+    ensures { ((result ≡ status) × (O.held output.new ≡ with_back (O.held output.old) line.now))
+        ⊎ ((result ≡ WRITE_FAULT) × HasRisen (O.faults output.old) (O.faults output.new) × HoldsSome (O.held output.old) (O.held output.new) line.now) }
+{
+    match write_all(output, line) {
+        Ok(()) => status,
+        Err(_) => WRITE_FAULT,
+    }
+}
+
+// Writes the last line of a script that ended so, if it has one beside its replies, and returns the status to end with.
+fn tell_end<O: Sink>(output: &mut O, end: ScriptEnd) -> u8
+    ensures { TellsEnd end (O.held output.old) (O.faults output.old) result (O.held output.new) (O.faults output.new) }
+{
+    match end {
+        ScriptEnd::Done => DONE,
+        ScriptEnd::LineTooLong => LINE_TOO_LONG,
+        ScriptEnd::ReadFault => tell(output, b"readfault\n", READ_FAULT),
+        ScriptEnd::WriteFault => WRITE_FAULT,
+        ScriptEnd::NoMemory => OUT_OF_MEMORY,
+        ScriptEnd::InputTooLong => tell(output, b"toolong\n", TOO_LONG),
+        ScriptEnd::Stopped => DISK_FAULT,
+    }
+}
+
+/// Runs the script in the input over the store, and returns the status to end with, and the store. Replies are written
+/// once they have `enough` bytes, and before more of the input is taken.
+pub fn run_over<D: Disk, I: Source, O: Sink>(
+    alloc: Global,
+    store: Store<D>,
+    input: &mut I,
+    enough: usize,
+    output: &mut O,
+) -> (u8, Store<D>)
+    requires lawful { IsLawfulStanding (standing_over store None (first_asker script_pass)) }
+    requires running { store.stop ≡ None }
+    ensures { (asker : Asker) × AnswersInput D.clock D.left_since D.image D.faults (record { store = store; asker = first_asker script_pass })
+        (record { left = I.left input.old; read_faults = I.faults input.old; held = O.held output.old; write_faults = O.faults output.old }) result.0 (record { store = result.1; asker = asker })
+        (record { left = I.left input.new; read_faults = I.faults input.new; held = O.held output.new; write_faults = O.faults output.new }) }
+{
+    let (end, store) = script_session(alloc, store, input, enough, output);
+    (tell_end(output, end), store)
+}

@@ -1,0 +1,91 @@
+//! The audit of a history, and what is reported of it.
+
+ghost use Rattle.std.specs.Prelude.{◌≡◌, ◌≤◌, ◌⊎◌, IfOk, IfSome};
+ghost use Rattle.pcfs_audit.specs.Report.{IsReport};
+ghost use Rattle.pcfs_audit.specs.ReportText.{report_text};
+ghost use Rattle.pcfs_session.specs.LineAnswer.{authority_under};
+ghost use Rattle.pcfs_session.specs.ScriptEnds.{with_line_end};
+ghost use Rattle.pcfs_tools.specs.Audited.{TellsAudit, audit_status};
+ghost use Rattle.pcfs_tools.specs.LastLine.{IsTold, IsUntold};
+
+use crate::answering::{DONE, OUT_OF_MEMORY, tell};
+use access_history::History;
+use bl_syntax::{Bytes, NoMemory};
+use pcfs_audit::{Report, audit, audit_pieces, write_report};
+use pcfs_ports::Sink;
+use pcfs_secrets::Secrets;
+use std::alloc::Global;
+use std::thread::Threads;
+
+/// The report has a row.
+const AUDIT_FOUND: u8 = 11;
+
+// The report on a history, made at once or in so many pieces.
+fn report_on<R: Threads + Sync>(
+    rt: &R,
+    alloc: Global,
+    secrets: &Secrets,
+    history: &History,
+    pieces: Option<usize>,
+) -> Result<Report, NoMemory>
+    requires { IfSome pieces (λ n. 1 ≤ n) }
+    ensures { IfOk result (IsReport (authority_under secrets.now) history.now.base history.now.events) }
+{
+    history.lawful();
+    let base = history.base();
+    let events = history.events();
+    let key = secrets.seal_key.as_slice();
+    match pieces {
+        None => audit(alloc, base, events, key, &secrets.ring),
+        Some(pieces) => audit_pieces(rt, alloc, base, events, key, &secrets.ring, pieces),
+    }
+}
+
+// The lines of a report.
+fn report_lines(alloc: Global, report: &Report) -> Result<Bytes, NoMemory>
+    ensures { IfOk result (λ lines. lines ≡ with_line_end (report_text report.now)) }
+{
+    let mut lines = Bytes::new(alloc);
+    write_report(&mut lines, report)?;
+    lines.push(b'\n')?;
+    Ok(lines)
+}
+
+// The status to end with after a report.
+fn status_of(report: &Report) -> u8
+    ensures { result ≡ audit_status report.now.rows }
+{
+    match report.rows.as_slice() {
+        [] => DONE,
+        _ => AUDIT_FOUND,
+    }
+}
+
+// Writes the report, and returns the status to end with.
+fn tell_report<O: Sink>(alloc: Global, output: &mut O, report: &Report) -> u8
+    ensures { IsTold (audit_status report.now.rows) (report_text report.now) (O.held output.old) (O.faults output.old) result (O.held output.new) (O.faults output.new) ⊎ IsUntold (O.held output.old) result (O.held output.new) }
+{
+    match report_lines(alloc, report) {
+        Ok(lines) => tell(output, lines.as_slice(), status_of(report)),
+        Err(_) => OUT_OF_MEMORY,
+    }
+}
+
+/// Audits the history, at once or in so many pieces, writes the report, and returns the status to end with: 0 if it has no
+/// row, else 11.
+pub fn audit_history<R: Threads + Sync, O: Sink>(
+    rt: &R,
+    alloc: Global,
+    secrets: &Secrets,
+    history: &History,
+    pieces: Option<usize>,
+    output: &mut O,
+) -> u8
+    requires { IfSome pieces (λ n. 1 ≤ n) }
+    ensures { TellsAudit (authority_under secrets.now) history.now.base history.now.events (O.held output.old) (O.faults output.old) result (O.held output.new) (O.faults output.new) }
+{
+    match report_on(rt, alloc, secrets, history, pieces) {
+        Ok(report) => tell_report(alloc, output, &report),
+        Err(_) => OUT_OF_MEMORY,
+    }
+}

@@ -1,0 +1,17 @@
+//! The commands that leave the areas as they are: a script over a store in memory, an audit of a history, an inquiry, and a
+//! large run; and a script over any store.
+//!
+//! Each writes what it comes to, and returns the status to end with. If the output fails or memory runs out, that is the
+//! status.
+#![tactic(auto)]
+
+pub mod answering;
+mod auditing;
+mod inquiring;
+mod loading;
+mod memory;
+
+pub use auditing::audit_history;
+pub use inquiring::inquire;
+pub use loading::load;
+pub use memory::run_in_memory;

@@ -1,0 +1,34 @@
+-- Each command ends as it should.
+use Rattle.std.proofs.Common.{refl, subst}
+use Rattle.command_words.specs.Tasks.{AsksFor, IsFit}
+use Rattle.command_words.proofs.TaskLemmas.{serves_alone}
+use Rattle.pcfs_top.specs.Run as run
+use Rattle.pcfs_top.proofs.EndsWithLemmas.{EndsWith-loaded, EndsWith-usage}
+use Rattle.pcfs_top.proofs.run.run_task.Goals as goal
+
+pub returns-in-Script : goal.returns-in-Script
+returns-in-Script g c words asks = run.in_memory _ (subst (AsksFor words) c.in-Script.is asks) refl c.run_in_memory.ensures
+
+pub returns-in-Stored : goal.returns-in-Stored
+returns-in-Stored g c words asks = c.run_stored.ensures words (subst (AsksFor words) c.in-Stored.is asks)
+
+pub returns-in-Init : goal.returns-in-Init
+returns-in-Init g c words asks = c.init.ensures words _ _ (subst (AsksFor words) c.in-Init.is asks)
+
+pub audit_stored-requires-clause-some : goal.audit_stored-requires-clause-some
+audit_stored-requires-clause-some g c _ _ = subst IsFit c.in-Audit.is c.requires.fit
+
+pub returns-in-Audit : goal.returns-in-Audit
+returns-in-Audit g c words asks = c.audit_stored.ensures words _ _ (subst (AsksFor words) c.in-Audit.is asks)
+
+pub returns-in-Check : goal.returns-in-Check
+returns-in-Check g c words asks = run.inquired _ (subst (AsksFor words) c.in-Check.is asks) refl c.inquire.ensures
+
+pub load-requires : goal.load-requires
+load-requires g c = subst IsFit c.in-Load.is c.requires.fit
+
+pub returns-in-Load : goal.returns-in-Load
+returns-in-Load g c words asks = EndsWith-loaded words c.args.secrets.now _ _ _ _ _ _ (subst (AsksFor words) c.in-Load.is asks) refl refl c.load.ensures
+
+pub returns-in-Serve : goal.returns-in-Serve
+returns-in-Serve g c words asks = EndsWith-usage words c.args.secrets.now _ _ _ _ (serves_alone words _ _ (subst (AsksFor words) c.in-Serve.is asks)) refl refl c.tell.ensures

@@ -1,0 +1,115 @@
+//! What the connections of a case say and are told, in one order for all of them.
+
+use bl_syntax::Bytes;
+use pcfs_ports::SetClock;
+use std::sync::atomic::{AtomicBool, AtomicUsize, Ordering};
+
+/// What one connection says, and what it is told then.
+#[derive(Drop)]
+pub struct Step {
+    /// The number of the connection, from 1.
+    pub connection: u64,
+    /// What the clock shows from here on.
+    pub second: i64,
+    /// The line with its end, or nothing if it only is told something.
+    pub line: Bytes,
+    /// What it is told, with its end.
+    pub reply: Bytes,
+    /// The connection says nothing more, and is told nothing.
+    pub ends: bool,
+}
+
+/// How the connections did.
+#[derive(Clone, Copy, PartialEq, Eq)]
+pub enum Outcome {
+    /// Each was told what it was to be told.
+    AsWanted,
+    /// At the step of this number, from 1, something else was told.
+    Differs(usize),
+    /// A connection waited in vain for its step. So many steps were made.
+    InVain(usize),
+}
+
+/// The steps of all connections, how many were made, and the clock.
+#[derive(Drop)]
+pub struct Board {
+    pub clock: SetClock,
+    steps: Vec<Step>,
+    made: AtomicUsize,
+    first_wrong: AtomicUsize,
+    is_in_vain: AtomicBool,
+}
+
+impl Board {
+    /// No step was made.
+    pub fn new(steps: Vec<Step>) -> Board {
+        Board {
+            clock: SetClock::new(0),
+            steps,
+            made: AtomicUsize::new(0),
+            first_wrong: AtomicUsize::new(0),
+            is_in_vain: AtomicBool::new(false),
+        }
+    }
+
+    /// The next step, with how many come before it; none if all were made.
+    pub fn next_step(&self) -> Option<(usize, &Step)> {
+        let made = self.made.load(Ordering::SeqCst);
+        match self.steps.get(made) {
+            Some(step) => Some((made, step)),
+            None => None,
+        }
+    }
+
+    /// The next step was made.
+    pub fn advance(&self) {
+        self.made.fetch_add(1, Ordering::SeqCst);
+    }
+
+    /// Somebody waited in vain.
+    pub fn give_up(&self) {
+        self.is_in_vain.store(true, Ordering::SeqCst);
+    }
+
+    // Notes that the step after so many is not as wanted.
+    fn note_wrong(&self, made: usize) {
+        if self.first_wrong.load(Ordering::SeqCst) == 0 {
+            self.first_wrong
+                .store(made.saturating_add(1), Ordering::SeqCst);
+        }
+    }
+
+    /// Takes what a connection is told, if it is its step, or if no step is left, when it is told too much. Returns whether
+    /// it was taken.
+    pub fn take_reply(&self, connection: u64, reply: &[u8]) -> bool {
+        match self.next_step() {
+            Some((made, step)) => {
+                if step.connection != connection {
+                    return false;
+                }
+                if step.reply.as_slice() != reply {
+                    self.note_wrong(made);
+                }
+                self.advance();
+                true
+            }
+            None => {
+                self.note_wrong(self.steps.len());
+                true
+            }
+        }
+    }
+
+    /// How the connections did.
+    pub fn outcome(&self) -> Outcome {
+        let first_wrong = self.first_wrong.load(Ordering::SeqCst);
+        let made = self.made.load(Ordering::SeqCst);
+        if first_wrong != 0 {
+            return Outcome::Differs(first_wrong);
+        }
+        if self.is_in_vain.load(Ordering::SeqCst) || made != self.steps.len() {
+            return Outcome::InVain(made);
+        }
+        Outcome::AsWanted
+    }
+}

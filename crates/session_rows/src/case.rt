@@ -1,0 +1,364 @@
+//! A case: an operator's script, what connections say and are told, and what another script finds then.
+
+use crate::board::{Board, Outcome, Step};
+use crate::connection::RowListener;
+use bl_syntax::decimal::put_counted;
+use bl_syntax::{Bytes, NoMemory, Numbers};
+use pcfs_ports::{ListNonces, MemoryDisk, MemorySink, MemorySource};
+use pcfs_run::run;
+use pcfs_secrets::Secrets;
+use pcfs_top::run::{Ended, run_alone};
+use std::alloc::{AllocError, AllocFailed, Global};
+use std::sync::Wait;
+use std::thread::Threads;
+
+/// Why a case was not run.
+#[derive(Clone, Copy, Debug, PartialEq, Eq)]
+pub enum RowFault {
+    /// A row is none of the rows, or the secrets are bad.
+    BadRow,
+    /// There was no memory.
+    NoMemory,
+}
+
+impl From<NoMemory> for RowFault {
+    fn from(_refused: NoMemory) -> RowFault {
+        RowFault::NoMemory
+    }
+}
+
+impl From<AllocError> for RowFault {
+    fn from(_refused: AllocError) -> RowFault {
+        RowFault::NoMemory
+    }
+}
+
+impl<T: Drop> From<AllocFailed<T>> for RowFault {
+    fn from(_refused: AllocFailed<T>) -> RowFault {
+        RowFault::NoMemory
+    }
+}
+
+/// What the rows of a case give and want.
+#[derive(Drop)]
+pub struct Case {
+    secrets: Bytes,
+    script: Bytes,
+    nonces: Bytes,
+    connections: u64,
+    second: i64,
+    connection: u64,
+    line: Bytes,
+    steps: Vec<Step>,
+    checks: Bytes,
+    wanted: Bytes,
+}
+
+/// How a case ended.
+#[derive(Drop)]
+pub struct CaseEnd {
+    /// How the connections did.
+    pub outcome: Outcome,
+    /// The command ended with status 0, and reported how many it served.
+    pub is_served: bool,
+    /// What the script that came then was told, and what was wanted.
+    pub found: Bytes,
+    pub wanted: Bytes,
+}
+
+// The number that a word writes.
+fn number_of(word: &str) -> Result<u64, RowFault> {
+    match word.parse::<u64>() {
+        Ok(number) => Ok(number),
+        Err(_) => Err(RowFault::BadRow),
+    }
+}
+
+// Adds the text as a line with its end.
+fn add_line(text: &str, out: &mut Bytes) -> Result<(), RowFault> {
+    out.extend(text.as_bytes())?;
+    out.push(b'\n')?;
+    Ok(())
+}
+
+// These words.
+fn words_of(alloc: Global, words: &[&str]) -> Result<Vec<String>, RowFault> {
+    let mut own = Vec::new(alloc);
+    for word in words {
+        own.push(word.to_string(alloc)?)?;
+    }
+    Ok(own)
+}
+
+// A disk in memory without bytes.
+fn new_disk(alloc: Global) -> Result<MemoryDisk, RowFault> {
+    match MemoryDisk::new(alloc, Bytes::new(alloc), Numbers::new(alloc)) {
+        Ok(disk) => Ok(disk),
+        Err(_) => Err(RowFault::NoMemory),
+    }
+}
+
+// Runs a command over the disks with this input.
+fn run_over<R: Threads + Wait + Sync + AllocGlobal>(
+    rt: &R,
+    words: &[&str],
+    secrets: &Secrets,
+    input: Bytes,
+    output: &mut MemorySink,
+    a: MemoryDisk,
+    b: MemoryDisk,
+) -> Result<Ended<MemoryDisk>, RowFault> {
+    let alloc = rt.alloc();
+    let words = words_of(alloc, words)?;
+    let mut input = MemorySource::new(alloc, input, Numbers::new(alloc));
+    Ok(run_alone(rt, alloc, &words, secrets, &mut input, output, a, b))
+}
+
+// The disks after the operator's script.
+fn set_up<R: Threads + Wait + Sync + AllocGlobal>(
+    rt: &R,
+    secrets: &Secrets,
+    script: Bytes,
+) -> Result<Ended<MemoryDisk>, RowFault> {
+    let alloc = rt.alloc();
+    let mut output = MemorySink::new(alloc, Numbers::new(alloc));
+    let none = Bytes::new(alloc);
+    let a = new_disk(alloc)?;
+    let b = new_disk(alloc)?;
+    let made = run_over(rt, &["init"], secrets, none, &mut output, a, b)?;
+    let words = ["script", "--stored"];
+    run_over(rt, &words, secrets, script, &mut output, made.a, made.b)
+}
+
+// The line that tells how many were served.
+fn served_line(alloc: Global, count: u64) -> Result<Bytes, RowFault> {
+    let mut line = Bytes::new(alloc);
+    put_counted(&mut line, "served ", count)?;
+    line.push(b'\n')?;
+    Ok(line)
+}
+
+// The words that serve so many.
+fn serve_words(alloc: Global, count: u64) -> Result<Vec<String>, RowFault> {
+    let number = count.to_string(alloc)?;
+    words_of(alloc, &["serve", "4040", number.as_str()])
+}
+
+// Gives the connections of the board sessions over the disks. Returns the disks, and whether the command ended as wanted.
+fn serve<R: Threads + Wait + Sync + AllocGlobal>(
+    rt: &R,
+    secrets: &Secrets,
+    board: &Board,
+    count: u64,
+    nonces: Bytes,
+    disks: Ended<MemoryDisk>,
+) -> Result<(Ended<MemoryDisk>, bool), RowFault> {
+    let alloc = rt.alloc();
+    let words = serve_words(alloc, count)?;
+    let wanted = served_line(alloc, count)?;
+    let mut input = MemorySource::new(alloc, Bytes::new(alloc), Numbers::new(alloc));
+    let mut output = MemorySink::new(alloc, Numbers::new(alloc));
+    let mut nonces = ListNonces::new(alloc, nonces, Numbers::new(alloc));
+    let mut net = RowListener::new(board, count);
+    let ended = run(
+        rt,
+        alloc,
+        &words,
+        secrets,
+        &mut input,
+        &mut output,
+        disks.a,
+        disks.b,
+        &board.clock,
+        &mut net,
+        &mut nonces,
+    );
+    let is_served = ended.status == 0 && output.held() == wanted.as_slice();
+    Ok((ended, is_served))
+}
+
+// What a script over the disks is told.
+fn found_by<R: Threads + Wait + Sync + AllocGlobal>(
+    rt: &R,
+    secrets: &Secrets,
+    script: Bytes,
+    disks: Ended<MemoryDisk>,
+) -> Result<Bytes, RowFault> {
+    let alloc = rt.alloc();
+    let mut output = MemorySink::new(alloc, Numbers::new(alloc));
+    let words = ["script", "--stored"];
+    let _ = run_over(rt, &words, secrets, script, &mut output, disks.a, disks.b)?;
+    let mut found = Bytes::new(alloc);
+    found.extend(output.held())?;
+    Ok(found)
+}
+
+// Runs the operator's script, the connections, and the script that looks at what is kept. Returns whether the connections were
+// served, and what that script is told.
+fn run_all<R: Threads + Wait + Sync + AllocGlobal>(
+    rt: &R,
+    secrets: &Secrets,
+    board: &Board,
+    connections: u64,
+    script: Bytes,
+    nonces: Bytes,
+    checks: Bytes,
+) -> Result<(bool, Bytes), RowFault> {
+    let disks = set_up(rt, secrets, script)?;
+    let (disks, is_served) = serve(rt, secrets, board, connections, nonces, disks)?;
+    match found_by(rt, secrets, checks, disks) {
+        Ok(found) => Ok((is_served, found)),
+        Err(fault) => Err(fault),
+    }
+}
+
+impl Case {
+    /// A case that gives nothing and wants nothing.
+    pub fn new(alloc: Global) -> Case {
+        Case {
+            secrets: Bytes::new(alloc),
+            script: Bytes::new(alloc),
+            nonces: Bytes::new(alloc),
+            connections: 0,
+            second: 0,
+            connection: 0,
+            line: Bytes::new(alloc),
+            steps: Vec::new(alloc),
+            checks: Bytes::new(alloc),
+            wanted: Bytes::new(alloc),
+        }
+    }
+
+    // One connection more. Its nonce has this number in each of its bytes.
+    fn add_connection(&mut self, number: &str) -> Result<(), RowFault> {
+        let byte = match number.parse::<u8>() {
+            Ok(byte) => byte,
+            Err(_) => return Err(RowFault::BadRow),
+        };
+        for _ in 0..16u32 {
+            self.nonces.push(byte)?;
+        }
+        self.connections = self.connections.saturating_add(1);
+        Ok(())
+    }
+
+    // The next step is of this connection, which says no line.
+    fn begin_step(&mut self, number: &str) -> Result<(), RowFault> {
+        self.connection = number_of(number)?;
+        self.line.clear();
+        Ok(())
+    }
+
+    // The next step is of this connection, which says a line.
+    fn say(&mut self, number: &str, line: &str) -> Result<(), RowFault> {
+        self.begin_step(number)?;
+        add_line(line, &mut self.line)
+    }
+
+    // The next step is of this connection, which says a line of so many bytes.
+    fn say_long(&mut self, text: &str) -> Result<(), RowFault> {
+        let (number, count) = text.split_once(' ').ok_or(RowFault::BadRow)?;
+        self.begin_step(number)?;
+        for _ in 0..number_of(count)? {
+            self.line.push(b'x')?;
+        }
+        self.line.push(b'\n')?;
+        Ok(())
+    }
+
+    // Adds the step, with what is told.
+    fn add_reply(&mut self, alloc: Global, text: &str) -> Result<(), RowFault> {
+        let mut line = Bytes::new(alloc);
+        line.extend(self.line.as_slice())?;
+        let mut reply = Bytes::new(alloc);
+        add_line(text, &mut reply)?;
+        let step = Step {
+            connection: self.connection,
+            second: self.second,
+            line,
+            reply,
+            ends: false,
+        };
+        match self.steps.push(step) {
+            Ok(()) => Ok(()),
+            Err(_) => Err(RowFault::NoMemory),
+        }
+    }
+
+    // Adds the step at which the input of a connection ends.
+    fn add_end(&mut self, alloc: Global, number: &str) -> Result<(), RowFault> {
+        let step = Step {
+            connection: number_of(number)?,
+            second: self.second,
+            line: Bytes::new(alloc),
+            reply: Bytes::new(alloc),
+            ends: true,
+        };
+        match self.steps.push(step) {
+            Ok(()) => Ok(()),
+            Err(_) => Err(RowFault::NoMemory),
+        }
+    }
+
+    // Sets what the clock shows from the next step on.
+    fn set_clock(&mut self, text: &str) -> Result<(), RowFault> {
+        match text.parse::<i64>() {
+            Ok(second) => {
+                self.second = second;
+                Ok(())
+            }
+            Err(_) => Err(RowFault::BadRow),
+        }
+    }
+
+    /// Adds what a row gives or wants.
+    pub fn add_row(&mut self, alloc: Global, row: &str) -> Result<(), RowFault> {
+        let (kind, text) = row.split_once(' ').unwrap_or((row, ""));
+        match kind {
+            "secret" => add_line(text, &mut self.secrets),
+            ">" => add_line(text, &mut self.script),
+            "nonce" => self.add_connection(text),
+            "at" => self.set_clock(text),
+            "+" => self.begin_step(text),
+            "." => self.add_end(alloc, text),
+            "long" => self.say_long(text),
+            "<" => self.add_reply(alloc, text),
+            "then" => add_line(text, &mut self.checks),
+            "is" => add_line(text, &mut self.wanted),
+            "" | "#" => Ok(()),
+            _ => self.say(kind, text),
+        }
+    }
+
+    /// Runs the case.
+    pub fn run<R: Threads + Wait + Sync + AllocGlobal>(self, rt: &R) -> Result<CaseEnd, RowFault> {
+        let Case {
+            secrets,
+            script,
+            nonces,
+            connections,
+            second: _,
+            connection: _,
+            line: _,
+            steps,
+            checks,
+            wanted,
+        } = self;
+        let secrets = match Secrets::parse(rt.alloc(), secrets.as_slice()) {
+            Ok(secrets) => secrets,
+            Err(_) => return Err(RowFault::BadRow),
+        };
+        let board = Board::new(steps);
+        let ran = run_all(rt, &secrets, &board, connections, script, nonces, checks);
+        let outcome = board.outcome();
+        match ran {
+            Ok((is_served, found)) => Ok(CaseEnd {
+                outcome,
+                is_served,
+                found,
+                wanted,
+            }),
+            Err(fault) => Err(fault),
+        }
+    }
+}

@@ -1,0 +1,5 @@
+pub mod CountLemmas
+pub mod AskingLemmas
+pub mod SaidLemmas
+pub mod SpokenLemmas
+pub mod SessionEndsLemmas

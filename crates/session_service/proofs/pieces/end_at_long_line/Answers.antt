@@ -1,0 +1,20 @@
+-- The lines before the long one are answered, and then it is told.
+use Rattle.std.proofs.Common.{ap, Err}
+use Rattle.pcfs_session.proofs.StoredLemmas.{HasRisen-earlier}
+use Rattle.session_service.proofs.SpokenLemmas.{EndsAtLong-told, EndsAtLong-untold, EndsAtLong-cut, unsent_write}
+use Rattle.session_service.proofs.pieces.end_at_long_line.Goals as goal
+
+pub returns-in-Err-clause-ends : goal.returns-in-Err-clause-ends
+returns-in-Err-clause-ends g c lines whole same = EndsAtLong-cut g.D.Disk.faults (g.C.Clock.gives c.args.clock.now) c.args.nonce.now _ _ _ _ _ _ lines _ _ _ c.unsent_end.ensures same c.in-Err.ensures.cut
+
+pub returns-in-Err-clause-risen : goal.returns-in-Err-clause-risen
+returns-in-Err-clause-risen g c is = c.in-Err.ensures.risen (ap Err (unsent_write _ _ c.unsent_end.ensures is))
+
+pub returns-in-Ok-tell-clause-ends : goal.returns-in-Ok-tell-clause-ends
+returns-in-Ok-tell-clause-ends g c lines whole same = EndsAtLong-told g.D.Disk.faults (g.C.Clock.gives c.args.clock.now) c.args.nonce.now _ _ _ _ _ _ _ lines _ _ whole same c.in-Ok.ensures.ok c.in-Ok-tell.ensures.ok
+
+pub returns-in-Err-tell-clause-ends : goal.returns-in-Err-tell-clause-ends
+returns-in-Err-tell-clause-ends g c lines whole same = EndsAtLong-untold g.D.Disk.faults (g.C.Clock.gives c.args.clock.now) c.args.nonce.now _ _ _ _ _ _ _ lines _ _ _ _ c.unsent_end-in-Err-tell.ensures whole same c.in-Ok.ensures.ok c.in-Err-tell.ensures.err
+
+pub returns-in-Err-tell-clause-risen : goal.returns-in-Err-tell-clause-risen
+returns-in-Err-tell-clause-risen g c is = HasRisen-earlier _ _ _ c.in-Ok.ensures.never_falls (c.in-Err-tell.ensures.risen (ap Err (unsent_write _ _ c.unsent_end-in-Err-tell.ensures is)))

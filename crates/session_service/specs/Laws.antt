@@ -1,0 +1,76 @@
+-- Laws of sessions: what a line of a session asks is what the definition of answers makes of its command, for somebody who calls in their own name and may see what is granted to them; and a session is placed in what its pass has seen.
+use Rattle.std.specs.Prelude.{◌≡◌, ℕ, ℤ, ◌≤◌, List, ◌++◌, Some, Ok, Err}
+use Rattle.bl_syntax.specs.declared.grant.Goal.{Goal}
+use Rattle.bl_syntax.specs.Grant.{GrantView}
+use Rattle.proof_term.specs.Proof.{ProofView}
+use Rattle.proof_verifier.specs.declared.cites.Cite.{Cite}
+use Rattle.proof_verifier.specs.declared.fault.CheckFault.{CheckFault}
+use Rattle.proof_verifier.specs.Cited.{statements_of}
+use Rattle.proof_verifier.specs.CheckedView.{checked_view}
+use Rattle.proof_verifier.specs.Verdict.{verdict}
+use Rattle.pcfs_secrets.specs.declared.secrets.Secrets.{Secrets}
+use Rattle.access_history.specs.declared.request.StepRequest.{StepRequest}
+use Rattle.access_history.specs.declared.request.StepRequest.TheVariants.{Issue}
+use Rattle.access_history.specs.Authority.{sayings}
+use Rattle.access_history.specs.Base.{BaseView}
+use Rattle.access_history.specs.declared.reply.StepReply.TheVariants.{Absent}
+use Rattle.access_history.specs.Citing.{AreFound, IsAbsent}
+use Rattle.line_forms.specs.declared.command.Command.{Command}
+use Rattle.line_wire.specs.declared.reply.LineReply.{LineReply}
+use Rattle.line_wire.specs.declared.reply.LineReply.TheVariants as replies
+use Rattle.tree_lock.specs.Seen.{PassView}
+use Rattle.pcfs_store.specs.Entries.{StoreEntry}
+use Rattle.pcfs_store.specs.StoreView.{StoreView}
+use Rattle.session_history.specs.declared.request.TurnRequest.TheVariants.{Step}
+use Rattle.session_history.specs.declared.task.LineTask.TheVariants as tasks
+use Rattle.session_history.specs.Tasks.{IsUserTask}
+use Rattle.session_history.specs.SessionState.{SessionState, guest_with}
+use Rattle.session_history.specs.Placed.{LinesPlaced}
+use Rattle.shared_store.specs.declared.entry.LockEntry.{LockEntry}
+use Rattle.shared_store.specs.LockHistory.{numbered, lock_history}
+use Rattle.shared_store.specs.Turning.{pass_at}
+use Rattle.shared_store.specs.Asking.{entries_seen, HasHistory, HasSeenFault}
+use Rattle.pcfs_session.specs.Asker.{Asker}
+use Rattle.pcfs_session.specs.LineAnswer.{replied, requested, ComesTo}
+use Rattle.session_service.specs.Said.{SaysStopped}
+use Rattle.session_service.specs.SessionEnds.{Speaks}
+
+-- what is asked in one turn is what a look at any state makes of the command
+abbrev pub TurnsAskWhatCommandsComeTo : Type 0
+TurnsAskWhatCommandsComeTo = (secrets : Secrets) (state : BaseView) (asker : Asker) (command : Command) (request : StepRequest) → asker.sees ≡ Some asker.caller → IsUserTask asker.caller command (tasks.Turn (Step request)) →
+    ComesTo secrets state asker command (requested request)
+
+-- a proof that grants its goal, from the statements found in a state, asks for the issue that a look at that state makes of the command
+abbrev pub ProofsAskWhatCommandsComeTo : Type 0
+ProofsAskWhatCommandsComeTo = (secrets : Secrets) (state : BaseView) (asker : Asker) (command : Command) (goal : Goal) (numbers : List ℕ) (proof : ProofView) (cites : List Cite) (g : GrantView) →
+    IsUserTask asker.caller command (tasks.Proof goal numbers proof) → AreFound (sayings state.statements) numbers cites → verdict (statements_of cites) goal proof ≡ Ok g →
+    ComesTo secrets state asker command (requested (Issue (checked_view cites goal proof g)))
+
+-- and one with a fault comes to the same reply
+abbrev pub FaultsAreWhatCommandsComeTo : Type 0
+FaultsAreWhatCommandsComeTo = (secrets : Secrets) (state : BaseView) (asker : Asker) (command : Command) (goal : Goal) (numbers : List ℕ) (proof : ProofView) (cites : List Cite) (fault : CheckFault) →
+    IsUserTask asker.caller command (tasks.Proof goal numbers proof) → AreFound (sayings state.statements) numbers cites → verdict (statements_of cites) goal proof ≡ Err fault →
+    ComesTo secrets state asker command (replied (replies.Unproved fault))
+
+-- and statements that are not there come to the same reply
+abbrev pub AbsencesAreWhatCommandsComeTo : Type 0
+AbsencesAreWhatCommandsComeTo = (secrets : Secrets) (state : BaseView) (asker : Asker) (command : Command) (goal : Goal) (numbers : List ℕ) (proof : ProofView) (number : ℕ) →
+    IsUserTask asker.caller command (tasks.Proof goal numbers proof) → IsAbsent (sayings state.statements) numbers number → ComesTo secrets state asker command (replied (replies.Step (Absent number)))
+
+-- A session in what its pass has seen at the end: this is the history of a store that was opened so, and the replies are placed in it, after all that the pass had seen at first; the pass's own entries grew by those that the replies
+-- were given.
+pub record IsPlacedSession {D : Type 0} (faults : D → ℕ) (gives : ℤ → Type 0) (nonce : List ℕ) (opening : StoreView D) (old new : PassView (LockEntry D)) (lines : List (List ℕ)) (answers : List LineReply) : Type 0 where
+  pub entries : List StoreEntry
+  pub seen_is : new.seen ≡ lock_history opening entries
+  pub end : SessionState
+  pub to : ℕ
+  pub given : List StoreEntry
+  pub placed : LinesPlaced gives (pass_at opening old.number) entries (guest_with nonce) (entries_seen old) lines answers end to given
+  pub within : to ≤ entries_seen new
+  pub own : new.own ≡ old.own ++ numbered given
+  pub stopped : SaysStopped answers → HasSeenFault faults new
+
+-- so is each session over a store of which its pass had seen the history
+abbrev pub SessionsArePlaced : (D : Type 0) → (D → ℕ) → (ℤ → Type 0) → Type 0
+SessionsArePlaced D faults gives = (nonce : List ℕ) (opening : StoreView D) (old new : PassView (LockEntry D)) (lines : List (List ℕ)) (answers : List LineReply) → HasHistory opening old → Speaks faults gives nonce old new lines answers →
+    IsPlacedSession faults gives nonce opening old new lines answers

@@ -1,0 +1,70 @@
+-- How a session ends: what was taken, what was written, and where its replies are placed in the history that others grow too. If the input does not tell what it has, or the output what it holds, nothing is said of that (this project's own).
+use Rattle.std.specs.Prelude.{◌≡◌, ◌⊎◌, ℕ, ◌≤◌, ℤ, List, [], ◌∷◌, ◌++◌}
+use Rattle.pcfs_ports.specs.Faults.{HasRisen}
+use Rattle.pcfs_ports.specs.Told.{with_back, ReadsToEnd, TakesFirst, HoldsSome}
+use Rattle.line_text.specs.Lines.{lines_of}
+use Rattle.line_framer.specs.Feeding.{AreShort}
+use Rattle.line_wire.specs.declared.reply.LineReply.{LineReply}
+use Rattle.line_wire.specs.declared.reply.LineReply.TheVariants.{TooLong}
+use Rattle.line_wire.specs.ReplyText.{output_of}
+use Rattle.tree_lock.specs.Seen.{PassView}
+use Rattle.pcfs_store.specs.Entries.{StoreEntry}
+use Rattle.session_history.specs.Output.{greeting_text, session_output}
+use Rattle.session_history.specs.SessionState.{SessionState, guest_with}
+use Rattle.session_history.specs.Placed.{LinesPlaced}
+use Rattle.shared_store.specs.declared.entry.LockEntry.{LockEntry}
+use Rattle.shared_store.specs.Turning.{pass_at}
+use Rattle.shared_store.specs.Asking.{entries_seen, PassGoesOn, InEachHistory, HasSeenFault}
+use Rattle.pcfs_session.specs.Streams.{Streams}
+use Rattle.pcfs_session.specs.Taken.{AreTaken, AreAllTaken, IsCutAtLong}
+use Rattle.pcfs_session.specs.declared.outbox.SendFault.{SendFault}
+use Rattle.pcfs_session.specs.declared.outbox.SendFault.TheVariants.{Write}
+use Rattle.session_service.specs.declared.session_end.SessionEnd.{SessionEnd}
+use Rattle.session_service.specs.declared.session_end.SessionEnd.TheVariants.{Done, LineTooLong, ReadFault, InputTooLong}
+use Rattle.session_service.specs.Ends.{unsent_end}
+use Rattle.session_service.specs.Said.{SaysStopped}
+
+module _ {D : Type 0} (faults : D → ℕ) (gives : ℤ → Type 0) (nonce : List ℕ) where
+  -- A session with this nonce answered these lines, from one moment of its pass to a later one. In each history that begins with what the pass has seen then, the replies are placed after all that it had seen at first; and
+  -- the pass's own entries grew by those that the replies were given. That the store is stopped is told only if the pass has seen that a disk failed.
+  pub record Speaks (old new : PassView (LockEntry D)) (lines : List (List ℕ)) (answers : List LineReply) : Type 0 where
+    pub end : SessionState
+    pub to : ℕ
+    pub within : to ≤ entries_seen new
+    pub given : List StoreEntry
+    pub goes_on : PassGoesOn old new given
+    pub placed : InEachHistory new (λ opening entries. LinesPlaced gives (pass_at opening old.number) entries (guest_with nonce) (entries_seen old) lines answers end to given)
+    pub stopped : SaysStopped answers → HasSeenFault faults new
+
+  -- how far a session is: it answered lines that were taken, each with its end; or the input was read to its end, and it answered all its lines, of which none is too long
+  pub data IsUnderWay (old new : PassView (LockEntry D)) (before after : Streams) (answers : List LineReply) : Type 0 where
+    while_reading : (lines : List (List ℕ)) → AreTaken before.left after.left lines → Speaks old new lines answers → IsUnderWay old new before after answers
+    all_read : (bytes : List ℕ) → ReadsToEnd before.left after.left bytes → AreShort bytes → Speaks old new (lines_of bytes) answers → IsUnderWay old new before after answers
+
+  -- What a session replies that ends so: to all lines of the input; to all lines that were taken with their ends; or to these, and that the line after them is too long, which is the last reply.
+  pub data SessionReplies (old new : PassView (LockEntry D)) (before after : Streams) : SessionEnd → List LineReply → Type 0 where
+    done : (bytes : List ℕ) (answers : List LineReply) → ReadsToEnd before.left after.left bytes → AreShort bytes → Speaks old new (lines_of bytes) answers → SessionReplies old new before after Done answers
+    line_too_long : (lines : List (List ℕ)) (answers : List LineReply) → IsCutAtLong before.left after.left lines → Speaks old new lines answers → SessionReplies old new before after LineTooLong (answers ++ TooLong ∷ [])
+    read_fault : (lines : List (List ℕ)) (answers : List LineReply) → HasRisen before.read_faults after.read_faults → AreAllTaken before.left after.left lines → Speaks old new lines answers → SessionReplies old new before after ReadFault answers
+    input_too_long : (lines : List (List ℕ)) (answers : List LineReply) → TakesFirst 1073741824 before.left after.left → AreAllTaken before.left after.left lines → Speaks old new lines answers → SessionReplies old new before after InputTooLong answers
+
+  -- How a session ends: the greeting and all those replies were written; or the output failed or memory ran out, and some first part was written of the greeting and of the replies to the first lines, or to these and a line that is
+  -- too long.
+  pub data SessionEnds (old new : PassView (LockEntry D)) (before : Streams) : SessionEnd → Streams → Type 0 where
+    written : (how : SessionEnd) (after : Streams) (answers : List LineReply) → SessionReplies old new before after how answers → after.held ≡ with_back before.held (session_output nonce answers) → SessionEnds old new before how after
+    cut_short : (fault : SendFault) (after : Streams) (answers : List LineReply) → (fault ≡ Write → HasRisen before.write_faults after.write_faults) → IsUnderWay old new before after answers →
+        HoldsSome before.held after.held (session_output nonce answers) → SessionEnds old new before (unsent_end fault) after
+    cut_at_long_line : (fault : SendFault) (after : Streams) (answers : List LineReply) → (fault ≡ Write → HasRisen before.write_faults after.write_faults) → SessionReplies old new before after LineTooLong answers →
+        HoldsSome before.held after.held (session_output nonce answers) → SessionEnds old new before (unsent_end fault) after
+
+  -- The same after the greeting is out.
+  pub data GoesOnToEnd (old new : PassView (LockEntry D)) (before : Streams) : SessionEnd → Streams → Type 0 where
+    rest_written : (how : SessionEnd) (after : Streams) (answers : List LineReply) → SessionReplies old new before after how answers → after.held ≡ with_back before.held (output_of answers) → GoesOnToEnd old new before how after
+    rest_cut_short : (fault : SendFault) (after : Streams) (answers : List LineReply) → (fault ≡ Write → HasRisen before.write_faults after.write_faults) → IsUnderWay old new before after answers →
+        HoldsSome before.held after.held (output_of answers) → GoesOnToEnd old new before (unsent_end fault) after
+    rest_cut_at_long_line : (fault : SendFault) (after : Streams) (answers : List LineReply) → (fault ≡ Write → HasRisen before.write_faults after.write_faults) → SessionReplies old new before after LineTooLong answers →
+        HoldsSome before.held after.held (output_of answers) → GoesOnToEnd old new before (unsent_end fault) after
+
+-- Nothing is asked of the input before the greeting is out: nothing was taken of it and it had no fault, or the output holds the greeting with its end.
+abbrev pub GreetsFirst : List ℕ → Streams → Streams → Type 0
+GreetsFirst nonce before after = ((after.left ≡ before.left) × (after.read_faults ≡ before.read_faults)) ⊎ ((more : List ℕ) × (after.held ≡ with_back before.held ((greeting_text nonce ++ 10 ∷ []) ++ more)))

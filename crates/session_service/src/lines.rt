@@ -1,0 +1,94 @@
+//! Lines of a session that are answered, each with its reply written before the next.
+
+ghost use Rattle.std.specs.Prelude.{◌≡◌, ◌≤◌, ◌∷◌, [], OnOk, OnErr, IsErrOf};
+ghost use Rattle.pcfs_ports.specs.Faults.{HasRisen};
+ghost use Rattle.pcfs_ports.specs.Told.{with_back, HoldsSome};
+ghost use Rattle.line_wire.specs.ReplyText.{output_of};
+ghost use Rattle.session_service.specs.Spoken.{IsSpoken, IsCutOff, SpeaksHeld, IsCutWithin};
+
+use bl_syntax::{Bytes, Principal};
+use line_framer::Framer;
+use line_wire::LineReply;
+use pcfs_ports::{Clock, Disk, Sink};
+use pcfs_session::{SendFault, send_all};
+use session_lines::{Checker, answer_line};
+use shared_store::OpenedStore;
+use std::alloc::Global;
+use std::sync::Wait;
+use tree_lock::{Pass, TreeLock};
+
+/// Writes the line of a reply.
+pub fn tell<O: Sink>(alloc: Global, reply: &LineReply, output: &mut O) -> Result<(), SendFault>
+    ensures ok { OnOk result (O.held output.new ≡ with_back (O.held output.old) (output_of (reply.now ∷ []))) }
+    ensures err { OnErr result (HoldsSome (O.held output.old) (O.held output.new) (output_of (reply.now ∷ []))) }
+    ensures risen { IsErrOf result SendFault.Write → HasRisen (O.faults output.old) (O.faults output.new) }
+    ensures never_falls { O.faults output.old ≤ O.faults output.new }
+{
+    let mut text = Bytes::new(alloc);
+    match send_all(alloc, &mut text, reply, output) {
+        Ok(()) => Ok(()),
+        Err(fault) => Err(fault),
+    }
+}
+
+/// Answers a line, and writes its reply.
+///
+/// `Write` comes only if the output's count of faults rose, and `NoMemory` if there was no memory for the text of the reply.
+pub fn speak<R: Wait, D: Disk, C: Clock, K: Checker, O: Sink>(
+    rt: &R,
+    alloc: Global,
+    lock: &TreeLock<OpenedStore<D>>,
+    pass: &mut Pass<OpenedStore<D>>,
+    clock: &C,
+    nonce: &[u8; 16],
+    caller: &mut Option<Principal>,
+    line: &[u8],
+    checker: &mut K,
+    output: &mut O,
+) -> Result<(), SendFault>
+    requires { pass.old.lock ≡ lock.now }
+    ensures ok { OnOk result (IsSpoken D.faults (C.gives clock.now) nonce.now (line.now ∷ []) caller.old pass.old pass.new caller.new (O.held output.old) (O.held output.new)) }
+    ensures cut { OnErr result (IsCutOff D.faults (C.gives clock.now) nonce.now (line.now ∷ []) caller.old pass.old pass.new caller.new (O.held output.old) (O.held output.new)) }
+    ensures risen { IsErrOf result SendFault.Write → HasRisen (O.faults output.old) (O.faults output.new) }
+    ensures never_falls { O.faults output.old ≤ O.faults output.new }
+    ensures same_lock { pass.new.lock ≡ lock.now }
+{
+    let reply = answer_line(rt, alloc, lock, pass, clock, nonce, caller, line, checker);
+    match tell(alloc, &reply, output) {
+        Ok(()) => Ok(()),
+        Err(fault) => Err(fault),
+    }
+}
+
+/// Answers the lines that a framer holds with their ends, as `speak` does each, and takes them.
+pub fn speak_held<R: Wait, D: Disk, C: Clock, K: Checker, O: Sink>(
+    rt: &R,
+    alloc: Global,
+    lock: &TreeLock<OpenedStore<D>>,
+    pass: &mut Pass<OpenedStore<D>>,
+    clock: &C,
+    nonce: &[u8; 16],
+    caller: &mut Option<Principal>,
+    framer: &mut Framer,
+    checker: &mut K,
+    output: &mut O,
+) -> Result<(), SendFault>
+    requires { pass.old.lock ≡ lock.now }
+    ensures ok { OnOk result (SpeaksHeld D.faults (C.gives clock.now) nonce.now framer.old.left framer.new.left caller.old pass.old pass.new caller.new (O.held output.old) (O.held output.new)) }
+    ensures long_stays { OnOk result (framer.new.is_long ≡ framer.old.is_long) }
+    ensures cut { OnErr result (IsCutWithin D.faults (C.gives clock.now) nonce.now framer.old.left caller.old pass.old pass.new caller.new (O.held output.old) (O.held output.new)) }
+    ensures risen { IsErrOf result SendFault.Write → HasRisen (O.faults output.old) (O.faults output.new) }
+    ensures never_falls { O.faults output.old ≤ O.faults output.new }
+    ensures same_lock { pass.new.lock ≡ lock.now }
+{
+    while let Some(line) = framer.next_line() {
+        match speak(
+            rt, alloc, lock, pass, clock, nonce, caller, line, checker, output,
+        ) {
+            Ok(()) => {}
+            Err(fault) => return Err(fault),
+        }
+        framer.take_line();
+    }
+    Ok(())
+}

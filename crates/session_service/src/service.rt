@@ -1,0 +1,212 @@
+//! The service that gives each connection a session.
+
+ghost use Rattle.std.specs.Prelude.{◌≡◌, ◌+◌, ◌<◌, length, if◌then◌else◌};
+ghost use Rattle.tree_lock.specs.Seen.{AreNumbers};
+
+use crate::session::serve_session;
+use pcfs_ports::{Clock, Disk, Nonces, Sink, Source};
+use pcfs_server::{AdmitFault, Service};
+use shared_store::{LockEntry, OpenedStore};
+use std::alloc::Global;
+use std::collections::LinkedList;
+use std::marker::PhantomData;
+use std::sync::Wait;
+use tree_lock::{Doorman, Pass, Recorded, TreeLock};
+
+/// Sessions over what a lock keeps, by a clock. `N` is the type of the nonces, which the door holds.
+#[derive(Drop)]
+pub struct SessionService<'a, V: Recorded, C, N> {
+    lock: &'a TreeLock<V>,
+    clock: &'a C,
+    nonces: PhantomData<N>,
+}
+
+impl<'a, V: Recorded, C, N> SessionService<'a, V, C, N> {
+    ghost use Rattle.std.specs.Prelude.{◌≡◌};
+
+    /// Sessions over this lock, by this clock.
+    pub fn new(lock: &'a TreeLock<V>, clock: &'a C) -> SessionService<'a, V, C, N>
+        ensures lock { result.lock.now ≡ lock.now }
+        ensures clock { result.clock.now ≡ clock.now }
+    {
+        SessionService {
+            lock,
+            clock,
+            nonces: PhantomData,
+        }
+    }
+}
+
+/// What admits connections: the doorman, who makes a pass for each, and where nonces come from. It counts the tokens that
+/// were attended and have left.
+pub struct SessionDoor<'a, V: Recorded, N> {
+    pub door: Doorman<V>,
+    pub nonces: &'a mut N,
+    pub served: u64,
+}
+
+impl<'a, V: Recorded, N> SessionDoor<'a, V, N> {
+    ghost use Rattle.std.specs.Prelude.{◌≡◌};
+
+    /// A door by which nobody has left.
+    pub fn new(door: Doorman<V>, nonces: &'a mut N) -> SessionDoor<'a, V, N>
+        ensures door { result.door ≡ door }
+        ensures same_reference { result.nonces.ghost_name ≡ nonces.entry.ghost_name }
+        ensures nonces { result.nonces.now ≡ nonces.old }
+        ensures served { result.served ≡ 0 }
+    {
+        SessionDoor {
+            door,
+            nonces,
+            served: 0,
+        }
+    }
+
+    /// The doorman.
+    pub fn into_doorman(self) -> Doorman<V>
+        ensures { result ≡ self.entry.door }
+    {
+        let SessionDoor {
+            door,
+            nonces: _,
+            served: _,
+        } = self;
+        door
+    }
+}
+
+/// A connection's session before it began, or after it ended.
+pub struct SessionToken<V: Recorded> {
+    pass: Pass<V>,
+    nonce: [u8; 16],
+    attended: bool,
+}
+
+impl<V: Recorded> SessionToken<V> {
+    ghost use Rattle.std.specs.Prelude.{◌≡◌};
+
+    // The pass, and whether the connection was attended.
+    fn into_pass(self) -> (Pass<V>, bool)
+        ensures { (result.0 ≡ self.pass) × (result.1 ≡ self.attended) }
+    {
+        let SessionToken {
+            pass,
+            nonce: _,
+            attended,
+        } = self;
+        (pass, attended)
+    }
+}
+
+impl<V: Recorded> Drop for SessionToken<V> {
+    fn drop(self) {
+        let SessionToken {
+            pass: _,
+            nonce: _,
+            attended: _,
+        } = self;
+    }
+}
+
+// How many were served, after one more pass was taken in. No more are counted than passes, so the count fits.
+fn served_after<V: Recorded>(door: &Doorman<V>, served: u64, attended: bool) -> u64
+    requires fewer { served < length door.now.retired }
+    requires numbers { AreNumbers door.now.made door.now.retired }
+    ensures { result ≡ (if attended then served + 1 else served) }
+{
+    if !attended {
+        return served;
+    }
+    let _made = door.pass_count();
+    served + 1
+}
+
+impl<'a, D: Disk + Send, C: Clock, N: Nonces + 'a, I: Source, O: Sink> Service<I, O>
+    for SessionService<'a, OpenedStore<D>, C, N> {
+    type Door = SessionDoor<'a, OpenedStore<D>, N>;
+
+    type Token = SessionToken<OpenedStore<D>>;
+
+    type Kept = (LinkedList<(u64, LockEntry<D>)>, u64);
+
+    ghost use Rattle.std.specs.Prelude.{◌≡◌, ◌≤◌, ◌-◌, ◌^◌, true, false, length};
+    ghost use Rattle.session_service.specs.declared.session_end.SessionEnd.{SessionEnd};
+    ghost use Rattle.session_service.specs.SessionEnds.{SessionEnds, GreetsFirst};
+
+    // Each token that is counted had a pass that was taken in.
+    ghost is_door = { λ service door. (door.door.lock ≡ service.lock.now) × (door.served ≤ length door.door.retired) };
+
+    ghost is_token = { λ service token. token.pass.lock ≡ service.lock.now };
+
+    ghost attended = { λ token. token.attended };
+
+    ghost served = { λ door. door.served };
+
+    ghost out = { λ door. door.door.out };
+
+    ghost room = { λ door. 2 ^ 64 - 1 - door.door.made };
+
+    ghost faults = { λ door. N.faults door.nonces.now };
+
+    // The entries that were there at first, and which reference to the nonces it is.
+    ghost kept = { λ door. (door.door.opening, door.nonces.ghost_name) };
+
+    fn admit(
+        &self,
+        _alloc: Global,
+        door: &mut SessionDoor<'a, OpenedStore<D>, N>,
+    ) -> Result<SessionToken<OpenedStore<D>>, AdmitFault> {
+        match door.nonces.next() {
+            Ok(nonce) => Ok(SessionToken {
+                pass: self.lock.pass(&mut door.door),
+                nonce,
+                attended: false,
+            }),
+            Err(_) => Err(AdmitFault::Failed),
+        }
+    }
+
+    fn attend<R: Wait>(
+        &self,
+        rt: &R,
+        alloc: Global,
+        token: &mut SessionToken<OpenedStore<D>>,
+        input: &mut I,
+        output: &mut O,
+    )
+        requires belongs { token.old.pass.lock ≡ self.now.lock.now }
+        requires once { token.old.attended ≡ false }
+        ensures belongs { token.new.pass.lock ≡ self.now.lock.now }
+        ensures attended { token.new.attended ≡ true }
+
+        // The connection had a session, under the token's pass and with its nonce.
+        ensures session { (end : SessionEnd) × SessionEnds D.faults (C.gives self.now.clock.now) token.old.nonce token.old.pass token.new.pass
+            (record { left = I.left input.old; read_faults = I.faults input.old; held = O.held output.old; write_faults = O.faults output.old }) end
+            (record { left = I.left input.new; read_faults = I.faults input.new; held = O.held output.new; write_faults = O.faults output.new }) }
+        ensures greets_first { GreetsFirst token.old.nonce
+            (record { left = I.left input.old; read_faults = I.faults input.old; held = O.held output.old; write_faults = O.faults output.old })
+            (record { left = I.left input.new; read_faults = I.faults input.new; held = O.held output.new; write_faults = O.faults output.new }) }
+    {
+        serve_session(
+            rt,
+            alloc,
+            self.lock,
+            &mut token.pass,
+            input,
+            output,
+            self.clock,
+            token.nonce,
+        );
+        token.attended = true;
+    }
+
+    fn leave(
+        &self,
+        door: &mut SessionDoor<'a, OpenedStore<D>, N>,
+        token: SessionToken<OpenedStore<D>>,
+    ) {
+        let (pass, attended) = token.into_pass();
+        self.lock.retire(&mut door.door, pass);
+        door.served = served_after(&door.door, door.served, attended);
+    }
+}

@@ -1,0 +1,4 @@
+pub mod ClosedLemmas
+pub mod PrintableLemmas
+pub mod SpellableLemmas
+pub mod TokenLemmas
