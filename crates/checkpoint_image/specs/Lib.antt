@@ -1,0 +1,5 @@
+pub mod Chain
+pub mod ImageReading
+pub mod ImageSpelling
+pub mod NodeReading
+pub mod NodeSpelling

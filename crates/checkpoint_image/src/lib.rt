@@ -1,0 +1,18 @@
+//! The image of a state, with which an area begins, both ways, field by field.
+//!
+//! What is written is the one spelling of the state. What is read is spelled so; any other bytes give their first fault
+//! from the left. Numbers of nodes and names of attributes rise. Whether the nodes are a tree is asked by those who make a
+//! world of them.
+#![tactic(auto)]
+
+mod fields;
+mod image;
+mod image_reading;
+mod image_writing;
+pub mod laws;
+mod node_reading;
+mod node_writing;
+
+pub use image::Image;
+pub use image_reading::image_at;
+pub use image_writing::{write_head, write_image, write_issues, write_nodes, write_statements};

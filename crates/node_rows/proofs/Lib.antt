@@ -1,0 +1,2 @@
+pub mod NameLengthLemmas
+pub mod RowsLemmas
