@@ -158,16 +158,18 @@ IsNodeAfter = IsAfter nat_cmp IsSpellableNode
 
 node_from : (previous : ℕ) (f : Fields) → AreBoth (IsHead previous) IsTail f → IsNodeAfter previous (node_of_fields f)
 node_from previous f h =
-    let above : previous < f.0.0 = h.0.0.0 in
-    (less_from_lt previous f.0.0 above, record {
-      above_zero = omega (arith, above);
-      number = h.0.0.1;
-      owner = h.0.1.1.0;
-      directory = h.0.1.1.1;
-      name = h.1.0;
-      attributes = h.1.1.0;
-      contents = h.1.1.1;
-    })
+    let above : previous < f.0.0 = h.0.0.0 in (
+      less_from_lt previous f.0.0 above,
+      record {
+        above_zero = omega (arith, above);
+        number = h.0.0.1;
+        owner = h.0.1.1.0;
+        directory = h.0.1.1.1;
+        name = h.1.0;
+        attributes = h.1.1.0;
+        contents = h.1.1.1;
+      },
+    )
 
 node_is : (previous : ℕ) (row : ℕ × Item) → IsNodeAfter previous row → AreBoth (IsHead previous) IsTail (fields_of_node row)
 node_is previous row h =

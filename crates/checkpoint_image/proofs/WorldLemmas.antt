@@ -22,8 +22,8 @@ all_found : {V : Type 0} (P : ℕ × V → Type 0) (rows : List (ℕ × V)) → 
 all_found P [] rising h = tt
 all_found {V} P (row ∷ rows) rising h =
     let later : (number : ℕ) (value : V) → lookup (nat_eq number) rows ≡ Some value → P (number, value) = λ number value e.
-        let above = above_found row.0 number value rows (rising_head row rows rising) e in
-        h number value (lookup_later (nat_eq number) row rows (ne_eqb number row.0 (λ same. omega (arith, same, above))) ∙ e) in
+    let above = above_found row.0 number value rows (rising_head row rows rising) e in
+    h number value (lookup_later (nat_eq number) row rows (ne_eqb number row.0 (λ same. omega (arith, same, above))) ∙ e) in
     (h row.0 row.1 (lookup_here (nat_eq row.0) row rows (eq-eqb row.0 row.0 refl)), all_found P rows (rising_tail row rows rising) later)
 
 keys-part : {V W : Type 0} (read : V → W) (rows : List (ℕ × V)) → keys_of (map (λ row. (row.0, read row.1)) rows) ≡ keys_of rows
