@@ -4,8 +4,9 @@ from collections import namedtuple
 
 from pcfs_audit_model import proof_bytes
 from pcfs_client import short, tag_of
-from pcfs_model import GOAL, OPERATIONS, Bad, ProofText, Undecided
+from pcfs_model import GOAL, OPERATIONS, Bad, ProofText, Reply, Undecided
 from pcfs_model import fault, first_word, hexadecimal, issue, need, principal, statement_of, written
+from texts import fault_of
 
 LONGEST = 262_144
 MOST_SIGNATURE = 32_768
@@ -76,7 +77,7 @@ class Lines:
         return operation, kinds + [self.procap] * slots, behind
 
     def read(self, line):
-        """What a line asks for. A Reply tells its first fault; Undecided, that its text has one."""
+        """What a line asks for. A Reply tells its first fault."""
         line = line.decode("latin-1")
         form, kinds, behind = self.head(*first_word(line))
         words = []
@@ -90,14 +91,22 @@ class Lines:
         return Asked(form, words, self.text(form, behind[1:]) if behind else None)
 
     def text(self, form, text):
-        """The statement, or the proof and its bytes, that a text writes."""
+        """The statement, or the proof and its bytes, that a text writes. A Reply tells its first fault; Undecided, that one of the two
+        who read it finds one and the other does not."""
         if (form, text) not in self.texts:
             try:
                 self.texts[form, text] = statement_of(text) if form == "register" else with_bytes(ProofText(text).whole())
             except (Undecided, Bad, ValueError, IndexError, OverflowError, RecursionError):
                 self.texts[form, text] = None
-        need(self.texts[form, text] is not None, Undecided)
-        return self.texts[form, text]
+            first = fault_of(form, text)
+            need((first is None) == (self.texts[form, text] is not None), Undecided)
+            if first:
+                self.texts[form, text] = "bad 4 {} {}".format(*first)
+        found = self.texts[form, text]
+        if isinstance(found, str):
+            raise Reply(found)
+        need(found is not None, Undecided)
+        return found
 
 
 def with_bytes(proof):

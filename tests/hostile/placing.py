@@ -19,7 +19,6 @@ from pcfs_model import OPERATIONS, Bad, Reply, Undecided, grant_bytes
 # Between which places a reply stands, its event, and what is to be asked of the model there.
 Place = namedtuple("Place", "least most event ask", defaults=(0, None))
 Ask = namedtuple("Ask", "caller form words procaps first last reply")
-TEXT_FAULT = re.compile(rb"bad 4 [1-5] (0|[1-9][0-9]*)")
 ISSUE = re.compile(rb"ok issue ([1-9][0-9]*) (.*)")
 SECOND = 10**9
 COARSE = 20_000_000  # by so many nanoseconds the server's clock may be behind: some clocks go by ticks
@@ -157,7 +156,7 @@ class Placing:
             want(reply, str(first))
             return self.anywhere()
         except Undecided:
-            return self.place_of_text_fault(line, reply)
+            raise Wrong("and two who read its text differ") from None
         if asked.form == "login":
             want(reply, "ok" if is_accepted(self.known.keys, *asked.words, nonce) else "rejected 1")
             return self.anywhere()
@@ -169,11 +168,6 @@ class Placing:
         find = {"register": self.place_of_statement, "verify": self.place_of_proof, "procap": self.place_of_procap}[asked.form]
         return find(asked, reply, caller)
 
-    def place_of_text_fault(self, line, reply):
-        found = TEXT_FAULT.fullmatch(reply)
-        if not found or int(found[1]) > len(line):
-            raise Wrong("where the text has a fault")
-        return self.anywhere()
 
     def place_when_full(self, size, least, most, ask=None):
         """Where a record with so many bytes does not fit any more."""
