@@ -7,6 +7,7 @@ import random
 import sys
 import time
 from collections import Counter
+from itertools import chain
 
 from areas import LIMIT
 from clients import Plan, begun, said
@@ -138,7 +139,7 @@ class Run:
 
     def place(self, part, plan, store, server, logs):
         placing, nonces, lines = Placing(store.area(), store.secrets, {SHARED}), Counter(), 0
-        for log, faults in [*((log, []) for log in logs), *said(plan)]:
+        for log, faults in chain(((log, []) for log in logs), said(plan)):
             for fault in faults:
                 self.fault(part, fault)
             if log:

@@ -168,7 +168,6 @@ class Placing:
         find = {"register": self.place_of_statement, "verify": self.place_of_proof, "procap": self.place_of_procap}[asked.form]
         return find(asked, reply, caller)
 
-
     def place_when_full(self, size, least, most, ask=None):
         """Where a record with so many bytes does not fit any more."""
         return Place(max(least, bisect_right(self.ends, LIMIT - 6 - size)), most, 0, ask)
