@@ -20,7 +20,7 @@ class Damages:
 
     def whole(self):
         """An area of some of the first records, and where they end."""
-        count = self.draw.randint(0, min(len(self.ends) - 1, self.draw.choice([10, 100, 100, 400])))
+        count = self.draw.randint(0, min(len(self.ends) - 1, self.draw.choice([10, 100, 600, 1200])))
         return self.area[: self.ends[count]] + b"\0", self.ends[: count + 1]
 
     def place(self, area, ends):

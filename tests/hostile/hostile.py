@@ -112,10 +112,10 @@ class Run:
         """Once all have left, there are no more threads and files than before they came."""
         until = time.monotonic() + 10
         now = server.watch()
-        while now and now[1:] != idle[1:] and time.monotonic() < until:
+        while now and (now[1] > idle[1] or now[2] > idle[2]) and time.monotonic() < until:
             time.sleep(0.05)
             now = server.watch()
-        if now and now[1:] != idle[1:]:
+        if now and (now[1] > idle[1] or now[2] > idle[2]):
             self.fault(part, f"{now[1]} threads and {now[2]} files are left, and there were {idle[1]} and {idle[2]}")
 
     def fill(self, server):
@@ -169,9 +169,9 @@ class Run:
             self.fault(part, f"an audit writes {done[0][:300]!r}, {done[1]}, and not {wanted!r}")
 
     def figures(self, part, placing, server, store, sessions, lines):
-        events, size = placing.last, store.size()
-        told = sorted(placing.counts.items(), key=lambda one: -one[1])
-        self.tell(part, f"{sessions} sessions, {lines} lines; told " + ", ".join(f"{count} {word}" for word, count in told if word != "faults"))
+        events, size, told = placing.last, store.size(), placing.told_words
+        self.tell(part, f"{sessions} sessions, {lines} lines, {placing.counts['events that were not told']} events that were not told")
+        self.tell(part, "told " + ", ".join(f"{told[kind]} {kind}" for kind in sorted(told)))
         memory = f"{server.memory} KiB at most, {server.memory * 1024 / max(1, events):.0f} bytes an event"
         self.tell(part, f"{events} events in {size} bytes; {memory}; {server.threads} threads, {server.files} files at most")
         explained = self.explained(events, size)

@@ -35,6 +35,14 @@ def want(reply, wanted):
         raise Wrong(f"and not {wanted[:200]}")
 
 
+def kind_of(reply):
+    """A reply without what it tells of one line alone."""
+    words = reply.decode("latin-1").split(" ")
+    if words[0] == "denied":
+        return f"denied {words[2]}"
+    return " ".join(words[:2]) if words[0] in ("ok", "rejected", "unproved", "refused", "bad") else words[0]
+
+
 def key_of(event):
     """All that a line says of its event."""
     if isinstance(event, Registered):
@@ -62,7 +70,7 @@ class Placing:
         self.known = History(secrets)  # its statements are all that the area has
         self.secrets, self.shared = secrets, shared
         self.lines = Lines(self.known.reader)
-        self.shown, self.counts = [], defaultdict(int)
+        self.shown, self.counts, self.told_words = [], defaultdict(int), defaultdict(int)
         self.events, self.ends = [None], [BEGIN]
         self.statement_events, self.issue_events, self.issues = [0], [0], [None]
         self.acted = defaultdict(deque)
@@ -118,7 +126,7 @@ class Placing:
         """Reads what was said on a connection and what it was told."""
         caller, places, session = None, [], len(self.sessions)
         for number, ((reply, got, got_wall), (line, sent, sent_wall)) in enumerate(zip(spoken.replies, spoken.lines)):
-            self.counts[reply.split(b" ")[0].decode("latin-1")] += 1
+            self.told_words[kind_of(reply)] += 1
             try:
                 if not is_in_table(reply):
                     raise Wrong("which no table has")
