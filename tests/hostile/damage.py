@@ -3,6 +3,7 @@ import time
 from collections import Counter
 
 from areas import FRESH, HEADER, newest, opening, records
+from serving import free_port
 
 MADE = b"\x01" + HEADER + (1).to_bytes(8, "big") + len(FRESH).to_bytes(8, "big") + FRESH + b"\0"
 
@@ -145,7 +146,16 @@ def try_damage(store, draw, damages, reader):
         fault = f"{kind}: an opening finds {found}, and not {wanted}"
     elif (store.area(), store.area("pcfs.b")) != (first, second):
         fault = f"{kind}: an opening writes"
+    elif found[1] != 0 and draw.random() < 0.1:
+        fault = try_serve(store, found)
     return kind, "an open store" if found[1] == 0 else cause_of(found[0]), fault
+
+
+def try_serve(store, found):
+    """What is wrong with `serve` over areas that do not open."""
+    line, status = found
+    done = store.run("serve", str(free_port()), "1", patience=20)
+    return None if done == (f"{line}\n".encode(), status) else f"serve ends with {done}, and an opening with {found}"
 
 
 def cause_of(line):

@@ -18,7 +18,7 @@ from pcfs_model import Drawn
 from placing import Placing
 from said import SHARED, secrets_of
 from serving import Running, Store
-from strangers import AT_ONCE, Scene, all_strangers
+from strangers import AT_ONCE, Scene, all_strangers, words_and_ports
 from talking import Session, Unanswered
 
 SHARES = {"clients": 0.5, "strangers": 0.2, "damage": 0.15, "kills": 0.15}
@@ -186,6 +186,11 @@ class Run:
     # ---- the other parts ----
 
     def strangers(self):
+        try:
+            for fault in words_and_ports(self.program, self.folder):
+                self.fault("strangers", fault)
+        except (OSError, Unanswered) as fault:
+            self.fault("strangers", f"words and ports: {fault!r}")
         self.clients("strangers", wild=True)
 
     def damage(self):

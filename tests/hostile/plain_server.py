@@ -4,6 +4,7 @@
 in one way, which the tests have to find (wrong.sh)."""
 import os
 import random
+import re
 import secrets as system
 import socket
 import sys
@@ -149,11 +150,27 @@ def serve(port, count):
     with open("pcfs.secrets", encoding="ascii") as file:
         text = file.read()
     area = newest(bytes_of("pcfs.a"), bytes_of("pcfs.b"))
-    history = opened(area, text)
+    if area is None:
+        return told("nostore", 4)
+    try:
+        history = opened(area, text)
+        listener = socket.create_server(("127.0.0.1", port), backlog=128)
+    except Damaged as damaged:
+        return told(damaged, 3)
+    except OSError:
+        return told("netfault", 8)
     size = max((end for _, end in records(area)), default=len(MADE) - 1)
-    kept, room = Kept(history, size), threading.Semaphore(AT_ONCE)
-    listener = socket.create_server(("127.0.0.1", port), backlog=128)
-    threads = []
+    attend_all(Kept(history, size), listener, count)
+    return told(f"served {count}", 0)
+
+
+def told(line, status):
+    print(line)
+    return status
+
+
+def attend_all(kept, listener, count):
+    room, threads = threading.Semaphore(AT_ONCE), []
     for _ in range(count):
         room.acquire()
         connection, _ = listener.accept()
@@ -164,7 +181,10 @@ def serve(port, count):
     listener.close()
     for thread in threads:
         thread.join()
-    print(f"served {count}")
+
+
+def is_number(word, most):
+    return re.fullmatch("[1-9][0-9]*", word) is not None and int(word) <= most
 
 
 def find():
@@ -202,7 +222,7 @@ def main():
             return init()
         case ["script", "--stored"]:
             return find()
-        case ["serve", port, count]:
+        case ["serve", port, count] if is_number(port, 65535) and is_number(count, 1000000):
             return serve(int(port), int(count))
     print("usage")
     return 1

@@ -152,7 +152,7 @@ class Board:
 
 
 TAME = {
-    "fitting": 50, "unfitting": 8, "verify": 5, "odd_verify": 3, "any_procap": 3, "statement": 1, "statement_again": 2,
+    "fitting": 50, "attribute_more": 3, "unfitting": 8, "verify": 5, "odd_verify": 3, "any_procap": 3, "statement": 1, "statement_again": 2,
     "forged_statement": 1, "other_login": 1, "broken_line": 10, "junk_line": 4, "operator_line": 1, "odd_statement": 1,
 }
 WILD = {**TAME, "fitting": 12, "broken_line": 45, "junk_line": 25, "odd_verify": 8, "odd_statement": 8, "operator_line": 4}
@@ -164,7 +164,7 @@ class Speaker:
     def __init__(self, draw, name, nonce, board, wild=False):
         self.draw, self.name, self.nonce, self.board = draw, name, nonce, board
         self.kinds, self.weights = zip(*(WILD if wild else TAME).items())
-        self.caller, self.number = None, 0
+        self.caller, self.number, self.attributes = None, 0, 0
         self.held, self.places, self.directories = {}, {}, [1]
         self.next = [(root_verify(name, perm), ("issue", name, 1, perm)) for perm in ROOT]
 
@@ -287,10 +287,19 @@ class Speaker:
     def fitting(self):
         """An operation that one of the procaps at hand may allow."""
         mine = [(file, perm) for who, file, perm in self.held if who == self.name]
-        if not mine:
+        near = [(file, perm) for file, perm in mine if file == 1 or file in self.places]
+        if not near:
             return root_verify(self.name, "write"), ("issue", self.name, 1, "write")
-        file, perm = self.draw.choice(mine)
+        file, perm = self.draw.choice(near if self.draw.random() < 0.9 else mine)
         return self.operation(file, perm, file in self.directories or file == 1)
+
+    def attribute_more(self):
+        """One attribute more of one's first file."""
+        for who, file, perm in self.held:
+            if (who, perm) == (self.name, "write") and file in self.places and file not in self.directories:
+                self.attributes += 1
+                return f'do setattr #{file} more.{self.attributes} "" {self.held[who, file, perm]}', None
+        return self.fitting()
 
     def unfitting(self):
         """An operation on some node under some procap."""

@@ -30,10 +30,12 @@ class Store:
 
     def run(self, *words, given=b"", patience=300):
         """What the program writes with these words, and its status."""
-        done = subprocess.run(
-            [self.program, *words], cwd=self.folder, input=given, stdout=subprocess.PIPE, stderr=subprocess.DEVNULL, timeout=patience
-        )
-        return done.stdout, done.returncode
+        with self.start(*words, given=subprocess.PIPE) as process:
+            try:
+                return process.communicate(given, timeout=patience)[0], process.returncode
+            except subprocess.TimeoutExpired:
+                process.kill()
+                return b"it did not end", None
 
     def found(self):
         """What an opening finds: the number of events and 0, or its line and its status."""
@@ -48,10 +50,10 @@ class Store:
     def size(self):
         return os.path.getsize(f"{self.folder}/pcfs.a")
 
-    def start(self, *words):
+    def start(self, *words, given=subprocess.DEVNULL):
         """The program at work with these words."""
         return subprocess.Popen(
-            [self.program, *words], cwd=self.folder, stdin=subprocess.DEVNULL, stdout=subprocess.PIPE, stderr=subprocess.DEVNULL
+            [self.program, *words], cwd=self.folder, stdin=given, stdout=subprocess.PIPE, stderr=subprocess.DEVNULL
         )
 
     def put(self, first, second=b""):
@@ -74,8 +76,8 @@ class Store:
 class Running:
     """A server of a store."""
 
-    def __init__(self, store, count):
-        self.port, self.count = free_port(), count
+    def __init__(self, store, count, port=None):
+        self.port, self.count = port or free_port(), count
         self.process = store.start("serve", str(self.port), str(count))
         self.memory = self.threads = self.files = 0
 

@@ -3,7 +3,8 @@ import itertools
 import time
 
 from lines import LONGEST
-from said import forged, login, owner_verify, registration, root_verify
+from said import forged, login, owner_verify, registration, root_verify, secrets_of
+from serving import Running, Store, free_port
 from talking import Session, Unanswered, connected, moment, reset
 
 AT_ONCE = 64
@@ -228,3 +229,38 @@ def all_strangers(scene, draw):
             kind(scene)
         except (OSError, Unanswered, IndexError) as fault:
             scene.fault(f"{what}: {fault!r}")
+
+
+# ---- words and ports -----------------------------------------------------------------------------------------------
+
+BAD_WORDS = ["", "4040", "0 1", "65536 1", "04040 1", "4040 0", "4040 01", "4040 1000001", "4040 1 1", "+4040 1", "4040 -1", "4040x 1", "4040 1.0"]
+
+
+def words_and_ports(program, folder):
+    """What is wrong with `serve` where it is not to serve: bad words, no store, a port that another has; and with a port that a
+    server has just left."""
+    store, other = Store(program, f"{folder}/words", secrets_of([])), Store(program, f"{folder}/other", secrets_of([]))
+    port = free_port()
+    tries = [(store, ("serve", *words.split()), (b"usage\n", 1)) for words in BAD_WORDS]
+    tries.append((store, ("serve", str(port), "1"), (b"nostore\n", 4)))
+    yield from wrong_ends(tries)
+    store.run("init")
+    other.run("init")
+    server = Running(store, 2, port)
+    Session(port).leave()
+    yield from wrong_ends([(other, ("serve", str(port), "1"), (b"netfault\n", 8))])
+    Session(port).leave()
+    if server.ended() != (b"served 2\n", 0):
+        yield "a server of two does not end after two"
+    again = Running(store, 1, port)
+    Session(port).leave()
+    ended = again.ended()
+    if ended != (b"served 1\n", 0):
+        yield f"a second server on the same port ends with {ended}"
+
+
+def wrong_ends(tries):
+    for store, words, wanted in tries:
+        done = store.run(*words, patience=20)
+        if done != wanted:
+            yield f"{' '.join(words)!r} ends with {done}, and not {wanted}"
