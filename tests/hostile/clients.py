@@ -29,7 +29,8 @@ class Plan:
     wild: bool = False
     killed: bool = False  # the server will be, and then no end of a connection is a fault
     patience: float = 60  # seconds for a greeting or a reply
-    think: object = None  # how many seconds are waited between lines, in the middle
+    think: float = 0  # how many seconds are waited between lines, in the middle
+    more: object = None  # how many bytes some writes have, so that the area is full in time
 
     def names(self):
         return [self.name(client, turn) for client in range(self.clients) for turn in range(self.turns)]
@@ -69,13 +70,13 @@ class Client:
             self.faults.append(f"client {self.number}, session {turn}: {fault!r}")
 
     def talk(self, session, turn, until):
-        speaker = Speaker(self.draw, self.plan.name(self.number, turn), session.nonce, self.board, self.plan.wild)
+        speaker = Speaker(self.draw, self.plan.name(self.number, turn), session.nonce, self.board, self.plan.wild, self.plan.more)
         while time.monotonic() < until:
             if self.draw.random() < (0.0005 if self.plan.wild else 0.00002):
                 return self.say_long(session)
             self.say_some(session, speaker)
-            if self.plan.think and self.plan.think.value:
-                time.sleep(self.draw.random() * 2 * self.plan.think.value)
+            if self.plan.think:
+                time.sleep(self.draw.random() * 2 * self.plan.think)
         return self.end(session, speaker)
 
     def draw_some(self, speaker, count):

@@ -25,6 +25,8 @@ SHARES = {"clients": 0.5, "strangers": 0.2, "damage": 0.15, "kills": 0.15}
 SESSION_SECONDS = 15  # of a client, before it begins another
 STRANGERS = 1500  # names for them, and as many connections at most
 SILENT = 300  # more connections, which say nothing
+MOST_SAID = 1_000_000  # how often clients say something in one part, at most
+LONG = 240  # seconds in which an area is filled
 OWN_THREADS = 4  # of the server, beside one for each session
 
 
@@ -86,27 +88,23 @@ class Run:
         return scene.logs
 
     def live(self, part, plan, server, store, end):
-        """The clients' time; they wait so much that the area is not full before the last tenth of it."""
-        plan.port, plan.think = server.port, multiprocessing.Value("d", 0.0)
-        plan.begin = time.monotonic()
+        """The clients' time. If it is long, they write so much that the area is full after nine tenths of it."""
+        plan.port, plan.begin, plan.more = server.port, time.monotonic(), multiprocessing.Value("d", 0.0)
         plan.end = max(end, plan.begin + 2)
+        seconds = plan.end - plan.begin
+        plan.think = AT_ONCE * seconds / MOST_SAID
         processes = begun(plan)
         while any(process.is_alive() for process in processes):
             server.watch()
-            done = (time.monotonic() - plan.begin) / (plan.end - plan.begin)
-            plan.think.value = self.pace(plan.think.value, store.size(), done)
+            done = (time.monotonic() - plan.begin) / seconds
+            is_behind = seconds >= LONG and store.size() < LIMIT * done / 0.9
+            plan.more.value = min(32_000, 2 * plan.more.value + 16) if is_behind else plan.more.value // 2
             if not server.runs() and done < 1:
                 self.fault(part, f"the server ended by itself: {server.ended()}")
                 break
-            time.sleep(0.1)
+            time.sleep(0.2)
         for process in processes:
             process.join()
-
-    def pace(self, think, size, done):
-        """How many seconds clients are to wait between lines."""
-        if done < 0.9 and size > LIMIT * done / 0.9:
-            return min(1.0, max(0.001, think * 1.2))
-        return 0.0 if think < 0.001 else think * 0.8
 
     def quiet(self, part, server, idle):
         """Once all have left, there are no more threads and files than before they came."""

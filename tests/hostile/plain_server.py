@@ -11,7 +11,7 @@ import sys
 import threading
 import time
 
-from areas import Damaged, bytes_of, newest, opened, records
+from areas import LIMIT, Damaged, bytes_of, newest, opened, records
 from damage import MADE
 from history import Acted, Issued, Registered
 from lines import LONGEST, Lines, is_accepted
@@ -48,9 +48,10 @@ class Kept:
 
     def keep(self, event):
         """Appends an event, and makes it so: the reply."""
-        number = self.history.count + 1
+        number, record = self.history.count + 1, payload(event)
+        if self.end + 5 + len(record) + 1 > LIMIT:
+            return "full"
         if not (WRONG == "lost" and number % 300 == 0):
-            record = payload(event)
             os.pwrite(self.file, len(record).to_bytes(4, "big") + record + b"\0", self.end + 1)
             os.pwrite(self.file, b"\x01", self.end)
             self.end += 5 + len(record)

@@ -161,8 +161,8 @@ WILD = {**TAME, "fitting": 12, "broken_line": 45, "junk_line": 25, "odd_verify":
 class Speaker:
     """Draws what is said in one session under a name of its own. A line comes with a note of what its reply will tell."""
 
-    def __init__(self, draw, name, nonce, board, wild=False):
-        self.draw, self.name, self.nonce, self.board = draw, name, nonce, board
+    def __init__(self, draw, name, nonce, board, wild=False, more=None):
+        self.draw, self.name, self.nonce, self.board, self.more = draw, name, nonce, board, more
         self.kinds, self.weights = zip(*(WILD if wild else TAME).items())
         self.caller, self.number, self.attributes = None, 0, 0
         self.held, self.places, self.directories = {}, {}, [1]
@@ -282,6 +282,8 @@ class Speaker:
 
     def data(self):
         draw = self.draw
+        if self.more and self.more.value and draw.random() < 0.3:
+            return draw.randbytes(draw.randint(1, int(self.more.value))).hex()
         return "-" if draw.random() < 0.05 else draw.randbytes(draw.choice([1, 4, 16, 16, 40, 200])).hex()
 
     def fitting(self):
