@@ -11,7 +11,7 @@ trap 'rm -rf "$work"' EXIT
 
 program="$top/crates/pcfs/out/pcfs"
 if [ ! -x "$program" ]; then
-  (cd "$top/crates/pcfs" && rt run < stdin > "$work/build.log" 2>&1 -- load 0 7) || { tail -5 "$work/build.log"; exit 1; }
+  (cd "$top/crates/pcfs" && rt run > "$work/build.log" 2>&1 -- load 0 7) || { tail -5 "$work/build.log"; exit 1; }
 fi
 cd "$work"
 printf 'seal 0102\nkey admin 01\n' > pcfs.secrets

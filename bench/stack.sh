@@ -10,7 +10,7 @@ work=$(mktemp -d)
 trap 'rm -rf "$work"' EXIT
 
 if [ ! -x "$top/crates/pcfs/out/pcfs" ]; then
-  (cd "$top/crates/pcfs" && rt run < stdin > "$work/build.log" 2>&1 -- script) || { tail -5 "$work/build.log"; exit 1; }
+  (cd "$top/crates/pcfs" && rt run > "$work/build.log" 2>&1 -- load 0 7) || { tail -5 "$work/build.log"; exit 1; }
 fi
 printf 'seal 00\nkey admin 01\n' > "$work/pcfs.secrets"
 exec python3 - "$work" "${1:-pass}" "$top/crates/pcfs/out/pcfs:512" "$top/crates/pcfs/out/pcfs.by-rattle:8192" <<'PYTHON'

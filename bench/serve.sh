@@ -1,0 +1,381 @@
+#!/usr/bin/env bash
+# Times `pcfs serve` over loopback: 1, 8 and 64 connections, each of which writes 16 bytes and reads them, in turns, and waits
+# for each reply; every step is an event, with two syncs. Beside it redis-server, with an append-only file that is synced
+# always, does one SET and one GET for each write and read, on the same disk in the same run. First on a folder of a disk, then
+# in memory. It prints steps a second, the median and the 99th percentile, and their ratios; then how much one who has the
+# largest proofs checked slows others, and what 64 who are idle take of the processor. Each figure is that of the middle one of
+# three runs. It makes its own input, ends by itself and decides no test; it needs a C compiler, for the client.
+# usage: bench/serve.sh [FOLDER [FOLDER]], on the disk and in memory; by default a scratch folder of each, the second in /dev/shm
+# PROGRAM is the program, by default crates/pcfs/out/pcfs.
+set -euo pipefail
+top=$(cd "$(dirname "$0")/.." && pwd)
+program=$(realpath "${PROGRAM:-$top/crates/pcfs/out/pcfs}")
+[ -x "$program" ] || { echo "no program $program: rt ci builds it"; exit 1; }
+disk=$(mktemp -d -p "${1:-.}")
+memory=$(mktemp -d -p "${2:-/dev/shm}")
+trap 'rm -rf "$disk" "$memory"' EXIT
+
+cat > "$memory/drive.c" << 'C'
+// Drives connections that it is given, each with requests that it says again and again, one after the other, and waits for each
+// reply. Its input: how many connections, the most steps, the seconds; for each connection its descriptor and the number of
+// its requests; for each request the number of lines of its reply, how that begins, and its bytes. It prints steps, seconds,
+// median, 99th percentile and the longest, in microseconds, and how many replies began otherwise.
+#include <errno.h>
+#include <fcntl.h>
+#include <poll.h>
+#include <stdint.h>
+#include <stdio.h>
+#include <stdlib.h>
+#include <string.h>
+#include <sys/epoll.h>
+#include <sys/socket.h>
+#include <time.h>
+#include <unistd.h>
+struct request { uint32_t lines, begin_len, len; char *begin, *bytes; };
+struct connection { int32_t fd; uint32_t count, at, left, got; struct request *requests; char front[16]; uint64_t begun; };
+static uint64_t now(void) { struct timespec t; clock_gettime(CLOCK_MONOTONIC, &t); return t.tv_sec * 1000000000ull + t.tv_nsec; }
+static void take(void *into, size_t len) { if (len && fread(into, 1, len, stdin) != len) { fputs("short input\n", stderr); exit(1); } }
+static char *taken(size_t len) { char *bytes = malloc(len + 1); take(bytes, len); return bytes; }
+static int order(const void *a, const void *b) { uint32_t x = *(const uint32_t *)a, y = *(const uint32_t *)b; return (x > y) - (x < y); }
+static void say(struct connection *c) {
+    struct request *r = &c->requests[c->at];
+    c->left = r->lines;
+    c->got = 0;
+    c->begun = now();
+    for (size_t at = 0; at < r->len;) {
+        ssize_t n = send(c->fd, r->bytes + at, r->len - at, MSG_NOSIGNAL);
+        if (n > 0) at += n;
+        else if (errno == EAGAIN) { struct pollfd p = { c->fd, POLLOUT, 0 }; poll(&p, 1, 1000); }
+        else { perror("send"); exit(1); }
+    }
+}
+int main(void) {
+    static char buf[1 << 18];
+    uint32_t count;
+    uint64_t most, steps = 0, wrong = 0, begun, end;
+    double seconds;
+    take(&count, 4); take(&most, 8); take(&seconds, 8);
+    struct connection *all = calloc(count, sizeof *all);
+    uint32_t *times = malloc((most + count) * sizeof *times), waiting = count;
+    int poller = epoll_create1(0);
+    for (uint32_t i = 0; i < count; i++) {
+        struct connection *c = &all[i];
+        take(&c->fd, 4); take(&c->count, 4);
+        c->requests = calloc(c->count, sizeof *c->requests);
+        for (uint32_t k = 0; k < c->count; k++) {
+            struct request *r = &c->requests[k];
+            take(&r->lines, 4); take(&r->begin_len, 4); take(&r->len, 4);
+            r->begin = taken(r->begin_len);
+            r->bytes = taken(r->len);
+        }
+        fcntl(c->fd, F_SETFL, fcntl(c->fd, F_GETFL) | O_NONBLOCK);
+        struct epoll_event e = { .events = EPOLLIN, .data.ptr = c };
+        epoll_ctl(poller, EPOLL_CTL_ADD, c->fd, &e);
+    }
+    begun = now();
+    end = begun + (uint64_t)(seconds * 1e9);
+    for (uint32_t i = 0; i < count; i++) say(&all[i]);
+    while (waiting) {
+        struct epoll_event ready[64];
+        int n = epoll_wait(poller, ready, 64, 60000);
+        if (n <= 0) { fputs("no reply\n", stderr); return 1; }
+        for (int i = 0; i < n; i++) {
+            struct connection *c = ready[i].data.ptr;
+            ssize_t got = recv(c->fd, buf, sizeof buf, 0);
+            if (got == 0 || (got < 0 && errno != EAGAIN)) { fputs("the connection ended\n", stderr); return 1; }
+            for (ssize_t k = 0; k < got; k++) {
+                if (c->got < sizeof c->front) c->front[c->got] = buf[k];
+                c->got++;
+                if (buf[k] == '\n') c->left--;
+            }
+            if (got <= 0 || c->left) continue;
+            struct request *r = &c->requests[c->at];
+            uint64_t late = now(), taken_time = late - c->begun;
+            times[steps++] = taken_time > UINT32_MAX ? UINT32_MAX : taken_time;
+            if (c->got < r->begin_len || memcmp(c->front, r->begin, r->begin_len)) {
+                if (!wrong++) fprintf(stderr, "told %.*s\n", (int)(c->got < 16 ? c->got : 16), c->front);
+            }
+            c->at = (c->at + 1) % c->count;
+            if (steps + waiting <= most && late < end) say(c); else waiting--;
+        }
+    }
+    double whole = (now() - begun) / 1e9;
+    qsort(times, steps, sizeof *times, order);
+    printf("%llu %.6f %.1f %.1f %.1f %llu\n", (unsigned long long)steps, whole, times[steps / 2] / 1e3, times[steps * 99 / 100] / 1e3,
+        times[steps - 1] / 1e3, (unsigned long long)wrong);
+}
+C
+cc -O2 -o "$memory/drive" "$memory/drive.c"
+PYTHONPATH="$top/examples" PYTHONDONTWRITEBYTECODE=1 timeout 1200 python3 - "$program" "$disk" "$memory" << 'PYTHON'
+import os, shutil, socket, struct, subprocess, sys, time
+from pcfs_client import sign_login
+
+program, disk, memory = sys.argv[1:]
+USERS, SECONDS, MOST, ROUNDS = 64, 2.0, 120_000, 3
+TICK = os.sysconf("SC_CLK_TCK")
+
+
+def free_port():
+    with socket.socket() as one:
+        one.bind(("127.0.0.1", 0))
+        return one.getsockname()[1]
+
+
+def dialled(port):
+    for _ in range(500):
+        try:
+            one = socket.create_connection(("127.0.0.1", port), timeout=60)
+            one.setsockopt(socket.IPPROTO_TCP, socket.TCP_NODELAY, 1)
+            return one
+        except ConnectionRefusedError:
+            time.sleep(0.01)
+    sys.exit(f"nobody listens on port {port}")
+
+
+def heard(one):
+    """A line that comes."""
+    line = b""
+    while not line.endswith(b"\n"):
+        piece = one.recv(65536)
+        if not piece:
+            sys.exit("a connection ended")
+        line += piece
+    return line.decode().rstrip("\n")
+
+
+def key(user):
+    return f"key of {user}".encode()
+
+
+# ---- pcfs ----
+
+# 126 conditions on directories make a formula of 512 nodes; 21 branches of 190 instances of it a proof of nearly 4,096 rules,
+# whose last leaf is wrong: so all of it is checked, and nothing issued
+LARGE = [
+    "register - admin says forall F:file. may(u0,#1,write) & (" + " & ".join(["in_dir(F,#1)"] * 126) + ") from 0 to +inf",
+    "register - admin says may(u0,#1,write) | may(u0,#1,write) from 0 to +inf",
+]
+
+
+def instances(count, first, init):
+    return "forallL(2,#1," * count + f"andL({first + count - 1},init({init or first + count}))" + ")" * count
+
+
+def branches(count, depth, last):
+    if count == 1:
+        return instances(190, 4 + depth, 9999 if last else 0)
+    half = count // 2
+    return f"orL(3,{branches(half, depth + 1, False)},{branches(count - half, depth + 1, last)})"
+
+
+def large_proof(numbers):
+    return f"verify u0 #1 write {numbers} saysR(claim(0,claim(1,{branches(21, 0, True)})))"
+
+
+class Store:
+    """A store with a file for each user, and procaps to write and to read it."""
+
+    def __init__(self, folder):
+        self.folder = f"{folder}/store"
+        shutil.rmtree(self.folder, ignore_errors=True)
+        os.makedirs(self.folder)
+        with open(f"{self.folder}/pcfs.secrets", "w") as file:
+            file.write("seal 0102\nkey admin 01\n" + "".join(f"key u{one} {key(f'u{one}').hex()}\n" for one in range(USERS)))
+        self.run(["init"], [])
+        lines = ["at 100", "register - admin says forall K:principal. may(K,#1,write) from 0 to +inf"]
+        for one in range(USERS):
+            lines += [f"verify u{one} #1 write 1 saysR(claim(0,forallL(1,u{one},init(2))))", f"as u{one}", f"do create #1 f{one} @{one + 1}"]
+        for number, (one, perm) in enumerate(((one, perm) for one in range(USERS) for perm in ("write", "read")), 2):
+            lines += [f"register - admin says may(u{one},#{one + 2},{perm}) from 0 to +inf"]
+            lines += [f"verify u{one} #{one + 2} {perm} {number} saysR(claim(0,init(1)))"]
+        lines += [f"procap {USERS + 1 + number}" for number in range(2 * USERS)] + LARGE
+        told = self.run(["script", "--stored"], lines)
+        bad = [(line[:80], reply) for line, reply in zip(lines, told) if not reply.startswith("ok")]
+        if bad:
+            sys.exit(f"the store is not made: {bad[0]}")
+        words = [reply.split(" ")[2] for reply in told if reply.startswith("ok procap ")]
+        self.write, self.read = words[::2], words[1::2]
+        self.large = large_proof(f"{2 * USERS + 2},{2 * USERS + 3}")
+
+    def run(self, words, lines):
+        done = subprocess.run([program, *words], cwd=self.folder, input="".join(line + "\n" for line in lines).encode(), stdout=subprocess.PIPE)
+        return done.stdout.decode().splitlines()
+
+    def plan(self, user):
+        """The requests of a user: the lines of a reply, its begin, the bytes."""
+        file = user + 2
+        return [
+            (1, b"ok\n", f"do write #{file} 0 {'61' * 16} {self.write[user]}\n".encode()),
+            (1, b"ok bytes 616161", f"do read #{file} 0 16 {self.read[user]}\n".encode()),
+        ]
+
+
+class Pcfs:
+    """A server of a store, with users who have logged in."""
+
+    name = "pcfs"
+
+    def __init__(self, folder, count, more=0):
+        self.store, self.port = Store(folder), free_port()
+        words = [program, "serve", str(self.port), str(count + more)]
+        self.process = subprocess.Popen(words, cwd=self.store.folder, stdin=subprocess.DEVNULL, stdout=subprocess.PIPE)
+        self.connections = [self.logged_in(user) for user in range(count)]
+        self.plans = [self.store.plan(user) for user in range(count)]
+
+    def logged_in(self, user):
+        one = dialled(self.port)
+        nonce = bytes.fromhex(heard(one).split(" ")[1])
+        one.sendall(f"login u{user} {sign_login(key(f'u{user}'), f'u{user}', nonce).hex()}\n".encode())
+        if heard(one) != "ok":
+            sys.exit("no login")
+        return one
+
+    def processor(self):
+        with open(f"/proc/{self.process.pid}/stat") as file:
+            words = file.read().rsplit(")", 1)[1].split()
+        return (int(words[11]) + int(words[12])) / TICK
+
+    def end(self):
+        for one in self.connections:
+            one.close()
+        try:
+            self.process.communicate(timeout=30)
+        except subprocess.TimeoutExpired:
+            print("the server did not end")
+            self.process.kill()
+            self.process.communicate()
+
+
+# ---- redis ----
+
+
+def request(*words):
+    return b"".join([b"*%d\r\n" % len(words), *(b"$%d\r\n%s\r\n" % (len(word), word) for word in words)])
+
+
+class Redis:
+    """redis-server with an append-only file that is synced always."""
+
+    name = "redis-server"
+
+    def __init__(self, folder, count):
+        self.port, self.folder = free_port(), f"{folder}/redis"
+        shutil.rmtree(self.folder, ignore_errors=True)
+        os.makedirs(self.folder)
+        words = "--bind 127.0.0.1 --save  --appendonly yes --appendfsync always --loglevel warning".split(" ")
+        words = ["redis-server", "--port", str(self.port), "--dir", self.folder, *words]
+        self.process = subprocess.Popen(words, stdin=subprocess.DEVNULL, stdout=subprocess.DEVNULL, stderr=subprocess.DEVNULL)
+        self.connections = [dialled(self.port) for _ in range(count)]
+        value = b"a" * 16
+        self.plans = [
+            [(1, b"+OK", request(b"SET", b"f%d" % one, value)), (2, b"$16\r\naaa", request(b"GET", b"f%d" % one))] for one in range(count)
+        ]
+
+    def end(self):
+        for one in self.connections:
+            one.close()
+        self.process.terminate()
+        self.process.wait()
+
+
+# ---- runs ----
+
+
+def begun(server, connections, plans, seconds=SECONDS, most=MOST):
+    """The client at work over these connections."""
+    given = struct.pack("=IQd", len(connections), most, seconds)
+    for one, plan in zip(connections, plans):
+        given += struct.pack("=iI", one.fileno(), len(plan))
+        for lines, begin, data in plan:
+            given += struct.pack("=III", lines, len(begin), len(data)) + begin + data
+    files = [one.fileno() for one in connections]
+    client = subprocess.Popen([f"{memory}/drive"], stdin=subprocess.PIPE, stdout=subprocess.PIPE, pass_fds=files)
+    client.stdin.write(given)
+    client.stdin.close()
+    return client
+
+
+def figures(client):
+    """Steps a second, median, 99th percentile and the longest, in microseconds."""
+    words = client.stdout.read().split()
+    if client.wait() != 0 or len(words) != 6:
+        sys.exit("the client failed")
+    if int(words[5]):
+        print(f"{int(words[5])} of {int(words[0])} replies were others")
+    return int(words[0]) / float(words[1]), *map(float, words[2:5])
+
+
+def one_run(make, folder, count):
+    server = make(folder, count)
+    try:
+        return figures(begun(server, server.connections, server.plans))
+    finally:
+        server.end()
+
+
+def middle(runs):
+    """The run whose steps a second stand in the middle."""
+    return sorted(runs)[len(runs) // 2]
+
+
+def aim(met):
+    return "met" if met else "MISSED"
+
+
+def compare(what, folder, peers):
+    steps = {}
+    for count in (1, 8, 64):
+        mine = {make: middle([one_run(make, folder, count) for _ in range(ROUNDS)]) for make in peers}
+        for make in peers:
+            rate, median, late, longest = mine[make]
+            print(f"{what}, {count} connections, {make.name}: {rate:.0f} steps a second, median {median:.0f} us, 99th percentile {late:.0f} us, longest {longest:.0f} us")
+        if len(peers) > 1:
+            print(f"{what}, {count} connections: {mine[Pcfs][0] / mine[Redis][0]:.2f} of the steps of redis-server, {mine[Pcfs][1] / mine[Redis][1]:.2f} of its median")
+        steps[count] = mine[Pcfs]
+    return steps
+
+
+def slowed(count):
+    """Steps a second of so many connections, alone and beside one who has the largest proof checked; and that one's median."""
+    alone, beside, proofs = [], [], []
+    for _ in range(ROUNDS):
+        server = Pcfs(memory, count, 1)
+        try:
+            prover = server.logged_in(0)
+            plan = [(1, b"unproved 1 ", server.store.large.encode() + b"\n")]
+            alone.append(figures(begun(server, server.connections, server.plans))[0])
+            proving = begun(server, [prover], [plan], SECONDS + 1)
+            time.sleep(0.3)
+            beside.append(figures(begun(server, server.connections, server.plans))[0])
+            proofs.append(figures(proving)[1])
+            prover.close()
+        finally:
+            server.end()
+    return middle(alone), middle(beside), middle(proofs)
+
+
+def idle():
+    """Seconds of the processor that the server takes while 64 have logged in and say nothing."""
+    server = Pcfs(memory, 64)
+    try:
+        before = server.processor()
+        time.sleep(3)
+        return server.processor() - before
+    finally:
+        server.end()
+
+
+peers = [Pcfs, Redis] if shutil.which("redis-server") else [Pcfs]
+if len(peers) == 1:
+    print("redis-server is not installed: pcfs alone")
+compare("disk", disk, peers)
+fast = compare("memory", memory, peers)
+print(f"memory: 64 connections do {fast[64][0] / fast[1][0]:.2f} times the steps of one (aim 2.5: {aim(fast[64][0] >= 2.5 * fast[1][0])})")
+print(f"memory: the median of one connection is {fast[1][1]:.0f} us (aim under 60: {aim(fast[1][1] < 60)})")
+print(f"memory: the 99th percentile of 64 is {fast[64][2] / 1000:.2f} ms (aim under 5: {aim(fast[64][2] < 5000)})")
+for count in (1, 8):
+    alone, beside, proof = slowed(count)
+    met = aim(beside >= 0.9 * alone)
+    print(f"memory: {count} connections beside proofs of {proof / 1000:.1f} ms: {beside:.0f} steps a second, {beside / alone:.2f} of {alone:.0f} (aim 0.90: {met})")
+print(f"64 idle connections take {idle():.2f} of 3 seconds of the processor (aim 0)")
+PYTHON

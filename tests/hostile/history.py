@@ -1,0 +1,257 @@
+"""Events as docs/FORMATS.md writes them, and the state that they lead to, by the plain model of examples/pcfs_model.py."""
+from collections import namedtuple
+
+import pcfs_model
+from pcfs_audit_model import CODES, procap_at, proof_bytes, read_proof, read_word
+from pcfs_client import STATE, short, tag_of
+from pcfs_model import CTIME, FIRST, LAST, MOST_BYTES, MOST_PARTS, MOST_RULES, OPERATIONS, SORTS
+from pcfs_model import Bad, Bytes, Node, Reply, Server, Statement, Undecided
+from pcfs_model import condition_text, grant_bytes, grant_of, is_stated, need, nodes_of, read_procap, term_bytes
+
+MOST_STATEMENTS = 4096
+
+Procap = namedtuple("Procap", "grant tag bytes genuine")
+Registered = namedtuple("Registered", "statement signature")
+Issued = namedtuple("Issued", "numbers proof proof_bytes grant")
+Acted = namedtuple("Acted", "caller operation words procaps moment")
+
+FORMULAS = {"cons": 0x11, "and": 0x15, "or": 0x16, "imp": 0x17, "true": 0x18, "false": 0x19, "says": 0x1C, "at": 0x1D}
+BINDERS = {"forall": 0x1A, "exists": 0x1B}
+
+
+def formula_bytes(formula):
+    """The one spelling of a formula."""
+    kind, *parts = formula
+    if kind == "atom":
+        return b"\x10" + short(parts[0]) + bytes([len(parts) - 1]) + b"".join(map(term_bytes, parts[1:]))
+    if kind == "state":
+        return bytes([STATE[parts[0]]]) + b"".join(map(term_bytes, parts[1:]))
+    if kind in BINDERS:
+        return bytes([BINDERS[kind], SORTS.index(parts[0]) + 1]) + formula_bytes(parts[1])
+    return bytes([FORMULAS[kind]]) + b"".join(map(part_bytes, parts))
+
+
+def part_bytes(part):
+    is_formula = part[0] in FORMULAS or part[0] in BINDERS or part[0] in ("atom", "state")
+    return formula_bytes(part) if is_formula else term_bytes(part)
+
+
+def statement_bytes(statement):
+    """The one spelling of a statement."""
+    begin, end = (term_bytes(("time", point))[1:] for point in (statement.begin, statement.end))
+    return short(statement.who) + formula_bytes(statement.body) + begin + end
+
+
+def names_state(formula):
+    """Whether a plain predicate has the name of one on the state, which has bytes of its own."""
+    if formula[0] == "atom":
+        return formula[1] in STATE
+    return any(names_state(part) for part in formula[1:] if isinstance(part, tuple))
+
+
+class Reader:
+    """Reads events, and the bytes of a procap or of a statement but once each."""
+
+    def __init__(self, seal):
+        self.seal = seal
+        self.procaps = {}
+        self.lengths = []
+        self.canonical = set()
+
+    def procap(self, data):
+        """The procap of these bytes; Bad if they are none."""
+        if data not in self.procaps:
+            grant, tag = read_procap(data)
+            self.procaps[data] = Procap(grant, tag, data, tag == tag_of(self.seal, grant_bytes(grant)))
+            if len(data) not in self.lengths:
+                self.lengths.append(len(data))
+        return self.procaps[data]
+
+    def procap_at(self, reading):
+        """The procap at the front."""
+        for length in self.lengths:
+            found = self.procaps.get(reading.data[reading.at : reading.at + length])
+            if found:
+                reading.at += len(found.bytes)
+                return found
+        start = reading.at
+        procap_at(reading)
+        return self.procap(reading.data[start : reading.at])
+
+    def event(self, payload):
+        """The event of these bytes; Bad if they are none."""
+        try:
+            reading = Bytes(payload)
+            kind = reading.number(1)
+            need(1 <= kind <= 3)
+            event = [self.registered, self.issued, self.acted][kind - 1](reading)
+            need(reading.at == len(payload))
+            return event
+        except (Undecided, ValueError, IndexError, RecursionError, OverflowError) as fault:
+            raise Bad() from fault
+
+    def registered(self, reading):
+        start = reading.at
+        said = reading.name(), reading.formula(), reading.point(), reading.point()
+        statement = Statement(*said, reading.data[start : reading.at])
+        if statement.bytes not in self.canonical:
+            need(is_stated(statement.body) and nodes_of(statement.body) <= MOST_PARTS and not names_state(statement.body))
+            need(statement_bytes(statement) == statement.bytes)
+            self.canonical.add(statement.bytes)
+        return Registered(statement, reading.take(reading.number(4)))
+
+    def issued(self, reading):
+        numbers = [reading.number(4) for _ in range(reading.number(1))]
+        end = reading.number(4) + reading.at
+        start = reading.at
+        proof = read_proof(reading)
+        need(reading.at == end and proof.size <= MOST_RULES)
+        grant, _ = read_procap(reading.data[end:] + bytes(32))
+        reading.at = len(reading.data)
+        return Issued(numbers, proof, reading.data[start:end], grant)
+
+    def acted(self, reading):
+        caller = reading.name()
+        code = reading.number(1)
+        need(1 <= code <= len(CODES))
+        operation = CODES[code - 1]
+        words = [read_word(kind, reading) for kind in OPERATIONS[operation][0]]
+        procaps = [self.procap_at(reading) for _ in range(reading.number(1))]
+        moment = int.from_bytes(reading.take(8), "big", signed=True)
+        need(FIRST <= moment <= LAST)
+        return Acted(caller, operation, words, procaps, moment)
+
+
+def copied(node, with_contents):
+    """The node, with lists of its own."""
+    other = Node(node.kind, node.owner, node.parent, node.name)
+    other.attributes, other.children = dict(node.attributes), dict(node.children)
+    other.contents = bytearray(node.contents) if with_contents else node.contents
+    return other
+
+
+class History(Server):
+    """The state after some events."""
+
+    verdicts = {}  # of proofs, by all that they depend on
+
+    def __init__(self, secrets, reader=None):
+        super().__init__(secrets)
+        self.reader = reader or Reader(self.seal)
+        self.said = {}  # the number of each statement, by its bytes
+
+    def accepts(self, statement, signature):
+        key = self.keys.get(statement.who)
+        return key is not None and signature == tag_of(key, b"S" + statement.bytes)
+
+    def verdict(self, numbers, who, file, perm, proof, bytes_of_proof):
+        """The grant of a proof from statements that are there, or the reply that tells its fault."""
+        cited = [self.statements[one - 1] for one in numbers]
+        case = (tuple(one.bytes for one in cited), bytes_of_proof, who, file, perm)
+        if case not in self.verdicts:
+            try:
+                self.verdicts[case] = grant_of(cited, who, file, perm, proof)
+            except Reply as reply:
+                self.verdicts[case] = str(reply)
+        return self.verdicts[case]
+
+    def add(self, event):
+        """Adds an event: the cause for which it is damage, or else none, and the reply to who asked for it."""
+        make = {Registered: self.add_registered, Issued: self.add_issued, Acted: self.add_acted}[type(event)]
+        cause, reply = make(event)
+        if cause is None:
+            self.count += 1
+        return cause, reply
+
+    def add_registered(self, event):
+        if not self.accepts(event.statement, event.signature):
+            return 3, None
+        if event.statement.bytes in self.said or len(self.statements) == MOST_STATEMENTS:
+            return 7, None
+        self.statements.append(event.statement)
+        self.said[event.statement.bytes] = len(self.statements)
+        return None, f"ok statement {len(self.statements)}"
+
+    def add_issued(self, event):
+        numbers, grant = event.numbers, event.grant
+        rising = all(a < b for a, b in zip(numbers, numbers[1:]))
+        if not 1 <= len(numbers) <= 64 or not rising or numbers[0] < 1 or numbers[-1] > len(self.statements):
+            return 4, None
+        verdict = self.verdict(numbers, grant.who, grant.file, grant.perm, event.proof, event.proof_bytes)
+        if isinstance(verdict, str) or grant_bytes(verdict) != grant_bytes(grant):
+            return 4, None
+        self.issues.append(grant)
+        return None, f"ok issue {len(self.issues)} time {len(grant.times)} state {len(grant.states)}"
+
+    def add_acted(self, event):
+        if event.moment < self.moment:
+            return 6, None
+        if len(event.procaps) != OPERATIONS[event.operation][1]:
+            return 5, None
+        if any(isinstance(word, bytes) and len(word) > MOST_BYTES for word in event.words):
+            return 5, None
+        reply = self.admitted(event.caller, event.operation, event.words, event.procaps, event.moment)
+        if not reply.startswith("ok"):
+            return 5, None
+        self.moment = event.moment
+        return None, reply
+
+    def admitted(self, caller, operation, words, procaps, moment):
+        """The reply to an operation, which is done if that begins with `ok`; it is not counted."""
+        self.caller = caller
+        for place, file, perm in self.needs(operation, *words):
+            cause = self.why_denied(procaps[place - 1], file, perm, moment)
+            if cause:
+                return f"denied {place} {cause} at {self.count}"
+        done = getattr(self, operation)(*words)
+        return f"refused {done} at {self.count}" if isinstance(done, int) else done
+
+    def why_denied(self, procap, file, perm, moment):
+        """The first cause for which the procap does not give the caller the permission."""
+        if not procap.genuine:
+            return "seal"
+        grant = procap.grant
+        for cause, holds in ("principal", grant.who == self.caller), ("file", grant.file == file), ("permission", grant.perm == perm):
+            if not holds:
+                return cause
+        for place, condition in enumerate(grant.times, 1):
+            low, high = [("time", moment) if term == CTIME else term for term in condition[1:]]
+            if not (condition[1] == condition[2] or low[0] == high[0] == "time" and low[1] <= high[1]):
+                return f"time {place} {condition_text(condition)}"
+        for place, condition in enumerate(grant.states, 1):
+            if not self.is_fact(*condition[1:]):
+                return f"state {place} {condition_text(condition)}"
+        return None
+
+    def would_answer(self, caller, operation, words, procaps, clock):
+        """The reply that an operation would get now; nothing changes."""
+        kinds = OPERATIONS[operation][0]
+        near = [word for kind, word in zip(kinds, words) if kind is pcfs_model.node]
+        names = [word for kind, word in zip(kinds, words) if kind is pcfs_model.name]
+        near += [self.child(directory, name) for directory in near for name in names]
+        writes = operation in ("write", "truncate")
+        kept = {number: copied(self.nodes[number], writes) for number in near if number in self.nodes}
+        new, together, caller_before = self.next, self.together, self.caller
+        reply = self.admitted(caller, operation, words, procaps, max(clock, self.moment))
+        self.caller = caller_before
+        if reply.startswith("ok"):
+            self.nodes.update(kept)
+            self.nodes.pop(new, None)
+            self.next, self.together = new, together
+        return reply
+
+
+def acted_bytes(caller, operation, words, procaps):
+    """How many bytes the payload of such an event has."""
+    size = 1 + 1 + len(caller) + 1 + 1 + 8 + sum(len(procap.bytes) for procap in procaps)
+    for word in words:
+        size += 8 if isinstance(word, int) else 4 + len(word) if isinstance(word, bytes) else 1 + len(word)
+    return size
+
+
+def registered_bytes(statement, signature):
+    return 1 + len(statement.bytes) + 4 + len(signature)
+
+
+def issued_bytes(numbers, proof, grant):
+    return 1 + 1 + 4 * len(numbers) + 4 + len(proof_bytes(proof)) + len(grant_bytes(grant))

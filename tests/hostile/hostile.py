@@ -1,0 +1,244 @@
+"""Hostile use of the built program, compared with what the definitions promise.
+
+    hostile.py PROGRAM FOLDER SECONDS SEED [PART..]     the parts are clients, strangers, damage and kills: all, if none is named
+"""
+import multiprocessing
+import random
+import sys
+import time
+from collections import Counter
+from itertools import chain
+
+from areas import LIMIT
+from clients import Plan, begun, said
+from damage import damage_until
+from history import Reader
+from kills import Kills, keeper
+from pcfs_model import Drawn
+from placing import Placing
+from said import SHARED, secrets_of
+from serving import Running, Store
+from strangers import AT_ONCE, Scene, all_strangers, words_and_ports
+from talking import Session, Unanswered
+
+SHARES = {"clients": 0.5, "strangers": 0.2, "damage": 0.15, "kills": 0.15}
+SESSION_SECONDS = 15  # of a client, before it begins another
+STRANGERS = 1500  # names for them, and as many connections at most
+SILENT = 300  # more connections, which say nothing
+MOST_SAID = 1_000_000  # how often clients say something in one part, at most
+LONG = 240  # seconds in which an area is filled
+OWN_THREADS = 4  # of the server, beside one for each session
+
+
+class Run:
+    """The parts, their figures and their faults."""
+
+    def __init__(self, program, folder, seconds, seed, parts):
+        self.program, self.folder, self.seed = program, folder, seed
+        together = sum(SHARES[part] for part in parts)
+        self.shares = {part: seconds * SHARES[part] / together for part in parts}
+        self.faults, self.total = [], Counter()
+        self.area = self.secrets = None
+
+    def tell(self, part, text):
+        print(f"{part}: {text}", flush=True)
+
+    def fault(self, part, text):
+        self.faults.append(text)
+        self.tell(part, f"FAULT {text}")
+
+    def most(self, memory, threads):
+        self.total["memory"], self.total["threads"] = max(self.total["memory"], memory), max(self.total["threads"], threads)
+
+    # ---- clients, tame and wild ----
+
+    def clients(self, part="clients", wild=False):
+        """Random clients, whose replies are placed in the history; before wild ones there are strangers."""
+        seconds = self.shares[part]
+        plan = Plan(0, f"{self.seed}.{part}", self.folder, 0, 0, AT_ONCE, max(2, round(seconds / SESSION_SECONDS)), wild=wild)
+        strangers = [f"s{number}" for number in range(STRANGERS)] if wild else []
+        store = Store(self.program, f"{self.folder}/{part}", secrets_of(["keeper", *plan.names(), *strangers]))
+        if store.run("init") != (b"ok\n", 0):
+            self.fault(part, "init does not make a store")
+            return
+        server = Running(store, 1 + len(plan.names()) + (STRANGERS + SILENT if wild else 0))
+        try:
+            logs = [keeper(server)]
+            idle = server.watch()
+            begin = time.monotonic()
+            if wild:
+                logs += self.strange(part, server, strangers)
+            self.live(part, plan, server, store, begin + seconds)
+            self.quiet(part, server, idle)
+            if wild:
+                self.fill(server)
+            self.end(part, server)
+        finally:
+            if server.runs():
+                server.kill()
+        self.place(part, plan, store, server, logs)
+
+    def strange(self, part, server, names):
+        scene = Scene(server, names)
+        all_strangers(scene, random.Random(f"{self.seed} strangers"))
+        for what, figure in scene.figures.items():
+            self.tell(part, f"{what}: {figure}")
+        for fault in scene.faults:
+            self.fault(part, fault)
+        return scene.logs
+
+    def live(self, part, plan, server, store, end):
+        """The clients' time. If it is long, they write so much that the area is full after nine tenths of it."""
+        plan.port, plan.begin, plan.more = server.port, time.monotonic(), multiprocessing.Value("d", 0.0)
+        plan.end = max(end, plan.begin + 2)
+        seconds = plan.end - plan.begin
+        plan.think = AT_ONCE * seconds / MOST_SAID
+        processes = begun(plan)
+        while any(process.is_alive() for process in processes):
+            server.watch()
+            done = (time.monotonic() - plan.begin) / seconds
+            is_behind = seconds >= LONG and store.size() < LIMIT * done / 0.9
+            plan.more.value = min(32_000, 2 * plan.more.value + 16) if is_behind else plan.more.value // 2
+            if not server.runs() and done < 1:
+                self.fault(part, f"the server ended by itself: {server.ended()}")
+                break
+            time.sleep(0.2)
+        for process in processes:
+            process.join()
+
+    def quiet(self, part, server, idle):
+        """Once all have left, there are no more threads and files than before they came."""
+        until = time.monotonic() + 10
+        now = server.watch()
+        while now and (now[1] > idle[1] or now[2] > idle[2]) and time.monotonic() < until:
+            time.sleep(0.05)
+            now = server.watch()
+        if now and (now[1] > idle[1] or now[2] > idle[2]):
+            self.fault(part, f"{now[1]} threads and {now[2]} files are left, and there were {idle[1]} and {idle[2]}")
+
+    def fill(self, server):
+        """Connections that say nothing, until the server has had as many as it was to have."""
+        for _ in range(server.count):
+            try:
+                Session(server.port, 1).connection.close()
+            except (OSError, Unanswered):
+                return
+
+    def end(self, part, server):
+        """The server ends by itself, and tells how many it served."""
+        ended = server.ended()
+        if ended != (f"served {server.count}\n".encode(), 0):
+            self.fault(part, f"the server ends with {ended}, and not after {server.count}")
+        if server.threads > AT_ONCE + OWN_THREADS:
+            self.fault(part, f"there were {server.threads} threads")
+        self.most(server.memory, server.threads)
+
+    # ---- what is compared after them ----
+
+    def place(self, part, plan, store, server, logs):
+        placing, nonces, lines = Placing(store.area(), store.secrets, {SHARED}), Counter(), 0
+        for log, faults in chain(((log, []) for log in logs), said(plan)):
+            for fault in faults:
+                self.fault(part, fault)
+            if log:
+                placing.add(log)
+                nonces[log.nonce] += 1
+                lines += len(log.lines)
+        state = placing.check()
+        for fault in placing.shown:
+            self.fault(part, fault)
+        if len(nonces) < nonces.total():
+            self.fault(part, "a nonce was given twice")
+        self.open_again(part, store, state, placing)
+        self.figures(part, placing, server, store, nonces.total(), lines)
+        if self.area is None:
+            self.area, self.secrets = store.area(), store.secrets
+
+    def open_again(self, part, store, state, placing):
+        """A fresh opening finds the same events, and so does an audit, if the program has one."""
+        found = store.found()
+        if found != (state.count, 0):
+            self.fault(part, f"an opening finds {found}, and not {state.count} events")
+        done = store.run("audit")
+        wanted = f"events {state.count} statements {len(state.statements)} issues {len(state.issues)} unissued {placing.unissued}\n".encode()
+        if done == (b"usage\n", 1):
+            self.tell(part, "the program has no audit")
+        elif done != (wanted, 0):
+            self.fault(part, f"an audit writes {done[0][:300]!r}, {done[1]}, and not {wanted!r}")
+
+    def figures(self, part, placing, server, store, sessions, lines):
+        events, size, told = placing.last, store.size(), placing.told_words
+        self.tell(part, f"{sessions} sessions, {lines} lines, {placing.counts['events that were not told']} events that were not told")
+        self.tell(part, "told " + ", ".join(f"{told[kind]} {kind}" for kind in sorted(told)))
+        memory = f"{server.memory} KiB at most, {server.memory * 1024 / max(1, events):.0f} bytes an event"
+        self.tell(part, f"{events} events in {size} bytes; {memory}; {server.threads} threads, {server.files} files at most")
+        explained = self.explained(events, size)
+        if server.memory * 1024 > explained:
+            self.fault(part, f"the history explains {explained // 1024} KiB of memory, and not {server.memory}")
+        self.total.update(sessions=sessions, lines=lines, events=events)
+
+    def explained(self, events, size):
+        """How many bytes of memory the history, the contents of files and so many sessions may take."""
+        return 6 * size + 400 * events + 2 * 33_554_432 + AT_ONCE * 1_048_576 + 32 * 1_048_576
+
+    # ---- the other parts ----
+
+    def strangers(self):
+        try:
+            for fault in words_and_ports(self.program, self.folder):
+                self.fault("strangers", fault)
+        except (OSError, Unanswered) as fault:
+            self.fault("strangers", f"words and ports: {fault!r}")
+        self.clients("strangers", wild=True)
+
+    def damage(self):
+        """Areas that were damaged are opened."""
+        if self.area is None:
+            self.draw_store()
+        store = Store(self.program, f"{self.folder}/damaged", self.secrets)
+        reader = Reader(bytes.fromhex(self.secrets.split()[1]))
+        until = time.monotonic() + self.shares["damage"]
+        kinds, found, faults = damage_until(store, random.Random(f"{self.seed} damage"), self.area, reader, until)
+        for fault in faults:
+            self.fault("damage", fault)
+        self.tell("damage", f"{kinds.total()} damages: " + ", ".join(f"{count} {kind}" for kind, count in kinds.most_common()))
+        self.tell("damage", "found " + ", ".join(f"{count} {what}" for what, count in found.most_common()))
+        self.total["damages"] += kinds.total()
+
+    def draw_store(self):
+        """A store by a random script, if no part before has left one."""
+        self.secrets = "seal 00\nkey admin 01\n"
+        store = Store(self.program, f"{self.folder}/drawn", self.secrets)
+        store.run("init")
+        store.run("script", "--stored", given="".join(line + "\n" for line in Drawn(self.seed).lines(2000)).encode("latin-1"))
+        self.area = store.area()
+
+    def kills(self):
+        kills = Kills(self.program, self.folder, random.Random(f"{self.seed} kills"))
+        kills.until(time.monotonic() + self.shares["kills"])
+        for fault in kills.faults:
+            self.fault("kills", fault)
+        counts = kills.counts
+        self.tell("kills", f"{counts['kills']} kills in {counts['sessions']} sessions of {counts['lines']} lines, {counts['replies']} of them told")
+        self.tell("kills", f"{counts['events']} events, of which {counts['more']} were not told; {kills.memory} KiB, {kills.threads} threads at most")
+        self.total.update(kills=counts["kills"], lines=counts["lines"], sessions=counts["sessions"], events=counts["events"])
+        self.most(kills.memory, kills.threads)
+
+
+def main():
+    sys.setrecursionlimit(20_000)  # formulas and proofs may be deep
+    program, folder, seconds, seed, *parts = sys.argv[1:]
+    run = Run(program, folder, float(seconds), int(seed), parts or list(SHARES))
+    begin = time.monotonic()
+    for part in run.shares:
+        getattr(run, part)()
+    total = run.total
+    print(
+        f"{total['lines']} lines in {total['sessions']} sessions, {total['events']} events, {total['damages']} damages, {total['kills']} kills; "
+        f"{total['memory']} KiB of memory and {total['threads']} threads at most; {time.monotonic() - begin:.0f} s, seed {run.seed}: {len(run.faults)} faults"
+    )
+    sys.exit(1 if run.faults else 0)
+
+
+if __name__ == "__main__":
+    main()

@@ -1,0 +1,395 @@
+"""Places what clients were told in the history that an area keeps, and compares it with the plain model there.
+
+Each reply of a session has a place: so many events stood in the history when it was decided. Places of one session do not go
+back; a line that was said after another client had its reply is decided after that one's event, and an event whose line was
+said later is not yet there. A reply that begins an event is that very event, and no event is another's.
+"""
+import re
+from array import array
+from bisect import bisect_left, bisect_right
+from collections import defaultdict, deque, namedtuple
+from itertools import islice
+
+from areas import BEGIN, LIMIT, Damaged, records
+from history import MOST_STATEMENTS, Acted, History, Issued, Registered, acted_bytes, issued_bytes, registered_bytes
+from lines import LONGEST, Lines, is_accepted, is_in_table
+from pcfs_client import tag_of
+from pcfs_model import OPERATIONS, Bad, Reply, Undecided, grant_bytes
+
+# Between which places a reply stands, its event, and what is to be asked of the model there.
+Place = namedtuple("Place", "least most event ask", defaults=(0, None))
+Ask = namedtuple("Ask", "caller form words procaps first last reply")
+ISSUE = re.compile(rb"ok issue ([1-9][0-9]*) (.*)")
+SECOND = 10**9
+COARSE = 20_000_000  # by so many nanoseconds the server's clock may be behind: some clocks go by ticks
+FOREVER = 2**62
+MOST_SHOWN = 20
+
+
+class Wrong(Exception):
+    """A reply that the definitions do not allow."""
+
+
+def want(reply, wanted):
+    if reply != wanted.encode("latin-1"):
+        raise Wrong(f"and not {wanted[:200]}")
+
+
+def kind_of(reply):
+    """A reply without what it tells of one line alone."""
+    words = reply.decode("latin-1").split(" ")
+    if words[0] == "denied":
+        return f"denied {words[2]}"
+    return " ".join(words[:2]) if words[0] in ("ok", "rejected", "unproved", "refused", "bad") else words[0]
+
+
+def key_of(event):
+    """All that a line says of its event."""
+    if isinstance(event, Registered):
+        return event.statement.bytes, event.signature
+    if isinstance(event, Issued):
+        return event.grant.who, event.grant.file, event.grant.perm, tuple(event.numbers), event.proof_bytes
+    return event.caller, event.operation, tuple(event.words), tuple(procap.bytes for procap in event.procaps)
+
+
+def key_asked(asked, caller):
+    """The same of the event that a line asks for."""
+    if asked.form == "register":
+        return asked.text.bytes, asked.words[0]
+    if asked.form == "verify":
+        return *asked.words[:3], tuple(asked.words[3]), asked.text[1]
+    slots = OPERATIONS[asked.form][1]
+    return caller, asked.form, tuple(asked.words[:-slots]), tuple(procap.bytes for procap in asked.words[-slots:])
+
+
+class Placing:
+    """The history of an area, and what sessions were told of it. A caller who is shared may have several sessions, and never
+    asks twice for the same; every other has one session alone."""
+
+    def __init__(self, area, secrets, shared=()):
+        self.known = History(secrets)  # its statements are all that the area has
+        self.secrets, self.shared = secrets, shared
+        self.lines = Lines(self.known.reader)
+        self.shown, self.counts, self.told_words = [], defaultdict(int), defaultdict(int)
+        self.events, self.ends = [None], [BEGIN]
+        self.statement_events, self.issue_events, self.issues = [0], [0], [None]
+        self.acted = defaultdict(deque)
+        self.read_area(area)
+        count = len(self.events)
+        self.sent, self.got = array("q", [0]) * count, array("q", [FOREVER]) * count
+        self.walls = [(0, FOREVER)] * count
+        self.told, self.owner = [None] * count, [None] * count
+        self.sessions, self.unanswered, self.asks = [], [], defaultdict(list)
+
+    def fault(self, text):
+        self.counts["faults"] += 1
+        if len(self.shown) < MOST_SHOWN:
+            self.shown.append(text)
+
+    # ---- the history ----
+
+    def read_area(self, area):
+        """Takes all events, up to damage, which is a fault."""
+        try:
+            for payload, end in records(area):
+                self.take_event(self.known.reader.event(payload), end)
+        except Damaged as damaged:
+            self.fault(f"the area is {damaged}")
+        except Bad:
+            self.fault(f"event {len(self.events)} is none")
+
+    def take_event(self, event, end):
+        number = len(self.events)
+        self.events.append(event)
+        self.ends.append(end)
+        if isinstance(event, Registered):
+            self.statement_events.append(number)
+            self.known.statements.append(event.statement)
+            self.known.said[event.statement.bytes] = len(self.known.statements)
+        elif isinstance(event, Issued):
+            self.issue_events.append(number)
+            self.issues.append(event.grant)
+        else:
+            self.acted[event.caller].append(number)
+
+    @property
+    def last(self):
+        return len(self.events) - 1
+
+    def statement_event(self, number):
+        """The event that has that number of a statement; none if there is none."""
+        return self.statement_events[number] if 1 <= number < len(self.statement_events) else None
+
+    # ---- what one session was told ----
+
+    def add(self, spoken):
+        """Reads what was said on a connection and what it was told."""
+        caller, places, session = None, [], len(self.sessions)
+        for number, ((reply, got, got_wall), (line, sent, sent_wall)) in enumerate(zip(spoken.replies, spoken.lines)):
+            self.told_words[kind_of(reply)] += 1
+            try:
+                if not is_in_table(reply):
+                    raise Wrong("which no table has")
+                place = self.place(line, reply, caller, spoken.nonce, sent_wall, got_wall)
+            except Wrong as wrong:
+                self.fault(f"session {session}, line {number}, {line[:300]!r} of {caller} is told {reply[:300]!r} {wrong}")
+                place = Place(0, self.last)
+            if place.event:
+                self.own(place.event, session, (sent, got), (sent_wall, got_wall), reply)
+            if reply == b"ok" and line.startswith(b"login "):
+                caller = line.split(b" ")[1].decode()
+            places.append((place.least, place.most, place.event, place.ask, sent, got))
+        self.sessions.append(places)
+        self.keep_unanswered(spoken, session, caller)
+
+    def own(self, event, session, moments, walls, reply=None):
+        """Gives an event to a session."""
+        if self.owner[event] is not None:
+            self.fault(f"event {event} is told twice, in sessions {self.owner[event]} and {session}")
+        self.owner[event], self.told[event] = session, reply
+        self.sent[event], self.got[event] = moments
+        self.walls[event] = walls
+
+    def anywhere(self):
+        return Place(0, self.last)
+
+    def place(self, line, reply, caller, nonce, sent, got):
+        """Between which places the reply stands; Wrong if at none."""
+        if len(line) > LONGEST:
+            want(reply, "bad 3")
+            return self.anywhere()
+        try:
+            asked = self.lines.read(line)
+        except Reply as first:
+            want(reply, str(first))
+            return self.anywhere()
+        except Undecided:
+            raise Wrong("and two who read its text differ") from None
+        if asked.form == "login":
+            want(reply, "ok" if is_accepted(self.known.keys, *asked.words, nonce) else "rejected 1")
+            return self.anywhere()
+        if caller is None:
+            want(reply, "rejected 4")
+            return self.anywhere()
+        if asked.form in OPERATIONS:
+            return self.place_of_operation(asked, reply, caller, sent, got)
+        find = {"register": self.place_of_statement, "verify": self.place_of_proof, "procap": self.place_of_procap}[asked.form]
+        return find(asked, reply, caller)
+
+    def place_when_full(self, size, least, most, ask=None):
+        """Where a record with so many bytes does not fit any more."""
+        return Place(max(least, bisect_right(self.ends, LIMIT - 6 - size)), most, 0, ask)
+
+    def place_of_statement(self, asked, reply, caller):
+        (given,), statement = asked.words, asked.text
+        if not self.known.accepts(statement, given):
+            want(reply, "rejected 1")
+            return self.anywhere()
+        number = self.known.said.get(statement.bytes)
+        event = self.statement_event(number or 0)
+        last = self.statement_event(MOST_STATEMENTS)
+        if reply == b"full":
+            return self.place_when_full(registered_bytes(statement, given), 0, (event or last or self.last + 1) - 1)
+        if reply == b"rejected 2" and last and event is None:
+            return Place(last, self.last)
+        if event is None:
+            raise Wrong("and the history has no such statement")
+        if reply == b"rejected 3 %d" % number:
+            return Place(event, self.last)
+        want(reply, f"ok statement {number}")
+        return Place(event - 1, event - 1, event)
+
+    def place_of_proof(self, asked, reply, caller):
+        (who, file, perm, numbers), (proof, bytes_of_proof) = asked.words, asked.text
+        if reply.startswith(b"absent "):
+            return self.place_of_absent(numbers, int(reply[7:]))
+        if numbers[0] == 0 or self.statement_event(numbers[-1]) is None:
+            raise Wrong("and cites what is never there")
+        least = self.statement_event(numbers[-1])
+        verdict = self.known.verdict(numbers, who, file, perm, proof, bytes_of_proof)
+        if isinstance(verdict, str):
+            want(reply, verdict)
+            return Place(least, self.last)
+        if reply == b"full":
+            return self.place_when_full(issued_bytes(numbers, proof, verdict), least, self.last)
+        found = ISSUE.fullmatch(reply)
+        if not found or int(found[1]) >= len(self.issue_events):
+            raise Wrong("and the proof gives a grant")
+        want(found[2], f"time {len(verdict.times)} state {len(verdict.states)}")
+        event = self.issue_events[int(found[1])]
+        if key_of(self.events[event]) != key_asked(asked, caller) or grant_bytes(self.events[event].grant) != grant_bytes(verdict):
+            raise Wrong(f"and that is event {event}, {str(self.events[event])[:300]}")
+        return Place(event - 1, event - 1, event)
+
+    def place_of_absent(self, numbers, number):
+        """Where the statements that are cited before that number are there, and it is not."""
+        if number not in numbers:
+            raise Wrong("which was not cited")
+        before = [self.statement_event(one) for one in numbers[: numbers.index(number)]]
+        if None in before:
+            raise Wrong("and one cited before it is absent too")
+        event = self.statement_event(number)
+        return Place(max(before, default=0), self.last if event is None else event - 1)
+
+    def place_of_procap(self, asked, reply, caller):
+        (number,) = asked.words
+        grant = self.issues[number] if number < len(self.issues) else None
+        mine = grant is not None and grant.who == caller
+        if reply == b"absent %d" % number:
+            return Place(0, self.issue_events[number] - 1 if mine else self.last)
+        if not mine:
+            raise Wrong("and it is nobody's, or another's")
+        data = grant_bytes(grant)
+        want(reply, f"ok procap {(data + tag_of(self.known.seal, data)).hex()}")
+        return Place(self.issue_events[number], self.last)
+
+    def place_of_operation(self, asked, reply, caller, sent, got):
+        slots = OPERATIONS[asked.form][1]
+        words, procaps = asked.words[:-slots], asked.words[-slots:]
+        ask = Ask(caller, asked.form, words, procaps, (sent - COARSE) // SECOND, got // SECOND, reply)
+        if reply == b"full":
+            return self.place_when_full(acted_bytes(caller, asked.form, words, procaps), 0, self.last, ask)
+        if reply.startswith((b"denied ", b"refused ")):
+            number = int(reply[reply.rindex(b" at ") + 4 :])
+            return Place(number, min(number, self.last), 0, ask)
+        if not reply.startswith(b"ok"):
+            raise Wrong("which no operation is told")
+        event = self.acted_event(asked, caller)
+        return Place(event - 1, event - 1, event)
+
+    def acted_event(self, asked, caller):
+        """The event that this operation is: of who has one session alone, the next; else the one that says the same."""
+        left = self.acted[caller]
+        wanted = key_asked(asked, caller)
+        for number in left if caller in self.shared else islice(left, 1):
+            if key_of(self.events[number]) == wanted:
+                left.remove(number)
+                return number
+            if caller not in self.shared:
+                raise Wrong(f"and the next event of {caller}, {number}, is {str(self.events[number])[:300]}")
+        raise Wrong(f"and {caller} has no such event")
+
+    # ---- what was said and not answered ----
+
+    def keep_unanswered(self, spoken, session, caller):
+        """Keeps the lines that were not answered: the first of them may have become events."""
+        lines = []
+        for line, sent, wall in spoken.lines[len(spoken.replies) :]:
+            try:
+                asked = self.lines.read(line) if len(line) <= LONGEST else None
+            except (Reply, Undecided):
+                continue
+            if asked and asked.form == "login":
+                caller = asked.words[0] if is_accepted(self.known.keys, *asked.words, spoken.nonce) else caller
+            elif asked and asked.form != "procap" and caller is not None:
+                lines.append((key_asked(asked, caller), sent, wall))
+        if lines:
+            self.unanswered.append((session, lines))
+
+    def find_unanswered(self):
+        """Gives each event that nobody was told to a line that was not answered, each line at most one, in their order."""
+        left = defaultdict(deque)
+        for number in range(1, self.last + 1):
+            if self.owner[number] is None:
+                left[key_of(self.events[number])].append(number)
+        self.counts["events that were not told"] = sum(map(len, left.values()))
+        for session, lines in self.unanswered:
+            low = 0
+            for key, sent, wall in lines:
+                number = next((one for one in left.get(key, ()) if one > low), None)
+                if number is not None:
+                    left[key].remove(number)
+                    self.own(number, session, (sent, FOREVER), (wall, FOREVER))
+                    self.sessions[session].append((number - 1, number - 1, number, None, sent, FOREVER))
+                    low = number
+        for number in sorted(number for numbers in left.values() for number in numbers):
+            self.fault(f"nobody asked for event {number}, {str(self.events[number])[:300]}")
+
+    # ---- places ----
+
+    def order(self):
+        """The orders in which events were said and told."""
+        numbers = range(1, self.last + 1)
+        self.told_at, self.told_most = array("q"), array("q")
+        most = 0
+        for number in sorted(numbers, key=self.got.__getitem__):
+            most = max(most, number)
+            self.told_at.append(self.got[number])
+            self.told_most.append(most)
+        said = sorted(numbers, key=self.sent.__getitem__)
+        self.said_at, self.said_least = array("q", (self.sent[number] for number in said)), array("q", said)
+        for place in range(len(said) - 2, -1, -1):
+            self.said_least[place] = min(self.said_least[place], self.said_least[place + 1])
+
+    def told_before(self, moment):
+        """The last event that was told before that moment."""
+        place = bisect_left(self.told_at, moment)
+        return self.told_most[place - 1] if place else 0
+
+    def said_before(self, moment):
+        """The last place before which no event stands whose line was said after that moment."""
+        place = bisect_right(self.said_at, moment)
+        return self.said_least[place] - 1 if place < len(self.said_at) else self.last
+
+    def walk(self, session):
+        """Places the replies of a session, each as early as it may stand."""
+        low = 0
+        for number, (least, most, event, ask, sent, got) in enumerate(self.sessions[session]):
+            place = max(low, least, self.told_before(sent))
+            most = min(most, self.said_before(got))
+            if place > most:
+                self.fault(f"session {session}, reply {number} has no place: not before {place} by {low}, {least} and what was told, nor after {most}")
+            if ask:
+                self.asks[min(place, self.last)].append((session, number, ask, most))
+            low = event or place
+
+    # ---- the model ----
+
+    def replay(self):
+        """Makes the history by the model, and asks it at each place what was told there."""
+        history = History(self.secrets, self.known.reader)
+        granted, self.unissued = set(), 0
+        for number in range(1, self.last + 1):
+            self.ask_at(history, number - 1)
+            event, before = self.events[number], history.moment
+            cause, reply = history.add(event)
+            if cause:
+                self.fault(f"event {number} is damage of cause {cause}: {str(event)[:300]}")
+                return history
+            if self.told[number] not in (None, reply.encode()):
+                self.fault(f"event {number} was told {self.told[number][:200]!r}, and not {reply[:200]}")
+            if isinstance(event, Acted):
+                self.test_moment(number, before)
+                self.unissued += any(procap.bytes[:-32] not in granted for procap in event.procaps)
+            elif isinstance(event, Issued):
+                granted.add(grant_bytes(event.grant))
+        self.ask_at(history, self.last)
+        return history
+
+    def test_moment(self, number, before):
+        """The moment is the one before, or the clock's while the line was out."""
+        moment, (sent, got) = self.events[number].moment, self.walls[number]
+        if moment < (sent - COARSE) // SECOND or moment != before and moment > got // SECOND:
+            self.fault(f"event {number} has the moment {moment}, was said at {sent // SECOND} and told at {got // SECOND}")
+
+    def ask_at(self, history, place):
+        for session, number, ask, most in self.asks.pop(place, ()):
+            replies = [
+                history.would_answer(ask.caller, ask.form, ask.words, ask.procaps, clock) for clock in range(ask.first, ask.last + 1)
+            ]
+            is_full = ask.reply == b"full"
+            if any(reply.startswith("ok") if is_full else reply.encode() == ask.reply for reply in replies):
+                continue
+            if is_full and place < most:
+                self.asks[place + 1].append((session, number, ask, most))
+            else:
+                words = f"{ask.form} {str(ask.words)[:200]} of {ask.caller}"
+                self.fault(f"session {session}, reply {number}: at {place} {words} is told {ask.reply[:200]!r}, and not {replies[0][:200]}")
+
+    def check(self):
+        """Compares all, once every session was added, and returns the state at the end."""
+        self.find_unanswered()
+        self.order()
+        for session in range(len(self.sessions)):
+            self.walk(session)
+        return self.replay()

@@ -1,0 +1,232 @@
+#!/usr/bin/env python3
+"""A slow server of sessions by the plain model, on which the hostile tests themselves are tried: `init`, `serve PORT COUNT`, and
+`script --stored` with the one line by which the tests ask for the number of events. A word in the variable WRONG makes it wrong
+in one way, which the tests have to find (wrong.sh)."""
+import os
+import random
+import re
+import secrets as system
+import socket
+import sys
+import threading
+import time
+
+from areas import LIMIT, Damaged, bytes_of, newest, opened, records
+from damage import MADE
+from history import Acted, Issued, Registered
+from lines import LONGEST, Lines, is_accepted
+from pcfs_audit_model import CODES, cited_bytes, word_bytes
+from pcfs_client import short, tag_of
+from pcfs_model import OPERATIONS, Bad, Reply, Undecided, grant_bytes
+
+WRONG = os.environ.get("WRONG", "")
+AT_ONCE = 65 if WRONG == "too-many" else 64
+
+
+def payload(event):
+    """The bytes of an event."""
+    if isinstance(event, Registered):
+        return b"\x01" + event.statement.bytes + len(event.signature).to_bytes(4, "big") + event.signature
+    if isinstance(event, Issued):
+        proof = len(event.proof_bytes).to_bytes(4, "big") + event.proof_bytes
+        return b"\x02" + cited_bytes(event.numbers) + proof + grant_bytes(event.grant)
+    kinds = OPERATIONS[event.operation][0]
+    out = b"\x03" + short(event.caller) + bytes([CODES.index(event.operation) + 1])
+    out += b"".join(word_bytes(kind, word) for kind, word in zip(kinds, event.words))
+    out += bytes([len(event.procaps)]) + b"".join(procap.bytes for procap in event.procaps)
+    return out + event.moment.to_bytes(8, "big", signed=True)
+
+
+class Kept:
+    """The store, and its lock."""
+
+    def __init__(self, history, size):
+        self.history, self.lines, self.lock = history, Lines(history.reader), threading.Lock()
+        self.file = os.open("pcfs.a", os.O_RDWR)
+        self.end = size
+        self.stale = None
+
+    def keep(self, event):
+        """Appends an event, and makes it so: the reply."""
+        number, record = self.history.count + 1, payload(event)
+        if self.end + 5 + len(record) + 1 > LIMIT:
+            return "full"
+        if not (WRONG == "lost" and number % 300 == 0):
+            os.pwrite(self.file, len(record).to_bytes(4, "big") + record + b"\0", self.end + 1)
+            os.pwrite(self.file, b"\x01", self.end)
+            self.end += 5 + len(record)
+        _, reply = self.history.add(event)
+        return reply
+
+    def register(self, asked, caller):
+        (given,), statement, history = asked.words, asked.text, self.history
+        if not history.accepts(statement, given):
+            return "rejected 1"
+        if statement.bytes in history.said and WRONG != "twice":
+            return f"rejected 3 {history.said[statement.bytes]}"
+        return "rejected 2" if len(history.statements) == 4096 else self.keep(Registered(statement, given))
+
+    def verify(self, asked, caller):
+        (who, file, perm, numbers), (proof, proof_bytes) = asked.words, asked.text
+        for one in numbers:
+            if not 1 <= one <= len(self.history.statements):
+                return f"absent {one}"
+        verdict = self.history.verdict(numbers, who, file, perm, proof, proof_bytes)
+        return verdict if isinstance(verdict, str) else self.keep(Issued(numbers, proof, proof_bytes, verdict))
+
+    def procap(self, asked, caller):
+        (number,) = asked.words
+        grant = self.history.issues[number - 1] if number <= len(self.history.issues) else None
+        if grant is None or grant.who != caller and WRONG != "others-procaps":
+            return f"absent {number}"
+        return f"ok procap {(grant_bytes(grant) + tag_of(self.history.seal, grant_bytes(grant))).hex()}"
+
+    def do(self, asked, caller):
+        slots = OPERATIONS[asked.form][1]
+        words, procaps = asked.words[:-slots], asked.words[-slots:]
+        clock = int(time.time()) - (3 if WRONG == "old-clock" else 0)
+        if WRONG == "state-conditions" and all(procap.genuine for procap in procaps):
+            self.history.is_fact = lambda *_: random.random() < 0.05 or type(self.history).is_fact(self.history, *_)
+        reply = self.history.would_answer(caller, asked.form, words, procaps, clock)
+        if not reply.startswith("ok"):
+            return reply.replace(" at ", " at 1") if WRONG == "number" and random.random() < 0.01 else reply
+        told = self.keep(Acted("admin" if WRONG == "other-caller" and random.random() < 0.01 else caller, asked.form, words, procaps, max(clock, self.history.moment)))
+        if WRONG == "stale" and asked.form == "read":
+            told, self.stale = self.stale or told, told
+        return told
+
+
+class Session:
+    """One connection."""
+
+    def __init__(self, kept, connection):
+        self.kept, self.connection = kept, connection
+        self.nonce = bytes(16) if WRONG == "nonce" else system.token_bytes(16)
+        self.caller, self.pending = None, b""
+
+    def hold(self):
+        try:
+            self.connection.sendall(f"hello {self.nonce.hex()}\n".encode())
+            while piece := self.connection.recv(65536):
+                self.pending += piece
+                while b"\n" in self.pending[: LONGEST + 1]:
+                    line, _, self.pending = self.pending.partition(b"\n")
+                    self.tell(line)
+                if len(self.pending) > LONGEST:
+                    self.connection.sendall(b"bad 3\n")
+                    return
+            if self.pending:
+                self.tell(self.pending)
+        except OSError:
+            pass
+        finally:
+            self.connection.close()
+
+    def tell(self, line):
+        self.connection.sendall(self.answer(line).encode("latin-1") + b"\n")
+
+    def answer(self, line):
+        try:
+            asked = self.kept.lines.read(line)
+        except Reply as fault:
+            return str(fault)
+        except Undecided:
+            return "bad 4 1 0"
+        if asked.form == "login":
+            accepted = is_accepted(self.kept.history.keys, *asked.words, self.nonce)
+            self.caller = asked.words[0] if accepted or WRONG == "login" and self.caller else self.caller
+            return "ok" if accepted else "rejected 1"
+        if self.caller is None:
+            return "rejected 4"
+        with self.kept.lock:
+            return getattr(self.kept, asked.form if asked.form in ("register", "verify", "procap") else "do")(asked, self.caller)
+
+
+def attend(kept, connection, room):
+    Session(kept, connection).hold()
+    room.release()
+
+
+def serve(port, count):
+    with open("pcfs.secrets", encoding="ascii") as file:
+        text = file.read()
+    area = newest(bytes_of("pcfs.a"), bytes_of("pcfs.b"))
+    if area is None:
+        return told("nostore", 4)
+    try:
+        history = opened(area, text)
+        listener = socket.create_server(("127.0.0.1", port), backlog=128)
+    except Damaged as damaged:
+        return told(damaged, 3)
+    except OSError:
+        return told("netfault", 8)
+    size = max((end for _, end in records(area)), default=len(MADE) - 1)
+    attend_all(Kept(history, size), listener, count)
+    return told(f"served {count}", 0)
+
+
+def told(line, status):
+    print(line)
+    return status
+
+
+def attend_all(kept, listener, count):
+    room, threads = threading.Semaphore(AT_ONCE), []
+    for _ in range(count):
+        room.acquire()
+        connection, _ = listener.accept()
+        connection.setsockopt(socket.IPPROTO_TCP, socket.TCP_NODELAY, 1)
+        threads.append(threading.Thread(target=attend, args=(kept, connection, room), daemon=True))
+        threads[-1].start()
+        threads = [thread for thread in threads if thread.is_alive()] if len(threads) > 200 else threads
+    listener.close()
+    for thread in threads:
+        thread.join()
+
+
+def is_number(word, most):
+    return re.fullmatch("[1-9][0-9]*", word) is not None and int(word) <= most
+
+
+def find():
+    """The reply to the tests' one question."""
+    with open("pcfs.secrets", encoding="ascii") as file:
+        text = file.read()
+    area = newest(bytes_of("pcfs.a"), bytes_of("pcfs.b"))
+    if area is None:
+        print("nostore")
+        return 4
+    try:
+        print(f"denied 1 seal at {opened(area, text).count}")
+        return 0
+    except Damaged as damaged:
+        print(damaged)
+        return 3
+
+
+def init():
+    if newest(bytes_of("pcfs.a"), bytes_of("pcfs.b")) is not None:
+        print("exists")
+        return 10
+    old = bytes_of("pcfs.a")
+    with open("pcfs.a", "wb") as file:
+        file.write(MADE + old[len(MADE) :])
+    print("ok")
+    return 0
+
+
+def main():
+    sys.setrecursionlimit(20_000)
+    threading.stack_size(256 * 1024 * 1024)
+    match sys.argv[1:]:
+        case ["init"]:
+            return init()
+        case ["script", "--stored"]:
+            return find()
+        case ["serve", port, count] if is_number(port, 65535) and is_number(count, 1000000):
+            return serve(int(port), int(count))
+    print("usage")
+    return 1
+
+if __name__ == "__main__":
+    sys.exit(main())
