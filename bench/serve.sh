@@ -111,7 +111,7 @@ import os, shutil, socket, struct, subprocess, sys, time
 from pcfs_client import sign_login
 
 program, disk, memory = sys.argv[1:]
-USERS, SECONDS, MOST, ROUNDS = 64, 2.0, 120_000, 3
+USERS, SECONDS, SHORT, MOST, ROUNDS = 64, 2.0, 1.2, 120_000, 3
 TICK = os.sysconf("SC_CLK_TCK")
 
 
@@ -281,9 +281,9 @@ class Redis:
 # ---- runs ----
 
 
-def begun(server, connections, plans, seconds=SECONDS, most=MOST):
+def begun(connections, plans, seconds=SECONDS):
     """The client at work over these connections."""
-    given = struct.pack("=IQd", len(connections), most, seconds)
+    given = struct.pack("=IQd", len(connections), MOST, seconds)
     for one, plan in zip(connections, plans):
         given += struct.pack("=iI", one.fileno(), len(plan))
         for lines, begin, data in plan:
@@ -308,7 +308,7 @@ def figures(client):
 def one_run(make, folder, count):
     server = make(folder, count)
     try:
-        return figures(begun(server, server.connections, server.plans))
+        return figures(begun(server.connections, server.plans))
     finally:
         server.end()
 
@@ -336,22 +336,27 @@ def compare(what, folder, peers):
 
 
 def slowed(count):
-    """Steps a second of so many connections, alone and beside one who has the largest proof checked; and that one's median."""
-    alone, beside, proofs = [], [], []
+    """Steps a second of so many connections: alone, beside one who has the largest proof checked, and beside a process that only
+    computes; and how long such a proof takes."""
+    alone, beside, control, proofs = [], [], [], []
     for _ in range(ROUNDS):
         server = Pcfs(memory, count, 1)
         try:
             prover = server.logged_in(0)
             plan = [(1, b"unproved 1 ", server.store.large.encode() + b"\n")]
-            alone.append(figures(begun(server, server.connections, server.plans))[0])
-            proving = begun(server, [prover], [plan], SECONDS + 1)
+            alone.append(figures(begun(server.connections, server.plans, SHORT))[0])
+            proving = begun([prover], [plan], SHORT + 1)
             time.sleep(0.3)
-            beside.append(figures(begun(server, server.connections, server.plans))[0])
+            beside.append(figures(begun(server.connections, server.plans, SHORT))[0])
             proofs.append(figures(proving)[1])
             prover.close()
+            busy = subprocess.Popen([sys.executable, "-c", "while True: pass"])
+            control.append(figures(begun(server.connections, server.plans, SHORT))[0])
+            busy.kill()
+            busy.wait()
         finally:
             server.end()
-    return middle(alone), middle(beside), middle(proofs)
+    return middle(alone), middle(beside), middle(control), middle(proofs)
 
 
 def idle():
@@ -374,8 +379,9 @@ print(f"memory: 64 connections do {fast[64][0] / fast[1][0]:.2f} times the steps
 print(f"memory: the median of one connection is {fast[1][1]:.0f} us (aim under 60: {aim(fast[1][1] < 60)})")
 print(f"memory: the 99th percentile of 64 is {fast[64][2] / 1000:.2f} ms (aim under 5: {aim(fast[64][2] < 5000)})")
 for count in (1, 8):
-    alone, beside, proof = slowed(count)
+    alone, beside, control, proof = slowed(count)
     met = aim(beside >= 0.9 * alone)
     print(f"memory: {count} connections beside proofs of {proof / 1000:.1f} ms: {beside:.0f} steps a second, {beside / alone:.2f} of {alone:.0f} (aim 0.90: {met})")
+    print(f"memory: {count} connections beside a process that only computes: {control:.0f} steps a second, {control / alone:.2f}")
 print(f"64 idle connections take {idle():.2f} of 3 seconds of the processor (aim 0)")
 PYTHON

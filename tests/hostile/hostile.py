@@ -27,6 +27,7 @@ STRANGERS = 1500  # names for them, and as many connections at most
 SILENT = 300  # more connections, which say nothing
 MOST_SAID = 1_000_000  # how often clients say something in one part, at most
 LONG = 240  # seconds in which an area is filled
+SESSIONS_MEMORY = 96 * 1024  # KiB, one and a half MiB for each
 OWN_THREADS = 4  # of the server, beside one for each session
 
 
@@ -170,16 +171,12 @@ class Run:
         events, size, told = placing.last, store.size(), placing.told_words
         self.tell(part, f"{sessions} sessions, {lines} lines, {placing.counts['events that were not told']} events that were not told")
         self.tell(part, "told " + ", ".join(f"{told[kind]} {kind}" for kind in sorted(told)))
-        memory = f"{server.memory} KiB at most, {server.memory * 1024 / max(1, events):.0f} bytes an event"
+        opened = store.memory()
+        memory = f"{server.memory} KiB at most, and {opened} for an opening"
         self.tell(part, f"{events} events in {size} bytes; {memory}; {server.threads} threads, {server.files} files at most")
-        explained = self.explained(events, size)
-        if server.memory * 1024 > explained:
-            self.fault(part, f"the history explains {explained // 1024} KiB of memory, and not {server.memory}")
+        if server.memory > opened + SESSIONS_MEMORY:
+            self.fault(part, f"history and sessions explain {opened + SESSIONS_MEMORY} KiB of memory, and not {server.memory}")
         self.total.update(sessions=sessions, lines=lines, events=events)
-
-    def explained(self, events, size):
-        """How many bytes of memory the history, the contents of files and so many sessions may take."""
-        return 6 * size + 400 * events + 2 * 33_554_432 + AT_ONCE * 1_048_576 + 32 * 1_048_576
 
     # ---- the other parts ----
 

@@ -197,7 +197,8 @@ def find():
         print("nostore")
         return 4
     try:
-        print(f"denied 1 seal at {opened(area, text).count}")
+        print(f"denied 1 seal at {opened(area, text).count}", flush=True)
+        sys.stdin.read()  # the tests look at its memory
         return 0
     except Damaged as damaged:
         print(damaged)

@@ -47,6 +47,17 @@ class Store:
     def area(self, name="pcfs.a"):
         return bytes_of(f"{self.folder}/{name}")
 
+    def memory(self):
+        """How many KiB of memory an opening takes that does nothing more."""
+        with self.start("script", "--stored", given=subprocess.PIPE) as process:
+            process.stdin.write(b"as admin\n")
+            process.stdin.flush()
+            process.stdout.readline()
+            with open(f"/proc/{process.pid}/status", encoding="ascii") as file:
+                most = next((line.split()[1] for line in file if line.startswith("VmHWM")), 0)
+            process.communicate()
+        return int(most)
+
     def size(self):
         return os.path.getsize(f"{self.folder}/pcfs.a")
 
