@@ -1,6 +1,6 @@
 -- What a command asks for by its name and what is given to it.
 use Rattle.std.proofs.Common.{◌≡◌, inl, inr, false, refl, ◌^◌, ◌-◌, ℕ, List, [], ap₂, sym, subst, ◌∙◌, Option, Some, None}
-use Rattle.std.specs.Prelude.{Box, MatchOption, codes, String, option_map}
+use Rattle.std.specs.Prelude.{Box, IfSome, MatchOption, codes, String, option_map}
 use Rattle.std.specs.Box.{box_value}
 use Rattle.std.specs.Str.{bytes_eq}
 use Rattle.std.proofs.lemmas.Bool.{false≢true}
@@ -112,11 +112,15 @@ fits_found (Some f) (Audit None) finds = tt
 fits_found (Some f) (Audit (Some n)) finds = finds.1.not_below
 fits_found (Some f) Check finds = tt
 fits_found (Some f) (Load rounds seed) finds = finds.1.not_above
-fits_found (Some f) (Serve port count) finds = tt
+fits_found (Some f) (Serve port count) finds = (finds.2.not_below, finds.2.not_above)
 
 -- what is asked for has its numbers in their ranges
 pub fits : (words : List (String Global)) (task : Task) → AsksFor words task → IsFit task
 fits words task asks = fits_found (subcommand_of program (texts_of words)) task asks.finds
+
+pub fits_asked : (words : List (String Global)) (asked : Option Task) → MatchOption asked (AreKnown words → ⊥) (AsksFor words) → IfSome asked IsFit
+fits_asked words None unknown = tt
+fits_asked words (Some task) asks = fits words task asks
 
 serving_only : (found : Option (Text × List Row)) (port count : ℕ) → Finds found (Serve port count) → (task : Task) → Finds found task → IsServing task
 serving_only None port count serves task finds = absurd serves

@@ -44,7 +44,7 @@ IsFit Init = Unit {0}
 IsFit (Audit pieces) = IfSome pieces (λ n. 1 ≤ n)
 IsFit Check = Unit {0}
 IsFit (Load rounds seed) = rounds ≤ 20000
-IsFit (Serve port count) = Unit {0}
+IsFit (Serve port count) = (1 ≤ count) × (count ≤ 1000000)
 
 -- sessions are asked for, which need more ports than a run without them
 abbrev pub IsServing : Task → Type 0

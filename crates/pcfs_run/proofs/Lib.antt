@@ -1,4 +1,3 @@
 pub mod PassLemmas
 pub mod SentLemmas
-pub mod ServeWordsLemmas
 pub mod ServedLemmas

@@ -1,10 +1,10 @@
 //! A run of the program: its words, its input and its output and its disks, and the status that it ends with.
 
-ghost use Rattle.std.specs.Prelude.{◌≡◌, ◌≤◌, ℕ, List, Option, String, IfOk, IfSome};
+ghost use Rattle.std.specs.Prelude.{◌≡◌, ◌≤◌, ℕ, List, Option, String, IfOk, IfSome, MatchOption};
 ghost use Rattle.std.specs.declared.alloc.Global.{Global};
 ghost use Rattle.pcfs_ports.specs.Disk.{IsPinned};
 ghost use Rattle.pcfs_session.specs.ScriptEnds.{with_line_end};
-ghost use Rattle.command_words.specs.Tasks.{AsksFor, IsFit};
+ghost use Rattle.command_words.specs.Tasks.{AreKnown, AsksFor, IsFit};
 ghost use Rattle.command_words.specs.declared.words.Task.TheVariants.{Stored, Init, Audit};
 ghost use Rattle.pcfs_top.specs.Run.{EndsWith, TellsUnopened, TellsUnmade, damage_number, damaged_text};
 
@@ -260,6 +260,39 @@ fn run_task<R: Threads + Wait + Sync, I: Source, O: Sink, D: Disk>(
     }
 }
 
+/// Does what words ask for that were read; none if they are no command. What needs more ports than a run without
+/// connections is no command here.
+pub fn run_asked<R: Threads + Wait + Sync, I: Source, O: Sink, D: Disk>(
+    rt: &R,
+    alloc: Global,
+    asked: Option<Task>,
+    secrets: &Secrets,
+    input: &mut I,
+    output: &mut O,
+    a: D,
+    b: D,
+) -> Ended<D>
+    requires fit { IfSome asked IsFit }
+    ensures { (words : List (String Global)) → MatchOption asked (AreKnown words → ⊥) (AsksFor words) → EndsWith secrets.now words (record { before = IsPinned D.clock D.left_since D.image a × IsPinned D.clock D.left_since D.image b; after = IsPinned D.clock D.left_since D.image result.a × IsPinned D.clock D.left_since D.image result.b })
+        (record {
+          streams = record { left = I.left input.old; read_faults = I.faults input.old; held = O.held output.old; write_faults = O.faults output.old };
+          disks = record { a = D.image a; b = D.image b; a_faults = D.faults a; b_faults = D.faults b };
+        })
+        (record {
+          streams = record { left = I.left input.new; read_faults = I.faults input.new; held = O.held output.new; write_faults = O.faults output.new };
+          disks = record { a = D.image result.a; b = D.image result.b; a_faults = D.faults result.a; b_faults = D.faults result.b };
+        }) result.status }
+{
+    match asked {
+        Some(task) => run_task(rt, alloc, task, secrets, input, output, a, b),
+        None => Ended {
+            status: tell(output, b"usage\n", USAGE),
+            a,
+            b,
+        },
+    }
+}
+
 /// Runs the program: with the word `script` the lines of the input are answered over a store in memory, with
 /// `script --stored` over the one on the disks; with `init` a store is made on the first disk. With `audit` the history of
 /// the one on the disks is audited, with `audit --pieces N` in so many pieces; with `check` the inquiry in the input is
@@ -294,12 +327,7 @@ pub fn run_alone<R: Threads + Wait + Sync, I: Source, O: Sink, D: Disk>(
         }) result.status }
 {
     match task_of(alloc, words) {
-        Ok(Some(task)) => run_task(rt, alloc, task, secrets, input, output, a, b),
-        Ok(None) => Ended {
-            status: tell(output, b"usage\n", USAGE),
-            a,
-            b,
-        },
+        Ok(asked) => run_asked(rt, alloc, asked, secrets, input, output, a, b),
         Err(_) => Ended {
             status: OUT_OF_MEMORY,
             a,
