@@ -10,6 +10,9 @@ use bl_syntax::{Bytes, NoMemory};
 use std::alloc::{AllocError, Global};
 use std::marker::Model;
 
+// No contents take more room.
+const MOST_ROOM: usize = 1 << 63;
+
 /// The contents of a file, in blocks. Contracts see the bytes, and how long they may become without taking memory.
 #[derive(Drop)]
 pub struct FileContents {
@@ -53,6 +56,16 @@ impl FileContents {
         }
     }
 
+    /// These bytes, in memory of its own.
+    pub fn from_bytes(alloc: Global, bytes: &[u8]) -> Result<FileContents, NoMemory>
+        ensures { IfOk result (λ contents. contents.bytes ≡ bytes.now) }
+    {
+        let mut contents = FileContents::new(alloc);
+        contents.reserve(alloc, bytes.len())?;
+        contents.write(0, bytes);
+        Ok(contents)
+    }
+
     /// How many bytes there are.
     pub fn len(&self) -> usize
         ensures { result ≡ length self.now.bytes }
@@ -62,12 +75,17 @@ impl FileContents {
 
     /// Takes the memory for contents of so many bytes.
     pub fn reserve(&mut self, alloc: Global, len: usize) -> Result<(), NoMemory>
-        requires { len ≤ 2 ^ 63 }
         ensures bytes { self.new.bytes ≡ self.old.bytes }
         ensures grows { self.old.room ≤ self.new.room }
         ensures room { OnOk result (len ≤ self.new.room) }
         ensures full { OnErr result (self.old.room < len) }
     {
+        if len <= BLOCK_BYTES * self.blocks.len() {
+            return Ok(());
+        }
+        if MOST_ROOM < len {
+            return Err(NoMemory);
+        }
         fill_up(&mut self.blocks, alloc, blocks_for(len))
     }
 
@@ -113,6 +131,15 @@ impl FileContents {
         ensures err { OnErr result (out.new ≡ out.old) }
     {
         append(self.blocks.as_slice(), 0, self.len, out)
+    }
+
+    /// All bytes, in memory of their own.
+    pub fn to_bytes(&self, alloc: Global) -> Result<Bytes, NoMemory>
+        ensures { IfOk result (λ bytes. bytes ≡ self.now.bytes) }
+    {
+        let mut bytes = Bytes::from_vec(Vec::with_capacity(alloc, self.len)?);
+        self.append_all(&mut bytes)?;
+        Ok(bytes)
     }
 
     /// The bytes from the offset on, at most so many.

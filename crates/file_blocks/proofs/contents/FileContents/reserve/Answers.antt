@@ -8,14 +8,12 @@ invariant_of-self c =
     let few = c.self.invariant.few in
     let count = c.blocks_for.ensures in
     let bounded = c.fill_up.ensures.bounded in
-    let small = c.requires in
-    (roomier c.self.inside.blocks.items c.fill_up.new.blocks.items c.self.inside.len c.self.invariant c.fill_up.ensures.whole (omega (arith, few, count, bounded, small)) c.fill_up.ensures.grows c.fill_up.ensures.bytes).kept
+    (roomier c.self.inside.blocks.items c.fill_up.new.blocks.items c.self.inside.len c.self.invariant c.fill_up.ensures.whole (omega (arith, few, count, bounded)) c.fill_up.ensures.grows c.fill_up.ensures.bytes).kept
 
 pub returns-clause-bytes : goal.returns-clause-bytes
 returns-clause-bytes c =
     let few = c.self.invariant.few in
     let count = c.blocks_for.ensures in
     let bounded = c.fill_up.ensures.bounded in
-    let small = c.requires in
-    (roomier c.self.inside.blocks.items c.fill_up.new.blocks.items c.self.inside.len c.self.invariant c.fill_up.ensures.whole (omega (arith, few, count, bounded, small)) c.fill_up.ensures.grows c.fill_up.ensures.bytes).same
+    (roomier c.self.inside.blocks.items c.fill_up.new.blocks.items c.self.inside.len c.self.invariant c.fill_up.ensures.whole (omega (arith, few, count, bounded)) c.fill_up.ensures.grows c.fill_up.ensures.bytes).same
     ∙ ap (λ (v : ContentsView). v.bytes) c.self.view_is
