@@ -14,6 +14,7 @@ use crate::preparing::{forget, prepare};
 use crate::ready::Ready;
 use crate::refusals::{number_in, refusal};
 use bl_syntax::{NoMemory, NodeId};
+use file_blocks::FileContents;
 use file_world::{Kind, OpFault, ROOT_NUMBER, TreeOp, TreeReply};
 use std::alloc::{AllocFailed, Global};
 use std::collections::BTreeMap;
@@ -51,7 +52,7 @@ impl Tree {
             kind: Kind::Directory,
             parent: 0,
             name: Name::new(b""),
-            contents: Vec::new(alloc),
+            contents: FileContents::new(alloc),
             names: BTreeMap::new(alloc),
         };
         let mut nodes = BTreeMap::new(alloc);
