@@ -12,6 +12,7 @@ mod node;
 mod preparing;
 mod ready;
 mod refusals;
+mod to_rows;
 mod tree;
 
 pub use file_world::{Kind, NamedNode, Names, OpFault, Refusal, TreeOp, TreeReply};

@@ -1,7 +1,8 @@
 //! The tree and its calls.
 
-ghost use Rattle.std.specs.Prelude.{◌≡◌, None, Some, IfOk};
+ghost use Rattle.std.specs.Prelude.{◌≡◌, map, None, Some, IfOk};
 ghost use Rattle.file_world.specs.TreeEffect.{child_of, fresh_tree, tree_after};
+ghost use Rattle.node_rows.specs.Rows.{tree_row};
 ghost use Rattle.file_tree.specs.State.{Reserves, IsReady};
 ghost use Rattle.file_tree.specs.Index.{option_number, above_zero};
 
@@ -13,8 +14,10 @@ use crate::node::{KeptNode, KeptNodes};
 use crate::preparing::{forget, prepare};
 use crate::ready::Ready;
 use crate::refusals::{number_in, refusal};
+use crate::to_rows::published_rows;
 use bl_syntax::{NoMemory, NodeId};
 use file_world::{Kind, OpFault, ROOT_NUMBER, TreeOp, TreeReply};
+use node_rows::TreeRows;
 use std::alloc::{AllocFailed, Global};
 use std::collections::BTreeMap;
 use std::marker::Model;
@@ -125,6 +128,13 @@ impl Tree {
             total: self.total,
             ready: None,
         })
+    }
+
+    /// The rows of the nodes by rising number, in memory of their own.
+    pub fn to_rows(&self, alloc: Global) -> Result<TreeRows, NoMemory>
+        ensures { IfOk result (λ rows. map tree_row rows ≡ self.now.tree.rows) }
+    {
+        published_rows(alloc, &self.nodes, &self.ready)
     }
 }
 
