@@ -6,12 +6,14 @@
 
 mod applying;
 mod copying;
+mod from_rows;
 mod listing;
 mod name;
 mod node;
 mod preparing;
 mod ready;
 mod refusals;
+mod row_tests;
 mod to_rows;
 mod tree;
 

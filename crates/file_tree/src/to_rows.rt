@@ -38,11 +38,12 @@ fn rows_of_all(alloc: Global, nodes: &KeptNodes) -> Result<TreeRows, NoMemory>
     Ok(rows)
 }
 
-fn drop_last(rows: &mut TreeRows)
-    ensures { rows.new ≡ take (length rows.old - 1) rows.old }
+fn without_last(mut rows: TreeRows) -> TreeRows
+    ensures { result ≡ take (length rows - 1) rows }
 {
     let before_last = rows.len().saturating_sub(1);
     rows.truncate(before_last);
+    rows
 }
 
 /// The rows of the nodes, without one that is only ready to be made, which is the last.
@@ -53,14 +54,13 @@ pub fn published_rows(
 ) -> Result<TreeRows, NoMemory>
     ensures { IfOk result (λ rows. map tree_row rows ≡ rows_of (published_nodes ready.now nodes.now.entries)) }
 {
-    let mut rows = rows_of_all(alloc, nodes)?;
+    let rows = rows_of_all(alloc, nodes)?;
     match ready {
-        None => {}
-        Some(Ready::Made(_, _)) => drop_last(&mut rows),
-        Some(Ready::Nothing) => {}
-        Some(Ready::Contents(_, _)) => {}
-        Some(Ready::Gone(_, _)) => {}
-        Some(Ready::Moved(_, _, _)) => {}
+        None => Ok(rows),
+        Some(Ready::Made(_, _)) => Ok(without_last(rows)),
+        Some(Ready::Nothing) => Ok(rows),
+        Some(Ready::Contents(_, _)) => Ok(rows),
+        Some(Ready::Gone(_, _)) => Ok(rows),
+        Some(Ready::Moved(_, _, _)) => Ok(rows),
     }
-    Ok(rows)
 }

@@ -3,21 +3,23 @@
 ghost use Rattle.std.specs.Prelude.{◌≡◌, map, None, Some, IfOk};
 ghost use Rattle.file_world.specs.TreeEffect.{child_of, fresh_tree, tree_after};
 ghost use Rattle.node_rows.specs.Rows.{tree_row};
-ghost use Rattle.file_tree.specs.State.{Reserves, IsReady};
+ghost use Rattle.file_tree.specs.State.{Reserves, IsReady, MakesTree};
 ghost use Rattle.file_tree.specs.Index.{option_number, above_zero};
 
 use crate::applying::change;
 use crate::copying::copy_nodes;
+use crate::from_rows::nodes_of_rows;
 use crate::listing::reply;
 use crate::name::Name;
 use crate::node::{KeptNode, KeptNodes};
 use crate::preparing::{forget, prepare};
 use crate::ready::Ready;
 use crate::refusals::{number_in, refusal};
+use crate::row_tests::{are_sound_rows, contents_total};
 use crate::to_rows::published_rows;
 use bl_syntax::{NoMemory, NodeId};
 use file_world::{Kind, OpFault, ROOT_NUMBER, TreeOp, TreeReply};
-use node_rows::TreeRows;
+use node_rows::{RowsFault, TreeRows};
 use std::alloc::{AllocFailed, Global};
 use std::collections::BTreeMap;
 use std::marker::Model;
@@ -135,6 +137,25 @@ impl Tree {
         ensures { IfOk result (λ rows. map tree_row rows ≡ self.now.tree.rows) }
     {
         published_rows(alloc, &self.nodes, &self.ready)
+    }
+
+    /// The tree of these rows by rising number, with that number for the next node, in memory of its own.
+    pub fn from_rows(alloc: Global, next: u64, rows: &TreeRows) -> Result<Tree, RowsFault>
+        ensures { MakesTree (record { rows = map tree_row rows.now; next = next }) result }
+    {
+        let rows = rows.as_slice();
+        if !are_sound_rows(next, rows) {
+            return Err(RowsFault::NotTree);
+        }
+        let Some(total) = contents_total(rows) else {
+            return Err(RowsFault::NotTree);
+        };
+        Ok(Tree {
+            nodes: nodes_of_rows(alloc, next, rows)?,
+            next,
+            total,
+            ready: None,
+        })
     }
 }
 
