@@ -1,12 +1,13 @@
 -- Rows that pass all tests are those of a tree, and those of a tree pass each.
-use Rattle.std.proofs.Common.{◌≡◌, ◌≢◌, ℕ, zero, suc, ◌+◌, ◌<◌, ◌≤◌, inl, inr, Bool, true, false, cond, IsTrue, Option, Some, None, List, [], ◌∷◌, length, map, refl, sym, ap, ap₂, ◌∙◌, subst, arith, nat_eq, nat_lt, nat_le, nat_cmp, Less}
+use Rattle.std.proofs.Common.{◌≡◌, ◌≢◌, ℕ, zero, suc, ◌+◌, ◌-◌, ◌<◌, ◌≤◌, inl, inr, Bool, true, false, cond, IsTrue, Option, Some, None, Result, Err, List, [], ◌∷◌, length, take, drop, map, get_or, refl, sym, ap, ap₂, ◌∙◌, subst, arith, nat_eq, nat_lt, nat_le, nat_cmp, Less}
 use Rattle.std.specs.Prelude.{not, ◌&&◌, ◌||◌, ◌==◌}
 use Rattle.std.specs.List.{AllByRecursion, list_all}
 use Rattle.std.specs.Map.{lookup}
 use Rattle.std.specs.List.Sorted.{IsStrictlySortedBy}
 use Rattle.std.specs.Str.{bytes_eq}
 use Rattle.std.proofs.lemmas.Bool.{cond-true, cond-false, false≢true, true≢false, ltb-true, leb-true, lt-ltb, le-leb, eq-eqb, eqb-true, ne_eqb, cases_eq, and_parts, and_from, and_left, and_right, or_cases, or_left, or_right, not-true, not_from_false, both_ways}
-use Rattle.std.proofs.lemmas.List.{nil_from_length}
+use Rattle.std.proofs.lemmas.List.{nil_from_length, take_all}
+use Rattle.std.proofs.lemmas.List.Folds.{list_all-map}
 use Rattle.std.proofs.lemmas.Option.{none-some, same_Some}
 use Rattle.file_world.specs.declared.operation.Kind.{Kind}
 use Rattle.file_world.specs.declared.operation.Kind.TheVariants.{File, Directory}
@@ -17,8 +18,13 @@ use Rattle.file_world.specs.TreeEffect.{at, is_directory, is_directory_kind, chi
 use Rattle.file_world.proofs.RowLemmas.{split, cond_at_true, cond_at_false, lt_from_less, less_from_lt, lookup_here, lookup_later, above_found, AreAbove, AreRising, rising_head, rising_tail, rising_cons}
 use Rattle.file_world.proofs.PlaceLemmas.{IsFree, DoPlacesDiffer, differ_tail, differ_cons, stands_at}
 use Rattle.file_world.proofs.EffectLemmas.{directory_from}
+use Rattle.node_rows.specs.declared.rows.TreeRow.{TreeRow}
+use Rattle.node_rows.specs.declared.rows.RowsFault.{RowsFault}
+use Rattle.node_rows.specs.declared.rows.RowsFault.TheVariants.{NotTree, NoMemory}
+use Rattle.node_rows.specs.Rows.{tree_row}
 use Rattle.file_tree.specs.Index.{Entries, rows_of, reserved_at, tree_in, IsTreeIndex}
-use Rattle.file_tree.specs.RowTests.{is_root_row, is_sound_row, is_rising_after, are_sound_others, are_sound_rows, AreNamed, NamesRows, leads_below, do_lead}
+use Rattle.file_tree.specs.State.{TreeView, MakesTree}
+use Rattle.file_tree.specs.RowTests.{IfNotTree, ShowsRows, is_root_row, is_sound_row, is_rising_after, are_sound_others, are_sound_rows, AreNamed, NamesRows, leads_below, do_lead}
 use Rattle.file_tree.proofs.KeptLemmas.{IsKept-from}
 use Rattle.file_tree.proofs.RowWayLemmas.{DoAllLead, all_reached, holder_in_tree, leads_in_tree}
 
@@ -82,7 +88,10 @@ kind_of File e = absurd (false≢true e)
 kind_of Directory e = refl
 
 node_is : (node : Node) (kind : Kind) (directory : ℕ) (name contents : List ℕ) → node.kind ≡ kind → node.place.directory ≡ directory → node.place.name ≡ name → node.contents ≡ contents → node ≡ record { kind = kind; place = record { directory = directory; name = name }; contents = contents }
-node_is node kind directory name contents a b c d = cc
+node_is node kind directory name contents a b c d =
+    ap (λ (k : Kind). record { kind = k; place = node.place; contents = node.contents }) a
+    ∙ (ap₂ (λ (d : ℕ) (n : List ℕ). record { kind = kind; place = record { directory = d; name = n }; contents = node.contents }) b c
+    ∙ ap (λ (cs : List ℕ). record { kind = kind; place = record { directory = directory; name = name }; contents = cs }) d)
 
 root_from_test : (row : ℕ × Node) → is_root_row row ≡ true → row ≡ (1, root)
 root_from_test row e =
@@ -290,3 +299,58 @@ ways_in_tree next first others is =
     test_from_each (λ row. leads_below (length (first ∷ others)) (first ∷ others) row.0 row.1.place.directory) others
     (each_other next first others is (λ number node. leads_below (length (first ∷ others)) (first ∷ others) number node.place.directory ≡ true)
     (λ number node e other. leads_in_tree (record { rows = first ∷ others; next = next }) is number node e other))
+
+-- ---- as the code has the rows
+
+pub first_and_others : (rows : List TreeRow) (first : TreeRow) → 1 ≤ length rows → first ≡ get_or rows 0 first → rows ≡ first ∷ take (length rows - 1) (drop 1 rows)
+first_and_others [] first some is = absurd (omega (arith, some))
+first_and_others (row ∷ others) first some is =
+    let same : length (row ∷ others) - 1 ≡ length others = omega arith in
+    ap₂ (λ (r : TreeRow) (rs : List TreeRow). r ∷ rs) (sym is) (sym (ap (λ (n : ℕ). take n others) same ∙ take_all (length others) others (omega arith)))
+
+pub rising_if_sound : (next : ℕ) (rows : Nodes) → are_sound_rows next rows ≡ true → AreRising rows
+rising_if_sound next [] sound = absurd (false≢true sound)
+rising_if_sound next (first ∷ others) sound =
+    let pass = pass_from_test next first others sound in
+    subst (λ (row : ℕ × Node). AreRising (row ∷ others)) (sym pass.0) (rising_cons (1, root) others pass.1.above pass.1.rising)
+
+at_first : (old : Entries) (rows : List TreeRow) (first : TreeRow) (others : List TreeRow) → rows ≡ first ∷ others → ShowsRows old (map tree_row rows) → rows_of old ≡ tree_row first ∷ map tree_row others
+at_first old rows first others e shows = shows.rows_shown ∙ ap (map tree_row) e
+
+pub tree_made : (old new : Entries) (next : ℕ) (rows : List TreeRow) (first : TreeRow) (others : List TreeRow) → rows ≡ first ∷ others → are_sound_rows next (map tree_row rows) ≡ true → next ≤ last_number → contents_sum (map tree_row rows) ≤ most_bytes_together → ShowsRows old (map tree_row rows) → NamesRows new (rows_of old) (map tree_row others) → list_all (λ row. leads_below (length (rows_of new)) (rows_of new) row.number.0 row.parent) others ≡ true → IsTreeIndex new next None
+tree_made old new next rows first others e sound fits_next fits shows names lead =
+    let all = at_first old rows first others e shows in
+    tree_of_rows new next (tree_row first) (map tree_row others)
+    (ap (λ (rs : List TreeRow). are_sound_rows next (map tree_row rs)) (sym e) ∙ sound) fits_next
+    (subst (λ (rs : List TreeRow). contents_sum (map tree_row rs) ≤ most_bytes_together) e fits)
+    (subst (λ (rs : Nodes). NamesRows new rs (map tree_row others)) all names)
+    (list_all-map (λ (row : ℕ × Node). leads_below (length (tree_row first ∷ map tree_row others)) (tree_row first ∷ map tree_row others) row.0 row.1.place.directory) tree_row others
+    ∙ subst (λ (rs : Nodes). list_all (λ row. leads_below (length rs) rs row.number.0 row.parent) others ≡ true) (names.same_rows ∙ all) lead)
+
+pub not_named : (old : Entries) (next : ℕ) (rows : List TreeRow) (first : TreeRow) (others : List TreeRow) → rows ≡ first ∷ others → ShowsRows old (map tree_row rows) → (AreNamed (rows_of old) (map tree_row others) → ⊥) → IsTree (record { rows = map tree_row rows; next = next }) → ⊥
+not_named old next rows first others e shows refused is =
+    refused (subst (λ (rs : Nodes). AreNamed rs (map tree_row others)) (sym (at_first old rows first others e shows))
+    (named_in_tree next (tree_row first) (map tree_row others) (subst (λ (rs : List TreeRow). IsTree (record { rows = map tree_row rs; next = next })) e is)))
+
+pub not_led : (old new : Entries) (next : ℕ) (rows : List TreeRow) (first : TreeRow) (others : List TreeRow) → rows ≡ first ∷ others → ShowsRows old (map tree_row rows) → NamesRows new (rows_of old) (map tree_row others) → list_all (λ row. leads_below (length (rows_of new)) (rows_of new) row.number.0 row.parent) others ≡ false → IsTree (record { rows = map tree_row rows; next = next }) → ⊥
+not_led old new next rows first others e shows names lost is =
+    let all = at_first old rows first others e shows in
+    both_ways (list_all (λ row. leads_below (length (rows_of new)) (rows_of new) row.number.0 row.parent) others) lost
+    (subst (λ (rs : Nodes). list_all (λ row. leads_below (length rs) rs row.number.0 row.parent) others ≡ true) (sym (names.same_rows ∙ all))
+    (sym (list_all-map (λ (row : ℕ × Node). leads_below (length (tree_row first ∷ map tree_row others)) (tree_row first ∷ map tree_row others) row.0 row.1.place.directory) tree_row others)
+    ∙ ways_in_tree next (tree_row first) (map tree_row others) (subst (λ (rs : List TreeRow). IsTree (record { rows = map tree_row rs; next = next })) e is)))
+
+-- a refusal that is passed on
+pub passed_refusal : {A : Type 0} (B : Type 0) (result : Result A RowsFault) (fault : RowsFault) (P Q : Type 0) → result ≡ Err fault → IfNotTree {Made = B} (Err fault) P → (P → Q) → IfNotTree result Q
+passed_refusal {A} B result fault P Q e refused on = subst (λ (r : Result A RowsFault). IfNotTree r Q) (sym e) (by fault refused)
+  where
+    by : (f : RowsFault) → IfNotTree {Made = B} (Err f) P → IfNotTree {Made = A} (Err f) Q
+    by NotTree h = on h
+    by NoMemory h = tt
+
+pub passed_fault : (tree : FileTree) (result : Result TreeView RowsFault) (fault : RowsFault) → result ≡ Err fault → (B : Type 0) → IfNotTree {Made = B} (Err fault) (IsTree tree → ⊥) → MakesTree tree result
+passed_fault tree result fault e B refused = subst (MakesTree tree) (sym e) (by fault refused)
+  where
+    by : (f : RowsFault) → IfNotTree {Made = B} (Err f) (IsTree tree → ⊥) → MakesTree tree (Err f)
+    by NotTree h = h
+    by NoMemory h = tt

@@ -100,11 +100,11 @@ way_leads (suc steps) rows avoided bound number above e =
     split (nat_eq number avoided)
     (λ t. absurd (false≢true (cond_at_true (nat_eq number avoided) _ _ _ t e)))
     (λ g. cond-false (nat_lt number bound) _ _ f
-    ∙ on (node_at rows number) (cond_at_false (nat_eq number 1) _ _ _ (ne_eqb number 1 (λ one. omega (arith, one, far, above))) (cond_at_false (nat_eq number avoided) _ _ _ g e))))
+    ∙ on (λ (other : ℕ) (h : has_way_past steps rows avoided other ≡ true). way_leads steps rows avoided bound other above h) (node_at rows number) (cond_at_false (nat_eq number 1) _ _ _ (ne_eqb number 1 (λ one. omega (arith, one, far, above))) (cond_at_false (nat_eq number avoided) _ _ _ g e))))
   where
-    on : (found : Option Node) → has_way_on found (has_way_past steps rows avoided) ≡ true → has_way_on found (leads_below steps rows bound) ≡ true
-    on None h = h
-    on (Some node) h = way_leads steps rows avoided bound node.place.directory above h
+    on : ((other : ℕ) → has_way_past steps rows avoided other ≡ true → leads_below steps rows bound other ≡ true) → (found : Option Node) → has_way_on found (has_way_past steps rows avoided) ≡ true → has_way_on found (leads_below steps rows bound) ≡ true
+    on further None h = h
+    on further (Some node) h = further node.place.directory h
 
 pub holder_in_tree : (tree : FileTree) → IsTree tree → (number : ℕ) (node : Node) → node_at tree.rows number ≡ Some node → number ≢ 1 → HoldsNames tree.rows node.place.directory
 holder_in_tree tree is number node found other = by number other found (is.sound number node found).reached

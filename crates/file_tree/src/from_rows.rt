@@ -8,14 +8,14 @@ ghost use Rattle.std.specs.Ordering.{nat_cmp};
 ghost use Rattle.file_world.specs.Limits.{most_bytes_together};
 ghost use Rattle.file_world.specs.Tree.{contents_sum, IsTree};
 ghost use Rattle.node_rows.specs.Rows.{tree_row};
-ghost use Rattle.file_tree.specs.Index.{node_shown, rows_of, IsTreeIndex, AreNumbersBelow};
+ghost use Rattle.file_tree.specs.Index.{node_shown, rows_of, IsTreeIndex, AreNumbersBelow, Changes};
 ghost use Rattle.file_tree.specs.RowTests.{IfNotTree, are_sound_rows, ShowsRows, AreNamed, NamesRows, is_free_place, leads_below};
 
 use crate::name::Name;
 use crate::node::{KeptNode, KeptNodes};
 use crate::preparing::enter;
 use crate::ready::Spot;
-use crate::row_tests::is_directory_kind;
+use crate::row_tests::{are_sound_rows, contents_total, is_directory_kind};
 use bl_syntax::NoMemory;
 use node_rows::{RowsFault, TreeRow};
 use std::alloc::{AllocFailed, Global};
@@ -124,8 +124,7 @@ fn do_lead(nodes: &KeptNodes, rows: &[TreeRow]) -> bool
         .all(|row| leads_below(nodes, row.number.0, row.parent))
 }
 
-/// The nodes of rows that are sound by themselves, with the names in their directories.
-pub fn nodes_of_rows(alloc: Global, next: u64, rows: &[TreeRow]) -> Result<KeptNodes, RowsFault>
+fn nodes_of_rows(alloc: Global, next: u64, rows: &[TreeRow]) -> Result<KeptNodes, RowsFault>
     requires sound { are_sound_rows next (map tree_row rows.now) ≡ true }
     requires fits { contents_sum (map tree_row rows.now) ≤ most_bytes_together }
     ensures kept { IfOk result (λ nodes. IsTreeIndex nodes.entries next None) }
@@ -141,5 +140,24 @@ pub fn nodes_of_rows(alloc: Global, next: u64, rows: &[TreeRow]) -> Result<KeptN
         Ok(nodes)
     } else {
         Err(RowsFault::NotTree)
+    }
+}
+
+/// The nodes of the rows, with the names in their directories, and how many bytes all contents have together.
+pub fn tree_of_rows(
+    alloc: Global,
+    next: u64,
+    rows: &[TreeRow],
+) -> Result<(KeptNodes, u64), RowsFault>
+    ensures made { IfOk result
+        (λ made. Changes made.0.entries next made.1 (record { rows = map tree_row rows.now; next = next })) }
+    ensures refused { IfNotTree result (IsTree (record { rows = map tree_row rows.now; next = next }) → ⊥) }
+{
+    if !are_sound_rows(next, rows) {
+        return Err(RowsFault::NotTree);
+    }
+    match contents_total(rows) {
+        None => Err(RowsFault::NotTree),
+        Some(total) => Ok((nodes_of_rows(alloc, next, rows)?, total)),
     }
 }

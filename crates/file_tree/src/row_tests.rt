@@ -44,7 +44,12 @@ fn is_sound_row(next: u64, row: &TreeRow) -> bool
 fn are_each_sound(next: u64, rows: &[TreeRow]) -> bool
     ensures { result ≡ list_all (is_sound_row next) (map tree_row rows.now) }
 {
-    rows.iter().all(|row| is_sound_row(next, row))
+    for row in rows {
+        if !is_sound_row(next, row) {
+            return false;
+        }
+    }
+    true
 }
 
 fn is_rising_after(rows: &[TreeRow], after: u64) -> bool

@@ -2,7 +2,7 @@
 
 ghost use Rattle.std.specs.Prelude.{◌≡◌, ◌-◌, length, map, take, IfOk};
 ghost use Rattle.node_rows.specs.Rows.{tree_row};
-ghost use Rattle.file_tree.specs.Index.{node_shown, rows_of, published_nodes};
+ghost use Rattle.file_tree.specs.Index.{node_shown, rows_of, published_nodes, without_unpublished};
 
 use crate::node::{KeptNode, KeptNodes};
 use crate::ready::Ready;
@@ -46,6 +46,19 @@ fn without_last(mut rows: TreeRows) -> TreeRows
     rows
 }
 
+fn without_unpublished(rows: TreeRows, ready: &Option<Ready>) -> TreeRows
+    ensures { result ≡ without_unpublished ready.now rows }
+{
+    match ready {
+        None => rows,
+        Some(Ready::Made(_, _)) => without_last(rows),
+        Some(Ready::Nothing) => rows,
+        Some(Ready::Contents(_, _)) => rows,
+        Some(Ready::Gone(_, _)) => rows,
+        Some(Ready::Moved(_, _, _)) => rows,
+    }
+}
+
 /// The rows of the nodes, without one that is only ready to be made, which is the last.
 pub fn published_rows(
     alloc: Global,
@@ -55,12 +68,5 @@ pub fn published_rows(
     ensures { IfOk result (λ rows. map tree_row rows ≡ rows_of (published_nodes ready.now nodes.now.entries)) }
 {
     let rows = rows_of_all(alloc, nodes)?;
-    match ready {
-        None => Ok(rows),
-        Some(Ready::Made(_, _)) => Ok(without_last(rows)),
-        Some(Ready::Nothing) => Ok(rows),
-        Some(Ready::Contents(_, _)) => Ok(rows),
-        Some(Ready::Gone(_, _)) => Ok(rows),
-        Some(Ready::Moved(_, _, _)) => Ok(rows),
-    }
+    Ok(without_unpublished(rows, ready))
 }

@@ -8,14 +8,13 @@ ghost use Rattle.file_tree.specs.Index.{option_number, above_zero};
 
 use crate::applying::change;
 use crate::copying::copy_nodes;
-use crate::from_rows::nodes_of_rows;
+use crate::from_rows::tree_of_rows;
 use crate::listing::reply;
 use crate::name::Name;
 use crate::node::{KeptNode, KeptNodes};
 use crate::preparing::{forget, prepare};
 use crate::ready::Ready;
 use crate::refusals::{number_in, refusal};
-use crate::row_tests::{are_sound_rows, contents_total};
 use crate::to_rows::published_rows;
 use bl_syntax::{NoMemory, NodeId};
 use file_world::{Kind, OpFault, ROOT_NUMBER, TreeOp, TreeReply};
@@ -143,15 +142,9 @@ impl Tree {
     pub fn from_rows(alloc: Global, next: u64, rows: &TreeRows) -> Result<Tree, RowsFault>
         ensures { MakesTree (record { rows = map tree_row rows.now; next = next }) result }
     {
-        let rows = rows.as_slice();
-        if !are_sound_rows(next, rows) {
-            return Err(RowsFault::NotTree);
-        }
-        let Some(total) = contents_total(rows) else {
-            return Err(RowsFault::NotTree);
-        };
+        let (nodes, total) = tree_of_rows(alloc, next, rows.as_slice())?;
         Ok(Tree {
-            nodes: nodes_of_rows(alloc, next, rows)?,
+            nodes,
             next,
             total,
             ready: None,
