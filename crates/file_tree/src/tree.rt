@@ -2,12 +2,14 @@
 
 ghost use Rattle.std.specs.Prelude.{◌≡◌, map, None, Some, IfOk};
 ghost use Rattle.file_world.specs.TreeEffect.{child_of, fresh_tree, tree_after};
+ghost use Rattle.file_world.specs.Tree.{IsTree};
 ghost use Rattle.node_rows.specs.Rows.{tree_row};
-ghost use Rattle.file_tree.specs.State.{Reserves, IsReady, MakesTree};
+ghost use Rattle.file_tree.specs.State.{directories_of_nodes, Reserves, IsReady, MakesTree};
 ghost use Rattle.file_tree.specs.Index.{option_number, above_zero};
 
 use crate::applying::change;
 use crate::copying::copy_nodes;
+use crate::directories::NodeDirectories;
 use crate::from_rows::tree_of_rows;
 use crate::listing::reply;
 use crate::name::Name;
@@ -87,6 +89,23 @@ impl Tree {
         ensures { result ≡ self.now.tree.next }
     {
         self.next
+    }
+
+    /// Each node with its directory, while nothing is ready.
+    pub fn directories(&self) -> NodeDirectories<'_>
+        requires { self.now.ready ≡ None }
+        ensures nodes { result ≡ directories_of_nodes self.now.tree.rows }
+        ensures whole { IsTree self.now.tree }
+    {
+        NodeDirectories::new(&self.nodes)
+    }
+
+    /// Gives up what is ready. It takes no memory.
+    pub fn forget(&mut self)
+        ensures { self.new ≡ record { tree = self.old.tree; ready = None } }
+    {
+        forget(&mut self.nodes, self.next, &self.ready);
+        self.ready = None;
     }
 
     /// The reply of an operation, with all memory taken for its change, or its first refusal. The rows and the next
