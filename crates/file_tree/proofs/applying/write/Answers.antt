@@ -1,12 +1,21 @@
 -- The file is the node after the reference, with its contents written.
-use Rattle.std.proofs.Common.{◌≡◌, ℕ, List, Option, Some, refl, sym, ap, ◌∙◌, length, arith}
+use Rattle.std.proofs.Common.{◌≡◌, ◌≤◌, ℕ, List, Option, Some, refl, sym, ap, ◌∙◌, subst, length, arith}
 use Rattle.file_world.specs.Tree.{Node, node_at}
 use Rattle.file_world.specs.TreeEffect.{contents_of, write_at, with_contents}
 use Rattle.file_tree.specs.declared.node.KeptNode.{KeptNode as Kept}
 use Rattle.file_tree.specs.Index.{rows_of, kept_at, node_shown}
 use Rattle.file_tree.proofs.IndexLemmas.{SetsValue-from_map, found_behind, same_names, node_at-kept}
-use Rattle.file_tree.proofs.ApplyLemmas.{Fills-from_set, part_le_sum}
+use Rattle.file_tree.proofs.ApplyLemmas.{Fills-from_set, part_le_sum, room_of}
 use Rattle.file_tree.proofs.applying.write.Goals as goal
+
+pub write-requires : goal.write-requires
+write-requires c =
+    let old = c.args.nodes.now.entries in
+    let node = c.unwrap-node.result.now in
+    let there : kept_at old c.args.number ≡ Some node = found_behind c.get_mut.result _ c.unwrap-node.result c.get_mut.ensures.value c.unwrap-node.ensures in
+    subst (λ (n : Option Node). length (write_at (contents_of n) c.args.offset c.args.bytes.now) ≤ node.contents.room)
+    (node_at-kept old c.args.number node there)
+    (room_of old c.args.number (length (write_at (contents_of (node_at (rows_of old) c.args.number)) c.args.offset c.args.bytes.now)) node c.requires.there there)
 
 pub overflow_sub-result : goal.overflow_sub-result
 overflow_sub-result c =
