@@ -1,3 +1,4 @@
+pub mod ImageLemmas
 pub mod SurvivalLemmas
 pub mod FittingLemmas
 pub mod StepLemmas
