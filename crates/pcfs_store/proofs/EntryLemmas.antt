@@ -87,7 +87,7 @@ generation-entries s store =
 
 -- ---- bytes of the area
 
-area-length : (generation : ℕ) (image : List ℕ) (payloads : List (List ℕ)) → length (area_bytes generation image payloads) ≡ 24 + length image + length (records payloads)
+pub area-length : (generation : ℕ) (image : List ℕ) (payloads : List (List ℕ)) → length (area_bytes generation image payloads) ≡ 24 + length image + length (records payloads)
 area-length generation image payloads =
     omega (arith, ap length (area_split generation image payloads), length-append (area_bytes generation image []) (records payloads), ap length (append-nil image))
 
@@ -162,7 +162,7 @@ merged-push before most events event (checkpoint ∷ checkpoints) order is =
     ap (λ (es : List Event). map happened es ++ checkpointed checkpoint.pass ∷ merged checkpoint.after (drop some (events ++ event ∷ [])) checkpoints) (take-append-le some events (event ∷ []) few)
     ∙ ap (λ (es : List Event). map happened (take some events) ++ checkpointed checkpoint.pass ∷ merged checkpoint.after es checkpoints) (drop-append-le some events (event ∷ []) few)
     ∙ ap (λ (l : List StoreEntry). map happened (take some events) ++ checkpointed checkpoint.pass ∷ l)
-        (merged-push checkpoint.after most (drop some events) event checkpoints order.1 (let long = length-drop some events in omega (arith, long, few, order.0, is)))
+    (merged-push checkpoint.after most (drop some events) event checkpoints order.1 (let long = length-drop some events in omega (arith, long, few, order.0, is)))
     ∙ sym (append_assoc (map happened (take some events)) (checkpointed checkpoint.pass ∷ rest) (happened event ∷ []))
 
 merged-mark : (before most : ℕ) (events : List Event) (mark : Checkpoint) (checkpoints : List Checkpoint) → AreInOrder before most checkpoints → most ≡ before + length events → mark.after ≡ most →
@@ -177,7 +177,7 @@ merged-mark before most events mark (checkpoint ∷ checkpoints) order is at =
     let under = order_within checkpoint.after most checkpoints order.1 in
     let rest : List StoreEntry = merged checkpoint.after (drop some events) checkpoints in
     ap (λ (l : List StoreEntry). map happened (take some events) ++ checkpointed checkpoint.pass ∷ l)
-        (merged-mark checkpoint.after most (drop some events) mark checkpoints order.1 (let long = length-drop some events in omega (arith, long, order.0, above, under, is)) at)
+    (merged-mark checkpoint.after most (drop some events) mark checkpoints order.1 (let long = length-drop some events in omega (arith, long, order.0, above, under, is)) at)
     ∙ sym (append_assoc (map happened (take some events)) (checkpointed checkpoint.pass ∷ rest) (checkpointed mark.pass ∷ []))
 
 no-stop : (entries more : List StoreEntry) (stop : Option ℕ) → stop ≡ None → (entries ++ more) ++ stop_entries stop ≡ (entries ++ stop_entries stop) ++ more

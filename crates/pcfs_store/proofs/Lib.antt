@@ -5,3 +5,5 @@ pub mod StepLemmas
 pub mod FormatLemmas
 pub mod EntryLemmas
 pub mod EndLemmas
+pub mod CheckpointLemmas
+pub mod PlacingLemmas
