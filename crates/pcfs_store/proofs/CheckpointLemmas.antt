@@ -83,6 +83,7 @@ module _ {D : Type 0} (clock : D → ℕ) (left_since : D → ℕ → List ℕ �
     stays_kept = λ keeps. keeps;
     stays_current = λ current _. current;
     any_moment = λ is_ready x y left_x left_y. ready_survives_now clock left_since image old store is_ready x y left_x left_y;
+    makes_ready = λ current is. absurd (unmade is);
     newest = λ current is. absurd (unmade is);
     first_told = refl;
     second_told = refl;
@@ -215,20 +216,23 @@ module _ {D : Type 0} (clock : D → ℕ) (left_since : D → ℕ → List ℕ �
       closed_next : (before : List ℕ) → Closed area (written 0 (area ++ 0 ∷ []) before)
       closed_next before = closed_written [] area before refl
 
-      next_ready : IsReady clock left_since image old → IsReady clock left_since image new
-      next_ready is_ready = record {
+      ready_by : (a o : List ℕ) → image old.active ≡ Some a → StandsForBody (body_of old) a → IsPinned clock left_since image old.active → image old.other ≡ Some o → IsReady clock left_since image new
+      ready_by a o told stands still other_told = record {
         running = running;
         rests = subst (Rests clock left_since image disk) (sym body_is) (record {
-          bytes = written 0 (area ++ 0 ∷ []) is_ready.other_bytes;
-          told = now ∙ ap (option_map (written 0 (area ++ 0 ∷ []))) is_ready.other_told;
-          closed = closed_next is_ready.other_bytes;
+          bytes = written 0 (area ++ 0 ∷ []) o;
+          told = now ∙ ap (option_map (written 0 (area ++ 0 ∷ []))) other_told;
+          closed = closed_next o;
           pinned = pinned;
         });
-        other_bytes = is_ready.rests.bytes;
-        other_told = is_ready.rests.told;
-        other_pinned = is_ready.rests.pinned;
-        behind = older is_ready.rests.bytes is_ready.rests.closed.stands;
+        other_bytes = a;
+        other_told = told;
+        other_pinned = still;
+        behind = older a stands;
       }
+
+      next_ready : IsReady clock left_since image old → IsReady clock left_since image new
+      next_ready is_ready = ready_by is_ready.rests.bytes is_ready.other_bytes is_ready.rests.told is_ready.rests.closed.stands is_ready.rests.pinned is_ready.other_told
 
       closed_now : (before : Option (List ℕ)) → image old.other ≡ before → (bytes : List ℕ) → image disk ≡ Some bytes → Closed area bytes
       closed_now (Some before) told bytes is = subst (Closed area) (some_same (written 0 (area ++ 0 ∷ []) before) bytes (sym (now ∙ ap (option_map (written 0 (area ++ 0 ∷ []))) told) ∙ is)) (closed_next before)
@@ -281,6 +285,7 @@ module _ {D : Type 0} (clock : D → ℕ) (left_since : D → ℕ → List ℕ �
             leaves is_ready x y
             (subst (λ (d : D). left_since d (clock (first_disk old)) x) first_is left_x)
             (subst (λ (d : D). left_since d (clock (second_disk old)) y) second_is left_y);
+        makes_ready = λ current _ a o is_a is_o still. ready_by a o is_a (at_some (image old.active) (StandsForBody (body_of old)) a is_a current.active) still is_o;
         newest = λ current _ x y is_x is_y. next_newest current x y is_x is_y;
         first_told = ap (λ (d : D). is_some (image d)) first_is ∙ told_other old.second_active old.active old.other disk writes.told;
         second_told = ap (λ (d : D). is_some (image d)) second_is ∙ told_one old.second_active old.active old.other disk writes.told;
@@ -303,6 +308,7 @@ module _ {D : Type 0} (clock : D → ℕ) (left_since : D → ℕ → List ℕ �
       stays_kept = λ keeps. stays keeps;
       stays_current = λ current goes. absurd (goes refl);
       any_moment = λ is_ready x y left_x left_y. leaves is_ready x y left_x left_y;
+      makes_ready = λ current is. absurd (unlike is);
       newest = λ current is. absurd (unlike is);
       first_told = told_other old.second_active old.active old.other disk writes.told;
       second_told = told_one old.second_active old.active old.other disk writes.told;

@@ -4,6 +4,7 @@ pub mod FittingLemmas
 pub mod StepLemmas
 pub mod FormatLemmas
 pub mod EntryLemmas
+pub mod IssueLemmas
 pub mod EndLemmas
 pub mod CheckpointLemmas
 pub mod PlacingLemmas

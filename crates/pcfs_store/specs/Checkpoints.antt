@@ -1,6 +1,7 @@
 -- What a checkpoint of a store answers and keeps. This project's own.
 use Rattle.std.specs.Prelude.{◌≡◌, ◌≢◌, ◌⊎◌, ℕ, ◌+◌, ◌-◌, ◌^◌, ◌<◌, ◌≤◌, List, [], ◌∷◌, ◌++◌, length, not, is_some, Option, Some, None}
 use Rattle.pcfs_ports.specs.Faults.{HasRisen}
+use Rattle.pcfs_ports.specs.Disk.{IsPinned}
 use Rattle.journal_core.specs.Area.{area_limit, area_bytes, Closed}
 use Rattle.checkpoint_image.specs.ImageSpelling.{image_spelling}
 use Rattle.pcfs_store.specs.declared.reply.CheckpointReply.{CheckpointReply}
@@ -52,6 +53,9 @@ module _ {D : Type 0} (clock : D → ℕ) (left_since : D → ℕ → List ℕ �
     pub stays_ready : IsReady clock left_since image old → result ≢ Stopped → IsReady clock left_since image new
     pub stays_kept : Keeps clock left_since image old → Keeps clock left_since image new
     pub stays_current : IsCurrent clock left_since image old → result ≢ Stopped → IsCurrent clock left_since image new
+    -- also of a store that lacks its closed gate, or on whose other disk something is pending, a checkpoint makes one that is ready
+    pub makes_ready : IsCurrent clock left_since image old → result ≡ Checkpointed → (active other : List ℕ) → image old.active ≡ Some active → image old.other ≡ Some other → IsPinned clock left_since image old.active →
+        IsReady clock left_since image new
     pub any_moment : IsReady clock left_since image old → StopsLeave clock left_since image old new (SurvivesWholeClosed old.base old.events)
     pub newest : IsCurrent clock left_since image old → result ≡ Checkpointed → (first second : List ℕ) → image (first_disk new) ≡ Some first → image (second_disk new) ≡ Some second → IsNewestCheckpoint old first second
     pub first_told : is_some (image (first_disk new)) ≡ is_some (image (first_disk old))

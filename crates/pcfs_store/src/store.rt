@@ -206,7 +206,7 @@ impl<D: Disk> Store<D> {
             Err(AreaFault::AreaFull) => CheckpointReply::Full,
             Err(AreaFault::NoMemory) => CheckpointReply::NoMemory,
             Err(AreaFault::Disk) => {
-                self.stop = Some(pass);
+                self.stop = Some(made.pass);
                 CheckpointReply::Stopped
             }
         }
