@@ -1,5 +1,5 @@
 -- What a checkpoint of a store says, at each of its ends.
-use Rattle.std.proofs.Common.{◌≡◌, ◌≢◌, ℕ, ◌+◌, ◌-◌, ◌^◌, ◌<◌, ◌≤◌, List, [], ◌∷◌, ◌++◌, length, take, drop, Some, None, IfSome, Bool, true, false, refl, sym, ◌∙◌, ap, subst, inl, inr, ⊎_elim, arith, length-append}
+use Rattle.std.proofs.Common.{◌≡◌, ◌≢◌, ◌⊎◌, ℕ, ◌+◌, ◌-◌, ◌^◌, ◌<◌, ◌≤◌, List, [], ◌∷◌, ◌++◌, length, take, drop, Some, None, IfSome, Bool, true, false, refl, sym, ◌∙◌, ap, subst, inl, inr, ⊎_elim, arith, length-append}
 use Rattle.std.specs.Prelude.{Option, is_some, not}
 use Rattle.std.specs.Option.{option_map}
 use Rattle.std.proofs.lemmas.Bool.{cases_lt}
@@ -40,13 +40,13 @@ exchanged true a b = refl
 
 -- ---- one checkpoint more
 
-last_push : (since : ℕ) (checkpoints : List Checkpoint) (made : Checkpoint) → last_after since (checkpoints ++ made ∷ []) ≡ made.after
-last_push since [] made = refl
-last_push since (checkpoint ∷ checkpoints) made = last_push checkpoint.after checkpoints made
+last_push : (since : ℕ) (checkpoints : List Checkpoint) (mark : Checkpoint) → last_after since (checkpoints ++ mark ∷ []) ≡ mark.after
+last_push since [] mark = refl
+last_push since (checkpoint ∷ checkpoints) mark = last_push checkpoint.after checkpoints mark
 
-order_push : (least most : ℕ) (checkpoints : List Checkpoint) (made : Checkpoint) → AreInOrder least most checkpoints → made.after ≡ most → AreInOrder least most (checkpoints ++ made ∷ [])
-order_push least most [] made order is = (omega (arith, order, is), omega (arith, is))
-order_push least most (checkpoint ∷ checkpoints) made order is = (order.0, order_push checkpoint.after most checkpoints made order.1 is)
+order_push : (least most : ℕ) (checkpoints : List Checkpoint) (mark : Checkpoint) → AreInOrder least most checkpoints → mark.after ≡ most → AreInOrder least most (checkpoints ++ mark ∷ [])
+order_push least most [] mark order is = (omega (arith, order, is), omega (arith, is))
+order_push least most (checkpoint ∷ checkpoints) mark order is = (order.0, order_push checkpoint.after most checkpoints mark order.1 is)
 
 -- the state after all events, and the area with its image
 state_whole : (base : BaseView) (events : List Event) → state_after base events (length events) ≡ replay base events
