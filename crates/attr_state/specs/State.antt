@@ -39,8 +39,8 @@ ReservesMeta marks op (Err (Refused refusal)) ready = (meta_refusal marks op ≡
 ReservesMeta marks op (Err NoMemory) ready = (meta_refusal marks op ≡ None) × (ready ≡ None)
 
 -- the number of each node, and that of its directory
-abbrev pub directories_of : Marks → List (ℕ × ℕ)
-directories_of marks = map (λ row. (row.0, row.1.parent)) marks
+abbrev pub directories_of_marks : Marks → List (ℕ × ℕ)
+directories_of_marks marks = map (λ row. (row.0, row.1.parent)) marks
 
 -- the marks are within the limits, and nothing is ready; or they are not; or out of memory
 abbrev pub MakesMarks : Marks → Result MetaView RowsFault → Type 0

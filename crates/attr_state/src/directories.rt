@@ -3,7 +3,7 @@
 ghost use Rattle.std.specs.Prelude.{◌≡◌};
 ghost use Rattle.std.specs.Map.Iter.{TakesFirst};
 ghost use Rattle.attr_state.specs.Index.{marks_of};
-ghost use Rattle.attr_state.specs.State.{directories_of};
+ghost use Rattle.attr_state.specs.State.{directories_of_marks};
 
 use crate::mark::{KeptMark, KeptMarks};
 use bl_syntax::NodeId;
@@ -19,16 +19,16 @@ pub struct MarkDirectories<'a> {
 impl<'a> Model for MarkDirectories<'a> {
     ghost use Rattle.std.specs.Prelude.{List, ℕ};
     ghost use Rattle.attr_state.specs.Index.{marks_of};
-    ghost use Rattle.attr_state.specs.State.{directories_of};
+    ghost use Rattle.attr_state.specs.State.{directories_of_marks};
 
     ghost Value = { List (ℕ × ℕ) };
 
-    ghost view = { λ d. directories_of (marks_of d.marks) };
+    ghost view = { λ d. directories_of_marks (marks_of d.marks) };
 }
 
 impl<'a> MarkDirectories<'a> {
     pub(crate) fn new(marks: &'a KeptMarks) -> MarkDirectories<'a>
-        ensures { result ≡ directories_of (marks_of marks.now.entries) }
+        ensures { result ≡ directories_of_marks (marks_of marks.now.entries) }
     {
         MarkDirectories {
             marks: marks.iter(),

@@ -5,7 +5,7 @@ ghost use Rattle.file_world.specs.Attributes.{mark_at, AreMarks};
 ghost use Rattle.file_world.specs.Facts.{facts_of_marks};
 ghost use Rattle.file_world.specs.AttributeEffect.{fresh_marks, value_of, marks_after, IsAskable, IsMetaOperation};
 ghost use Rattle.node_rows.specs.Rows.{meta_row};
-ghost use Rattle.attr_state.specs.State.{directories_of, ReservesMeta, IsMetaReady, MakesMarks};
+ghost use Rattle.attr_state.specs.State.{directories_of_marks, ReservesMeta, IsMetaReady, MakesMarks};
 
 use crate::applying::change;
 use crate::attributes::value_among;
@@ -142,7 +142,7 @@ impl Meta {
     /// Each node with its directory, while nothing is ready.
     pub fn directories(&self) -> MarkDirectories<'_>
         requires { self.now.ready ≡ None }
-        ensures nodes { result ≡ directories_of self.now.marks }
+        ensures nodes { result ≡ directories_of_marks self.now.marks }
         ensures within { AreMarks self.now.marks }
     {
         MarkDirectories::new(&self.marks)
