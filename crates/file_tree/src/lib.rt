@@ -6,6 +6,7 @@
 
 mod applying;
 mod copying;
+mod directories;
 mod listing;
 mod name;
 mod node;
@@ -14,6 +15,7 @@ mod ready;
 mod refusals;
 mod tree;
 
+pub use directories::NodeDirectories;
 pub use file_world::{Kind, NamedNode, Names, OpFault, Refusal, TreeOp, TreeReply};
 pub use ready::{Ready, Spot};
 pub use tree::Tree;

@@ -2,11 +2,13 @@
 
 ghost use Rattle.std.specs.Prelude.{◌≡◌, None, Some, IfOk};
 ghost use Rattle.file_world.specs.TreeEffect.{child_of, fresh_tree, tree_after};
-ghost use Rattle.file_tree.specs.State.{Reserves, IsReady};
+ghost use Rattle.file_world.specs.Tree.{IsTree};
+ghost use Rattle.file_tree.specs.State.{directories_of_nodes, Reserves, IsReady};
 ghost use Rattle.file_tree.specs.Index.{option_number, above_zero};
 
 use crate::applying::change;
 use crate::copying::copy_nodes;
+use crate::directories::NodeDirectories;
 use crate::listing::reply;
 use crate::name::Name;
 use crate::node::{KeptNode, KeptNodes};
@@ -83,6 +85,23 @@ impl Tree {
         ensures { result ≡ self.now.tree.next }
     {
         self.next
+    }
+
+    /// Each node with its directory, while nothing is ready.
+    pub fn directories(&self) -> NodeDirectories<'_>
+        requires { self.now.ready ≡ None }
+        ensures nodes { result ≡ directories_of_nodes self.now.tree.rows }
+        ensures whole { IsTree self.now.tree }
+    {
+        NodeDirectories::new(&self.nodes)
+    }
+
+    /// Gives up what is ready. It takes no memory.
+    pub fn forget(&mut self)
+        ensures { self.new ≡ record { tree = self.old.tree; ready = None } }
+    {
+        forget(&mut self.nodes, self.next, &self.ready);
+        self.ready = None;
     }
 
     /// The reply of an operation, with all memory taken for its change, or its first refusal. The rows and the next
