@@ -1,12 +1,12 @@
 -- Rows whose keys rise and each of which is a mark within the limits.
 use Rattle.std.proofs.Common.{◌≡◌, ◌↔◌, ℕ, ◌+◌, ◌<◌, Bool, true, false, Option, Some, List, [], ◌∷◌, length, get_or, map, refl, sym, ap, ◌∙◌, subst, arith, nat_eq, nat_lt, nat_cmp, Ordering, Less, Equal, Greater}
-use Rattle.std.specs.Prelude.{IsTrue}
-use Rattle.std.specs.List.{AllByRecursion, IsAllAdjacentAnswer}
+use Rattle.std.specs.Prelude.{◌&&◌, IsTrue}
+use Rattle.std.specs.List.{list_all, AllByRecursion, IsAllAdjacentAnswer}
 use Rattle.std.specs.List.Sorted.{IsStrictlySortedBy}
 use Rattle.std.specs.Map.{lookup, keys_of}
 use Rattle.std.specs.Ordering.{is_lt}
 use Rattle.std.specs.Cmp.{IsTotalOrder}
-use Rattle.std.proofs.lemmas.Bool.{false≢true, eq-eqb, ne_eqb, lt-ltb, ltb-true}
+use Rattle.std.proofs.lemmas.Bool.{and_parts, false≢true, eq-eqb, ne_eqb, lt-ltb, ltb-true}
 use Rattle.std.proofs.lemmas.List.{get_or-map, length-map}
 use Rattle.std.proofs.lemmas.Option.{none-some, same_Some}
 use Rattle.std.proofs.lemmas.Map.Keys.{sorted_from_all_adjacent, Less-from_sorted}
@@ -69,6 +69,16 @@ is_less Greater t = absurd (false≢true t)
 
 pub tells_keys : {X K : Type 0} (cmp : K → K → Ordering) (key : X → K) → TellsLess cmp key (λ x y. is_lt (cmp (key x) (key y)))
 tells_keys cmp key x y = (is_less (cmp (key x) (key y)), λ e. ap is_lt e)
+
+-- ---- attributes
+
+pub each_passes : {X : Type 0} (p : X → Bool) (xs : List X) → list_all p xs ≡ true → AllByRecursion (λ x. IsTrue (p x)) xs
+each_passes p [] e = tt
+each_passes p (x ∷ xs) e = let parts = and_parts (p x) (list_all p xs) e in (parts.0, each_passes p xs parts.1)
+
+pub all_pass : {X : Type 0} (p : X → Bool) (xs : List X) → AllByRecursion (λ x. IsTrue (p x)) xs → list_all p xs ≡ true
+all_pass p [] each = refl
+all_pass p (x ∷ xs) each = ap (λ (b : Bool). b && list_all p xs) each.0 ∙ all_pass p xs each.1
 
 -- ---- rows that are marks
 
