@@ -72,6 +72,12 @@ index_of_marks entries marks are same =
     let within : AreMarks (marks_of entries) = subst AreMarks (sym same) are in
     record { index = record { ordered = ordered_from_marks entries within; prepared = tt }; within = within }
 
+-- one mark alone, the root's
+pub fresh_within : (old new : MarkEntries) (mark : Kept) (fresh : ℕ × Mark) → old ≡ [] → new ≡ insert_entry nat_cmp old fresh.0 mark → shown mark ≡ fresh.1 → AreMarks (fresh ∷ []) → AreMarks (marks_of new)
+fresh_within old new mark fresh none is shows are =
+    let one : new ≡ (fresh.0, mark) ∷ [] = is ∙ ap (λ (entries : MarkEntries). insert_entry nat_cmp entries fresh.0 mark) none in
+    subst AreMarks (sym (ap marks_of one ∙ ap (λ (m : Mark). (fresh.0, m) ∷ []) shows)) are
+
 -- an operation that is not refused leaves them within the limits
 pub AreMarks-changed : (marks : Marks) (op : MetaOp) → AreMarks marks → IsMetaOperation op → meta_refusal marks op ≡ None → AreMarks (marks_after marks op)
 AreMarks-changed marks (Get node name) are fit free = are

@@ -1,16 +1,17 @@
 -- Bytes have one reading, and it is the state of which they are the image, if they are one.
-use Rattle.std.proofs.Common.{◌≡◌, ℕ, List, [], ◌∷◌, ◌++◌, length, Result, Ok, Err, ◌⊎◌, inl, inr, refl, sym, ap, ◌∙◌, subst}
-use Rattle.std.specs.Prelude.{IfOk}
-use Rattle.std.proofs.lemmas.List.{append-nil}
+use Rattle.std.proofs.Common.{◌≡◌, ◌+◌, ◌-◌, ℕ, List, [], ◌∷◌, ◌++◌, length, arith, Result, Ok, Err, ◌⊎◌, inl, inr, refl, sym, ap, ◌∙◌, subst}
+use Rattle.std.specs.Prelude.{IfOk, IsErr}
+use Rattle.std.proofs.lemmas.Bool.{false≢true}
+use Rattle.std.proofs.lemmas.List.{append-nil, length-append}
 use Rattle.bl_syntax.specs.declared.codec_fault.CodecFault.{CodecFault}
 use Rattle.bl_syntax.specs.declared.codec_fault.CodecFault.TheVariants.{Short, BadTag, NotCanonical, TooLarge, NoMemory}
 use Rattle.bl_syntax.specs.Reading.{Reading}
-use Rattle.bl_syntax.specs.Codec.{AreBytes}
+use Rattle.bl_syntax.specs.Codec.{AreBytes, ReportsFault}
 use Rattle.file_world.specs.World.{IsWorld}
 use Rattle.access_history.specs.Base.{BaseView}
 use Rattle.checkpoint_image.specs.ImageSpelling.{image_spelling, IsSpellableImage}
 use Rattle.checkpoint_image.specs.ImageReading.{image_at}
-use Rattle.checkpoint_image.proofs.ImageLemmas.{image_codec}
+use Rattle.checkpoint_image.proofs.ImageLemmas.{image_codec, cut}
 use Rattle.checkpoint.specs.Reading.{IsImageOf, ReadsImage, field, no_world, left_over, whole, MakesState, GivesImage}
 
 -- ---- one reading
@@ -86,3 +87,49 @@ pub more_is_left_over : (base : BaseView) (image : List ℕ) (byte : ℕ) (rest 
 more_is_left_over base image byte rest is =
     subst (λ (front : List ℕ). ReadsImage (image ++ byte ∷ rest) (Err (NotCanonical (length front)))) (sym is.image_is)
     (left_over base byte rest (front_of base image (byte ∷ rest) is) is.world)
+
+-- a state is read only if the fields are
+only_whole : (bytes : List ℕ) (result : Result BaseView CodecFault) → IsErr (image_at (length bytes) bytes) → ReadsImage bytes result → IfOk result (λ base. ⊥)
+only_whole bytes _ err (field fault e) = tt
+only_whole bytes _ err (no_world base rest e not) = tt
+only_whole bytes _ err (left_over base byte rest e is) = tt
+only_whole bytes _ err (whole base e is) = none (image_at (length bytes) bytes) err e
+  where
+    none : {base : BaseView} (read : Reading BaseView) → IsErr read → read ≡ Ok (base, []) → ⊥
+    none (Ok read) err e = absurd (false≢true err)
+    none (Err fault) err e = cc
+
+pub cut_is_none : (base other : BaseView) (front : List ℕ) (byte : ℕ) (rest : List ℕ) → AreBytes front → IsImageOf base (front ++ byte ∷ rest) → ReadsImage front (Ok other) → ⊥
+cut_is_none base other front byte rest fits is read = only_whole front (Ok other) (cut base (length front) front byte rest fits is.spelled (sym is.image_is)) read
+
+-- ---- what a call finds
+
+pub field_reported : (bytes : List ℕ) (fault : CodecFault) → ReportsFault fault (image_at (length bytes) bytes) → GivesImage bytes (Err fault)
+field_reported bytes Short e = field Short e
+field_reported bytes (BadTag place) e = field (BadTag place) e
+field_reported bytes (NotCanonical place) e = field (NotCanonical place) e
+field_reported bytes (TooLarge place) e = field (TooLarge place) e
+field_reported bytes NoMemory e = tt
+
+pub world_reported : (bytes : List ℕ) (base : BaseView) (rest : List ℕ) (fault : CodecFault) → image_at (length bytes) bytes ≡ Ok (base, rest) → MakesState base (Err fault) → GivesImage bytes (Err fault)
+world_reported bytes base rest Short e makes = absurd makes
+world_reported bytes base rest (BadTag place) e makes = absurd makes
+world_reported bytes base rest (NotCanonical place) e makes =
+    subst (λ (at : ℕ). ReadsImage bytes (Err (NotCanonical at))) (sym makes.0) (no_world base rest e makes.1)
+world_reported bytes base rest (TooLarge place) e makes = absurd makes
+world_reported bytes base rest NoMemory e makes = tt
+
+-- the image and the bytes after it are all
+pub lengths : (bytes : List ℕ) (base : BaseView) (rest : List ℕ) → AreBytes bytes → image_at (length bytes) bytes ≡ Ok (base, rest) → length bytes ≡ length (image_spelling base) + length rest
+lengths bytes base rest fits e = ap length (image_codec.found (length bytes) bytes rest base fits e).1 ∙ length-append (image_spelling base) rest
+
+pub ended : (bytes : List ℕ) (state base : BaseView) (rest : List ℕ) → image_at (length bytes) bytes ≡ Ok (state, rest) → length rest ≡ 0 → base ≡ state → IsWorld state.world → ReadsImage bytes (Ok base)
+ended bytes state base [] e none same is = subst (λ (b : BaseView). ReadsImage bytes (Ok b)) (sym same) (whole state e is)
+ended bytes state base (byte ∷ rest) e none same is = absurd (omega (arith, none))
+
+pub not_ended : (bytes : List ℕ) (state : BaseView) (rest : List ℕ) (place : ℕ) → AreBytes bytes → image_at (length bytes) bytes ≡ Ok (state, rest) → (length rest ≡ 0 → ⊥) → place ≡ length bytes - length rest → IsWorld state.world → ReadsImage bytes (Err (NotCanonical place))
+not_ended bytes state [] place fits e some at is = absurd (some refl)
+not_ended bytes state (byte ∷ rest) place fits e some at is =
+    let all = lengths bytes state (byte ∷ rest) fits e in
+    let same : place ≡ length (image_spelling state) = omega (arith, at, all) in
+    subst (λ (n : ℕ). ReadsImage bytes (Err (NotCanonical n))) (sym same) (left_over state byte rest e is)

@@ -1,5 +1,5 @@
 -- Worlds that are made of two halves, or of rows.
-use Rattle.std.proofs.Common.{◌≡◌, ℕ, List, [], ◌∷◌, map, refl, sym, ap, ap₂, ◌∙◌, subst}
+use Rattle.std.proofs.Common.{◌≡◌, ℕ, List, [], ◌∷◌, None, Result, Ok, Err, map, refl, sym, ap, ap₂, ◌∙◌, subst}
 use Rattle.bl_syntax.specs.declared.terms.NodeId.{NodeId}
 use Rattle.file_world.specs.Attributes.{Mark, Marks, AreMarks}
 use Rattle.file_world.specs.Tree.{Node, Nodes, FileTree, IsTree}
@@ -7,10 +7,14 @@ use Rattle.file_world.specs.World.{Item, World, IsWorld, node_of, mark_of, tree_
 use Rattle.node_rows.specs.declared.rows.TreeRow.{TreeRow}
 use Rattle.node_rows.specs.declared.rows.MetaRow.{MetaRow}
 use Rattle.node_rows.specs.Rows.{tree_row, meta_row, item_row, item_rows, AreOfSameNodes}
-use Rattle.file_tree.specs.State.{directories_of_nodes}
-use Rattle.attr_state.specs.State.{directories_of_marks}
+use Rattle.node_rows.specs.declared.rows.RowsFault.{RowsFault}
+use Rattle.node_rows.specs.declared.rows.RowsFault.TheVariants.{NotTree, NoMemory}
+use Rattle.file_tree.specs.State.{TreeView, directories_of_nodes, MakesTree}
+use Rattle.attr_state.specs.State.{MetaView, directories_of_marks, MakesMarks}
 use Rattle.world_state.specs.Halves.{item_of, joined_rows, joined, AreHalves}
-use Rattle.world_state.specs.Made.{HaveSameNodes, world_of_rows}
+use Rattle.world_state.specs.Made.{HaveSameNodes, settled, JoinsHalves, world_of_rows, MakesWorld}
+use Rattle.world_state.specs.State.{WorldState}
+use Rattle.world_state.proofs.HalvesLemmas.{shown}
 
 -- ---- rows of the same nodes
 
@@ -103,3 +107,46 @@ pub world_of_halves : (next : ℕ) (trees : List TreeRow) (metas : List MetaRow)
 world_of_halves next trees metas tree marks tree_is marks_are =
     ap₂ joined tree_is marks_are ∙ ap (λ (rows : List (ℕ × Item)). let it : World = record { rows = rows; next = next } in it) (sym (item_rows-joined trees metas))
 
+abbrev file_tree_of : ℕ → List TreeRow → FileTree
+file_tree_of next trees = record { rows = map tree_row trees; next = next }
+
+-- halves that are made of rows are joined to the world of the rows, if they are of the same nodes
+pub made_of_rows : (next : ℕ) (trees : List TreeRow) (metas : List MetaRow) (tree : FileTree) (marks : Marks) (result : Result WorldState RowsFault) → tree ≡ file_tree_of next trees → IsTree (file_tree_of next trees)
+    → marks ≡ map meta_row metas → AreMarks (map meta_row metas) → JoinsHalves tree marks result → MakesWorld next trees metas result
+made_of_rows next trees metas tree marks (Ok state) tree_is is marks_are are joins =
+    let is_tree : IsTree tree = subst IsTree (sym tree_is) is in
+    let are_marks : AreMarks marks = subst AreMarks (sym marks_are) are in
+    let world : joined tree marks ≡ world_of_rows next trees metas = world_of_halves next trees metas tree marks tree_is marks_are in
+    let directories : directories_of_nodes (map tree_row trees) ≡ directories_of_marks (map meta_row metas) =
+    sym (ap (λ (t : FileTree). directories_of_nodes t.rows) tree_is) ∙ (joins.0 ∙ ap directories_of_marks marks_are) in (
+      rows_from_same trees metas directories,
+      (subst IsWorld world (AreHalves-from tree marks is_tree are_marks joins.0).whole, joins.1 ∙ ap settled world),
+    )
+made_of_rows next trees metas tree marks (Err NotTree) tree_is is marks_are are joins =
+    λ same whole. joins (ap (λ (t : FileTree). directories_of_nodes t.rows) tree_is ∙ (same_from_rows trees metas same ∙ sym (ap directories_of_marks marks_are)))
+made_of_rows next trees metas tree marks (Err NoMemory) tree_is is marks_are are joins = tt
+
+-- rows of which no tree is made, or no marks, are those of no world
+pub no_tree_of_rows : (next : ℕ) (trees : List TreeRow) (metas : List MetaRow) (fault : RowsFault) → MakesTree (file_tree_of next trees) (Err fault) → MakesWorld next trees metas (Err fault)
+no_tree_of_rows next trees metas NotTree not = λ same is. not (halves_of_rows next trees metas same is).tree
+no_tree_of_rows next trees metas NoMemory not = tt
+
+pub no_marks_of_rows : (next : ℕ) (trees : List TreeRow) (metas : List MetaRow) (fault : RowsFault) → MakesMarks (map meta_row metas) (Err fault) → MakesWorld next trees metas (Err fault)
+no_marks_of_rows next trees metas NotTree not = λ same is. not (halves_of_rows next trees metas same is).marks
+no_marks_of_rows next trees metas NoMemory not = tt
+
+-- the rows of both halves of a world are of the same nodes, which are the world's
+pub record AreRowsOf (world : World) (trees : List TreeRow) (metas : List MetaRow) : Type 0 where
+  pub same : AreOfSameNodes trees metas
+  pub rows : item_rows trees metas ≡ world.rows
+
+pub rows_of_halves : (tree : FileTree) (marks : Marks) (world : World) (trees : List TreeRow) (metas : List MetaRow) → AreHalves tree marks → joined tree marks ≡ world → map tree_row trees ≡ tree.rows → map meta_row metas ≡ marks → AreRowsOf world trees metas
+rows_of_halves tree marks world trees metas halves is nodes_are marks_are =
+    record {
+      same = rows_from_same trees metas (ap directories_of_nodes nodes_are ∙ (same_of_halves tree marks halves ∙ sym (ap directories_of_marks marks_are)));
+      rows = item_rows-joined trees metas ∙ (ap₂ joined_rows nodes_are marks_are ∙ ap (λ (w : World). w.rows) is);
+    }
+
+-- both halves when what they were ready for is given up
+pub settled_halves : (tree after : TreeView) (meta meta_after : MetaView) → after ≡ record { tree = tree.tree; ready = None } → meta_after ≡ record { marks = meta.marks; ready = None } → shown after meta_after ≡ settled (joined tree.tree meta.marks)
+settled_halves tree after meta meta_after tree_is meta_is = ap₂ shown tree_is meta_is

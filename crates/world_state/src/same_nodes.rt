@@ -1,6 +1,8 @@
 //! Whether a tree and marks are of the same nodes.
 
 ghost use Rattle.std.specs.Prelude.{◌≡◌, ◌↔◌, IsTrue, None};
+ghost use Rattle.file_world.specs.Attributes.{AreMarks};
+ghost use Rattle.file_world.specs.Tree.{IsTree};
 ghost use Rattle.world_state.specs.Made.{HaveSameNodes, IsNext};
 
 use attr_state::{MarkDirectories, Meta};
@@ -22,7 +24,9 @@ fn is_next(marks: &mut MarkDirectories<'_>, node: NodeId, directory: u64) -> boo
 pub fn are_of_same_nodes(tree: &Tree, meta: &Meta) -> bool
     requires tree { tree.now.ready ≡ None }
     requires meta { meta.now.ready ≡ None }
-    ensures { IsTrue result ↔ HaveSameNodes tree.now.tree meta.now.marks }
+    ensures same { IsTrue result ↔ HaveSameNodes tree.now.tree meta.now.marks }
+    ensures whole { IsTree tree.now.tree }
+    ensures within { AreMarks meta.now.marks }
 {
     let mut nodes = tree.directories();
     let mut marks = meta.directories();
