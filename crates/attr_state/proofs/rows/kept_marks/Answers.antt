@@ -1,5 +1,5 @@
 -- The row's mark goes behind those that are kept, since the numbers rise.
-use Rattle.std.proofs.Common.{◌≡◌, ◌++◌, ◌∷◌, List, ℕ, suc, ◌+◌, Bool, true, false, Result, Ok, Err, drop, get_or, map, refl, sym, ap, ◌∙◌, subst, add-one, drop-cons}
+use Rattle.std.proofs.Common.{◌≡◌, ◌++◌, ◌∷◌, List, ℕ, suc, ◌+◌, false, Result, Ok, Err, drop, map, refl, sym, ap, ◌∙◌, add-one, drop-cons}
 use Rattle.std.specs.Prelude.{OnOk, is_err}
 use Rattle.std.proofs.lemmas.Bool.{false≢true}
 use Rattle.file_world.specs.Attributes.{Marks}

@@ -1,5 +1,5 @@
 -- A mark is within the limits exactly if it has few attributes, whose names are names and rise; the rest its type says.
-use Rattle.std.proofs.Common.{◌≡◌, ◌≤◌, ◌<◌, List, length, true, false, sym, ap, ◌∙◌, subst, arith}
+use Rattle.std.proofs.Common.{◌≡◌, ◌≤◌, length, true, false, sym, ap, ◌∙◌, subst}
 use Rattle.std.specs.Prelude.{IsTrue}
 use Rattle.std.specs.List.{list_all, AllByRecursion}
 use Rattle.std.proofs.lemmas.Bool.{false≢true}
