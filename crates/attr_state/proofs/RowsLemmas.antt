@@ -1,5 +1,5 @@
 -- Marks that are put in by rising number, and marks within the limits that stay so.
-use Rattle.std.proofs.Common.{◌≡◌, ℕ, ◌<◌, Option, Some, None, List, [], ◌∷◌, ◌++◌, map, refl, sym, ap, ◌∙◌, subst, nat_eq, nat_cmp, Ordering, Less, Greater}
+use Rattle.std.proofs.Common.{◌≡◌, ℕ, Option, Some, None, List, [], ◌∷◌, ◌++◌, refl, sym, ap, ◌∙◌, subst, nat_cmp, Ordering, Less, Greater}
 use Rattle.std.specs.Prelude.{IsSome}
 use Rattle.std.specs.BTreeMap.{insert_entry}
 use Rattle.std.specs.List.{AllByRecursion}
@@ -9,7 +9,7 @@ use Rattle.std.specs.Ordering.{ordering_reverse, match_ordering}
 use Rattle.std.proofs.lemmas.Cmp.{nat_cmp_total}
 use Rattle.std.proofs.lemmas.List.{map-append, append_assoc}
 use Rattle.file_world.specs.Attributes.{Mark, Marks, mark_at, AreMarks}
-use Rattle.file_world.specs.AttributeEffect.{IsMetaOperation, IsAskable, meta_refusal, marks_after, new_mark, with_parent}
+use Rattle.file_world.specs.AttributeEffect.{IsMetaOperation, meta_refusal, marks_after, new_mark, with_parent}
 use Rattle.file_world.specs.declared.operation.MetaOp.{MetaOp}
 use Rattle.file_world.specs.declared.operation.MetaOp.TheVariants.{Get, Set, Remove, Chown, Add, Drop, Move}
 use Rattle.file_world.proofs.MarkLemmas.{AreMarks-put, AreMarks-removed, AreMarks-after, IsMark-new}

@@ -1,16 +1,16 @@
 -- Rows whose keys rise and each of which is a mark within the limits.
-use Rattle.std.proofs.Common.{◌≡◌, ◌↔◌, ℕ, ◌+◌, ◌<◌, Bool, true, false, Option, Some, List, [], ◌∷◌, length, get_or, map, refl, sym, ap, ◌∙◌, subst, arith, nat_eq, nat_lt, nat_cmp, Ordering, Less, Equal, Greater}
+use Rattle.std.proofs.Common.{◌≡◌, ◌↔◌, ℕ, ◌+◌, ◌<◌, Bool, true, false, Some, List, [], ◌∷◌, length, get_or, map, refl, sym, ap, ◌∙◌, subst, arith, nat_eq, nat_lt, nat_cmp, Ordering, Less, Equal, Greater}
 use Rattle.std.specs.Prelude.{◌&&◌, IsTrue}
 use Rattle.std.specs.List.{list_all, AllByRecursion, IsAllAdjacentAnswer}
 use Rattle.std.specs.List.Sorted.{IsStrictlySortedBy}
-use Rattle.std.specs.Map.{lookup, keys_of}
+use Rattle.std.specs.Map.{keys_of}
 use Rattle.std.specs.Ordering.{is_lt}
 use Rattle.std.specs.Cmp.{IsTotalOrder}
 use Rattle.std.proofs.lemmas.Bool.{and_parts, false≢true, eq-eqb, ne_eqb, lt-ltb, ltb-true}
 use Rattle.std.proofs.lemmas.List.{get_or-map, length-map}
 use Rattle.std.proofs.lemmas.Option.{none-some, same_Some}
 use Rattle.std.proofs.lemmas.Map.Keys.{sorted_from_all_adjacent, Less-from_sorted}
-use Rattle.file_world.specs.Attributes.{Mark, Marks, mark_at, IsMark, AreMarks}
+use Rattle.file_world.specs.Attributes.{Mark, mark_at, IsMark, AreMarks}
 use Rattle.file_world.proofs.RowLemmas.{split, lookup_here, lookup_later, cond_at_true, cond_at_false, lt_from_less, less_from_lt, AreRising, rising_head, rising_tail, above_found}
 use Rattle.node_rows.specs.declared.rows.MetaRow.{MetaRow}
 use Rattle.node_rows.specs.Rows.{meta_row}
