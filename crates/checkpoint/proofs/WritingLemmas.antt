@@ -1,5 +1,5 @@
 -- What a state is written of fits the fields of an image.
-use Rattle.std.proofs.Common.{◌≡◌, ℕ, ◌<◌, ◌≤◌, ◌^◌, List, [], ◌∷◌, length, map, Option, Some, None, false, true, refl, sym, ap, ◌∙◌, subst, arith}
+use Rattle.std.proofs.Common.{◌≡◌, ℕ, ℤ, ◌<◌, ◌≤◌, ◌^◌, List, [], ◌∷◌, ◌++◌, length, map, Option, Some, None, false, true, refl, sym, ap, ap₂, ◌∙◌, subst, arith, append_assoc}
 use Rattle.std.specs.Prelude.{IsTrue}
 use Rattle.std.specs.Option.{option_map, option_map_or}
 use Rattle.std.specs.List.{AllByRecursion}
@@ -28,11 +28,12 @@ use Rattle.node_rows.specs.declared.rows.TreeRow.{TreeRow}
 use Rattle.node_rows.specs.declared.rows.MetaRow.{MetaRow}
 use Rattle.node_rows.specs.Rows.{item_rows, AreOfSameNodes}
 use Rattle.node_rows.proofs.NameLengthLemmas.{short_name_or_none, short_attribute_name}
-use Rattle.checkpoint_image.specs.NodeSpelling.{IsSpellableNode, AreSpellableNodes, HasFittingParts}
-use Rattle.checkpoint_image.specs.ImageSpelling.{HasFittingSignature, HasFewCited, HaveFittingRows}
+use Rattle.checkpoint_image.specs.NodeSpelling.{nodes_spelling, IsSpellableNode, AreSpellableNodes, HasFittingParts}
+use Rattle.checkpoint_image.specs.ImageSpelling.{head_spelling, statements_spelling, issues_spelling, image_spelling, IsSpellableEntry, IsSpellableIssue, HasFittingSignature, HasFewCited, HaveFittingRows}
 use Rattle.checkpoint_image.proofs.LoopLemmas.{as_many_rows}
 use Rattle.checkpoint_image.proofs.WorldLemmas.{worlds_have_images}
-use Rattle.checkpoint.specs.Writing.{FitsImage}
+use Rattle.checkpoint.specs.Reading.{IsImageOf}
+use Rattle.checkpoint.specs.Writing.{FitsImage, state_with, front_spelling}
 
 -- ---- nodes
 
@@ -61,6 +62,32 @@ rows_fit world trees metas is same rows_are =
       same = same;
       parts = all_parts_fit (item_rows trees metas) spelled.each;
     }
+
+-- ---- an image
+
+-- what stands before the nodes, and the nodes, are the image
+pub image_written : (world : World) (statements : List RegisteredView) (issues : List Issue) (moment : ℤ) (count : ℕ) → front_spelling statements issues moment count world.next ++ nodes_spelling world.rows ≡ image_spelling (state_with world statements issues moment count)
+unfolding image_spelling
+image_written world statements issues moment count =
+    append_assoc (head_spelling moment count world.next) (statements_spelling statements ++ issues_spelling issues) (nodes_spelling world.rows)
+    ∙ ap (λ (bytes : List ℕ). head_spelling moment count world.next ++ bytes) (append_assoc (statements_spelling statements) (issues_spelling issues) (nodes_spelling world.rows))
+
+-- a state that was written is spelled by its image
+pub is_image : (world : World) (statements : List RegisteredView) (issues : List Issue) (moment : ℤ) (count : ℕ) (image front : List ℕ) (rows : List (ℕ × Item)) → IsWorld world → FitsImage (state_with world statements issues moment count)
+    → count < 2 ^ 64 → AllByRecursion IsSpellableEntry statements → AllByRecursion IsSpellableIssue issues → front ≡ front_spelling statements issues moment count world.next → rows ≡ world.rows → image ≡ front ++ nodes_spelling rows
+    → IsImageOf (state_with world statements issues moment count) image
+is_image world statements issues moment count image front rows is fits counted entries each front_is rows_are image_is = record {
+  spelled = record {
+    moment = fits.moment;
+    count = counted;
+    next = omega (arith, is.tree.next_fits);
+    statements = record { few = fits.statements.few; each = entries };
+    issues = record { few = fits.issues.few; each = each };
+    nodes = worlds_have_images world is;
+  };
+  world = is;
+  image_is = image_is ∙ (ap₂ (λ (bytes : List ℕ) (nodes : List (ℕ × Item)). bytes ++ nodes_spelling nodes) front_is rows_are ∙ image_written world statements issues moment count);
+}
 
 -- ---- signatures and cited numbers
 
