@@ -7,12 +7,15 @@
 mod applying;
 mod copying;
 mod directories;
+mod from_rows;
 mod listing;
 mod name;
 mod node;
 mod preparing;
 mod ready;
 mod refusals;
+mod row_tests;
+mod to_rows;
 mod tree;
 
 pub use directories::NodeDirectories;
