@@ -60,6 +60,15 @@ published_nodes (Some (Made kind spot)) entries = take (length entries - 1) entr
 published_nodes (Some (Gone number spot)) entries = entries
 published_nodes (Some (Moved number from to)) entries = entries
 
+-- what is listed of each node, without what is listed of one that is only ready to be made, which is the last
+abbrev pub without_unpublished : {Row : Type 0} → Option Ready → List Row → List Row
+without_unpublished None rows = rows
+without_unpublished (Some Nothing) rows = rows
+without_unpublished (Some (Contents number len)) rows = rows
+without_unpublished (Some (Made kind spot)) rows = take (length rows - 1) rows
+without_unpublished (Some (Gone number spot)) rows = rows
+without_unpublished (Some (Moved number from to)) rows = rows
+
 -- what the directory is to keep under the name: its child, but 0 for the name that is held
 abbrev pub expected_number : Option Spot → Nodes → ℕ → List ℕ → Option ℕ
 expected_number None rows directory name = child_of rows directory name
