@@ -176,16 +176,18 @@ module _ {D : Type 0} (clock : D → ℕ) (left_since : D → ℕ → List ℕ �
   pub few_there : generation < 2 ^ 48 - 1 → s.generation < 2 ^ 48 - 1
   few_there below = subst (λ (old : StoreView D). old.generation < 2 ^ 48 - 1) view_is below
 
-  -- the state that the gate shows fits an image
-  module _ (history : HistoryView) (base_is : history.base ≡ gate.base) (events_are : history.events ≡ gate.events) where
-    shown : state_of history ≡ replay gate.base gate.events
-    shown = ap (λ (b : BaseView). replay b history.events) base_is ∙ ap (replay gate.base) events_are
+-- ---- the state that the gate shows fits an image
 
-    pub state_fits : IsLawful (authority_of history) history.base history.events → FitsImage (state_of history)
-    state_fits lawful =
-        lawful_fits history.key history.ring (state_of history) (IsLawfulBase-lawful (authority_of history) history.base history.events lawful)
-        (subst (λ (b : BaseView). length b.issues < 2 ^ 32) (sym shown) (few_issues (store_of area other second generation gate checkpoints stop) keeping.store))
+module _ {D : Type 0} (area : AreaView D) (other : D) (second : Bool) (generation : ℕ) (gate : GateView) (checkpoints : List Checkpoint) (stop : Option ℕ) (keeping : IsKeeping area other second generation gate checkpoints stop)
+    (s : StoreView D) (view_is : store_of area other second generation gate checkpoints stop ≡ s) (history : HistoryView) (base_is : history.base ≡ gate.base) (events_are : history.events ≡ gate.events) where
+  shown : state_of history ≡ replay gate.base gate.events
+  shown = ap (λ (b : BaseView). replay b history.events) base_is ∙ ap (replay gate.base) events_are
 
-    pub image_there : (found : Result (List ℕ) NoMemoryFault) → IfOk found (IsImageOf (state_of history)) → IfOk found (IsImageOf (state_of_store s))
-    image_there (Ok bytes) is = subst (λ (old : StoreView D). IsImageOf (state_of_store old) bytes) view_is (subst (λ (b : BaseView). IsImageOf b bytes) shown is)
-    image_there (Err fault) is = tt
+  pub state_fits : IsLawful (authority_of history) history.base history.events → FitsImage (state_of history)
+  state_fits lawful =
+      lawful_fits history.key history.ring (state_of history) (IsLawfulBase-lawful (authority_of history) history.base history.events lawful)
+      (subst (λ (b : BaseView). length b.issues < 2 ^ 32) (sym shown) (few_issues (store_of area other second generation gate checkpoints stop) keeping.store))
+
+  pub image_there : (found : Result (List ℕ) NoMemoryFault) → IfOk found (IsImageOf (state_of history)) → IfOk found (IsImageOf (state_of_store s))
+  image_there (Ok bytes) is = subst (λ (old : StoreView D). IsImageOf (state_of_store old) bytes) view_is (subst (λ (b : BaseView). IsImageOf b bytes) shown is)
+  image_there (Err fault) is = tt
