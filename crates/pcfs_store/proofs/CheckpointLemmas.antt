@@ -15,7 +15,7 @@ use Rattle.access_history.specs.declared.event.Event.{Event}
 use Rattle.access_history.specs.Base.{BaseView}
 use Rattle.access_history.specs.Replay.{replay}
 use Rattle.checkpoint_image.specs.ImageSpelling.{image_spelling}
-use Rattle.pcfs_store.specs.declared.checkpoint.Checkpoint.{Checkpoint}
+use Rattle.pcfs_store.specs.declared.checkpoints.Checkpoint.{Checkpoint}
 use Rattle.pcfs_store.specs.declared.reply.CheckpointReply.{CheckpointReply}
 use Rattle.pcfs_store.specs.declared.reply.CheckpointReply.TheVariants.{Checkpointed, Full, Stopped, NoMemory}
 use Rattle.pcfs_store.specs.Image.{IsImageOf}

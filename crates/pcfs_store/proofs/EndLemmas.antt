@@ -14,7 +14,7 @@ use Rattle.journal_records.specs.EventSpelling.{event_spelling}
 use Rattle.op_gate.specs.Decision.{GateView}
 use Rattle.pcfs_store.specs.declared.reply.StoreReply.{StoreReply}
 use Rattle.pcfs_store.specs.declared.reply.StoreReply.TheVariants.{Step, Full, Stopped, NoMemory}
-use Rattle.pcfs_store.specs.declared.checkpoint.Checkpoint.{Checkpoint}
+use Rattle.pcfs_store.specs.declared.checkpoints.Checkpoint.{Checkpoint}
 use Rattle.pcfs_store.specs.StoreView.{StoreView, IsStore}
 use Rattle.pcfs_store.specs.Inside.{store_of, IsKeeping}
 use Rattle.pcfs_store.specs.Steps.{with_event, Steps, answered, full, stopped, without_memory}

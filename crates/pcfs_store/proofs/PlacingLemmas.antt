@@ -14,7 +14,7 @@ use Rattle.checkpoint.specs.Writing.{FitsImage}
 use Rattle.checkpoint.proofs.WritingLemmas.{lawful_fits}
 use Rattle.checkpoint_image.specs.ImageSpelling.{image_spelling}
 use Rattle.op_gate.specs.Decision.{GateView}
-use Rattle.pcfs_store.specs.declared.checkpoint.Checkpoint.{Checkpoint}
+use Rattle.pcfs_store.specs.declared.checkpoints.Checkpoint.{Checkpoint}
 use Rattle.pcfs_store.specs.declared.reply.CheckpointReply.{CheckpointReply}
 use Rattle.pcfs_store.specs.declared.reply.CheckpointReply.TheVariants.{Checkpointed, Full, Stopped, NoMemory}
 use Rattle.pcfs_store.specs.Image.{IsImageOf}

@@ -8,7 +8,7 @@
 #![tactic(auto)]
 
 mod areas;
-mod checkpoint;
+mod checkpoints;
 mod format;
 mod image;
 mod keeping;
@@ -17,7 +17,7 @@ mod reply;
 mod store;
 
 pub use areas::newer;
-pub use checkpoint::Checkpoint;
+pub use checkpoints::Checkpoint;
 pub use format::{FormatFault, format_store};
 pub use image::FRESH_IMAGE;
 pub use reply::{CheckpointReply, StoreReply};

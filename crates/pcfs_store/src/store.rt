@@ -6,7 +6,7 @@ ghost use Rattle.checkpoint_image.specs.ImageSpelling.{image_spelling};
 ghost use Rattle.pcfs_store.specs.Image.{IsImageOf};
 ghost use Rattle.pcfs_store.specs.StoredHistory.{payloads_of, AreSpellable};
 
-use crate::checkpoint::{Checkpoint, move_area};
+use crate::checkpoints::{Checkpoint, move_area};
 use crate::keeping::keep_pending;
 use crate::reply::{CheckpointReply, StoreReply};
 use access_history::StepRequest;
