@@ -1,5 +1,5 @@
 -- What a store does in a turn, as a turn over its entries.
-use Rattle.std.proofs.Common.{◌≡◌, ◌∙◌, ℕ, ◌+◌, ◌-◌, List, [], ◌∷◌, ◌++◌, length, take, drop, map, append_assoc, Bool, true, false, Option, Some, None, refl, sym, ap, subst, append-nil}
+use Rattle.std.proofs.Common.{◌≡◌, ◌∙◌, ℕ, ◌-◌, List, [], ◌∷◌, ◌++◌, take, drop, map, append_assoc, Bool, true, false, Option, Some, None, refl, sym, ap, subst, append-nil}
 use Rattle.std.specs.Prelude.{ℤ, ◌↔◌, IsTrue, IsSome, is_some}
 use Rattle.std.proofs.lemmas.Bool.{false≢true}
 use Rattle.policy_statement.specs.Messages.{login_message}
@@ -21,14 +21,13 @@ use Rattle.op_gate.specs.declared.cite.Citation.TheVariants as citations
 use Rattle.op_gate.specs.Citations.{GivesCitation}
 use Rattle.op_gate.specs.Decision.{GateView}
 use Rattle.pcfs_store.specs.declared.reply.StoreReply.{StoreReply}
-use Rattle.pcfs_store.specs.Entries.{StoreEntry, happened, checkpointed, stopped, stop_entries, merged, root_of, entries_of, state_of_entries, used_after, used_by}
-use Rattle.checkpoint_image.specs.ImageSpelling.{image_spelling}
+use Rattle.pcfs_store.specs.Entries.{StoreEntry, happened, checkpointed, stopped, stop_entries, merged, root_of, entries_of, state_of_entries, used_by}
 use Rattle.pcfs_store.specs.declared.checkpoints.Checkpoint.{Checkpoint}
 use Rattle.pcfs_store.specs.StoreView.{StoreView, AnswersIn, IsStore}
 use Rattle.pcfs_store.specs.StoredHistory.{IsFull}
 use Rattle.pcfs_store.specs.Steps.{IsFullFor, Steps}
 use Rattle.pcfs_store.specs.Steps as steps
-use Rattle.pcfs_store.proofs.EntryLemmas.{events-entries, used-entries, entries-kept, entries-stopped}
+use Rattle.pcfs_store.proofs.EntryLemmas.{events-entries, used-since, entries-kept, entries-stopped}
 use Rattle.session_history.specs.declared.request.TurnRequest.{TurnRequest}
 use Rattle.session_history.specs.declared.request.TurnRequest.TheVariants as requests
 use Rattle.session_history.specs.declared.reply.TurnReply.{TurnReply}
@@ -102,7 +101,7 @@ module _ {D : Type 0} (clock : D → ℕ) (left_since : D → ℕ → List ℕ �
 
   -- and the bytes that they ask for are those of its area
   used_is : IsStore now → now.used ≡ used_by (root_of opening) (entries_of now)
-  used_is store = used-entries now store ∙ ap (λ (b : BaseView). used_after b (24 + length (image_spelling b)) (entries_of now)) g.base_stays
+  used_is store = used-since opening now g.base_stays store
 
   full_there : (event : Event) → IsStore now → IsFullFor now event → IsFullAfter (root_of opening) (entries_of now) event
   full_there event store is_full =
