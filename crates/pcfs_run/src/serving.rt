@@ -1,6 +1,6 @@
 //! Sessions over a store, one for each connection.
 
-ghost use Rattle.std.specs.Prelude.{◌≡◌, ◌≤◌, length, None};
+ghost use Rattle.std.specs.Prelude.{◌≡◌, ◌≤◌, [], length, None};
 ghost use Rattle.std.specs.List.{AllByRecursion};
 ghost use Rattle.journal_records.specs.EventSpelling.{IsReadEvent};
 ghost use Rattle.pcfs_server.specs.Ends.{number_of};
@@ -120,6 +120,7 @@ pub fn serve_store<
 ) -> (ServeEnd, Store<D>)
     requires running { store.stop ≡ None }
     requires each { AllByRecursion IsReadEvent store.events }
+    requires unsettled { store.checkpoints ≡ [] }
     requires some { 1 ≤ count }
     requires few { count ≤ 1000000 }
     ensures gone_on { HasGoneOn D.clock D.left_since D.image D.faults store result.1 }
