@@ -262,9 +262,9 @@ impl<D: Disk> Area<D> {
             (λ _. D.faults other.old ≤ D.faults self.new.disk)
             (λ _. D.faults other.old ≤ D.faults other.new) }
     {
-        let end = format_disk(alloc, other, generation, image)?;
+        let gate = format_disk(alloc, other, generation, image)?;
         swap(&mut self.disk, other);
-        self.end = end;
+        self.end = gate;
         Ok(())
     }
 
