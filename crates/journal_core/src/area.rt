@@ -242,7 +242,7 @@ impl<D: Disk> Area<D> {
         ensures stays { OnErr result (self.new ≡ self.old) }
         ensures moved { OnOk result (other.new ≡ self.old.disk) }
         ensures end { OnOk result (self.new.end ≡ length image.now + 24) }
-        ensures fits { self.new.end < area_limit }
+        ensures fits { OnOk result (self.new.end < area_limit) }
         ensures image { OnOk result (D.image self.new.disk ≡
             option_map (written 0 (area_bytes generation image.now [] ++ 0 ∷ [])) (D.image other.old)) }
         ensures pinned { OnOk result (IsPinned D.clock D.left_since D.image self.new.disk) }
