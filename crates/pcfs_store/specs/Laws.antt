@@ -1,5 +1,5 @@
 -- Laws of the definitions: entries say what a store shows, and a step is full exactly if its event does not fit.
-use Rattle.std.specs.Prelude.{◌≡◌, ◌⊎◌, ℕ, ℤ, List, Option, Some, None}
+use Rattle.std.specs.Prelude.{◌≡◌, ◌⊎◌, ◌+◌, ℕ, ℤ, List, Option, Some, None}
 use Rattle.access_history.specs.declared.event.Event.{Event}
 use Rattle.access_history.specs.declared.request.StepRequest.{StepRequest}
 use Rattle.access_history.specs.declared.reply.StepReply.{StepReply}
@@ -8,13 +8,23 @@ use Rattle.pcfs_store.specs.declared.reply.StoreReply.{StoreReply}
 use Rattle.pcfs_store.specs.declared.reply.StoreReply.TheVariants.{Full, NoMemory}
 use Rattle.pcfs_store.specs.Newest.{SurvivesWhole, SurvivesWholeClosed}
 use Rattle.pcfs_store.specs.StoreView.{StoreView, AnswersIn, authority_of_store, IsStore, first_disk, second_disk}
-use Rattle.pcfs_store.specs.Entries.{root_of, entries_of, events_among, used_by}
+use Rattle.access_history.specs.Replay.{fresh}
+use Rattle.pcfs_store.specs.Image.{fresh_image, IsImageOf}
+use Rattle.pcfs_store.specs.Entries.{root_of, entries_of, events_among, checkpoints_among, used_by}
 use Rattle.pcfs_store.specs.Ready.{IsReady, IsCurrent, StopsNow}
 use Rattle.pcfs_store.specs.Steps.{IsFullFor, Steps}
+
+-- the image of a store before its first event, as it stands in bytes, is the image of that state
+abbrev pub FreshHasImage : Type 0
+FreshHasImage = IsImageOf fresh fresh_image
 
 -- the area of a store has the bytes that its entries ask for
 abbrev pub EntriesSayUse : Type 0 → Type 0
 EntriesSayUse D = (s : StoreView D) → IsStore s → s.used ≡ used_by (root_of s) (entries_of s)
+
+-- its generation is that of the opened area, and one more for each checkpoint
+abbrev pub EntriesSayGeneration : Type 0 → Type 0
+EntriesSayGeneration D = (s : StoreView D) → IsStore s → s.generation ≡ (root_of s).generation + checkpoints_among (entries_of s)
 
 -- the events of a store are those among its entries
 abbrev pub EntriesHaveEvents : Type 0 → Type 0

@@ -8,5 +8,6 @@ pub mod Keeping
 pub mod Entries
 pub mod Ready
 pub mod Steps
+pub mod Checkpoints
 pub mod Formats
 pub mod Laws

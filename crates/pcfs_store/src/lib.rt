@@ -6,6 +6,7 @@
 #![tactic(auto)]
 
 mod areas;
+mod checkpoint;
 mod format;
 mod image;
 mod keeping;
@@ -14,7 +15,8 @@ mod reply;
 mod store;
 
 pub use areas::newer;
+pub use checkpoint::Checkpoint;
 pub use format::{FormatFault, format_store};
 pub use image::FRESH_IMAGE;
-pub use reply::StoreReply;
+pub use reply::{CheckpointReply, StoreReply};
 pub use store::Store;

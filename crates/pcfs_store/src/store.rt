@@ -1,11 +1,12 @@
 //! The store.
 
-ghost use Rattle.std.specs.Prelude.{◌≡◌, ◌≢◌, ◌↔◌, ◌≤◌, ◌-◌, Some, None, IsSome, IsTrue, length, is_some};
+ghost use Rattle.std.specs.Prelude.{◌≡◌, ◌≢◌, ◌↔◌, ◌≤◌, ◌-◌, [], Some, None, IsSome, IsTrue, length, is_some};
 ghost use Rattle.journal_core.specs.Area.{area_bytes, IsGeneration};
-ghost use Rattle.access_history.specs.Replay.{fresh};
-ghost use Rattle.pcfs_store.specs.Image.{fresh_image};
+ghost use Rattle.checkpoint_image.specs.ImageSpelling.{image_spelling};
+ghost use Rattle.pcfs_store.specs.Image.{IsImageOf};
 ghost use Rattle.pcfs_store.specs.StoredHistory.{payloads_of, AreSpellable};
 
+use crate::checkpoint::Checkpoint;
 use crate::keeping::keep_pending;
 use crate::reply::StoreReply;
 use access_history::StepRequest;
@@ -24,6 +25,7 @@ pub struct Store<D: Disk> {
     second_active: bool,
     generation: u64,
     gate: Gate,
+    checkpoints: Vec<Checkpoint>,
     stop: Option<u64>,
 }
 
@@ -37,9 +39,9 @@ impl<D: Disk> Model for Store<D> {
 
     ghost use Rattle.pcfs_store.specs.Inside.{store_of, IsKeeping};
 
-    ghost view = { λ s. store_of s.active s.other s.second_active s.generation s.gate s.stop };
+    ghost view = { λ s. store_of s.active s.other s.second_active s.generation s.gate s.checkpoints.items s.stop };
 
-    ghost invariant = { λ s. IsKeeping s.active s.other s.second_active s.generation s.gate s.stop };
+    ghost invariant = { λ s. IsKeeping s.active s.other s.second_active s.generation s.gate s.checkpoints.items s.stop };
 }
 
 impl<D: Disk> Store<D> {
@@ -53,8 +55,9 @@ impl<D: Disk> Store<D> {
     ghost use Rattle.pcfs_store.specs.Steps.{Steps, LeavesStep};
 
     /// A store over what was read of two disks. The area is the one that counts, the second exactly if `second_active`; it
-    /// has that generation, the image of a store before its first event, and the records of the gate's history.
+    /// has that generation, the image of the gate's base, and the records of its events. It takes no memory.
     pub fn from_scan(
+        alloc: Global,
         active: Area<D>,
         other: D,
         second_active: bool,
@@ -62,9 +65,9 @@ impl<D: Disk> Store<D> {
         gate: Gate,
     ) -> Store<D>
         requires generated { IsGeneration generation }
-        requires is_fresh { gate.base ≡ fresh }
+        requires image { IsImageOf gate.base (image_spelling gate.base) }
         requires spelled { AreSpellable gate.events }
-        requires used { active.end ≡ length (area_bytes generation fresh_image (payloads_of gate.events)) }
+        requires used { active.end ≡ length (area_bytes generation (image_spelling gate.base) (payloads_of gate.events)) }
         requires nothing_pending { gate.pending ≡ None }
         ensures { result ≡ record {
           active = active.disk;
@@ -76,6 +79,7 @@ impl<D: Disk> Store<D> {
           ring = gate.ring;
           base = gate.base;
           events = gate.events;
+          checkpoints = [];
           stop = None;
         } }
     {
@@ -85,6 +89,7 @@ impl<D: Disk> Store<D> {
             second_active,
             generation,
             gate,
+            checkpoints: Vec::new(alloc),
             stop: None,
         }
     }
