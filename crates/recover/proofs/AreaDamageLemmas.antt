@@ -13,7 +13,7 @@ use Rattle.access_history.specs.Authority.{Authority}
 use Rattle.access_history.specs.Base.{BaseView}
 use Rattle.op_gate.specs.declared.damage.Damage.{Damage}
 use Rattle.op_gate.specs.declared.damage.Damage.TheVariants.{Header, Shape}
-use Rattle.pcfs_store.specs.Image.{IsImageOf}
+use Rattle.checkpoint.specs.Reading.{IsImageOf}
 use Rattle.recover.specs.declared.fault.OpenFault.{OpenFault}
 use Rattle.recover.specs.declared.fault.OpenFault.TheVariants.{NoStore, Damaged, Disk, NoMemory}
 use Rattle.recover.specs.AreaDamage.{IsDamagedArea, no_base, no_image, no_payload, no_record, AreLawfulPayloads}

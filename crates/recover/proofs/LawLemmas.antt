@@ -15,7 +15,7 @@ use Rattle.op_gate.specs.Damage.{IsDamagedBy, MayComeNext}
 use Rattle.op_gate.proofs.AdmitLemmas.{damaged_not_next, first_damages}
 use Rattle.op_gate.specs.BaseDamage.{IsDamagedBase}
 use Rattle.op_gate.proofs.BaseDamageLemmas.{one_base_damage, lawful_base_not_damaged}
-use Rattle.pcfs_store.specs.Image.{IsImageOf}
+use Rattle.checkpoint.specs.Reading.{IsImageOf}
 use Rattle.pcfs_store.specs.StoredHistory.{payloads_of, AreSpellable, StandsFor}
 use Rattle.recover.specs.AreaDamage.{AreRead, IsDamagedImage, no_state, of_state, IsDamagedPayload, no_event as spells_no_event, of_event, IsDamagedAt, AreLawfulPayloads, IsDamagedArea, no_base, no_image, no_payload, no_record}
 use Rattle.recover.proofs.FollowingLemmas.{erased_history, erased_payloads, erased_read, next_at}

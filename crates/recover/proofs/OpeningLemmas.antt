@@ -18,7 +18,7 @@ use Rattle.access_history.specs.Lawful.{IsLawful}
 use Rattle.journal_records.specs.EventSpelling.{IsReadEvent}
 use Rattle.op_gate.specs.Decision.{GateView}
 use Rattle.checkpoint_image.specs.ImageSpelling.{image_spelling}
-use Rattle.pcfs_store.specs.Image.{IsImageOf}
+use Rattle.checkpoint.specs.Reading.{IsImageOf}
 use Rattle.pcfs_store.specs.Newest.{newer, newest, one_of}
 use Rattle.pcfs_store.specs.Ready.{IsBehind}
 use Rattle.pcfs_store.specs.StoredHistory.{payloads_of, AreSpellable, StandsFor}
@@ -144,7 +144,7 @@ module _ {D : Type 0} (clock : D → ℕ) (left_since : D → ℕ → List ℕ �
       (which : IfSome (image a) (λ x. IfSome (image b) (λ y. Some false ≡ newer (generation_of x) (generation_of y))))
       (area : IfSome (image a1) (λ bytes. IsArea bytes generation (image_spelling gate.base) (payloads_of gate.events))) where
     abbrev store_first : StoreView D
-    store_first = record { active = a2; other = b1; second_active = false; generation = generation; used = end; key = gate.key; ring = gate.ring; base = gate.base; events = gate.events; marks = []; stop = None }
+    store_first = record { active = a2; other = b1; second_active = false; generation = generation; used = end; key = gate.key; ring = gate.ring; base = gate.base; events = gate.events; checkpoints = []; stop = None }
 
     area_first : (x : List ℕ) → image a ≡ Some x → IsArea x generation (image_spelling gate.base) (payloads_of gate.events)
     area_first x told = at_told (image a1) (λ bytes. IsArea bytes generation (image_spelling gate.base) (payloads_of gate.events)) x (read_a.same ∙ told) area
@@ -162,7 +162,7 @@ module _ {D : Type 0} (clock : D → ℕ) (left_since : D → ℕ → List ℕ �
       second_read = read_b;
       key_is = holds.key_is;
       ring_is = holds.ring_is;
-      unmarked = refl;
+      unsettled = refl;
       lawful = holds.lawful;
       each = holds.each;
       running = refl;
@@ -194,7 +194,7 @@ module _ {D : Type 0} (clock : D → ℕ) (left_since : D → ℕ → List ℕ �
       (which : IfSome (image a) (λ x. IfSome (image b) (λ y. Some true ≡ newer (generation_of x) (generation_of y))))
       (area : IfSome (image b1) (λ bytes. IsArea bytes generation (image_spelling gate.base) (payloads_of gate.events))) where
     abbrev store_second : StoreView D
-    store_second = record { active = b2; other = a1; second_active = true; generation = generation; used = end; key = gate.key; ring = gate.ring; base = gate.base; events = gate.events; marks = []; stop = None }
+    store_second = record { active = b2; other = a1; second_active = true; generation = generation; used = end; key = gate.key; ring = gate.ring; base = gate.base; events = gate.events; checkpoints = []; stop = None }
 
     area_second : (y : List ℕ) → image b ≡ Some y → IsArea y generation (image_spelling gate.base) (payloads_of gate.events)
     area_second y told = at_told (image b1) (λ bytes. IsArea bytes generation (image_spelling gate.base) (payloads_of gate.events)) y (read_b.same ∙ told) area
@@ -212,7 +212,7 @@ module _ {D : Type 0} (clock : D → ℕ) (left_since : D → ℕ → List ℕ �
       second_read = read_then clock left_since image faults earlier may_stay b b1 b2 read_b read_area;
       key_is = holds.key_is;
       ring_is = holds.ring_is;
-      unmarked = refl;
+      unsettled = refl;
       lawful = holds.lawful;
       each = holds.each;
       running = refl;

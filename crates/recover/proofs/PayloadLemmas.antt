@@ -20,7 +20,7 @@ use Rattle.op_gate.specs.declared.damage.AdmitFault.{AdmitFault}
 use Rattle.op_gate.specs.declared.damage.AdmitFault.TheVariants.{Damaged, NoMemory}
 use Rattle.op_gate.specs.Damage.{TellsDamage}
 use Rattle.op_gate.specs.Decision.{GateView}
-use Rattle.pcfs_store.specs.Image.{IsImageOf}
+use Rattle.checkpoint.specs.Reading.{IsImageOf}
 use Rattle.pcfs_store.specs.StoredHistory.{payloads_of}
 use Rattle.recover.specs.declared.fault.OpenFault.{OpenFault}
 use Rattle.recover.specs.declared.fault.OpenFault.TheVariants as opens

@@ -12,7 +12,7 @@ use Rattle.op_gate.specs.declared.damage.Damage.{Damage}
 use Rattle.op_gate.specs.declared.damage.Damage.TheVariants.{Header, Shape}
 use Rattle.op_gate.specs.Damage.{IsDamagedBy}
 use Rattle.op_gate.specs.BaseDamage.{IsDamagedBase}
-use Rattle.pcfs_store.specs.Image.{IsImageOf}
+use Rattle.checkpoint.specs.Reading.{IsImageOf}
 use Rattle.pcfs_store.specs.StoredHistory.{payloads_of}
 
 -- The first damage of an image: the bytes are the image of no state; or they are that of a state, which has that damage.

@@ -17,7 +17,7 @@ use Rattle.op_gate.specs.declared.damage.Damage.{Damage}
 use Rattle.op_gate.specs.declared.damage.Damage.TheVariants.{Header}
 use Rattle.op_gate.specs.Decision.{GateView}
 use Rattle.checkpoint_image.specs.ImageSpelling.{image_spelling}
-use Rattle.pcfs_store.specs.Image.{IsImageOf}
+use Rattle.checkpoint.specs.Reading.{IsImageOf}
 use Rattle.pcfs_store.specs.Newest.{newest}
 use Rattle.pcfs_store.specs.Ready.{IsReady, IsCurrent}
 use Rattle.pcfs_store.specs.StoredHistory.{payloads_of, StandsFor}
@@ -104,7 +104,7 @@ module _ {D : Type 0} (clock : D → ℕ) (left_since : D → ℕ → List ℕ �
     pub second_read : IsRead b (second_disk s)
     pub key_is : s.key ≡ key
     pub ring_is : s.ring ≡ ring
-    pub unmarked : s.marks ≡ []
+    pub unsettled : s.checkpoints ≡ []
     pub lawful : IsLawful (authority_with key ring) s.base s.events
     pub each : AllByRecursion IsReadEvent s.events
     pub running : s.stop ≡ None

@@ -14,7 +14,7 @@ use Rattle.op_gate.specs.declared.damage.Damage.TheVariants.{Shape}
 use Rattle.op_gate.specs.declared.damage.AdmitFault.{AdmitFault}
 use Rattle.op_gate.specs.declared.damage.AdmitFault.TheVariants as admits
 use Rattle.op_gate.specs.Decision.{GateView}
-use Rattle.pcfs_store.specs.Image.{IsImageOf}
+use Rattle.checkpoint.specs.Reading.{IsImageOf}
 use Rattle.recover.specs.declared.fault.OpenFault.{OpenFault}
 use Rattle.recover.specs.declared.fault.OpenFault.TheVariants as opens
 use Rattle.recover.specs.AreaDamage.{AreRead, IsDamagedImage, IsDamagedPayload, IsDamagedAt}
