@@ -5,6 +5,7 @@
 #![tactic(auto)]
 
 mod base;
+mod copying;
 mod event;
 mod history;
 mod keeping;

@@ -1,4 +1,5 @@
 pub mod Admits
+pub mod BaseDamage
 pub mod Checks
 pub mod Citations
 pub mod Damage
