@@ -34,11 +34,9 @@ fn test_signature(alloc: Global, ring: &Keyring, entry: &Registered) -> Result<(
     let Ok(message) = statement_message(alloc, statement) else {
         return Err(AdmitFault::NoMemory);
     };
-    if ring.accepts(
-        statement.who().bytes(),
-        message.as_slice(),
-        entry.signature(),
-    ) {
+    let who = statement.who().bytes();
+    let is_accepted = ring.accepts(who, message.as_slice(), entry.signature());
+    if is_accepted {
         Ok(())
     } else {
         Err(AdmitFault::Damaged(Damage::Unsigned))
@@ -71,7 +69,7 @@ fn test_issue(alloc: Global, entries: &[Registered], issue: &Issue) -> Result<()
             },
             Err(_) => Err(AdmitFault::NoMemory),
         },
-        Err(fault) => Err(fault),
+        Err(uncited) => Err(uncited),
     }
 }
 
