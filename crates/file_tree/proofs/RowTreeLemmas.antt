@@ -1,11 +1,10 @@
 -- Rows that pass all tests are those of a tree, and those of a tree pass each.
-use Rattle.std.proofs.Common.{◌≡◌, ◌≢◌, ℕ, zero, suc, ◌+◌, ◌-◌, ◌<◌, ◌≤◌, inl, inr, Bool, true, false, cond, IsTrue, Option, Some, None, Result, Err, List, [], ◌∷◌, length, take, drop, map, get_or, refl, sym, ap, ap₂, ◌∙◌, subst, arith, nat_eq, nat_lt, nat_le, nat_cmp, Less}
-use Rattle.std.specs.Prelude.{not, ◌&&◌, ◌||◌, ◌==◌}
+use Rattle.std.proofs.Common.{◌≡◌, ◌≢◌, ℕ, ◌-◌, ◌<◌, ◌≤◌, inl, inr, Bool, true, false, Option, Some, None, Result, Err, List, [], ◌∷◌, length, take, drop, map, get_or, refl, sym, ap, ap₂, ◌∙◌, subst, arith, nat_eq, nat_lt, nat_le}
+use Rattle.std.specs.Prelude.{not, ◌||◌, ◌==◌}
 use Rattle.std.specs.List.{AllByRecursion, list_all}
-use Rattle.std.specs.Map.{lookup}
 use Rattle.std.specs.List.Sorted.{IsStrictlySortedBy}
 use Rattle.std.specs.Str.{bytes_eq}
-use Rattle.std.proofs.lemmas.Bool.{cond-true, cond-false, false≢true, true≢false, ltb-true, leb-true, lt-ltb, le-leb, eq-eqb, eqb-true, ne_eqb, cases_eq, and_parts, and_from, and_left, and_right, or_cases, or_left, or_right, not-true, not_from_false, both_ways}
+use Rattle.std.proofs.lemmas.Bool.{cond-true, cond-false, false≢true, ltb-true, leb-true, lt-ltb, le-leb, eq-eqb, eqb-true, ne_eqb, cases_eq, and_parts, and_from, and_left, and_right, or_cases, or_left, or_right, not-true, not_from_false, both_ways}
 use Rattle.std.proofs.lemmas.List.{nil_from_length, take_all}
 use Rattle.std.proofs.lemmas.List.Folds.{list_all-map}
 use Rattle.std.proofs.lemmas.Option.{none-some, same_Some}
@@ -16,13 +15,13 @@ use Rattle.file_world.specs.Limits.{root_number, most_nodes, most_bytes, most_by
 use Rattle.file_world.specs.Tree.{Place, Node, Nodes, FileTree, node_at, number_at, is_place, contents_sum, ReachesRoot, at_root, root, IsSound, IsTree}
 use Rattle.file_world.specs.TreeEffect.{at, is_directory, is_directory_kind, child_of}
 use Rattle.file_world.proofs.RowLemmas.{split, cond_at_true, cond_at_false, lt_from_less, less_from_lt, lookup_here, lookup_later, above_found, AreAbove, AreRising, rising_head, rising_tail, rising_cons}
-use Rattle.file_world.proofs.PlaceLemmas.{IsFree, DoPlacesDiffer, differ_tail, differ_cons, stands_at}
+use Rattle.file_world.proofs.PlaceLemmas.{IsFree, differ_tail, differ_cons, stands_at}
 use Rattle.file_world.proofs.EffectLemmas.{directory_from}
 use Rattle.node_rows.specs.declared.rows.TreeRow.{TreeRow}
 use Rattle.node_rows.specs.declared.rows.RowsFault.{RowsFault}
 use Rattle.node_rows.specs.declared.rows.RowsFault.TheVariants.{NotTree, NoMemory}
 use Rattle.node_rows.specs.Rows.{tree_row}
-use Rattle.file_tree.specs.Index.{Entries, rows_of, reserved_at, tree_in, IsTreeIndex}
+use Rattle.file_tree.specs.Index.{Entries, rows_of, reserved_at, IsTreeIndex}
 use Rattle.file_tree.specs.State.{TreeView, MakesTree}
 use Rattle.file_tree.specs.RowTests.{IfNotTree, ShowsRows, is_root_row, is_sound_row, is_rising_after, are_sound_others, are_sound_rows, AreNamed, NamesRows, leads_below, do_lead}
 use Rattle.file_tree.proofs.KeptLemmas.{IsKept-from}

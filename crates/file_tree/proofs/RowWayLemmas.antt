@@ -1,11 +1,9 @@
 -- The ways from directories lead to the root exactly if each leads to a number below its row's.
-use Rattle.std.proofs.Common.{◌≡◌, ◌≢◌, ℕ, zero, suc, ◌-◌, ◌<◌, ◌≤◌, inl, inr, Bool, true, false, cond, Option, Some, None, is_some, length, refl, sym, ap, ◌∙◌, subst, arith, nat_eq, nat_lt}
-use Rattle.std.specs.Prelude.{not}
+use Rattle.std.proofs.Common.{◌≡◌, ◌≢◌, ℕ, zero, suc, ◌-◌, ◌<◌, ◌≤◌, inl, inr, true, Option, Some, None, is_some, length, refl, sym, ap, ◌∙◌, subst, arith, nat_eq, nat_lt}
 use Rattle.std.proofs.lemmas.Bool.{cond-true, cond-false, false≢true, lt-ltb, le-ltb, ltb-true, ltb-false, ne_eqb, cases_eq, not_from_false, true_from_ne_false}
-use Rattle.std.proofs.lemmas.Option.{none-some, same_Some}
-use Rattle.file_world.specs.declared.operation.Kind.TheVariants.{Directory}
+use Rattle.std.proofs.lemmas.Option.{same_Some}
 use Rattle.file_world.specs.Tree.{Node, Nodes, FileTree, node_at, ReachesRoot, at_root, below, root, IsTree}
-use Rattle.file_world.specs.TreeEffect.{is_directory, is_directory_kind, has_way_past, has_way_on}
+use Rattle.file_world.specs.TreeEffect.{is_directory, has_way_past, has_way_on}
 use Rattle.file_world.specs.Laws.{StandsIn, itself, below_it}
 use Rattle.file_world.proofs.RowLemmas.{split, cond_at_true, cond_at_false}
 use Rattle.file_world.proofs.EffectLemmas.{HoldsNames, directory_from}

@@ -1,6 +1,5 @@
 -- One row more.
-use Rattle.std.proofs.Common.{◌≡◌, Some, List, ℕ, sym, subst}
-use Rattle.file_world.specs.Tree.{Place}
+use Rattle.std.proofs.Common.{Some, List, ℕ, sym, subst}
 use Rattle.file_world.specs.TreeEffect.{at}
 use Rattle.file_tree.specs.Index.{rows_of, Puts}
 use Rattle.file_tree.proofs.RowNameLemmas.{names_none, enters_more, holder_kept, refuses_names}

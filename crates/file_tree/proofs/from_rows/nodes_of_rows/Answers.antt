@@ -1,7 +1,6 @@
 -- Rows that pass all tests are those of a tree.
-use Rattle.std.proofs.Common.{◌≡◌, ◌≤◌, ◌∷◌, ◌-◌, List, length, take, drop, map, rules, arith, sym}
+use Rattle.std.proofs.Common.{◌≤◌, ◌-◌, length, take, drop, map, rules, arith, sym}
 use Rattle.file_world.specs.Limits.{last_number}
-use Rattle.node_rows.specs.declared.rows.TreeRow.{TreeRow}
 use Rattle.node_rows.specs.Rows.{tree_row}
 use Rattle.file_tree.proofs.RowTreeLemmas.{rising_if_sound, first_and_others, tree_made, not_named, not_led, passed_refusal}
 use Rattle.file_tree.proofs.from_rows.nodes_of_rows.Goals as goal

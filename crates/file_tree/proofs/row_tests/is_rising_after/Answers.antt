@@ -1,5 +1,5 @@
 -- One row more.
-use Rattle.std.proofs.Common.{sym, ap, ◌∙◌, arith, map}
+use Rattle.std.proofs.Common.{sym, ◌∙◌, arith, map}
 use Rattle.std.proofs.lemmas.List.{at_drop_all}
 use Rattle.node_rows.specs.Rows.{tree_row}
 use Rattle.file_tree.specs.RowTests.{is_rising_after}
