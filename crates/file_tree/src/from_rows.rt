@@ -17,17 +17,12 @@ use crate::preparing::enter;
 use crate::ready::Spot;
 use crate::row_tests::{are_sound_rows, contents_total, is_directory_kind};
 use bl_syntax::NoMemory;
+use file_blocks::FileContents;
 use node_rows::{RowsFault, TreeRow};
 use std::alloc::{AllocFailed, Global};
 use std::collections::BTreeMap;
 
 // ---- each node under its number
-
-fn contents_of(alloc: Global, row: &TreeRow) -> Result<Vec<u8>, NoMemory>
-    ensures { IfOk result (λ contents. contents.items ≡ row.now.contents) }
-{
-    Ok(Vec::from_slice(alloc, row.contents.as_slice())?)
-}
 
 fn node_of(alloc: Global, row: &TreeRow) -> Result<KeptNode, NoMemory>
     ensures shows { IfOk result (λ node. node_shown node ≡ (tree_row row.now).1) }
@@ -37,7 +32,7 @@ fn node_of(alloc: Global, row: &TreeRow) -> Result<KeptNode, NoMemory>
         kind: row.kind,
         parent: row.parent,
         name: Name::of_short(row.name),
-        contents: contents_of(alloc, row)?,
+        contents: FileContents::from_bytes(alloc, row.contents.as_slice())?,
         names: BTreeMap::new(alloc),
     })
 }

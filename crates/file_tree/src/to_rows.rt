@@ -6,15 +6,9 @@ ghost use Rattle.file_tree.specs.Index.{node_shown, rows_of, published_nodes, wi
 
 use crate::node::{KeptNode, KeptNodes};
 use crate::ready::Ready;
-use bl_syntax::{Bytes, NoMemory, NodeId};
+use bl_syntax::{NoMemory, NodeId};
 use node_rows::{TreeRow, TreeRows};
 use std::alloc::Global;
-
-fn bytes_of(alloc: Global, node: &KeptNode) -> Result<Bytes, NoMemory>
-    ensures { IfOk result (λ bytes. bytes ≡ node.now.contents.items) }
-{
-    Ok(Bytes::from_vec(Vec::from_slice(alloc, node.contents.as_slice())?))
-}
 
 fn row_of(alloc: Global, number: u64, node: &KeptNode) -> Result<TreeRow, NoMemory>
     ensures { IfOk result (λ row. tree_row row ≡ (number, node_shown node.now)) }
@@ -24,7 +18,7 @@ fn row_of(alloc: Global, number: u64, node: &KeptNode) -> Result<TreeRow, NoMemo
         kind: node.kind,
         parent: node.parent,
         name: node.name.short(),
-        contents: bytes_of(alloc, node)?,
+        contents: node.contents.to_bytes(alloc)?,
     })
 }
 

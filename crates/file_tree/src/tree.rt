@@ -19,6 +19,7 @@ use crate::ready::Ready;
 use crate::refusals::{number_in, refusal};
 use crate::to_rows::published_rows;
 use bl_syntax::{NoMemory, NodeId};
+use file_blocks::FileContents;
 use file_world::{Kind, OpFault, ROOT_NUMBER, TreeOp, TreeReply};
 use node_rows::{RowsFault, TreeRows};
 use std::alloc::{AllocFailed, Global};
@@ -57,7 +58,7 @@ impl Tree {
             kind: Kind::Directory,
             parent: 0,
             name: Name::new(b""),
-            contents: Vec::new(alloc),
+            contents: FileContents::new(alloc),
             names: BTreeMap::new(alloc),
         };
         let mut nodes = BTreeMap::new(alloc);
