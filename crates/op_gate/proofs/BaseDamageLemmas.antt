@@ -39,7 +39,8 @@ use Rattle.op_gate.proofs.RegistryLemmas.{new_to_registry, said_from_registry}
 use Rattle.std.proofs.lemmas.Bool.{false≢true}
 use Rattle.proof_term.specs.Proof.{ProofView}
 use Rattle.bl_syntax.specs.Grant.{GrantView}
-use Rattle.proof_verifier.specs.CheckedView.{CheckedView}
+use Rattle.proof_verifier.specs.Cited.{statements_of}
+use Rattle.proof_verifier.specs.CheckedView.{CheckedView, IsGranted}
 
 -- ---- laws
 
@@ -143,32 +144,55 @@ told_by_entry registered entries place entry fault within is kept told =
     told_by (IsNewAmong registered entry.statement) (AreNew entries) Duplicate fault
     (λ are. subst (λ (es : List RegisteredView). IsNewAmong es entry.statement) (sym kept.same) (new_among (take place entries) entry (drop (place + 1) entries) (subst AreNew (parts_at entries place entry within is) are))) told
 
--- what the registry tells of a statement whose signature is accepted
-pub kept_new : (accepted : Bool) (entries : List RegisteredView) (statement : StatementView) (done : Unit {0}) → MayRegister accepted entries statement (Ok done) → IsNewAmong entries statement
-kept_new accepted entries statement done may = record { new = new_to_registry entries statement may.1.0; room = may.1.1 }
+-- what the registry tells of a statement whose signature is accepted: it is new
+pub kept_new : (accepted : Bool) (entries : List RegisteredView) (statement shown : StatementView) (done : Unit {0}) → shown ≡ statement → MayRegister accepted entries shown (Ok done) → IsNewAmong entries statement
+kept_new accepted entries statement shown done shown_is may =
+    subst (IsNewAmong entries) shown_is (record { new = new_to_registry entries shown may.1.0; room = may.1.1 })
 
-pub not_new : (accepted : Bool) (entries : List RegisteredView) (statement : StatementView) (fault : RegisterFault) → IsTrue accepted → MayRegister accepted entries statement (Err fault) → TellsTest (IsNewAmong entries statement) Duplicate (Err (register_damage fault))
-not_new accepted entries statement registry.BadSignature signed may = absurd (false≢true (sym may ∙ signed))
-not_new accepted entries statement registry.RegistryFull signed may = (refl, λ new. omega (arith, new.room, may.1.1))
-not_new accepted entries statement (registry.Duplicate number) signed may = (refl, λ new. new.new (Contains-numbered (sayings entries) number statement (said_from_registry entries number statement may.1)))
-not_new accepted entries statement registry.NoMemory signed may = tt
+not_taken : (accepted : Bool) (entries : List RegisteredView) (statement : StatementView) (fault : RegisterFault) → IsTrue accepted → MayRegister accepted entries statement (Err fault) → TellsTest (IsNewAmong entries statement) Duplicate (Err (register_damage fault))
+not_taken accepted entries statement registry.BadSignature signed may = absurd (false≢true (sym may ∙ signed))
+not_taken accepted entries statement registry.RegistryFull signed may = (refl, λ new. omega (arith, new.room, may.1.1))
+not_taken accepted entries statement (registry.Duplicate number) signed may = (refl, λ new. new.new (Contains-numbered (sayings entries) number statement (said_from_registry entries number statement may.1)))
+not_taken accepted entries statement registry.NoMemory signed may = tt
+
+-- or it is not
+pub not_new : (ring : List KeyView) (entries : List RegisteredView) (entry : RegisteredView) (shown : StatementView) (signature : List ℕ) (fault : RegisterFault) → shown ≡ entry.statement → signature ≡ entry.signature → IsSignedIn ring entry →
+    MayRegister (is_accepted ring shown.who (statement_message shown) signature) entries shown (Err fault) → TellsTest (IsNewAmong entries entry.statement) Duplicate (Err (register_damage fault))
+not_new ring entries entry shown signature fault shown_is signature_is signed may =
+    not_taken (is_accepted ring entry.statement.who (statement_message entry.statement) entry.signature) entries entry.statement fault signed
+    (subst (λ (s : StatementView). MayRegister (is_accepted ring s.who (statement_message s) entry.signature) entries s (Err fault)) shown_is
+    (subst (λ (bytes : List ℕ). MayRegister (is_accepted ring shown.who (statement_message shown) bytes) entries shown (Err fault)) signature_is may))
 
 -- ---- issues
 
+found_of : (statements : List StatementView) (numbers cited : List ℕ) (cites : List Cite) → numbers ≡ cited → FindsCited statements numbers (Ok cites) → AreCitable cited × AreFound statements cited cites
+found_of statements numbers cited cites numbers_are finds = subst (λ (ns : List ℕ). AreCitable ns × AreFound statements ns cites) numbers_are finds
+
 -- an issue whose statements are found and whose proof is checked
-pub issue_good : (statements : List StatementView) (issue : Issue) (cites : List Cite) (checked : CheckedView) → FindsCited statements issue.cited (Ok cites) → GivesChecked cites issue.proof issue.grant (Ok checked) → IsGoodIssue statements issue
-issue_good statements issue cites checked finds gives = good_issue statements issue.cited issue.proof issue.grant cites finds.0 finds.1 gives.granted
+pub issue_good : (statements : List StatementView) (issue : Issue) (numbers : List ℕ) (proof : ProofView) (cites : List Cite) (checked : CheckedView) → numbers ≡ issue.cited → proof ≡ issue.proof → FindsCited statements numbers (Ok cites) →
+    GivesChecked cites proof issue.grant (Ok checked) → IsGoodIssue statements issue
+issue_good statements issue numbers proof cites checked numbers_are proof_is finds gives =
+    let found = found_of statements numbers issue.cited cites numbers_are finds in
+    good_issue statements issue.cited issue.proof issue.grant cites found.0 found.1 (subst (λ (p : ProofView). IsGranted (statements_of cites) issue.grant.goal p issue.grant) proof_is gives.granted)
 
 -- whose proof is refused
-pub issue_unchecked : (statements : List StatementView) (issue : Issue) (cites : List Cite) (fault : AdmitFault) → FindsCited statements issue.cited (Ok cites) → GivesChecked cites issue.proof issue.grant (Err fault) →
-    TellsTest (IsGoodIssue statements issue) Unproved (Err fault)
-issue_unchecked statements issue cites (Damaged damage) finds gives = (gives.0, λ good. gives.1 (good_granted statements issue.cited issue.proof issue.grant cites finds.1 good))
-issue_unchecked statements issue cites NoMemory finds gives = tt
+pub issue_unchecked : (statements : List StatementView) (issue : Issue) (numbers : List ℕ) (proof : ProofView) (cites : List Cite) (fault : AdmitFault) → numbers ≡ issue.cited → proof ≡ issue.proof → FindsCited statements numbers (Ok cites) →
+    GivesChecked cites proof issue.grant (Err fault) → TellsTest (IsGoodIssue statements issue) Unproved (Err fault)
+issue_unchecked statements issue numbers proof cites (Damaged damage) numbers_are proof_is finds gives =
+    let found = found_of statements numbers issue.cited cites numbers_are finds in (
+      gives.0,
+      λ good. gives.1 (subst (λ (p : ProofView). IsGranted (statements_of cites) issue.grant.goal p issue.grant) (sym proof_is) (good_granted statements issue.cited issue.proof issue.grant cites found.1 good)),
+    )
+issue_unchecked statements issue numbers proof cites NoMemory numbers_are proof_is finds gives = tt
+
+abbrev issue_with : List ℕ → ProofView → GrantView → Issue
+issue_with cited proof g = record { cited = cited; proof = proof; grant = g }
 
 -- of which a statement is not found
-pub issue_uncited : (statements : List StatementView) (issue : Issue) (fault : AdmitFault) → FindsCited statements issue.cited (Err fault) → TellsTest (IsGoodIssue statements issue) Unproved (Err fault)
-issue_uncited statements issue (Damaged damage) finds = (finds.0, λ good. finds.1 issue.proof issue.grant good)
-issue_uncited statements issue NoMemory finds = tt
+pub issue_uncited : (statements : List StatementView) (issue : Issue) (numbers : List ℕ) (fault : AdmitFault) → numbers ≡ issue.cited → FindsCited statements numbers (Err fault) → TellsTest (IsGoodIssue statements issue) Unproved (Err fault)
+issue_uncited statements issue numbers (Damaged damage) numbers_are finds =
+    (finds.0, λ good. finds.1 issue.proof issue.grant (subst (λ (ns : List ℕ). IsGoodIssue statements (issue_with ns issue.proof issue.grant)) (sym numbers_are) good))
+issue_uncited statements issue numbers NoMemory numbers_are finds = tt
 
 -- ---- the first damage
 
