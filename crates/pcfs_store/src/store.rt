@@ -1,14 +1,14 @@
 //! The store.
 
-ghost use Rattle.std.specs.Prelude.{◌≡◌, ◌≢◌, ◌↔◌, ◌≤◌, ◌-◌, [], Some, None, IsSome, IsTrue, length, is_some};
+ghost use Rattle.std.specs.Prelude.{◌≡◌, ◌≢◌, ◌↔◌, ◌<◌, ◌≤◌, ◌-◌, ◌^◌, [], Some, None, IsSome, IsTrue, length, is_some};
 ghost use Rattle.journal_core.specs.Area.{area_bytes, IsGeneration};
 ghost use Rattle.checkpoint_image.specs.ImageSpelling.{image_spelling};
 ghost use Rattle.pcfs_store.specs.Image.{IsImageOf};
 ghost use Rattle.pcfs_store.specs.StoredHistory.{payloads_of, AreSpellable};
 
-use crate::checkpoint::Checkpoint;
+use crate::checkpoint::{Checkpoint, move_area};
 use crate::keeping::keep_pending;
-use crate::reply::StoreReply;
+use crate::reply::{CheckpointReply, StoreReply};
 use access_history::StepRequest;
 use journal_core::{Area, AreaFault};
 use op_gate::{Decision, Gate};
@@ -50,9 +50,10 @@ impl<D: Disk> Store<D> {
     ghost use Rattle.access_history.specs.declared.event.Event.{Event};
     ghost use Rattle.access_history.specs.declared.reply.StepReply.{StepReply};
     ghost use Rattle.access_history.specs.WellFormed.{IsWellFormed};
-    ghost use Rattle.pcfs_store.specs.StoreView.{IsStore, AnswersIn, first_disk, second_disk};
+    ghost use Rattle.pcfs_store.specs.StoreView.{IsStore, AnswersIn, first_disk, second_disk, state_of_store};
     ghost use Rattle.pcfs_store.specs.Ready.{IsReady, IsCurrent, Keeps, StopsLeave, StopsNow, SurvivesWithOrWithout};
     ghost use Rattle.pcfs_store.specs.Steps.{Steps, LeavesStep};
+    ghost use Rattle.pcfs_store.specs.Checkpoints.{Checkpoints};
 
     /// A store over what was read of two disks. The area is the one that counts, the second exactly if `second_active`; it
     /// has that generation, the image of the gate's base, and the records of its events. It takes no memory.
@@ -174,6 +175,40 @@ impl<D: Disk> Store<D> {
                 }
             }
             Decision::NoMemory => StoreReply::NoMemory,
+        }
+    }
+
+    // Makes a checkpoint with the image of the state.
+    fn place_image(&mut self, alloc: Global, pass: u64, image: &[u8]) -> CheckpointReply
+        requires running { self.old.stop ≡ None }
+        requires numbered { self.old.generation < 2 ^ 48 - 1 }
+        requires image { IsImageOf (state_of_store self.old) image.now }
+        ensures { Checkpoints D.clock D.left_since D.image D.faults self.old pass result self.new }
+    {
+        let made = Checkpoint {
+            after: self.gate.history().events().len() as u64,
+            pass,
+        };
+        match move_area(
+            alloc,
+            &mut self.active,
+            &mut self.other,
+            self.generation + 1,
+            image,
+            &mut self.checkpoints,
+            made,
+        ) {
+            Ok(()) => {
+                self.second_active = !self.second_active;
+                self.generation += 1;
+                CheckpointReply::Checkpointed
+            }
+            Err(AreaFault::AreaFull) => CheckpointReply::Full,
+            Err(AreaFault::NoMemory) => CheckpointReply::NoMemory,
+            Err(AreaFault::Disk) => {
+                self.stop = Some(made.pass);
+                CheckpointReply::Stopped
+            }
         }
     }
 }
