@@ -3,7 +3,7 @@ use Rattle.std.proofs.Common.{◌≡◌, ◌⊎◌, ℕ, ◌+◌, ◌-◌, ◌�
 use Rattle.std.proofs.lemmas.Bool.{cases_lt}
 use Rattle.std.proofs.lemmas.List.{append-nil, take_all, take_min, drop_all, take-append-le, take-replicate, length-replicate}
 use Rattle.std.proofs.Math.Seq.{take-append-add}
-use Rattle.pcfs_ports.specs.Disk.{written, Torn, TornFrom, LeftNow, Elapses, Idles, IsPinned}
+use Rattle.pcfs_ports.specs.Disk.{written, written_after_gap, Torn, TornFrom, LeftNow, Elapses, Idles, IsPinned}
 use Rattle.pcfs_ports.specs.MemoryDisk.{MemoryDiskView, image_by, image_after, left_by, left_after, disk_image, disk_clock, disk_left_since}
 use Rattle.pcfs_ports.specs.DiskLaws.{image_stays, left_since_earlier}
 use Rattle.pcfs_ports.specs.declared.disk_call.DiskCall.{DiskCall}
@@ -18,37 +18,38 @@ torn_not at piece image = record {
   single = λ _. inl refl;
 }
 
--- an image that was filled up with zero bytes to the end of a range, and overwritten there
-module _ (at len : ℕ) (image : List ℕ) where
+-- an image that was filled up with one byte to the end of a range, and overwritten there
+module _ (gap at len : ℕ) (image : List ℕ) where
   abbrev grown : List ℕ
-  grown = image ++ replicate (at + len - length image) 0
+  grown = image ++ replicate (at + len - length image) gap
 
-  grown_front : take at grown ≡ take at image ++ replicate (at - length image) 0
+  grown_front : take at grown ≡ take at image ++ replicate (at - length image) gap
   grown_front =
       elim (cases_lt at (length image)) [
-        | inl lt ↦ take-append-le at image (replicate (at + len - length image) 0) (omega (arith, lt))
-            ∙ sym (ap (λ (n : ℕ). take at image ++ replicate n 0) (let none : at - length image ≡ 0 = omega (arith, lt) in none) ∙ append-nil (take at image))
+        | inl lt ↦ take-append-le at image (replicate (at + len - length image) gap) (omega (arith, lt))
+            ∙ sym (ap (λ (n : ℕ). take at image ++ replicate n gap) (let none : at - length image ≡ 0 = omega (arith, lt) in none) ∙ append-nil (take at image))
         | inr le ↦ ap (λ (n : ℕ). take n grown) (let is : at ≡ length image + (at - length image) = omega (arith, le) in is)
-            ∙ take-append-add image (replicate (at + len - length image) 0) (at - length image)
-            ∙ ap (λ (l : List ℕ). image ++ l) (take-replicate (at - length image) (at + len - length image) 0 (omega arith))
-            ∙ ap (λ (l : List ℕ). l ++ replicate (at - length image) 0) (sym (take_all at image le))
+            ∙ take-append-add image (replicate (at + len - length image) gap) (at - length image)
+            ∙ ap (λ (l : List ℕ). image ++ l) (take-replicate (at - length image) (at + len - length image) gap (omega arith))
+            ∙ ap (λ (l : List ℕ). l ++ replicate (at - length image) gap) (sym (take_all at image le))
       ]
 
   grown_back : drop (at + len) grown ≡ drop (at + len) image
   grown_back =
       elim (cases_lt (at + len) (length image)) [
-        | inl lt ↦ ap (λ (n : ℕ). drop (at + len) (image ++ replicate n 0)) (let none : at + len - length image ≡ 0 = omega (arith, lt) in none)
+        | inl lt ↦ ap (λ (n : ℕ). drop (at + len) (image ++ replicate n gap)) (let none : at + len - length image ≡ 0 = omega (arith, lt) in none)
             ∙ ap (drop (at + len)) (append-nil image)
-        | inr le ↦ drop_all (at + len) grown (omega (arith, le, length-append image (replicate (at + len - length image) 0), length-replicate {A = ℕ} (at + len - length image) 0))
+        | inr le ↦ drop_all (at + len) grown (omega (arith, le, length-append image (replicate (at + len - length image) gap), length-replicate {A = ℕ} (at + len - length image) gap))
             ∙ sym (drop_all (at + len) image le)
       ]
 
-pub grown_written : (at : ℕ) (piece image : List ℕ) →
-    take at (image ++ replicate (at + length piece - length image) 0) ++ (piece ++ drop (at + length piece) (image ++ replicate (at + length piece - length image) 0)) ≡ written at piece image
-grown_written at piece image =
-    ap (λ (l : List ℕ). l ++ (piece ++ drop (at + length piece) (grown at (length piece) image))) (grown_front at (length piece) image)
-    ∙ ap (λ (l : List ℕ). take at image ++ replicate (at - length image) 0 ++ (piece ++ l)) (grown_back at (length piece) image)
-    ∙ sym (append_assoc (take at image ++ replicate (at - length image) 0) piece (drop (at + length piece) image))
+pub grown_written : (gap at len : ℕ) (here image : List ℕ) → length here ≡ len →
+    take at (image ++ replicate (at + len - length image) gap) ++ (here ++ drop (at + len) (image ++ replicate (at + len - length image) gap)) ≡ written_after_gap gap at here image
+grown_written gap at len here image is =
+    ap (λ (l : List ℕ). l ++ (here ++ drop (at + len) (grown gap at len image))) (grown_front gap at len image)
+    ∙ ap (λ (l : List ℕ). take at image ++ replicate (at - length image) gap ++ (here ++ l)) (grown_back gap at len image)
+    ∙ sym (append_assoc (take at image ++ replicate (at - length image) gap) here (drop (at + len) image))
+    ∙ ap (λ (n : ℕ). take at image ++ replicate (at - length image) gap ++ here ++ drop (at + n) image) (sym is)
 
 -- one more call at the end
 pub image_push : (calls : List DiskCall) (call : DiskCall) (image : List ℕ) → image_after image (calls ++ call ∷ []) ≡ image_by call (image_after image calls)

@@ -1,2 +1,3 @@
 pub mod TakesLemmas
 pub mod DiskLemmas
+pub mod StoppedLemmas

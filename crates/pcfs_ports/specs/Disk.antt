@@ -7,6 +7,11 @@ abbrev pub written : ℕ → List ℕ → List ℕ → List ℕ
 written at piece image =
     take at image ++ replicate (at - length image) 0 ++ piece ++ drop (at + length piece) image
 
+-- The same, if a gap holds this byte.
+abbrev pub written_after_gap : ℕ → ℕ → List ℕ → List ℕ → List ℕ
+written_after_gap gap at piece image =
+    take at image ++ replicate (at - length image) gap ++ piece ++ drop (at + length piece) image
+
 -- A write of a piece that is not synced yet: a crash may leave any bytes in the written range and past the old end, and
 -- leaves the others as they were. A range of exactly one byte holds the byte that stood there, none if none stood, or
 -- the new one.

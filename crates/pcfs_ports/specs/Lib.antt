@@ -5,6 +5,8 @@ pub mod MemorySource
 pub mod MemorySink
 pub mod Disk
 pub mod MemoryDisk
+pub mod Stopped
+pub mod Image
 pub mod DiskLaws
 pub mod MemoryListener
 pub mod Accepted

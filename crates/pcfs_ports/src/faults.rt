@@ -1,9 +1,10 @@
 //! Faults: the one error of a port, and the calls of a port in memory that are to fail.
 
 ghost use Rattle.std.specs.Prelude.{◌≡◌, ◌≤◌, ◌↔◌, IsTrue};
-ghost use Rattle.pcfs_ports.specs.Calls.{no_calls, FailsNext, after_call, after_failed_call};
+ghost use Rattle.pcfs_ports.specs.Calls.{no_calls, no_fused_calls, FailsNext, after_call, after_failed_call};
 
 use bl_syntax::Numbers;
+use std::alloc::Global;
 use std::marker::Model;
 
 /// The one fault of a port.
@@ -14,6 +15,8 @@ pub struct Failed;
 #[derive(Debug, Drop)]
 pub struct CallPlan {
     failing: Numbers,
+    // The number from which on all calls fail.
+    fuse: Option<u64>,
     made: u64,
     faults: u64,
 }
@@ -23,7 +26,7 @@ impl Model for CallPlan {
 
     ghost Value = { CallPlanView };
 
-    ghost view = { λ s. record { failing = s.failing; made = s.made; faults = s.faults } };
+    ghost view = { λ s. record { failing = s.failing; fuse = s.fuse; made = s.made; faults = s.faults } };
 }
 
 impl CallPlan {
@@ -33,6 +36,19 @@ impl CallPlan {
     {
         CallPlan {
             failing,
+            fuse: None,
+            made: 0,
+            faults: 0,
+        }
+    }
+
+    /// No call was made, and all fail from this number on. It takes no memory.
+    pub fn fused(alloc: Global, first: u64) -> CallPlan
+        ensures { result ≡ no_fused_calls first }
+    {
+        CallPlan {
+            failing: Numbers::new(alloc),
+            fuse: Some(first),
             made: 0,
             faults: 0,
         }
@@ -43,6 +59,9 @@ impl CallPlan {
         ensures { IsTrue result ↔ FailsNext self.now }
     {
         let next = self.made;
+        if self.fuse.is_some_and(|first| first <= next) {
+            return true;
+        }
         self.failing
             .as_slice()
             .iter()

@@ -1,7 +1,8 @@
 //! Ports: where bytes come from and where they go, disks, clocks, nonces, connections, and whose signatures are accepted.
 //!
 //! A fault of a port comes only if the port's own count of faults rose.
-//! A port in memory tells its bytes, and fails only if it was to or if a growth is refused.
+//! A port in memory tells its bytes, and fails only if it was to or if a growth is refused. A disk in
+//! memory can be stopped, and is then as one of the outcomes of a crash.
 #![tactic(auto)]
 
 mod accepted;
@@ -10,6 +11,7 @@ mod disk;
 mod disk_call;
 mod faults;
 mod file_disk;
+mod image;
 mod listener;
 mod memory_disk;
 mod nonces;

@@ -2,15 +2,18 @@
 
 ghost use Rattle.std.specs.Prelude.{◌≡◌, ℕ, ◌+◌, ◌-◌, ◌≤◌, ◌⊎◌, ◌↔◌, List, [], ◌∷◌, ◌++◌, IfOk, IfSome, IsErr, OnOk, OnErr, length, take, drop, replicate, min, is_some};
 ghost use Rattle.std.specs.Option.{option_map};
-ghost use Rattle.pcfs_ports.specs.Calls.{no_calls, FailsNext};
+ghost use Rattle.pcfs_ports.specs.Calls.{no_calls, no_fused_calls, FailsNext};
 ghost use Rattle.pcfs_ports.specs.Disk.{written, TornFrom, LeftNow, Elapses, Idles, IsPinned, ReadsAt};
 ghost use Rattle.pcfs_ports.specs.MemoryDisk.{image_after, new_disk, disk_image, disk_clock, disk_left_since, after_disk_read, after_disk_call, after_failed_disk_call, after_refused_disk_call};
+ghost use Rattle.pcfs_ports.specs.Image.{unwritten};
+ghost use Rattle.pcfs_ports.specs.Stopped.{stopped_image};
 ghost use Rattle.pcfs_ports.specs.declared.disk_call.DiskCall.TheVariants.{Wrote, Synced};
 ghost use Rattle.pcfs_ports.specs.DiskLaws.{left_since_earlier, image_stays};
 
 use super::disk::Disk;
 use super::disk_call::DiskCall;
 use super::faults::{CallPlan, Failed};
+use super::image::{Image, leave_stopped};
 use bl_syntax::{Bytes, NoMemory, Numbers, Sequence};
 use std::alloc::Global;
 use std::marker::Model;
@@ -20,8 +23,7 @@ use std::marker::Model;
 #[derive(Debug, Drop)]
 pub struct MemoryDisk {
     alloc: Global,
-    start: Bytes,
-    image: Vec<u8>,
+    image: Image,
     made: Sequence<DiskCall>,
     plan: CallPlan,
     refused: u64,
@@ -33,31 +35,9 @@ impl Model for MemoryDisk {
 
     ghost Value = { MemoryDiskView };
 
-    ghost view = { λ s. record { start = s.start; made = s.made; calls = s.plan; refused = s.refused } };
+    ghost view = { λ s. record { start = s.image.start; made = s.made; calls = s.plan; refused = s.refused } };
 
-    ghost invariant = { λ s. s.image.items ≡ image_after s.start s.made };
-}
-
-// Lets the image reach to the end of a range, with zero bytes from its old end on.
-fn reach(image: &mut Vec<u8>, at: u64, len: usize) -> Result<(), NoMemory>
-    ensures ok { OnOk result (image.new.items ≡ image.old.items ++ replicate (at + len - length image.old.items) 0) }
-    ensures err { OnErr result (image.new.items ≡ image.old.items) }
-{
-    let at = at as usize;
-    let end = at.checked_add(len).ok_or(NoMemory)?;
-    if image.len() < end {
-        image.resize(end, 0)?;
-    }
-    Ok(())
-}
-
-// Puts a piece over the bytes from `at` on.
-fn overwrite(image: &mut [u8], at: usize, piece: &[u8])
-    requires { at + length piece.now ≤ length image.old }
-    ensures { image.new ≡ take at image.old ++ (piece.now ++ drop (at + length piece.now) image.old) }
-{
-    let end = at + piece.len();
-    image[at..end].copy_from_slice(piece);
+    ghost invariant = { λ s. s.image.now ≡ image_after s.image.start s.made };
 }
 
 // Remembers that this piece was written at this place.
@@ -76,28 +56,26 @@ fn remember_write(
     Ok(())
 }
 
-// Writes a piece into the image and remembers this, or changes nothing.
+// Writes a piece into the image and remembers this, or changes nothing that is seen.
 fn write_and_remember(
     alloc: Global,
-    image: &mut Vec<u8>,
+    image: &mut Image,
     made: &mut Sequence<DiskCall>,
     at: u64,
     piece: &[u8],
 ) -> Result<(), NoMemory>
-    ensures image { OnOk result (image.new.items ≡ written at piece.now image.old.items) }
+    ensures start { image.new.start ≡ image.old.start }
+    ensures image { OnOk result (image.new.now ≡ written at piece.now image.old.now) }
     ensures made { OnOk result (made.new ≡ made.old ++ Wrote at piece.now ∷ []) }
-    ensures image_err { OnErr result (image.new.items ≡ image.old.items) }
+    ensures image_err { OnErr result (image.new.now ≡ image.old.now) }
     ensures made_err { OnErr result (made.new ≡ made.old) }
 {
-    let len = image.len();
-    reach(image, at, piece.len())?;
-    match remember_write(alloc, made, at, piece) {
-        Ok(()) => {
-            overwrite(image, at as usize, piece);
-            Ok(())
-        }
+    let count = made.len();
+    remember_write(alloc, made, at, piece)?;
+    match image.write(at, piece) {
+        Ok(()) => Ok(()),
         Err(NoMemory) => {
-            image.truncate(len);
+            made.truncate(count);
             Err(NoMemory)
         }
     }
@@ -109,22 +87,57 @@ impl MemoryDisk {
     pub fn new(alloc: Global, bytes: Bytes, failing: Numbers) -> Result<MemoryDisk, NoMemory>
         ensures { IfOk result (λ disk. disk ≡ new_disk bytes (no_calls failing)) }
     {
-        let image = bytes.copy(alloc)?;
-        Ok(MemoryDisk {
+        let image = Image::copied(alloc, bytes)?;
+        Ok(MemoryDisk::planned(alloc, image, CallPlan::new(failing)))
+    }
+
+    /// A disk with these bytes, all of them synced, whose calls from number `calls` on all fail. It
+    /// takes no memory.
+    pub fn fused(alloc: Global, bytes: Bytes, calls: u64) -> MemoryDisk
+        ensures { result ≡ new_disk bytes (no_fused_calls calls) }
+    {
+        let image = Image::new(alloc, bytes);
+        MemoryDisk::planned(alloc, image, CallPlan::fused(alloc, calls))
+    }
+
+    // A disk with the bytes of this image, all of them synced, and this plan.
+    fn planned(alloc: Global, image: Image, plan: CallPlan) -> MemoryDisk
+        requires { image ≡ unwritten image.start }
+        ensures { result ≡ new_disk image.start plan }
+    {
+        MemoryDisk {
             alloc,
-            start: bytes,
-            image: image.into_vec(),
+            image,
             made: Sequence::new(alloc),
-            plan: CallPlan::new(failing),
+            plan,
             refused: 0,
-        })
+        }
+    }
+
+    /// The disk after a crash now, which leaves `fill` in each range of other than one byte that was
+    /// written since the last sync, and past the old end. A single byte that was written is there if
+    /// `kept`, and else it is as if it was never written. All of it is synced, and no call is to fail.
+    pub fn stopped(self, fill: u8, kept: bool) -> Result<MemoryDisk, NoMemory>
+        ensures image { IfOk result (λ disk. disk ≡ new_disk (stopped_image fill kept self) (no_calls [])) }
+        ensures left { IfOk result (λ disk. LeftNow disk_clock disk_left_since self disk.start) }
+    {
+        let bytes = leave_stopped(
+            self.alloc,
+            self.image.start(),
+            self.made.as_slice(),
+            fill,
+            kept,
+        )?;
+        let image = Image::new(self.alloc, bytes);
+        let plan = CallPlan::new(Numbers::new(self.alloc));
+        Ok(MemoryDisk::planned(self.alloc, image, plan))
     }
 
     /// What a read gives.
     pub fn image(&self) -> &[u8]
         ensures { result.now ≡ image_after self.now.start self.now.made }
     {
-        self.image.as_slice()
+        self.image.now()
     }
 
     /// The writes and syncs that were done, the oldest first.
@@ -173,7 +186,7 @@ impl Disk for MemoryDisk {
             return Err(Failed);
         }
         self.plan.count();
-        let image = self.image.as_slice();
+        let image = self.image.now();
         let from = (at as usize).min(image.len());
         let rest = &image[from..];
         let count = buf.len().min(rest.len());
@@ -308,6 +321,54 @@ mod tests {
         let mut disk = disk(rt.alloc(), b"abcd", &[])?;
         assert!(rt; has_memory_of_calls(&mut disk));
         assert!(rt; disk.refused() == 1 && disk.image() == b"abcD\xc3\xa9".as_slice());
+        Ok(())
+    }
+
+    // What the four calls answer of a disk that is fused at this number.
+    fn fused_results(alloc: Global, calls: u64) -> Result<[bool; 4], NoMemory> {
+        let bytes = Bytes::from_vec(b"abcd".to_vec(alloc)?);
+        Ok(call_results(&mut MemoryDisk::fused(alloc, bytes, calls)))
+    }
+
+    #[test]
+    fn fused_disk_fails_from_a_call_on(rt: HostRuntime) -> Result<(), Fail> {
+        let cases = [
+            (0, [false, false, false, false]),
+            (2, [true, true, false, false]),
+            (4, [true, true, true, true]),
+            (u64::MAX, [true, true, true, true]),
+        ];
+        for (calls, wanted) in cases {
+            assert_eq!(rt; fused_results(rt.alloc(), calls)?, wanted);
+        }
+        Ok(())
+    }
+
+    // What a crash leaves after a synced write, a write over an end, and single bytes.
+    fn left_by_crash(alloc: Global, fill: u8, kept: bool) -> Result<MemoryDisk, NoMemory> {
+        let mut disk = disk(alloc, b"abcd", &[])?;
+        let _done = [
+            disk.write_at(0, b"AB").is_ok(),
+            disk.sync().is_ok(),
+            disk.write_at(3, b"DE").is_ok(),
+            disk.write_at(1, b"x").is_ok(),
+            disk.write_at(7, b"H").is_ok(),
+        ];
+        disk.stopped(fill, kept)
+    }
+
+    #[test]
+    fn stopped_disk_holds_what_a_crash_may_leave(rt: HostRuntime) -> Result<(), Fail> {
+        let cases = [
+            (b'.', true, "Axc....H"),
+            (b'.', false, "ABc...."),
+            (b'!', true, "Axc!!!!H"),
+        ];
+        for (fill, kept, wanted) in cases {
+            let disk = left_by_crash(rt.alloc(), fill, kept)?;
+            assert_eq!(rt; disk.image(), wanted.as_bytes());
+            assert!(rt; disk.made().is_empty() && disk.refused() == 0);
+        }
         Ok(())
     }
 }

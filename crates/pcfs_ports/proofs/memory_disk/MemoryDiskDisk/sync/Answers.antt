@@ -6,17 +6,17 @@ use Rattle.pcfs_ports.proofs.memory_disk.MemoryDiskDisk.sync.Goals as goal
 
 pub invariant_of-self-in-Ok : goal.invariant_of-self-in-Ok
 invariant_of-self-in-Ok c =
-    c.self.invariant ∙ sym (ap (image_after c.self.inside.start) c.in-Ok.ensures.ok ∙ image_push c.self.inside.made Synced c.self.inside.start)
+    c.self.invariant ∙ sym (ap (image_after c.self.inside.image.start) c.in-Ok.ensures.ok ∙ image_push c.self.inside.made Synced c.self.inside.image.start)
 
 pub returns-in-Ok-clause-ok : goal.returns-in-Ok-clause-ok
 returns-in-Ok-clause-ok c =
-    let next : MemoryDiskView = record c.args.self.now { start = c.self.inside.start; made = c.push.new.self } in
+    let next : MemoryDiskView = record c.args.self.now { start = c.self.inside.image.start; made = c.push.new.self } in
     synced_pinned c.args.self.now next (ap (λ (s : MemoryDiskView). s.start) c.self.view_is)
     (c.in-Ok.ensures.ok ∙ ap (λ (s : MemoryDiskView). s.made ++ Synced ∷ []) c.self.view_is)
 
 pub returns-in-Ok-clause-same : goal.returns-in-Ok-clause-same
 returns-in-Ok-clause-same c =
-    let next : MemoryDiskView = record c.args.self.now { start = c.self.inside.start; made = c.push.new.self } in
+    let next : MemoryDiskView = record c.args.self.now { start = c.self.inside.image.start; made = c.push.new.self } in
     synced_image c.args.self.now next (ap (λ (s : MemoryDiskView). s.start) c.self.view_is)
     (c.in-Ok.ensures.ok ∙ ap (λ (s : MemoryDiskView). s.made ++ Synced ∷ []) c.self.view_is)
 
