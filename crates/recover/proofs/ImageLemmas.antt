@@ -25,12 +25,12 @@ one_state base other image is other_is =
     (image_codec.apart base other [] [] is.spelled other_is.spelled (append-nil (image_spelling base) ∙ sym is.image_is ∙ other_is.image_is ∙ sym (append-nil (image_spelling other)))).0
 
 -- bytes that were not read are the image of no state
-pub image_not_read : (key : List ℕ) (ring : List KeyView) (image : List ℕ) (fault : CodecFault) → AreBytes image → GivesImage image (Err fault) → ReadsGate key ring image (Err (unread fault))
-image_not_read key ring image codec.Short bytes gives = no_state (λ base is. fault_is_no_image image codec.Short base bytes gives is)
-image_not_read key ring image (codec.BadTag at) bytes gives = no_state (λ base is. fault_is_no_image image (codec.BadTag at) base bytes gives is)
-image_not_read key ring image (codec.NotCanonical at) bytes gives = no_state (λ base is. fault_is_no_image image (codec.NotCanonical at) base bytes gives is)
-image_not_read key ring image (codec.TooLarge at) bytes gives = no_state (λ base is. fault_is_no_image image (codec.TooLarge at) base bytes gives is)
-image_not_read key ring image codec.NoMemory bytes gives = tt
+pub image_not_read : (key : List ℕ) (ring : List KeyView) (image : List ℕ) (fault : CodecFault) → GivesImage image (Err fault) → ReadsGate key ring image (Err (unread fault))
+image_not_read key ring image codec.Short gives = no_state (λ base is. fault_is_no_image image codec.Short base gives is)
+image_not_read key ring image (codec.BadTag at) gives = no_state (λ base is. fault_is_no_image image (codec.BadTag at) base gives is)
+image_not_read key ring image (codec.NotCanonical at) gives = no_state (λ base is. fault_is_no_image image (codec.NotCanonical at) base gives is)
+image_not_read key ring image (codec.TooLarge at) gives = no_state (λ base is. fault_is_no_image image (codec.TooLarge at) base gives is)
+image_not_read key ring image codec.NoMemory gives = tt
 
 -- a gate that begins with the state that was read, or the damage of that state
 pub gate_read : (key : List ℕ) (ring : List KeyView) (image : List ℕ) (base : BaseView) (told : Result GateView AdmitFault) → AreBytes image → GivesImage image (Ok base) →

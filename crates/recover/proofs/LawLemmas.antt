@@ -134,7 +134,7 @@ one_at authority base payloads m n c d one other =
 lawful_image : (authority : Authority) (base : BaseView) (image : List ℕ) (damage : Damage) → IsImageOf base image → IsLawfulBase authority base → IsDamagedImage authority image damage → ⊥
 lawful_image authority base image _ is lawful (no_state none) = none base is
 lawful_image authority base image _ is lawful (of_state other damage other_is damaged) =
-    lawful_base_not_damaged authority base damage lawful (subst (λ (b : BaseView). IsDamagedBase authority b damage) (one_state other base image other_is is) damaged)
+    lawful_base_not_damaged authority base damage (subst (λ (b : BaseView). IsDamagedBase authority b damage) (one_state other base image other_is is) damaged) lawful
 
 -- an image has one damage
 one_image_damage : (authority : Authority) (image : List ℕ) (c d : Damage) → IsDamagedImage authority image c → IsDamagedImage authority image d → c ≡ d

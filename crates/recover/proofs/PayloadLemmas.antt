@@ -1,5 +1,5 @@
 -- The payloads of an area, one after the other, over plain values.
-use Rattle.std.proofs.Common.{◌≡◌, ◌≤◌, ◌<◌, ◌+◌, ℕ, List, [], ◌∷◌, ◌++◌, length, take, drop, get_or, refl, sym, ap, subst, ◌∙◌, arith, inl, inr}
+use Rattle.std.proofs.Common.{◌≡◌, ◌≤◌, ◌<◌, ◌+◌, ℕ, List, [], ◌∷◌, ◌++◌, length, take, drop, get_or, refl, sym, ap, subst, ◌∙◌, arith}
 use Rattle.std.specs.Prelude.{Result, Ok, Err, OnOk, OnErr}
 use Rattle.std.specs.List.{AllByRecursion}
 use Rattle.std.proofs.lemmas.List.{map-append, length-take-le, take-append-drop, take_all, take_more, drop_more}
@@ -20,12 +20,11 @@ use Rattle.op_gate.specs.declared.damage.AdmitFault.{AdmitFault}
 use Rattle.op_gate.specs.declared.damage.AdmitFault.TheVariants.{Damaged, NoMemory}
 use Rattle.op_gate.specs.Damage.{TellsDamage}
 use Rattle.op_gate.specs.Decision.{GateView}
-use Rattle.checkpoint.specs.Reading.{IsImageOf}
 use Rattle.pcfs_store.specs.StoredHistory.{payloads_of}
 use Rattle.recover.specs.declared.fault.OpenFault.{OpenFault}
 use Rattle.recover.specs.declared.fault.OpenFault.TheVariants as opens
 use Rattle.recover.specs.AreaDamage.{AreRead, IsDamagedPayload, no_event, of_event, IsDamagedAt}
-use Rattle.recover.specs.Reading.{IsGateOf, IsSameGate, KeepsPayload, AdmitsPayload, AdmitsPayloads, HasDamage, HoldsHistory, ReadsGate, fault_at, unread}
+use Rattle.recover.specs.Reading.{IsSameGate, KeepsPayload, AdmitsPayload, AdmitsPayloads, fault_at, unread}
 
 -- what became of a payload that is the spelling of an event
 pub admitted : (old new : GateView) (payload : List ℕ) (event : Event) (told : Result (Unit {0}) AdmitFault) → IsReadEvent event → payload ≡ event_spelling event →
@@ -97,37 +96,3 @@ fault_there payloads place old new payload key ring base (Damaged damage) events
     (subst (λ (r : List KeyView). IsDamagedPayload (authority_with key r) (replay old.base old.events) payload damage) ring_is
     (subst (λ (k : List ℕ). IsDamagedPayload (authority_with k old.ring) (replay old.base old.events) payload damage) key_is admits.0)))
 fault_there payloads place old new payload key ring base NoMemory events within is read key_is ring_is base_is lawful admits = tt
-
--- ---- the whole history
-
--- what is wrong with the payloads after the image of a state
-payloads_damaged : (authority : Authority) (base : BaseView) (image : List ℕ) (payloads : List (List ℕ)) (fault : OpenFault) (events : List Event) → IsImageOf base image → AdmitsPayloads authority base payloads (Err fault) events →
-    HasDamage authority image payloads fault
-payloads_damaged authority base image payloads opens.NoStore events is admits = absurd admits
-payloads_damaged authority base image payloads (opens.Damaged number damage) events is admits = inr (base, is, admits)
-payloads_damaged authority base image payloads opens.Disk events is admits = absurd admits
-payloads_damaged authority base image payloads opens.NoMemory events is admits = tt
-
-pub payload_fault : (key : List ℕ) (ring : List KeyView) (image : List ℕ) (payloads : List (List ℕ)) (gate : GateView) (fault : OpenFault) (events : List Event) → IsGateOf key ring image gate →
-    AdmitsPayloads (authority_with gate.key gate.ring) gate.base payloads (Err fault) events → HasDamage (authority_with key ring) image payloads fault
-payload_fault key ring image payloads gate fault events is admits =
-    payloads_damaged (authority_with key ring) gate.base image payloads fault events is.image_is
-    (subst (λ (r : List KeyView). AdmitsPayloads (authority_with key r) gate.base payloads (Err fault) events) is.ring_is
-    (subst (λ (k : List ℕ). AdmitsPayloads (authority_with k gate.ring) gate.base payloads (Err fault) events) is.key_is admits))
-
--- what is wrong with the image
-pub image_fault : (key : List ℕ) (ring : List KeyView) (image : List ℕ) (payloads : List (List ℕ)) (fault : AdmitFault) → ReadsGate key ring image (Err fault) → HasDamage (authority_with key ring) image payloads (fault_at 0 fault)
-image_fault key ring image payloads (Damaged damage) reads = inl (refl, reads)
-image_fault key ring image payloads NoMemory reads = tt
-
--- the history that was read
-pub history_held : (key : List ℕ) (ring : List KeyView) (image : List ℕ) (payloads : List (List ℕ)) (gate new : GateView) (history : HistoryView) → IsGateOf key ring image gate → IsSameGate gate new → AreRead payloads new.events →
-    history.key ≡ new.key → history.ring ≡ new.ring → history.base ≡ new.base → history.events ≡ new.events → IsLawful (authority_of history) history.base history.events → HoldsHistory key ring image payloads new
-history_held key ring image payloads gate new history is same read key_is ring_is base_is events_are lawful = record {
-  key_is = same.key ∙ is.key_is;
-  ring_is = same.ring ∙ is.ring_is;
-  image_is = subst (λ (b : BaseView). IsImageOf b image) (sym same.base) is.image_is;
-  idle = same.pending;
-  read = read;
-  lawful = lawful_gate history new key ring new.base key_is ring_is base_is events_are (same.key ∙ is.key_is) (same.ring ∙ is.ring_is) refl lawful;
-}
