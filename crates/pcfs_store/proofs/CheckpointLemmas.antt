@@ -15,15 +15,15 @@ use Rattle.access_history.specs.declared.event.Event.{Event}
 use Rattle.access_history.specs.Base.{BaseView}
 use Rattle.access_history.specs.Replay.{replay}
 use Rattle.checkpoint_image.specs.ImageSpelling.{image_spelling}
-use Rattle.pcfs_store.specs.declared.checkpoint.Checkpoint.{Checkpoint}
+use Rattle.pcfs_store.specs.declared.checkpoints.Checkpoint.{Checkpoint}
 use Rattle.pcfs_store.specs.declared.reply.CheckpointReply.{CheckpointReply}
-use Rattle.pcfs_store.specs.declared.reply.CheckpointReply.TheVariants.{Checkpointed, Stopped}
+use Rattle.pcfs_store.specs.declared.reply.CheckpointReply.TheVariants.{Checkpointed, Full, Stopped, NoMemory}
 use Rattle.pcfs_store.specs.Image.{IsImageOf}
 use Rattle.pcfs_store.specs.StoredHistory.{payloads_of, state_after, area_since}
 use Rattle.pcfs_store.specs.Newest.{newest, one_of, SurvivesWholeClosed}
 use Rattle.pcfs_store.specs.StoreView.{StoreView, first_disk, second_disk, last_after, settled_of, body_of, state_of_store, AreInOrder, IsStore}
 use Rattle.pcfs_store.specs.Ready.{tie, IsBehind, IsReady, IsCurrent, StopsLeave, StopsNow, Keeps, ready, halted, halted_whole}
-use Rattle.pcfs_store.specs.Checkpoints.{IsFullForCheckpoint, with_checkpoint, MakesCheckpoint, made, failed, IsNewestCheckpoint, Checkpoints}
+use Rattle.pcfs_store.specs.Checkpoints.{IsFullForCheckpoint, with_checkpoint, MakesCheckpoint, made, full, failed, stopped, without_memory, IsNewestCheckpoint, Checkpoints}
 use Rattle.pcfs_store.specs.Moving.{Overwrites}
 use Rattle.pcfs_store.proofs.SurvivalLemmas.{IsTellable, tellable_store, survives_closed, newest_active, generation_since, order_above, order_more, at_some, if_some, ready_survives_now}
 use Rattle.pcfs_store.proofs.FormatLemmas.{none_shut}
@@ -31,6 +31,15 @@ use Rattle.pcfs_store.proofs.EntryLemmas.{area-length}
 
 none_some : (o : Option ℕ) (pass : ℕ) → o ≡ None → o ≡ Some pass → ⊥
 none_some o pass none some = cc
+
+-- ---- full
+
+pub full_checkpoint : {D : Type 0} (faults : D → ℕ) (old new : StoreView D) (pass : ℕ) (told : CheckpointReply) → old.stop ≡ None → IsFullForCheckpoint old → MakesCheckpoint faults old pass told new → (told ≡ Full) ⊎ (told ≡ NoMemory)
+full_checkpoint faults old _ pass _ running is_full (made active goes fits) = absurd (fits is_full)
+full_checkpoint faults old _ pass _ running is_full (full goes over) = inl refl
+full_checkpoint faults old _ pass _ running is_full (failed other goes fits risen) = absurd (fits is_full)
+full_checkpoint faults old _ pass _ running is_full (stopped earlier stop) = absurd (none_some old.stop earlier running stop)
+full_checkpoint faults old _ pass _ running is_full (without_memory goes) = inr refl
 
 -- ---- one of two, exchanged
 

@@ -14,18 +14,18 @@ use Rattle.journal_records.specs.EventSpelling.{event_spelling}
 use Rattle.op_gate.specs.Decision.{GateView}
 use Rattle.pcfs_store.specs.declared.reply.StoreReply.{StoreReply}
 use Rattle.pcfs_store.specs.declared.reply.StoreReply.TheVariants.{Step, Full, Stopped, NoMemory}
-use Rattle.pcfs_store.specs.declared.checkpoint.Checkpoint.{Checkpoint}
+use Rattle.pcfs_store.specs.declared.checkpoints.Checkpoint.{Checkpoint}
 use Rattle.pcfs_store.specs.StoreView.{StoreView, IsStore}
 use Rattle.pcfs_store.specs.Inside.{store_of, IsKeeping}
 use Rattle.pcfs_store.specs.Steps.{with_event, Steps, answered, full, stopped, without_memory}
 use Rattle.pcfs_store.specs.Keeping.{HasWritten, HasFailed, KeepsPending, with_kept, without_pending}
 use Rattle.pcfs_store.proofs.StepLemmas.{Clauses, nothing_changed, push_store, was_kept, has_failed}
 
-is_none_from : (o : Option ℕ) → is_some o ≡ false → o ≡ None
+pub is_none_from : (o : Option ℕ) → is_some o ≡ false → o ≡ None
 is_none_from None e = refl
 is_none_from (Some pass) e = absurd cc
 
-is_some_from : (o : Option ℕ) → is_some o ≡ true → (pass : ℕ) × (o ≡ Some pass)
+pub is_some_from : (o : Option ℕ) → is_some o ≡ true → (pass : ℕ) × (o ≡ Some pass)
 is_some_from None e = absurd cc
 is_some_from (Some pass) e = (pass, refl)
 

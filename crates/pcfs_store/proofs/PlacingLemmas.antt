@@ -1,21 +1,30 @@
 -- The ends of the placing of an image, over what its parts say.
-use Rattle.std.proofs.Common.{◌≡◌, ℕ, ◌+◌, ◌-◌, ◌^◌, ◌<◌, ◌≤◌, List, [], ◌∷◌, ◌++◌, length, Some, None, Bool, refl, sym, ◌∙◌, ap, subst, inl, arith}
-use Rattle.std.specs.Prelude.{Option, not, Result, Ok, Err}
+use Rattle.std.proofs.Common.{◌≡◌, ℕ, ◌+◌, ◌-◌, ◌^◌, ◌<◌, ◌≤◌, List, [], ◌∷◌, ◌++◌, length, Some, None, Bool, true, false, refl, sym, ◌∙◌, ap, subst, inl, inr, arith}
+use Rattle.std.specs.Prelude.{Option, is_some, not, Result, Ok, Err, IfOk}
+use Rattle.bl_syntax.specs.declared.lists.NoMemory.{NoMemory as NoMemoryFault}
 use Rattle.journal_core.specs.declared.area.AreaFault.{AreaFault}
 use Rattle.journal_core.specs.declared.area.AreaFault.TheVariants as faults_of_area
 use Rattle.journal_core.specs.AreaView.{AreaView}
+use Rattle.access_history.specs.Base.{BaseView}
 use Rattle.access_history.specs.Replay.{replay}
+use Rattle.access_history.specs.History.{HistoryView, authority_of, state_of}
+use Rattle.access_history.specs.Lawful.{IsLawful}
+use Rattle.access_history.proofs.LawfulLemmas.{IsLawfulBase-lawful}
+use Rattle.checkpoint.specs.Writing.{FitsImage}
+use Rattle.checkpoint.proofs.WritingLemmas.{lawful_fits}
 use Rattle.checkpoint_image.specs.ImageSpelling.{image_spelling}
 use Rattle.op_gate.specs.Decision.{GateView}
-use Rattle.pcfs_store.specs.declared.checkpoint.Checkpoint.{Checkpoint}
+use Rattle.pcfs_store.specs.declared.checkpoints.Checkpoint.{Checkpoint}
 use Rattle.pcfs_store.specs.declared.reply.CheckpointReply.{CheckpointReply}
 use Rattle.pcfs_store.specs.declared.reply.CheckpointReply.TheVariants.{Checkpointed, Full, Stopped, NoMemory}
 use Rattle.pcfs_store.specs.Image.{IsImageOf}
-use Rattle.pcfs_store.specs.StoreView.{StoreView, IsStore}
+use Rattle.pcfs_store.specs.StoreView.{StoreView, state_of_store, IsStore}
 use Rattle.pcfs_store.specs.Inside.{store_of, IsKeeping}
-use Rattle.pcfs_store.specs.Checkpoints.{with_checkpoint, MakesCheckpoint, full, without_memory, Checkpoints}
+use Rattle.pcfs_store.specs.Checkpoints.{with_checkpoint, MakesCheckpoint, full, stopped, without_memory, Checkpoints}
 use Rattle.pcfs_store.specs.Moving.{HasMoved, HasNotMoved, MovesArea, Overwrites}
 use Rattle.pcfs_store.proofs.CheckpointLemmas.{nothing_changed, next_store, was_made, was_stopped}
+use Rattle.pcfs_store.proofs.EndLemmas.{is_none_from, is_some_from}
+use Rattle.pcfs_store.proofs.IssueLemmas.{few_issues}
 
 module _ {D : Type 0} (clock : D → ℕ) (left_since : D → ℕ → List ℕ → Type 0) (image : D → Option (List ℕ)) (faults : D → ℕ)
     (area : AreaView D) (other : D) (second : Bool) (generation : ℕ) (gate : GateView) (checkpoints : List Checkpoint) (stop : Option ℕ) (keeping : IsKeeping area other second generation gate checkpoints stop)
@@ -128,3 +137,57 @@ module _ {D : Type 0} (clock : D → ℕ) (left_since : D → ℕ → List ℕ �
         subst (Ends Stopped) (sym (failed_is k.stays))
         (ends Stopped (record before { other = other_after; stop = Some pass })
         (was_stopped clock left_since image faults before keeping.store is_image few other_after k.overwrites earlier k.risen pass running))
+
+-- ---- before the image is placed
+
+module _ {D : Type 0} (clock : D → ℕ) (left_since : D → ℕ → List ℕ → Type 0) (image : D → Option (List ℕ)) (faults : D → ℕ)
+    (area : AreaView D) (other : D) (second : Bool) (generation : ℕ) (gate : GateView) (checkpoints : List Checkpoint) (stop : Option ℕ) (keeping : IsKeeping area other second generation gate checkpoints stop)
+    (s : StoreView D) (view_is : store_of area other second generation gate checkpoints stop ≡ s) (pass : ℕ) where
+  early : (result : CheckpointReply) → (result ≡ Checkpointed → ⊥) → MakesCheckpoint faults (store_of area other second generation gate checkpoints stop) pass result (store_of area other second generation gate checkpoints stop) →
+      Checkpoints clock left_since image faults s pass result s
+  early result unmade makes =
+      subst (λ (old : StoreView D). Checkpoints clock left_since image faults old pass result old) view_is
+      (nothing_changed clock left_since image faults (store_of area other second generation gate checkpoints stop) pass result keeping.store makes unmade)
+
+  -- a disk failed before
+  pub stopped_end : is_some stop ≡ true → Checkpoints clock left_since image faults s pass Stopped s
+  stopped_end is = let earlier = is_some_from stop is in early Stopped (λ e. unlike e) (stopped earlier.0 earlier.1)
+    where
+      unlike : Stopped ≡ Checkpointed → ⊥
+      unlike e = cc
+
+  -- there is no next generation
+  pub last_end : is_some stop ≡ false → 2 ^ 48 - 1 ≤ generation → Checkpoints clock left_since image faults s pass Full s
+  last_end runs last = early Full (λ e. unlike e) (full (is_none_from stop runs) (inr last))
+    where
+      unlike : Full ≡ Checkpointed → ⊥
+      unlike e = cc
+
+  -- there is no image
+  pub unwritten_end : is_some stop ≡ false → Checkpoints clock left_since image faults s pass NoMemory s
+  unwritten_end runs = early NoMemory (λ e. unlike e) (without_memory (is_none_from stop runs))
+    where
+      unlike : NoMemory ≡ Checkpointed → ⊥
+      unlike e = cc
+
+  pub runs_there : is_some stop ≡ false → s.stop ≡ None
+  runs_there runs = subst (λ (old : StoreView D). old.stop ≡ None) view_is (is_none_from stop runs)
+
+  pub few_there : generation < 2 ^ 48 - 1 → s.generation < 2 ^ 48 - 1
+  few_there below = subst (λ (old : StoreView D). old.generation < 2 ^ 48 - 1) view_is below
+
+-- ---- the state that the gate shows fits an image
+
+module _ {D : Type 0} (area : AreaView D) (other : D) (second : Bool) (generation : ℕ) (gate : GateView) (checkpoints : List Checkpoint) (stop : Option ℕ) (keeping : IsKeeping area other second generation gate checkpoints stop)
+    (s : StoreView D) (view_is : store_of area other second generation gate checkpoints stop ≡ s) (history : HistoryView) (base_is : history.base ≡ gate.base) (events_are : history.events ≡ gate.events) where
+  shown : state_of history ≡ replay gate.base gate.events
+  shown = ap (λ (b : BaseView). replay b history.events) base_is ∙ ap (replay gate.base) events_are
+
+  pub state_fits : IsLawful (authority_of history) history.base history.events → FitsImage (state_of history)
+  state_fits lawful =
+      lawful_fits history.key history.ring (state_of history) (IsLawfulBase-lawful (authority_of history) history.base history.events lawful)
+      (subst (λ (b : BaseView). length b.issues < 2 ^ 32) (sym shown) (few_issues (store_of area other second generation gate checkpoints stop) keeping.store))
+
+  pub image_there : (found : Result (List ℕ) NoMemoryFault) → IfOk found (IsImageOf (state_of history)) → IfOk found (IsImageOf (state_of_store s))
+  image_there (Ok bytes) is = subst (λ (old : StoreView D). IsImageOf (state_of_store old) bytes) view_is (subst (λ (b : BaseView). IsImageOf b bytes) shown is)
+  image_there (Err fault) is = tt

@@ -17,7 +17,7 @@ use Rattle.journal_records.specs.EventSpelling.{erase, event_spelling, IsSpellab
 use Rattle.journal_records.proofs.EventLemmas.{same_spelling}
 use Rattle.access_history.specs.Replay.{replay}
 use Rattle.checkpoint_image.specs.ImageSpelling.{image_spelling}
-use Rattle.pcfs_store.specs.declared.checkpoint.Checkpoint.{Checkpoint}
+use Rattle.pcfs_store.specs.declared.checkpoints.Checkpoint.{Checkpoint}
 use Rattle.pcfs_store.specs.Image.{IsImageOf}
 use Rattle.pcfs_store.specs.StoredHistory.{payloads_of, AreSpellable, state_after, area_since, StandsFor, Resumes}
 use Rattle.pcfs_store.specs.Newest.{newer, one_of, newest, SurvivesWhole, SurvivesWholeClosed}
