@@ -86,6 +86,13 @@ impl Name {
         }
     }
 
+    /// The name of these bytes.
+    pub fn of_short(short: Short<64>) -> Name
+        ensures { result ≡ short }
+    {
+        Name { short }
+    }
+
     /// The bytes in a place of fixed size.
     pub fn short(&self) -> Short<64>
         ensures { result ≡ self.now }
