@@ -61,8 +61,8 @@ pub fn copy_issues(alloc: Global, issues: &[Issue]) -> Result<Issues, NoMemory>
     Ok(copied)
 }
 
-// Keeps an equal statement with an equal signature.
-fn keep_copy(alloc: Global, registry: &mut Registry, entry: &Registered) -> Result<(), NoMemory>
+/// Keeps an equal statement with an equal signature, in memory of its own. There are fewer than 4,096.
+pub fn keep_copy(alloc: Global, registry: &mut Registry, entry: &Registered) -> Result<(), NoMemory>
     requires { length registry.old.entries < 4096 }
     ensures { OnOk result (registry.new.entries ≡ registry.old.entries ++ entry.now ∷ []) }
 {

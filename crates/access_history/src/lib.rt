@@ -14,6 +14,7 @@ mod reply;
 mod request;
 
 pub use base::Base;
+pub use copying::keep_copy;
 pub use event::{Addition, Event, Events, Issue, Issues, Procaps, Statements};
 pub use history::History;
 pub use laws::{

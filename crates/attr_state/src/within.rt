@@ -47,7 +47,13 @@ fn is_mark(row: &MetaRow) -> bool
     let attributes = row.attributes.as_slice();
     let _ = row.owner.bytes();
     are_texts(attributes);
-    attributes.len() <= MOST_ATTRIBUTES && are_named(attributes) && do_names_rise(attributes)
+    if MOST_ATTRIBUTES < attributes.len() {
+        return false;
+    }
+    if !are_named(attributes) {
+        return false;
+    }
+    do_names_rise(attributes)
 }
 
 fn do_numbers_rise(rows: &[MetaRow]) -> bool
@@ -71,5 +77,8 @@ fn are_each_marks(rows: &[MetaRow]) -> bool
 pub fn are_marks(rows: &[MetaRow]) -> bool
     ensures { IsTrue result ↔ AreMarks (map meta_row rows.now) }
 {
-    do_numbers_rise(rows) && are_each_marks(rows)
+    if !do_numbers_rise(rows) {
+        return false;
+    }
+    are_each_marks(rows)
 }

@@ -1,7 +1,7 @@
 -- Laws of the reading of an image (this project's own).
 use Rattle.std.specs.Prelude.{◌≡◌, ◌<◌, ◌^◌, ℕ, List, ◌∷◌, ◌++◌, length, Result, Ok, Err}
 use Rattle.bl_syntax.specs.declared.codec_fault.CodecFault.{CodecFault}
-use Rattle.bl_syntax.specs.declared.codec_fault.CodecFault.TheVariants.{Short, NotCanonical}
+use Rattle.bl_syntax.specs.declared.codec_fault.CodecFault.TheVariants.{NotCanonical}
 use Rattle.bl_syntax.specs.Codec.{AreBytes}
 use Rattle.policy_statement.specs.Ring.{KeyView}
 use Rattle.access_history.specs.Base.{BaseView}
@@ -25,15 +25,15 @@ StatesAreRead = (bytes : List ℕ) (base : BaseView) → AreBytes bytes → (Rea
 
 -- bytes that have a fault are no image
 abbrev pub FaultsAreNoImages : Type 0
-FaultsAreNoImages = (bytes : List ℕ) (fault : CodecFault) (base : BaseView) → AreBytes bytes → ReadsImage bytes (Err fault) → IsImageOf base bytes → ⊥
+FaultsAreNoImages = (bytes : List ℕ) (fault : CodecFault) (base : BaseView) → ReadsImage bytes (Err fault) → IsImageOf base bytes → ⊥
 
 -- bytes left over after an image are a fault at the first of them
 abbrev pub ImagesEndTheInput : Type 0
 ImagesEndTheInput = (base : BaseView) (image : List ℕ) (byte : ℕ) (rest : List ℕ) → IsImageOf base image → ReadsImage (image ++ byte ∷ rest) (Err (NotCanonical (length image)))
 
--- an image that is cut is too short
-abbrev pub CutImagesAreShort : Type 0
-CutImagesAreShort = (base : BaseView) (front : List ℕ) (byte : ℕ) (rest : List ℕ) → AreBytes front → IsImageOf base (front ++ byte ∷ rest) → ReadsImage front (Err Short)
+-- an image that is cut is the image of no state
+abbrev pub CutImagesAreNone : Type 0
+CutImagesAreNone = (base other : BaseView) (front : List ℕ) (byte : ℕ) (rest : List ℕ) → AreBytes front → IsImageOf base (front ++ byte ∷ rest) → ReadsImage front (Ok other) → ⊥
 
 -- a lawful state fits an image, if it has fewer than 2^32 issues
 abbrev pub LawfulStatesFit : Type 0

@@ -1,6 +1,6 @@
 //! Laws of the definitions. A law is the contract of an empty function, which nothing calls.
 
-ghost use Rattle.checkpoint.specs.Laws.{ReadingsAreDetermined, BytesAreRead, StatesAreRead, FaultsAreNoImages, ImagesEndTheInput, CutImagesAreShort, LawfulStatesFit};
+ghost use Rattle.checkpoint.specs.Laws.{ReadingsAreDetermined, BytesAreRead, StatesAreRead, FaultsAreNoImages, ImagesEndTheInput, CutImagesAreNone, LawfulStatesFit};
 
 /// Bytes have exactly one reading.
 pub fn readings_are_determined()
@@ -14,10 +14,10 @@ pub fn states_are_read()
     ensures refused { FaultsAreNoImages }
 {}
 
-/// With bytes left over an image is refused at the first of them, and cut it is too short.
+/// With bytes left over an image is refused at the first of them, and cut it is refused too.
 pub fn images_are_whole()
     ensures left_over { ImagesEndTheInput }
-    ensures cut { CutImagesAreShort }
+    ensures cut { CutImagesAreNone }
 {}
 
 /// A state with which a history may begin fits an image, unless it has too many issues.
