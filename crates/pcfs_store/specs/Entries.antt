@@ -6,7 +6,7 @@ use Rattle.access_history.specs.Base.{BaseView}
 use Rattle.access_history.specs.Replay.{next_state, replay}
 use Rattle.journal_records.specs.EventSpelling.{event_spelling}
 use Rattle.checkpoint_image.specs.ImageSpelling.{image_spelling}
-use Rattle.pcfs_store.specs.declared.checkpoint.Checkpoint.{Checkpoint}
+use Rattle.pcfs_store.specs.declared.checkpoints.Checkpoint.{Checkpoint}
 use Rattle.pcfs_store.specs.StoreView.{StoreView}
 
 -- what a store was opened with: the base, the key of the seal and the ring, and of the opened area the generation and the length of its image

@@ -2,7 +2,7 @@
 use Rattle.std.specs.Prelude.{◌≡◌, ℕ, Bool, List, Option, None}
 use Rattle.journal_core.specs.AreaView.{AreaView}
 use Rattle.op_gate.specs.Decision.{GateView}
-use Rattle.pcfs_store.specs.declared.checkpoint.Checkpoint.{Checkpoint}
+use Rattle.pcfs_store.specs.declared.checkpoints.Checkpoint.{Checkpoint}
 use Rattle.pcfs_store.specs.StoreView.{StoreView, IsStore}
 
 -- the store of these fields

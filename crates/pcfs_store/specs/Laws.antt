@@ -13,6 +13,9 @@ use Rattle.pcfs_store.specs.Image.{fresh_image, IsImageOf}
 use Rattle.pcfs_store.specs.Entries.{root_of, entries_of, events_among, checkpoints_among, used_by}
 use Rattle.pcfs_store.specs.Ready.{IsReady, IsCurrent, StopsNow}
 use Rattle.pcfs_store.specs.Steps.{IsFullFor, Steps}
+use Rattle.pcfs_store.specs.declared.reply.CheckpointReply.{CheckpointReply}
+use Rattle.pcfs_store.specs.declared.reply.CheckpointReply.TheVariants as checkpoints
+use Rattle.pcfs_store.specs.Checkpoints.{IsFullForCheckpoint, MakesCheckpoint}
 
 -- the image of a store before its first event, as it stands in bytes, is the image of that state
 abbrev pub FreshHasImage : Type 0
@@ -36,6 +39,11 @@ FullIsExact D faults =
     (old new : StoreView D) (pass : ℕ) (clock : ℤ) (request : StepRequest) (reply : StepReply) (event : Event) (told : StoreReply)
     → IsLawful (authority_of_store old) old.base old.events → old.stop ≡ None → AnswersIn old pass clock request reply (Some event) → IsFullFor old event → Steps faults old pass clock request told new
     → (told ≡ Full) ⊎ (told ≡ NoMemory)
+
+-- over a store that is not stopped, a checkpoint whose image does not fit, or that has no next generation, is answered Full, if memory does not run out
+abbrev pub CheckpointFullIsExact : (D : Type 0) → (D → ℕ) → Type 0
+CheckpointFullIsExact D faults =
+    (old new : StoreView D) (pass : ℕ) (told : CheckpointReply) → old.stop ≡ None → IsFullForCheckpoint old → MakesCheckpoint faults old pass told new → (told ≡ checkpoints.Full) ⊎ (told ≡ checkpoints.NoMemory)
 
 -- what a read of the disks of a current store gives has its history
 abbrev pub CurrentSurvives : (D : Type 0) → (D → ℕ) → (D → ℕ → List ℕ → Type 0) → (D → Option (List ℕ)) → Type 0

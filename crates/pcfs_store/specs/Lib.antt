@@ -9,5 +9,6 @@ pub mod Entries
 pub mod Ready
 pub mod Steps
 pub mod Checkpoints
+pub mod Moving
 pub mod Formats
 pub mod Laws

@@ -7,8 +7,8 @@ use Rattle.access_history.specs.Base.{BaseView}
 use Rattle.access_history.specs.contracts.event.Event as event
 use Rattle.access_history.specs.BaseCode.{base_code}
 use Rattle.access_history.specs.HistoryCode.{key_code}
-use Rattle.pcfs_store.specs.declared.checkpoint.Checkpoint.{Checkpoint}
-use Rattle.pcfs_store.specs.contracts.checkpoint.Checkpoint as checkpoint
+use Rattle.pcfs_store.specs.declared.checkpoints.Checkpoint.{Checkpoint}
+use Rattle.pcfs_store.specs.contracts.checkpoints.Checkpoint as checkpoint
 use Rattle.pcfs_store.specs.StoreView.{StoreView}
 
 abbrev pub store_code : {D : Type 0} → Coded D → Coded (StoreView D)

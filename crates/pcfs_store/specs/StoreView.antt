@@ -11,7 +11,7 @@ use Rattle.access_history.specs.History.{authority_with}
 use Rattle.access_history.specs.Replay.{replay}
 use Rattle.access_history.specs.Answer.{Answers}
 use Rattle.checkpoint_image.specs.ImageSpelling.{image_spelling}
-use Rattle.pcfs_store.specs.declared.checkpoint.Checkpoint.{Checkpoint}
+use Rattle.pcfs_store.specs.declared.checkpoints.Checkpoint.{Checkpoint}
 use Rattle.pcfs_store.specs.Image.{IsImageOf}
 use Rattle.pcfs_store.specs.StoredHistory.{AreSpellable, state_after, area_since}
 use Rattle.pcfs_store.specs.Newest.{one_of}

@@ -1,6 +1,6 @@
 //! Laws of the definitions. The functions do nothing: each contract is a law.
 
-ghost use Rattle.pcfs_store.specs.Laws.{FreshHasImage, EntriesSayUse, EntriesSayGeneration, EntriesHaveEvents, FullIsExact, CurrentSurvives, ReadyIsCurrent, ReadySurvives};
+ghost use Rattle.pcfs_store.specs.Laws.{FreshHasImage, EntriesSayUse, EntriesSayGeneration, EntriesHaveEvents, FullIsExact, CheckpointFullIsExact, CurrentSurvives, ReadyIsCurrent, ReadySurvives};
 
 use pcfs_ports::Disk;
 
@@ -16,9 +16,10 @@ pub fn entries_say_what_is_stored<D: Disk>()
     ensures events { EntriesHaveEvents D }
 {}
 
-/// A step is full if its event does not fit, unless memory runs out.
+/// A step is full if its event does not fit, unless memory runs out; and so is a checkpoint if its area does not.
 pub fn full_is_exact<D: Disk>()
-    ensures { FullIsExact D D.faults }
+    ensures step { FullIsExact D D.faults }
+    ensures checkpoint { CheckpointFullIsExact D D.faults }
 {}
 
 /// What a read of the disks of a store gives stands for its history, if it did so when the store was opened and no disk
