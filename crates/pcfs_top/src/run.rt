@@ -163,11 +163,9 @@ fn checkpoint_stored<O: Sink, D: Disk>(
         },
     };
     match open_store(alloc, a, b, secrets.seal_key.as_slice(), ring) {
-        Ok(store) => {
-            let mut store = store;
+        Ok(mut store) => {
             store.keeps();
-            let reply = store.checkpoint(alloc, 0);
-            store.keeps();
+            let reply = store.checkpoint(alloc, 1);
             let status = tell_checkpoint(output, reply);
             let (first, second) = store.into_disks();
             Ended {
