@@ -1,6 +1,6 @@
 -- The ends of a run.
 use Rattle.std.proofs.Common.{◌≡◌, ◌⊎◌, inl, inr, ℕ, ◌≤◌, ◌<◌, le-ltb, lt-ltb, Bool, true, false, List, [], length, take, drop, ap, sym, subst, ◌∙◌, arith, Option, Some, None, refl}
-use Rattle.std.specs.Prelude.{String, codes, IfSome, nat_lt, ◌==◌, if◌then◌else◌}
+use Rattle.std.specs.Prelude.{String, codes, IfSome, nat_lt, not, ◌==◌, if◌then◌else◌}
 use Rattle.std.specs.Int.{w64, from_be_bytes}
 use Rattle.std.specs.Option.{option_map}
 use Rattle.std.specs.declared.alloc.Global.{Global}
@@ -49,7 +49,7 @@ use Rattle.pcfs_tools.specs.Load.{IsLoaded}
 use Rattle.pcfs_tools.specs.ScriptStatus.{AnswersInput}
 use Rattle.pcfs_tools.proofs.MemoryLemmas.{secrets_of}
 use Rattle.pcfs_top.specs.Ports.{Disks, Ports, Rests, AreBytesKept}
-use Rattle.pcfs_top.specs.Run.{AreOfStore, of_script, of_checkpoint, of_audit, HasNoArea, IsNotLost, IsOpened, IsNewestOf, IsNewestImage, Returns, HasCause, EndsWith, TellsCheckpoint, TellsUnopened, TellsUnmade, damaged_text}
+use Rattle.pcfs_top.specs.Run.{AreOfStore, of_script, of_checkpoint, of_audit, HasNoArea, IsNotLost, IsOpened, IsNewestOf, IsNewestImage, NewestStays, Returns, HasCause, EndsWith, TellsCheckpoint, TellsUnopened, TellsUnmade, damaged_text}
 use Rattle.pcfs_top.specs.Run as run
 use Rattle.pcfs_session.specs.ScriptRun.{IsLawfulStanding, script_pass}
 use Rattle.pcfs_session.specs.Stored.{StoreGoesOn}
@@ -186,6 +186,9 @@ module _ {D : Type 0} (clock : D → ℕ) (left_since : D → ℕ → List ℕ �
         counts = newest_active s.second_active a o s.generation (generation_at s store current a is_a) (behind_at s store current o is_o);
         gate = subst (λ (body : List ℕ). length body < length a) (body_unsettled s unsettled) (subst (λ (bytes : List ℕ). length (body_of s) < length bytes) (same_some ready.rests.bytes a (sym ready.rests.told ∙ is_a)) ready.rests.closed.gate);
       })
+
+  same_place : (x y : Bool) → Some x ≡ Some y → x ≡ y
+  same_place x y is = cc
 
   -- the disk that does not count
   pub other_same : (second : Bool) (active active' other : D) (x y : Option (List ℕ)) → image (one_of active other second) ≡ x → image (one_of other active second) ≡ y →
@@ -337,12 +340,39 @@ module _ {D : Type 0} (clock : D → ℕ) (left_since : D → ℕ → List ℕ �
   full_same : (s s' : StoreView D) (pass : ℕ) → MakesCheckpoint faults s pass checkpoints.Full s' → (s' ≡ s) × IsFullForCheckpoint s
   full_same s _ pass (makes.full running is_full) = (refl, is_full)
 
+  made_fits : (s s' : StoreView D) (pass : ℕ) → MakesCheckpoint faults s pass checkpoints.Checkpointed s' → IsFullForCheckpoint s → ⊥
+  made_fits s _ pass (makes.made active running room) = room
+
+  stopped_fits : (s s' : StoreView D) (pass : ℕ) → s.stop ≡ None → MakesCheckpoint faults s pass checkpoints.Stopped s' → IsFullForCheckpoint s → ⊥
+  stopped_fits s _ pass running (makes.failed other runs room risen) = room
+  stopped_fits s _ pass running (makes.stopped earlier is) = none_some earlier (sym running ∙ is)
+
   unmade_same : (s s' : StoreView D) (pass : ℕ) → MakesCheckpoint faults s pass checkpoints.NoMemory s' → s' ≡ s
   unmade_same s _ pass (makes.without_memory running) = refl
 
   stopped_risen : (s s' : StoreView D) (pass : ℕ) → s.stop ≡ None → MakesCheckpoint faults s pass checkpoints.Stopped s' → HasRisen (faults (first_disk s)) (faults (first_disk s')) ⊎ HasRisen (faults (second_disk s)) (faults (second_disk s'))
   stopped_risen s _ pass running (makes.failed other runs room risen) = risen_other s.second_active s.active s.other other risen
   stopped_risen s _ pass running (makes.stopped earlier is) = none_some earlier (sym running ∙ is)
+
+  -- the disk that counted, in its place
+  active_is : (second : Bool) (active other : D) (x y : Option (List ℕ)) → image (one_of active other second) ≡ x → image (one_of other active second) ≡ y → image active ≡ one_of x y second
+  active_is false active other x y is_x is_y = is_x
+  active_is true active other x y is_x is_y = is_y
+
+  made_place : (second : Bool) (active new : D) → one_of (image (one_of new active (not second))) (image (one_of active new (not second))) second ≡ image active
+  made_place false active new = refl
+  made_place true active new = refl
+
+  stopped_place : (second : Bool) (active new : D) → one_of (image (one_of active new second)) (image (one_of new active second)) second ≡ image active
+  stopped_place false active new = refl
+  stopped_place true active new = refl
+
+  made_stays : (s s' : StoreView D) (pass : ℕ) → MakesCheckpoint faults s pass checkpoints.Checkpointed s' → one_of (image (first_disk s')) (image (second_disk s')) s.second_active ≡ image s.active
+  made_stays s _ pass (makes.made active running room) = made_place s.second_active s.active active
+
+  stopped_stays : (s s' : StoreView D) (pass : ℕ) → s.stop ≡ None → MakesCheckpoint faults s pass checkpoints.Stopped s' → one_of (image (first_disk s')) (image (second_disk s')) s.second_active ≡ image s.active
+  stopped_stays s _ pass running (makes.failed other runs room risen) = stopped_place s.second_active s.active other
+  stopped_stays s _ pass running (makes.stopped earlier is) = none_some earlier (sym running ∙ is)
 
   newest_image : (s : StoreView D) (x y : List ℕ) → IsNewestCheckpoint s x y → IsNewestImage (s.generation + 1) (state_of_store s) x y
   newest_image s x y n = record { bytes = n.bytes; counts = n.counts; closed = n.closed }
@@ -365,6 +395,13 @@ module _ {D : Type 0} (clock : D → ℕ) (left_since : D → ℕ → List ℕ �
       subst (λ (n : StoreView D). IsPinned clock left_since image (second_disk n)) (sym same) opened.second_read.pinned,
     )
 
+    -- the disk that counted is as it was
+    stays_by : one_of (image (first_disk s')) (image (second_disk s')) s.second_active ≡ image s.active → NewestStays (disks_of a b) (disks_of (first_disk s') (second_disk s'))
+    stays_by stays x y is_x is_y second counts =
+        let now = counts_now s store (opened.current x y is_x is_y) x y (opened.first_read.same ∙ is_x) (opened.second_read.same ∙ is_y) in
+        subst (λ (w : Bool). one_of (image (first_disk s')) (image (second_disk s')) w ≡ one_of (image a) (image b) w) (same_place s.second_active second (sym now ∙ counts))
+        (stays ∙ active_is s.second_active s.active s.other (image a) (image b) opened.first_read.same opened.second_read.same)
+
     -- it was made: the store is ready, and its newest area has the image of the state
     is_ready : Checkpoints clock left_since image faults s pass checkpoints.Checkpointed s' → (x y : List ℕ) → image a ≡ Some x → image b ≡ Some y → IsReady clock left_since image s'
     is_ready made x y is_x is_y =
@@ -376,7 +413,7 @@ module _ {D : Type 0} (clock : D → ℕ) (left_since : D → ℕ → List ℕ �
         EndsWith secrets words (rests_of a b (first_disk s') (second_disk s')) (record { streams = before; disks = disks_of a b }) (record { streams = after; disks = disks_of (first_disk s') (second_disk s') }) result
     ends before after result checkpoints.Checkpointed made left tells =
         told_as words secrets (rests_of a b (first_disk s') (second_disk s')) (record { streams = before; disks = disks_of a b }) (record { streams = after; disks = disks_of (first_disk s') (second_disk s') }) 0 (codes "ok checkpoint") result
-        (run.checkpointed s.generation (standing_over s None (first_asker script_pass)) is is_start (λ x y is_x is_y. (
+        (run.checkpointed s.generation (standing_over s None (first_asker script_pass)) is is_start (made_fits s s' pass made.answer) (stays_by (made_stays s s' pass made.answer)) (λ x y is_x is_y. (
           pinned_at s' (first_disk s') (second_disk s') refl refl (is_ready made x y is_x is_y),
           λ x' y' is_x' is_y'. newest_image s x' y' (made.newest (opened.current x y is_x is_y) refl x' y' is_x' is_y'),
         ))) left tells
@@ -385,7 +422,7 @@ module _ {D : Type 0} (clock : D → ℕ) (left_since : D → ℕ → List ℕ �
         (let full = full_same s s' pass made.answer in run.full s.generation (standing_over s None (first_asker script_pass)) is is_start full.1 (kept_by full.0) (rests_by full.0)) left tells
     ends before after result checkpoints.Stopped made left tells =
         told_as words secrets (rests_of a b (first_disk s') (second_disk s')) (record { streams = before; disks = disks_of a b }) (record { streams = after; disks = disks_of (first_disk s') (second_disk s') }) 5 (codes "stopped") result
-        (run.not_checkpointed s.generation (standing_over s None (first_asker script_pass)) is is_start (risen_since secrets a b s s' opened (stopped_risen s s' pass opened.running made.answer))
+        (run.not_checkpointed s.generation (standing_over s None (first_asker script_pass)) is is_start (stopped_fits s s' pass opened.running made.answer) (risen_since secrets a b s s' opened (stopped_risen s s' pass opened.running made.answer)) (stays_by (stopped_stays s s' pass opened.running made.answer))
         (λ x y is_x is_y closed x' y' is_x' is_y'. made.halts (opened.ready x y is_x is_y closed) refl x' y' (may_stay (first_disk s') x' is_x') (may_stay (second_disk s') y' is_y'))) left tells
     ends before after result checkpoints.NoMemory made left tells =
         untold_as words secrets (rests_of a b (first_disk s') (second_disk s')) (record { streams = before; disks = disks_of a b }) (record { streams = after; disks = disks_of (first_disk s') (second_disk s') }) result
@@ -408,9 +445,6 @@ module _ {D : Type 0} (clock : D → ℕ) (left_since : D → ℕ → List ℕ �
         ap (λ (o : D). one_of (image (one_of o s'.active s'.second_active)) (image (one_of s'.active o s'.second_active)) s.second_active) goes.other_stays
         ∙ ap (λ (w : Bool). one_of (image (one_of s.other s'.active w)) (image (one_of s'.active s.other w)) s.second_active) goes.place_stays
         ∙ other_same s.second_active s.active s'.active s.other (image a) (image b) opened.first_read.same opened.second_read.same
-
-    same_place : (x y : Bool) → Some x ≡ Some y → x ≡ y
-    same_place x y is = cc
 
     returns_of : (may_stay : (d : D) (bytes : List ℕ) → image d ≡ Some bytes → left_since d (clock d) bytes) (s s' : StoreView D) (met : Option Event) (asker : Asker) → IsStore s → IsStore s' → opening.IsOpened clock left_since image faults a b secrets.seal_key secrets.ring s →
         StoreGoesOn clock left_since image faults s s' met → Returns (rests_of a b (first_disk s') (second_disk s')) s.generation (disks_of a b) (disks_of (first_disk s') (second_disk s')) (standing_over s None (first_asker script_pass)) (standing_over s' met asker)

@@ -104,6 +104,10 @@ pub record IsNewestImage (generation : ℕ) (state : BaseView) (x y : List ℕ) 
 abbrev pub HasNoNextArea : ℕ → BaseView → Type 0
 HasNoNextArea generation state = (area_limit < length (image_spelling state) + 25) ⊎ (2 ^ 48 - 1 ≤ generation)
 
+-- the bytes of the disk whose area counted are as they were
+abbrev pub NewestStays : Disks → Disks → Type 0
+NewestStays before after = IfTold before (λ x y. (second : Bool) → newer (generation_of x) (generation_of y) ≡ Some second → one_of after.a after.b second ≡ one_of before.a before.b second)
+
 -- What is left where the making of a store met the fault of a disk: if an area was open, all bytes are as they were; if none was, none is, or the new one. The second disk is as it was.
 pub record IsNotLost (before after : Disks) : Type 0 where
   pub b_stays : after.b ≡ before.b
@@ -119,11 +123,11 @@ pub data HasCause (secrets : Secrets) (words : List (String Global)) (rests : Re
   no_store : AreOfStore words → IfTold before HasNoArea → AreBytesKept before after → HasCause secrets words rests before after 4 (codes "nostore")
   damaged : (number : ℕ) (damage : Damage) → AreOfStore words → IfTold before (IsNewestDamaged (authority_under secrets) number damage) → AreBytesKept before after → HasCause secrets words rests before after 3 (damaged_text number damage)
   not_opened : AreOfStore words → HasDiskFailed before after → (rests.before → AreBytesKept before after) → HasCause secrets words rests before after 5 (codes "stopped")
-  checkpointed : (generation : ℕ) (start : Standing) → AsksFor words Checkpoint → IsOpened secrets generation before start → IfTold before (λ x y. rests.after × IfTold after (IsNewestImage (generation + 1) (state_of_start start))) →
-      HasCause secrets words rests before after 0 (codes "ok checkpoint")
+  checkpointed : (generation : ℕ) (start : Standing) → AsksFor words Checkpoint → IsOpened secrets generation before start → (HasNoNextArea generation (state_of_start start) → ⊥) → NewestStays before after →
+      IfTold before (λ x y. rests.after × IfTold after (IsNewestImage (generation + 1) (state_of_start start))) → HasCause secrets words rests before after 0 (codes "ok checkpoint")
   full : (generation : ℕ) (start : Standing) → AsksFor words Checkpoint → IsOpened secrets generation before start → HasNoNextArea generation (state_of_start start) → AreBytesKept before after → rests.after →
       HasCause secrets words rests before after 14 (codes "full")
-  not_checkpointed : (generation : ℕ) (start : Standing) → AsksFor words Checkpoint → IsOpened secrets generation before start → HasDiskFailed before after →
+  not_checkpointed : (generation : ℕ) (start : Standing) → AsksFor words Checkpoint → IsOpened secrets generation before start → (HasNoNextArea generation (state_of_start start) → ⊥) → HasDiskFailed before after → NewestStays before after →
       IfTold before (λ x y. IsNewestClosed generation start.base start.events x y → IfTold after (SurvivesWholeClosed start.base start.events)) → HasCause secrets words rests before after 5 (codes "stopped")
   audited : (pieces : Option ℕ) (generation : ℕ) (start : Standing) (report : Report) → AsksFor words (Audit pieces) → IsOpened secrets generation before start → IsReport (authority_under secrets) start.base start.events report →
       AreBytesKept before after → rests.after → HasCause secrets words rests before after (audit_status report.rows) (report_text report)

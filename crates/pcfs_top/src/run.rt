@@ -165,13 +165,13 @@ fn checkpoint_stored<O: Sink, D: Disk>(
     match open_store(alloc, a, b, secrets.seal_key.as_slice(), ring) {
         Ok(mut store) => {
             store.keeps();
-            let reply = store.checkpoint(alloc, 1);
+            let reply = store.checkpoint(alloc, 0);
             let status = tell_checkpoint(output, reply);
-            let (first, second) = store.into_disks();
+            let (first_after, second_after) = store.into_disks();
             Ended {
                 status,
-                a: first,
-                b: second,
+                a: first_after,
+                b: second_after,
             }
         }
         Err((fault, a, b)) => Ended {
