@@ -1,5 +1,5 @@
 -- The rows of a world within the limits fit, and what is written before them and of them is the image.
-use Rattle.std.proofs.Common.{◌≡◌, List, ℕ, sym, ap, ap₂, ◌∙◌, subst, arith}
+use Rattle.std.proofs.Common.{rules, ◌≡◌, List, ℕ, sym, ap, ap₂, ◌∙◌, subst, arith}
 use Rattle.node_rows.specs.declared.rows.TreeRow.{TreeRow}
 use Rattle.node_rows.specs.declared.rows.MetaRow.{MetaRow}
 use Rattle.node_rows.specs.Rows.{item_rows}
@@ -19,7 +19,8 @@ pub returns : goal.returns
 returns c =
     let world = c.args.world.now.world in
     let next : c.next_number-next.result ≡ world.next = c.next_number-next.ensures ∙ ap (λ (t : TreeView). t.tree.next) c.tree.ensures.same in
+    let begun : c.in_ok-image.image ≡ front_spelling c.args.statements.now c.args.issues.now c.args.moment c.args.count c.next_number-next.result = search rules in
     is_image world c.args.statements.now c.args.issues.now c.args.moment c.args.count c.write_nodes.new.out c.in_ok-image-2.image (item_rows c.as_slice-3.result.now c.as_slice-4.result.now)
     c.tree.ensures.whole c.requires (omega arith) c.in_ok-image.ensures.statements c.in_ok-image.ensures.issues
-    (c.in_ok-image-2.ensures ∙ (c.in_ok-image.ensures.written ∙ ap (front_spelling c.args.statements.now c.args.issues.now c.args.moment c.args.count) next))
+    (c.in_ok-image-2.ensures ∙ (begun ∙ ap (front_spelling c.args.statements.now c.args.issues.now c.args.moment c.args.count) next))
     (ap₂ item_rows c.as_slice-3.ensures c.as_slice-4.ensures ∙ c.in_ok-tree.ensures.rows) c.in_ok-write_nodes.ensures.ok
