@@ -1,6 +1,7 @@
 //! A run of the program that may serve: its words, its ports, and the status that it ends with.
 
-ghost use Rattle.std.specs.Prelude.{◌≤◌, ℕ, List, Option};
+ghost use Rattle.std.specs.Prelude.{◌≡◌, ◌≤◌, ℕ, List, MatchOption, Option, Some};
+ghost use Rattle.command_words.specs.declared.words.Task.TheVariants.{Serve};
 ghost use Rattle.pcfs_ports.specs.Disk.{IsPinned};
 ghost use Rattle.pcfs_run.specs.Served.{EndsServing, RunEnds};
 
@@ -80,6 +81,19 @@ fn serve<
     }
 }
 
+// The port and the number of connections, if sessions are asked for.
+fn serving_of(asked: Option<Task>) -> Option<(u16, u64)>
+    ensures { MatchOption result ((port count : ℕ) → asked ≡ Some (Serve port count) → ⊥) (λ s. asked ≡ Some (Serve s.0 s.1)) }
+{
+    match asked {
+        Some(task) => match task {
+            Task::Serve(port, count) => Some((port, count)),
+            _ => None,
+        },
+        None => None,
+    }
+}
+
 /// Runs the program: with `serve`, a port and a number of connections, each of so many that come to that port has a session
 /// over the store on the disks, 64 at once; every other command is that of `run_alone`. The words are read first, then the
 /// store is opened, and only then the port is listened on.
@@ -133,10 +147,10 @@ pub fn run<
             b,
         },
     };
-    match asked {
-        Some(Task::Serve(port, count)) => serve(
+    match serving_of(asked) {
+        Some((port, count)) => serve(
             rt, alloc, secrets, output, a, b, port, count, clock, net, nonces,
         ),
-        _ => run_asked(rt, alloc, asked, secrets, input, output, a, b),
+        None => run_asked(rt, alloc, asked, secrets, input, output, a, b),
     }
 }
