@@ -21,7 +21,7 @@ returns-in-Ok-open_store g c words left read_faults asks =
     let opened = subst (λ k. IsOpened g.D.Disk.clock g.D.Disk.left_since g.D.Disk.image g.D.Disk.faults c.args.a c.args.b k c.args.secrets.now.ring c.in-Ok-open_store.store) c.as_slice.ensures
     (subst (λ r. IsOpened g.D.Disk.clock g.D.Disk.left_since g.D.Disk.image g.D.Disk.faults c.args.a c.args.b c.as_slice.result.now r c.in-Ok-open_store.store) c.in-Ok.ensures c.in-Ok-open_store.ensures.ok) in
     let e = c.checkpoint-reply.ensures in
-    EndsWith-checkpointed g.D.Disk.clock g.D.Disk.left_since g.D.Disk.image g.D.Disk.faults words c.args.secrets.now c.args.a c.args.b asks c.in-Ok-open_store.store c.keeps.ensures opened (λ d bytes told. g.met.D.Disk.image_may_stay d bytes told) 0 c.checkpoint-reply.new.store
+    EndsWith-checkpointed g.D.Disk.clock g.D.Disk.left_since g.D.Disk.image g.D.Disk.faults words c.args.secrets.now c.args.a c.args.b asks c.in-Ok-open_store.store c.keeps.ensures opened (λ d bytes told. g.met.D.Disk.image_may_stay d bytes told) 0 c.checkpoint-reply.new.self
     _ _ _ c.checkpoint-reply.result _ _
     (record {
       answer = e.answer;
