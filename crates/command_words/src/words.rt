@@ -20,6 +20,8 @@ pub enum Task {
     Stored,
     /// A store in the first area.
     Init,
+    /// A checkpoint of the store in the areas.
+    Checkpoint,
     /// An audit of the history in the areas, at once or in so many pieces.
     Audit(Option<usize>),
     /// An inquiry.
@@ -39,6 +41,9 @@ fn task_named(name: &str, given: &ArgMatches<'_>) -> Option<Task>
     }
     if name == "init" {
         return Some(Task::Init);
+    }
+    if name == "checkpoint" {
+        return Some(Task::Checkpoint);
     }
     if name == "audit" {
         return audit_task(given);
