@@ -1,5 +1,5 @@
 -- How a run ends that serves.
-use Rattle.std.proofs.Common.{◌≡◌, ◌∙◌, ◌⊎◌, inl, inr, ℕ, ◌≤◌, List, [], ◌∷◌, ◌++◌, ◌-◌, take, drop, append_assoc, map, Bool, Option, Some, None, codes, decimal, refl, sym, ap, subst, arith, add-zero}
+use Rattle.std.proofs.Common.{◌≡◌, ◌∙◌, ◌⊎◌, inl, inr, ℕ, ◌+◌, ◌≤◌, List, [], ◌∷◌, ◌++◌, ◌-◌, length, take, drop, append_assoc, map, Bool, Option, Some, None, codes, decimal, refl, sym, ap, subst, arith, add-zero}
 use Rattle.pcfs_ports.specs.Accepted.{FallsBy}
 use Rattle.pcfs_ports.specs.Faults.{HasRisen}
 use Rattle.access_history.specs.Answer.{Answers}
@@ -17,12 +17,12 @@ use Rattle.pcfs_server.specs.declared.end.ServeEnd.TheVariants as serve_ends
 use Rattle.pcfs_session.specs.LineAnswer.{authority_under}
 use Rattle.pcfs_session.specs.Streams.{Streams}
 use Rattle.pcfs_session.proofs.StoredLemmas.{HasRisen-earlier}
-use Rattle.pcfs_store.specs.Entries.{StoreEntry, happened, checkpointed, stopped, stop_entries, merged, entries_of, events_among}
+use Rattle.pcfs_store.specs.Entries.{StoreEntry, happened, checkpointed, stopped, stop_entries, merged, entries_of, checkpoints_among, events_among}
 use Rattle.pcfs_store.specs.declared.checkpoints.Checkpoint.{Checkpoint}
 use Rattle.pcfs_store.specs.Newest.{one_of}
 use Rattle.pcfs_store.specs.Ready.{IsReady, SurvivesWithOrWithout}
 use Rattle.pcfs_store.specs.StoreView.{StoreView, IsStore, first_disk, second_disk}
-use Rattle.pcfs_store.proofs.EntryLemmas.{events-entries}
+use Rattle.pcfs_store.proofs.EntryLemmas.{events-entries, generation-entries}
 use Rattle.recover.specs.declared.fault.OpenFault.{OpenFault}
 use Rattle.recover.specs.declared.fault.OpenFault.TheVariants as opens
 use Rattle.recover.specs.Opening.{IsNotOpened, IsNewestClosed}
@@ -43,6 +43,19 @@ events-append [] ys = refl
 events-append (happened event ∷ xs) ys = ap (λ (l : List Event). event ∷ l) (events-append xs ys)
 events-append (checkpointed pass ∷ xs) ys = events-append xs ys
 events-append (stopped pass ∷ xs) ys = events-append xs ys
+
+checkpoints-append : (xs ys : List StoreEntry) → checkpoints_among (xs ++ ys) ≡ checkpoints_among xs + checkpoints_among ys
+checkpoints-append [] ys = omega arith
+checkpoints-append (happened event ∷ xs) ys = checkpoints-append xs ys
+checkpoints-append (checkpointed pass ∷ xs) ys = let rest = checkpoints-append xs ys in omega (arith, rest)
+checkpoints-append (stopped pass ∷ xs) ys = checkpoints-append xs ys
+
+-- among the entries of a store without checkpoints there are none
+no_checkpoints_among : {D : Type 0} (s : StoreView D) → IsStore s → s.checkpoints ≡ [] → checkpoints_among (entries_of s) ≡ 0
+no_checkpoints_among s store none =
+    let generation_is = generation-entries s store in
+    let are_none : length s.checkpoints ≡ 0 = ap length none in
+    omega (arith, generation_is, are_none)
 
 -- the mark among a store's entries is its stop
 stop-happened : (events : List Event) (rest : List StoreEntry) → stop_among (map happened events ++ rest) ≡ stop_among rest
@@ -130,6 +143,12 @@ module _ {D : Type 0} (clock : D → ℕ) (left_since : D → ℕ → List ℕ �
     added_stop attended count grown =
         sym (stop-append (entries_of s) grown.added (stop-entries s.events s.checkpoints s.stop ∙ opened.running)) ∙ ap stop_among (sym grown.parts) ∙ stop-entries s'.events s'.checkpoints s'.stop
 
+    added_checkpoints : (attended count : ℕ) (grown : IsGrown attended count s s') → checkpoints_among grown.added ≡ 0
+    added_checkpoints attended count grown =
+        let all : checkpoints_among (entries_of s ++ grown.added) ≡ 0 = ap checkpoints_among (sym grown.parts) ∙ no_checkpoints_among s' store' no_checkpoints in
+        let parts = checkpoints-append (entries_of s) grown.added in
+        omega (arith, all, parts)
+
     added_events : (attended count : ℕ) (grown : IsGrown attended count s s') → s'.events ≡ s.events ++ events_among grown.added
     added_events attended count grown =
         sym (events-entries s'.events s'.checkpoints s'.stop) ∙ ap events_among grown.parts ∙ events-append (entries_of s) grown.added ∙ ap (λ (l : List Event). l ++ events_among grown.added) (events-entries s.events s.checkpoints s.stop)
@@ -162,6 +181,7 @@ module _ {D : Type 0} (clock : D → ℕ) (left_since : D → ℕ → List ℕ �
       events = s'.events;
       found = opened.newest_history;
       of_passes = grown.of_passes;
+      no_checkpoints = added_checkpoints attended count grown;
       stop_is = added_stop attended count grown ∙ is;
       events_are = added_events attended count grown;
       lawful = lawful_now;

@@ -22,7 +22,7 @@ use Rattle.pcfs_server.specs.declared.end.ServeEnd.TheVariants as serve_ends
 use Rattle.pcfs_server.specs.Ends.{number_of, HasTaken, HasCause, IsNetFault}
 use Rattle.pcfs_session.specs.LineAnswer.{authority_under}
 use Rattle.pcfs_session.specs.ScriptEnds.{with_line_end}
-use Rattle.pcfs_store.specs.Entries.{StoreEntry, events_among}
+use Rattle.pcfs_store.specs.Entries.{StoreEntry, checkpoints_among, events_among}
 use Rattle.pcfs_store.specs.Newest.{newer, one_of}
 use Rattle.pcfs_store.specs.Ready.{SurvivesWithOrWithout}
 use Rattle.recover.specs.Opening.{IsNewestHistory, IsNewestDamaged, IsNewestClosed}
@@ -66,7 +66,7 @@ pub record IsMet (secrets : Secrets) (base : BaseView) (events : List Event) (pa
   pub answers : Answers (authority_under secrets) (replay base events) pass moment request reply (Some met)
   pub lawful : IsLawful (authority_under secrets) base (events ++ met ∷ [])
 
--- The store on the disks was opened, and connections had sessions over it. The history that was found is that of the newest area, from its image. Its events at the end are those, and then the ones that the sessions' passes added; they are lawful, so the headline
+-- The store on the disks was opened, and connections had sessions over it. The history that was found is that of the newest area, from its image. Its events at the end are those, and then the ones that the sessions' passes added, who make no checkpoint; they are lawful, so the headline
 -- holds of them. Unless a disk failed, the newest area has the generation of the opened one, and stands for all these events; and if the opened one had its closed gate, it has too, and nothing is pending. If one failed in a turn of some pass, its count
 -- rose; and if the opened area had its closed gate, the newest one stands for these events, or for them with the one that met the fault. The other area is as it was.
 pub record IsServed (secrets : Secrets) (rests : Rests) (before after : Disks) (attended count : ℕ) (stop : Option ℕ) : Type 0 where
@@ -77,6 +77,7 @@ pub record IsServed (secrets : Secrets) (rests : Rests) (before after : Disks) (
   pub events : List Event
   pub found : IfTold before (IsNewestHistory (authority_under secrets) generation base opened)
   pub of_passes : AreOfPasses attended count added
+  pub no_checkpoints : checkpoints_among added ≡ 0
   pub stop_is : stop_among added ≡ stop
   pub events_are : events ≡ opened ++ events_among added
   pub lawful : IsLawful (authority_under secrets) base events
