@@ -1,5 +1,5 @@
 -- The damage of a state with which a history is to begin, over plain values.
-use Rattle.std.proofs.Common.{◌≡◌, ◌≤◌, ◌<◌, ◌+◌, ℕ, List, [], ◌∷◌, ◌++◌, length, take, drop, get_or, refl, sym, ap, subst, ◌∙◌, arith, ⊎_elim}
+use Rattle.std.proofs.Common.{◌≡◌, ◌<◌, ◌+◌, ℕ, List, [], ◌∷◌, ◌++◌, length, take, drop, get_or, refl, sym, ap, subst, ◌∙◌, arith, ⊎_elim}
 use Rattle.std.specs.Prelude.{◌↔◌, Bool, IsTrue, Contains, Result, Ok, Err}
 use Rattle.std.specs.List.{AllByRecursion}
 use Rattle.std.proofs.lemmas.List.{length-append, map-append, take-append-drop, take_more, drop_more}
@@ -29,7 +29,7 @@ use Rattle.op_gate.specs.declared.damage.Damage.{Damage}
 use Rattle.op_gate.specs.declared.damage.Damage.TheVariants.{Shape, Unsigned, Unproved, Duplicate}
 use Rattle.op_gate.specs.declared.damage.AdmitFault.{AdmitFault}
 use Rattle.op_gate.specs.declared.damage.AdmitFault.TheVariants.{Damaged, NoMemory}
-use Rattle.op_gate.specs.Admits.{FindsCited, GivesChecked, IsCheckedAs, register_damage}
+use Rattle.op_gate.specs.Admits.{FindsCited, GivesChecked, register_damage}
 use Rattle.op_gate.specs.Damage.{IsNewAmong}
 use Rattle.op_gate.specs.BaseDamage.{IsBaseShaped, AreNew, IsBaseFreeOf, IsDamagedBase, TellsBase, base_damages}
 use Rattle.op_gate.specs.BaseTests.{IsSignedIn, IsFormed, TellsTest}
