@@ -77,9 +77,13 @@ impl World {
     ) -> Result<World, RowsFault>
         ensures { MakesWorld next tree.now meta.now result }
     {
-        let tree = Tree::from_rows(alloc, next, tree)?;
-        let meta = Meta::from_rows(alloc, meta)?;
-        World::from_parts(tree, meta)
+        match Tree::from_rows(alloc, next, tree) {
+            Err(fault) => Err(fault),
+            Ok(tree) => match Meta::from_rows(alloc, meta) {
+                Err(fault) => Err(fault),
+                Ok(meta) => World::from_parts(tree, meta),
+            },
+        }
     }
 
     /// The rows of the nodes by rising number, those of the tree and those of owners and attributes.

@@ -9,20 +9,20 @@ use Rattle.proof_verifier.specs.CheckedView.{CheckedView}
 use Rattle.proof_verifier.specs.Run.{IsFault}
 use Rattle.proof_verifier.specs.Verdict.{verdict}
 use Rattle.op_gate.specs.declared.damage.AdmitFault.{AdmitFault}
-use Rattle.op_gate.specs.Admits.{GivesIssue}
+use Rattle.op_gate.specs.Admits.{GivesChecked}
 use Rattle.op_gate.proofs.AdmitLemmas.{not_granted}
-use Rattle.op_gate.proofs.admit.verify_again.Goals as goal
+use Rattle.op_gate.proofs.admit.check_again.Goals as goal
 
-pub issue_again-requires : goal.issue_again-requires
-issue_again-requires c = ap (λ (k : CheckedView). k.goal) c.in-Ok.ensures.ok ∙ c.goal.ensures
+pub granting-requires : goal.granting-requires
+granting-requires c = ap (λ (k : CheckedView). k.goal) c.in-Ok.ensures.ok ∙ c.goal.ensures
 
 pub returns-in-Ok : goal.returns-in-Ok
 returns-in-Ok c =
-    subst (λ (cs : List Cite). GivesIssue c.args.pass cs c.args.proof c.args.grant.now c.issue_again.result) (ap (λ (k : CheckedView). k.cited) c.in-Ok.ensures.ok)
-    (subst (λ (p : ProofView). GivesIssue c.args.pass c.in-Ok.checked.cited p c.args.grant.now c.issue_again.result) (ap (λ (k : CheckedView). k.proof) c.in-Ok.ensures.ok) c.issue_again.ensures)
+    subst (λ (cs : List Cite). GivesChecked cs c.args.proof c.args.grant.now c.granting.result) (ap (λ (k : CheckedView). k.cited) c.in-Ok.ensures.ok)
+    (subst (λ (p : ProofView). GivesChecked c.in-Ok.checked.cited p c.args.grant.now c.granting.result) (ap (λ (k : CheckedView). k.proof) c.in-Ok.ensures.ok) c.granting.ensures)
 
 pub returns-in-Err : goal.returns-in-Err
 returns-in-Err c =
-    subst (λ (f : AdmitFault). GivesIssue c.args.pass c.args.cites c.args.proof c.args.grant.now (Err f)) (sym c.proof_damage.ensures)
-    (not_granted c.args.pass c.args.cites c.args.proof c.args.grant.now c.in-Err.fault
+    subst (λ (f : AdmitFault). GivesChecked c.args.cites c.args.proof c.args.grant.now (Err f)) (sym c.proof_damage.ensures)
+    (not_granted c.args.cites c.args.proof c.args.grant.now c.in-Err.fault
     (subst (λ (w : Goal). IsFault c.in-Err.fault (verdict (statements_of c.args.cites) w c.args.proof)) c.goal.ensures c.in-Err.ensures.fault))
