@@ -9,7 +9,7 @@ use Rattle.bl_syntax.specs.Reading.{Reading}
 use Rattle.bl_syntax.specs.Codec.{AreBytes, ReportsFault}
 use Rattle.file_world.specs.World.{IsWorld}
 use Rattle.access_history.specs.Base.{BaseView}
-use Rattle.checkpoint_image.specs.ImageSpelling.{image_spelling, IsSpellableImage}
+use Rattle.checkpoint_image.specs.ImageSpelling.{image_spelling}
 use Rattle.checkpoint_image.specs.ImageReading.{image_at}
 use Rattle.checkpoint_image.proofs.ImageLemmas.{image_codec, cut}
 use Rattle.checkpoint.specs.Reading.{IsImageOf, ReadsImage, field, no_world, left_over, whole, MakesState, GivesImage}

@@ -120,3 +120,15 @@ lawful_fits key ring base is few = record {
   statements = record { few = omega (arith, is.statements_fit); each = signatures_fit key ring base.statements is.statements_signed };
   issues = record { few = few; each = few_cited (sayings base.statements) base.issues is.good_issues };
 }
+
+-- ---- a state by its parts
+
+-- the state of these parts is the one that has them
+pub state_is : (base : BaseView) (world : World) (statements : List RegisteredView) (issues : List Issue) (moment : ℤ) (count : ℕ) → world ≡ base.world → statements ≡ base.statements → issues ≡ base.issues → moment ≡ base.moment → count ≡ base.count
+    → state_with world statements issues moment count ≡ base
+state_is base world statements issues moment count world_is statements_are issues_are moment_is count_is =
+    ap (λ (w : World). state_with w statements issues moment count) world_is
+    ∙ (ap (λ (s : List RegisteredView). state_with base.world s issues moment count) statements_are
+    ∙ (ap (λ (i : List Issue). state_with base.world base.statements i moment count) issues_are
+    ∙ (ap (λ (m : ℤ). state_with base.world base.statements base.issues m count) moment_is
+    ∙ ap (λ (n : ℕ). state_with base.world base.statements base.issues base.moment n) count_is)))

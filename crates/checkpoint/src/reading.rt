@@ -38,11 +38,16 @@ fn state_of(alloc: Global, image: Image) -> Result<Base, CodecFault>
 pub fn read_base(alloc: Global, bytes: &[u8]) -> Result<Base, CodecFault>
     ensures { GivesImage bytes.now result }
 {
-    let (image, rest) = image_at(alloc, bytes.len(), bytes)?;
-    let base = state_of(alloc, image)?;
-    if rest.is_empty() {
-        Ok(base)
-    } else {
-        Err(CodecFault::NotCanonical(bytes.len() - rest.len()))
+    match image_at(alloc, bytes.len(), bytes) {
+        Err(fault) => Err(fault),
+        Ok((image, rest)) => match state_of(alloc, image) {
+            Err(fault) => Err(fault),
+            Ok(base) => {
+                if rest.is_empty() {
+                    return Ok(base);
+                }
+                Err(CodecFault::NotCanonical(bytes.len() - rest.len()))
+            }
+        },
     }
 }
