@@ -92,6 +92,7 @@ module _ {D : Type 0} (clock : D → ℕ) (left_since : D → ℕ → List ℕ �
     stays_kept = λ keeps. keeps;
     stays_current = λ current _. current;
     any_moment = λ is_ready x y left_x left_y. ready_survives_now clock left_since image old store is_ready x y left_x left_y;
+    halts = λ is_ready _ x y left_x left_y. ready_survives_now clock left_since image old store is_ready x y left_x left_y;
     makes_ready = λ current is. absurd (unmade is);
     newest = λ current is. absurd (unmade is);
     first_told = refl;
@@ -294,6 +295,7 @@ module _ {D : Type 0} (clock : D → ℕ) (left_since : D → ℕ → List ℕ �
             leaves is_ready x y
             (subst (λ (d : D). left_since d (clock (first_disk old)) x) first_is left_x)
             (subst (λ (d : D). left_since d (clock (second_disk old)) y) second_is left_y);
+        halts = λ is_ready is. absurd (unlike is);
         makes_ready = λ current _ a o is_a is_o still. ready_by a o is_a (at_some (image old.active) (StandsForBody (body_of old)) a is_a current.active) still is_o;
         newest = λ current _ x y is_x is_y. next_newest current x y is_x is_y;
         first_told = ap (λ (d : D). is_some (image d)) first_is ∙ told_other old.second_active old.active old.other disk writes.told;
@@ -302,6 +304,9 @@ module _ {D : Type 0} (clock : D → ℕ) (left_since : D → ℕ → List ℕ �
         second_never_falls = subst (λ (d : D). faults (second_disk old) ≤ faults d) (sym second_is) (falls_one old.second_active old.active old.other disk writes.never_falls);
       }
         where
+          unlike : Checkpointed ≡ Stopped → ⊥
+          unlike e = cc
+
           stays : Keeps clock left_since image old → Keeps clock left_since image new
           stays (ready is_ready) = ready (next_ready is_ready)
           stays (halted earlier met stop leaves) = absurd (none_some old.stop earlier running stop)
@@ -317,6 +322,7 @@ module _ {D : Type 0} (clock : D → ℕ) (left_since : D → ℕ → List ℕ �
       stays_kept = λ keeps. stays keeps;
       stays_current = λ current goes. absurd (goes refl);
       any_moment = λ is_ready x y left_x left_y. leaves is_ready x y left_x left_y;
+      halts = λ is_ready _. leaves_now is_ready;
       makes_ready = λ current is. absurd (unlike is);
       newest = λ current is. absurd (unlike is);
       first_told = told_other old.second_active old.active old.other disk writes.told;

@@ -144,6 +144,10 @@ used-entries s store =
     ∙ sym (used-stop (replay s.base (events_among (merged 0 s.events s.checkpoints))) (used_after s.base (24 + image_length) (merged 0 s.events s.checkpoints)) s.stop)
     ∙ sym (used-append s.base (24 + image_length) (merged 0 s.events s.checkpoints) (stop_entries s.stop))
 
+-- the same over the root of a store with this base
+pub used-since : {D : Type 0} (opening now : StoreView D) → now.base ≡ opening.base → IsStore now → now.used ≡ used_by (root_of opening) (entries_of now)
+used-since opening now base store = used-entries now store ∙ ap (λ (b : BaseView). used_after b (24 + length (image_spelling b)) (entries_of now)) base
+
 -- ---- what is added to entries
 
 happened-push : (events : List Event) (event : Event) → map happened (events ++ event ∷ []) ≡ map happened events ++ happened event ∷ []

@@ -8,7 +8,7 @@ use Rattle.pcfs_store.specs.declared.reply.CheckpointReply.{CheckpointReply}
 use Rattle.pcfs_store.specs.declared.reply.CheckpointReply.TheVariants.{Checkpointed, Full, Stopped, NoMemory}
 use Rattle.pcfs_store.specs.Newest.{newest, SurvivesWholeClosed}
 use Rattle.pcfs_store.specs.StoreView.{StoreView, first_disk, second_disk, state_of_store}
-use Rattle.pcfs_store.specs.Ready.{IsReady, IsCurrent, Keeps, StopsLeave}
+use Rattle.pcfs_store.specs.Ready.{IsReady, IsCurrent, Keeps, StopsLeave, StopsNow}
 
 -- the image of the state does not fit with a closed gate after it, or there is no next generation
 abbrev pub IsFullForCheckpoint : {D : Type 0} → StoreView D → Type 0
@@ -57,6 +57,7 @@ module _ {D : Type 0} (clock : D → ℕ) (left_since : D → ℕ → List ℕ �
     pub makes_ready : IsCurrent clock left_since image old → result ≡ Checkpointed → (active other : List ℕ) → image old.active ≡ Some active → image old.other ≡ Some other → IsPinned clock left_since image old.active →
         IsReady clock left_since image new
     pub any_moment : IsReady clock left_since image old → StopsLeave clock left_since image old new (SurvivesWholeClosed old.base old.events)
+    pub halts : IsReady clock left_since image old → result ≡ Stopped → StopsNow clock left_since image new (SurvivesWholeClosed old.base old.events)
     pub newest : IsCurrent clock left_since image old → result ≡ Checkpointed → (first second : List ℕ) → image (first_disk new) ≡ Some first → image (second_disk new) ≡ Some second → IsNewestCheckpoint old first second
     pub first_told : is_some (image (first_disk new)) ≡ is_some (image (first_disk old))
     pub second_told : is_some (image (second_disk new)) ≡ is_some (image (second_disk old))

@@ -208,6 +208,9 @@ impl<D: Disk> Store<D> {
         // A crash at any moment leaves the history.
         ensures any_moment { IsReady D.clock D.left_since D.image self.old → StopsLeave D.clock D.left_since D.image self.old self.new (SurvivesWholeClosed self.old.base self.old.events) }
 
+        // After a fault of a disk it is still there.
+        ensures halts { IsReady D.clock D.left_since D.image self.old → result ≡ CheckpointReply.Stopped → StopsNow D.clock D.left_since D.image self.new (SurvivesWholeClosed self.old.base self.old.events) }
+
         // What a read gives then is the area of the next generation, with the image of the state.
         ensures newest { IsCurrent D.clock D.left_since D.image self.old → result ≡ CheckpointReply.Checkpointed → (first second : List ℕ) →
             D.image (first_disk self.new) ≡ Some first → D.image (second_disk self.new) ≡ Some second → IsNewestCheckpoint self.old first second }
