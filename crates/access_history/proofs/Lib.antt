@@ -1,6 +1,7 @@
 pub mod AdmissionLemmas
 pub mod AnswerLemmas
 pub mod AnswerableLemmas
+pub mod BaseLemmas
 pub mod CitingLemmas
 pub mod EitherLemmas
 pub mod FreshLemmas

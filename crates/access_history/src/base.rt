@@ -3,6 +3,7 @@
 ghost use Rattle.std.specs.Prelude.{◌≡◌, IfOk};
 ghost use Rattle.access_history.specs.Replay.{fresh};
 
+use crate::copying::{copy_issues, copy_statements};
 use crate::event::{Issue, Issues, Statements};
 use bl_syntax::{NoMemory, Sequence};
 use policy_statement::Registered;
@@ -46,6 +47,38 @@ impl Base {
             issues: Sequence::new(alloc),
             moment: FIRST_MOMENT,
             count: 0,
+        })
+    }
+
+    /// The state of these parts. It takes no memory.
+    pub fn from_parts(
+        world: World,
+        statements: Statements,
+        issues: Issues,
+        moment: i64,
+        count: u64,
+    ) -> Base
+        ensures { result ≡ record { world = world.world; statements = statements; issues = issues; moment = moment; count = count } }
+    {
+        Base {
+            world,
+            statements,
+            issues,
+            moment,
+            count,
+        }
+    }
+
+    /// An equal state in memory of its own.
+    pub fn copy(&self, alloc: Global) -> Result<Base, NoMemory>
+        ensures { IfOk result (λ copied. copied ≡ self.now) }
+    {
+        Ok(Base {
+            world: self.world.copy()?,
+            statements: copy_statements(alloc, self.statements.as_slice())?,
+            issues: copy_issues(alloc, self.issues.as_slice())?,
+            moment: self.moment,
+            count: self.count,
         })
     }
 

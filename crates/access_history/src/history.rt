@@ -3,6 +3,7 @@
 ghost use Rattle.std.specs.Prelude.{◌≡◌, ◌≤◌, ◌<◌, ◌-◌, ◌^◌, ◌++◌, ◌∷◌, [], IfOk, OnOk, length};
 
 use crate::base::Base;
+use crate::copying::{copy_issues, copy_statements, registry_of};
 use crate::event::{Addition, Event, Issue};
 use crate::keeping::{add_to_state, apply_event};
 use bl_syntax::{NoMemory, Principal};
@@ -45,8 +46,8 @@ impl Model for History {
 
 impl History {
     ghost use Rattle.world_state.specs.State.{ReservesWorld};
-    ghost use Rattle.access_history.specs.History.{state_of, world_of, authority_of, addition_of, IsReadyFor};
-    ghost use Rattle.access_history.specs.Lawful.{IsLawful, MayFollow};
+    ghost use Rattle.access_history.specs.History.{state_of, world_of, authority_of, authority_with, addition_of, IsReadyFor};
+    ghost use Rattle.access_history.specs.Lawful.{IsLawful, IsLawfulBase, MayFollow};
     ghost use Rattle.access_history.specs.Replay.{fresh};
     ghost use Rattle.access_history.specs.Headline.{Headline};
 
@@ -70,6 +71,48 @@ impl History {
             statements: Registry::new(alloc),
             issues: Vec::new(alloc),
         })
+    }
+
+    /// The history that begins with this state, under this key and this ring. The state has to be lawful under them.
+    pub fn from_base(
+        alloc: Global,
+        key: SealKey,
+        ring: Keyring,
+        base: Base,
+    ) -> Result<History, NoMemory>
+        requires { IsLawfulBase (authority_with key ring) base }
+        ensures key { IfOk result (λ history. history.key ≡ key) }
+        ensures ring { IfOk result (λ history. history.ring ≡ ring) }
+        ensures base { IfOk result (λ history. history.base ≡ base) }
+        ensures events { IfOk result (λ history. history.events ≡ []) }
+    {
+        let world = base.world().copy()?;
+        let statements = registry_of(alloc, base.statements())?;
+        let issues = copy_issues(alloc, base.issues())?.into_vec();
+        Ok(History {
+            key,
+            ring,
+            moment: base.moment(),
+            count: base.count(),
+            base,
+            events: Vec::new(alloc),
+            world,
+            statements,
+            issues,
+        })
+    }
+
+    /// The state to which the events lead, in memory of its own. A history may begin with it.
+    pub fn to_base(&self, alloc: Global) -> Result<Base, NoMemory>
+        ensures { IfOk result (λ base. base ≡ state_of self.now) }
+    {
+        Ok(Base::from_parts(
+            self.world.copy()?,
+            copy_statements(alloc, self.statements.entries())?,
+            copy_issues(alloc, self.issues.as_slice())?,
+            self.moment,
+            self.count,
+        ))
     }
 
     /// The key under which procaps are sealed.

@@ -5,6 +5,7 @@
 #![tactic(auto)]
 
 mod base;
+mod copying;
 mod event;
 mod history;
 mod keeping;
@@ -13,6 +14,7 @@ mod reply;
 mod request;
 
 pub use base::Base;
+pub use copying::keep_copy;
 pub use event::{Addition, Event, Events, Issue, Issues, Procaps, Statements};
 pub use history::History;
 pub use laws::{

@@ -5,3 +5,5 @@ pub mod FactLemmas
 pub mod MarkLemmas
 pub mod NameLemmas
 pub mod CurrentLemmas
+pub mod RowsLemmas
+pub mod WithinLemmas

@@ -9,7 +9,7 @@ use Rattle.std.specs.declared.cmp.Ordering.TheVariants.{Less}
 use Rattle.std.specs.Cmp.Lexicographic.{slice_cmp}
 use Rattle.bl_syntax.specs.declared.terms.Term.{Term}
 use Rattle.bl_syntax.specs.declared.terms.Term.TheVariants.{Prin, File, Perm, Time, Text, Ctime, Param, Bound}
-use Rattle.file_world.specs.Attributes.{Attributes, Mark, Marks, mark_at}
+use Rattle.file_world.specs.Attributes.{Attributes, Mark, Marks, mark_at, AreMarks}
 use Rattle.file_world.specs.TreeEffect.{revise}
 use Rattle.file_world.specs.AttributeEffect.{new_mark, meta_refusal}
 use Rattle.file_world.specs.declared.operation.MetaOp.{MetaOp}
@@ -94,6 +94,11 @@ IsMetaPrepared (Some (Made number owner parent)) entries = IsMarkMade entries nu
 pub record IsMarkIndex (entries : MarkEntries) (ready : Option MetaReady) : Type 0 where
   pub ordered : AreOrdered entries
   pub prepared : IsMetaPrepared ready entries
+
+-- the same, and the marks that contracts see are within the limits
+pub record IsMetaIndex (entries : MarkEntries) (ready : Option MetaReady) : Type 0 where
+  pub index : IsMarkIndex entries ready
+  pub within : AreMarks (marks_in ready entries)
 
 -- what is ready is prepared, and the marks are as before
 pub record PreparesMeta (old new : MarkEntries) (ready : MetaReady) : Type 0 where

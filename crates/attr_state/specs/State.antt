@@ -1,12 +1,14 @@
 -- What contracts see of owners and attributes: the marks of the nodes, and for which change they are ready.
-use Rattle.std.specs.Prelude.{◌≡◌, length, Option, Some, None, Result, Ok, Err}
+use Rattle.std.specs.Prelude.{◌≡◌, ℕ, List, length, map, Option, Some, None, Result, Ok, Err}
 use Rattle.file_world.specs.declared.operation.MetaOp.{MetaOp}
 use Rattle.file_world.specs.declared.operation.MetaOp.TheVariants.{Get, Set, Remove, Chown, Add, Drop, Move}
 use Rattle.file_world.specs.declared.refusal.OpFault.{OpFault}
 use Rattle.file_world.specs.declared.refusal.OpFault.TheVariants.{Refused, NoMemory}
 use Rattle.file_world.specs.declared.reply.MetaReply.{MetaReply}
-use Rattle.file_world.specs.Attributes.{Marks, mark_at}
+use Rattle.file_world.specs.Attributes.{Marks, mark_at, AreMarks}
 use Rattle.file_world.specs.AttributeEffect.{attributes_of, with_value, meta_refusal, meta_reply}
+use Rattle.node_rows.specs.declared.rows.RowsFault.{RowsFault}
+use Rattle.node_rows.specs.declared.rows.RowsFault.TheVariants.{NotTree, NoMemory as OutOfMemory}
 use Rattle.attr_state.specs.declared.ready.MetaReady.{MetaReady}
 use Rattle.attr_state.specs.declared.ready.MetaReady.TheVariants.{Nothing, Attributes, Made}
 
@@ -35,3 +37,13 @@ abbrev pub ReservesMeta : Marks → MetaOp → Result MetaReply OpFault → Opti
 ReservesMeta marks op (Ok reply) ready = (meta_refusal marks op ≡ None) × (reply ≡ meta_reply marks op) × (ready ≡ Some (ready_for marks op))
 ReservesMeta marks op (Err (Refused refusal)) ready = (meta_refusal marks op ≡ Some refusal) × (ready ≡ None)
 ReservesMeta marks op (Err NoMemory) ready = (meta_refusal marks op ≡ None) × (ready ≡ None)
+
+-- the number of each node, and that of its directory
+abbrev pub directories_of_marks : Marks → List (ℕ × ℕ)
+directories_of_marks marks = map (λ row. (row.0, row.1.parent)) marks
+
+-- the marks are within the limits, and nothing is ready; or they are not; or out of memory
+abbrev pub MakesMarks : Marks → Result MetaView RowsFault → Type 0
+MakesMarks marks (Ok meta) = AreMarks marks × (meta ≡ record { marks = marks; ready = None })
+MakesMarks marks (Err NotTree) = AreMarks marks → ⊥
+MakesMarks marks (Err OutOfMemory) = Unit {0}

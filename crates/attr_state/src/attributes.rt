@@ -14,8 +14,8 @@ use bl_syntax::{Short, Text};
 use std::alloc::AllocFailed;
 use std::cmp::Ordering;
 
-// How the attribute's name compares with another.
-fn compare(attribute: &Attribute, name: &[u8]) -> Ordering
+/// How the attribute's name compares with another.
+pub fn compare(attribute: &Attribute, name: &[u8]) -> Ordering
     ensures { result ≡ slice_cmp nat_cmp attribute.now.0 name.now }
 {
     attribute.0.bytes().cmp(&name)

@@ -1,22 +1,27 @@
 //! The owners and attributes of all nodes, and their calls.
 
-ghost use Rattle.std.specs.Prelude.{◌≡◌, None, IfOk, is_some, option_map};
-ghost use Rattle.file_world.specs.Attributes.{mark_at};
+ghost use Rattle.std.specs.Prelude.{◌≡◌, None, IfOk, is_some, map, option_map};
+ghost use Rattle.file_world.specs.Attributes.{mark_at, AreMarks};
 ghost use Rattle.file_world.specs.Facts.{facts_of_marks};
-ghost use Rattle.file_world.specs.AttributeEffect.{fresh_marks, value_of, marks_after, IsAskable};
-ghost use Rattle.attr_state.specs.State.{ReservesMeta, IsMetaReady};
+ghost use Rattle.file_world.specs.AttributeEffect.{fresh_marks, value_of, marks_after, IsAskable, IsMetaOperation};
+ghost use Rattle.node_rows.specs.Rows.{meta_row};
+ghost use Rattle.attr_state.specs.State.{directories_of_marks, ReservesMeta, IsMetaReady, MakesMarks};
 
 use crate::applying::change;
 use crate::attributes::value_among;
 use crate::current::{copy_marks, current_mark};
+use crate::directories::MarkDirectories;
 use crate::facts::{has_value, is_in, is_owner};
 use crate::mark::{KeptMark, KeptMarks};
 use crate::preparing::{forget, prepare};
 use crate::ready::MetaReady;
 use crate::refusals::{refusal, reply};
+use crate::rows::{kept_marks, rows_of};
+use crate::within::are_marks;
 use bl_syntax::{NoMemory, NodeId, Principal, StatePred, Text};
 use condition_set::Facts;
 use file_world::{MetaOp, MetaReply, OpFault, ROOT_NUMBER};
+use node_rows::{MetaRows, RowsFault};
 use std::alloc::{AllocFailed, Global};
 use std::collections::BTreeMap;
 use std::marker::Model;
@@ -30,13 +35,13 @@ pub struct Meta {
 
 impl Model for Meta {
     ghost use Rattle.attr_state.specs.State.{MetaView};
-    ghost use Rattle.attr_state.specs.Index.{marks_in, IsMarkIndex};
+    ghost use Rattle.attr_state.specs.Index.{marks_in, IsMetaIndex};
 
     ghost Value = { MetaView };
 
     ghost view = { λ m. record { marks = marks_in m.ready m.marks.entries; ready = m.ready } };
 
-    ghost invariant = { λ m. IsMarkIndex m.marks.entries m.ready };
+    ghost invariant = { λ m. IsMetaIndex m.marks.entries m.ready };
 }
 
 impl Meta {
@@ -105,12 +110,21 @@ impl Meta {
         Ok(reply)
     }
 
+    /// Gives up what is ready. It takes no memory.
+    pub fn forget(&mut self)
+        ensures { self.new ≡ record { marks = self.old.marks; ready = None } }
+    {
+        forget(&mut self.marks, &self.ready);
+        self.ready = None;
+    }
+
     /// Makes the change of the operation that is ready. It takes no memory.
     pub fn apply(&mut self, op: &MetaOp)
         requires { IsMetaReady self.old op.now }
         ensures marks { self.new.marks ≡ marks_after self.old.marks op.now }
         ensures ready { self.new.ready ≡ None }
     {
+        is_operation(op);
         self.ready = None;
         change(&mut self.marks, op);
     }
@@ -123,6 +137,51 @@ impl Meta {
             marks: copy_marks(&self.marks, &self.ready)?,
             ready: None,
         })
+    }
+
+    /// Each node with its directory, while nothing is ready.
+    pub fn directories(&self) -> MarkDirectories<'_>
+        requires { self.now.ready ≡ None }
+        ensures nodes { result ≡ directories_of_marks self.now.marks }
+        ensures within { AreMarks self.now.marks }
+    {
+        MarkDirectories::new(&self.marks)
+    }
+
+    /// The rows of the nodes, by rising number.
+    pub fn to_rows(&self, alloc: Global) -> Result<MetaRows, NoMemory>
+        ensures { IfOk result (λ rows. map meta_row rows ≡ self.now.marks) }
+    {
+        rows_of(alloc, copy_marks(&self.marks, &self.ready)?)
+    }
+
+    /// The owners and attributes of these rows, with nothing ready. The rows are refused exactly if they are no marks
+    /// within the limits: their numbers rise, names and values are of attributes, and each node's names rise.
+    pub fn from_rows(alloc: Global, rows: &MetaRows) -> Result<Meta, RowsFault>
+        ensures { MakesMarks (map meta_row rows.now) result }
+    {
+        if !are_marks(rows.as_slice()) {
+            return Err(RowsFault::NotTree);
+        }
+        Ok(Meta {
+            marks: kept_marks(alloc, rows.as_slice())?,
+            ready: None,
+        })
+    }
+}
+
+// The owner that an operation brings is a principal's name, and its value a text, since their types say so.
+fn is_operation(op: &MetaOp)
+    ensures { IsMetaOperation op.now }
+{
+    match op {
+        MetaOp::Set(_, _, value) => {
+            let _ = value.bytes();
+        }
+        MetaOp::Chown(_, owner) | MetaOp::Add(_, owner, _) => {
+            let _ = owner.bytes();
+        }
+        _ => {}
     }
 }
 

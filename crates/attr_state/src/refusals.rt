@@ -10,9 +10,9 @@ ghost use Rattle.attr_state.specs.Index.{marks_of, AreOrdered};
 
 use crate::attributes::value_among;
 use crate::mark::KeptMarks;
-use crate::name::is_attribute_name;
 use bl_syntax::Text;
 use file_world::{MOST_ATTRIBUTES, MetaOp, MetaReply, Refusal};
+use node_rows::names::is_attribute_name;
 
 fn node_refusal(marks: &KeptMarks, number: u64) -> Option<Refusal>
     ensures { result ≡ first_of ((is_none (mark_at (marks_of marks.now.entries) number), NoNode) ∷ []) }

@@ -1,5 +1,5 @@
 -- What is kept after a change, piece by piece.
-use Rattle.std.proofs.Common.{◌≡◌, ℕ, ◌+◌, ◌≤◌, cond, IsSome, is_some, Option, Some, None, List, length, refl, sym, ap, ◌∙◌, subst, arith, nat_eq, nat_cmp, vec_capacity, Result, Ok, OnOk}
+use Rattle.std.proofs.Common.{◌≡◌, ℕ, ◌+◌, ◌≤◌, cond, IsSome, is_some, Option, Some, None, List, length, refl, sym, ap, ◌∙◌, subst, arith, nat_eq, nat_cmp, Result, Ok, OnOk}
 use Rattle.std.specs.Map.{remove_entry}
 use Rattle.std.specs.BTreeMap.{is_at}
 use Rattle.std.proofs.lemmas.Bool.{cond-true, cond-false, false≢true, eq-eqb, ne_eqb}
@@ -13,10 +13,10 @@ use Rattle.file_tree.specs.Index.{Entries, node_shown, rows_of, kept_at, number_
 use Rattle.file_tree.proofs.IndexLemmas.{same_test, SetsValue, held-set, rows-set_value, rows-remove_entry, node_at-kept}
 use Rattle.file_tree.proofs.KeptLemmas.{some_kept}
 
-pub Fills-from_set : (old new : Entries) (number : ℕ) (was now : Kept) (contents : List ℕ) (total : ℕ) → kept_at old number ≡ Some was → SetsValue old new number now → ((name : List ℕ) → number_in (Some now) name ≡ number_in (Some was) name) → node_shown now ≡ with_contents contents (node_shown was) → total + length was.contents.items ≡ contents_sum (rows_of old) + length contents → Fills old new number contents total
+pub Fills-from_set : (old new : Entries) (number : ℕ) (was now : Kept) (contents : List ℕ) (total : ℕ) → kept_at old number ≡ Some was → SetsValue old new number now → ((name : List ℕ) → number_in (Some now) name ≡ number_in (Some was) name) → node_shown now ≡ with_contents contents (node_shown was) → total + length was.contents.bytes ≡ contents_sum (rows_of old) + length contents → Fills old new number contents total
 Fills-from_set old new number was now contents total there sets names shows sum =
     let rows : rows_of new ≡ revise number (with_contents contents) (rows_of old) = ap rows_of sets.entries ∙ rows-set_value old number (with_contents contents) was now there shows in
-    let sums : contents_sum (revise number (with_contents contents) (rows_of old)) + length was.contents.items ≡ contents_sum (rows_of old) + length contents =
+    let sums : contents_sum (revise number (with_contents contents) (rows_of old)) + length was.contents.bytes ≡ contents_sum (rows_of old) + length contents =
     sum_by-revised (λ row. length row.1.contents) number (with_contents contents) (node_shown was) (rows_of old) (node_at-kept old number was there) in
     record {
       rows = rows;
@@ -31,10 +31,10 @@ Replaces-from_set old new number was now place there sets names shows =
       same_held = held-set old new number was now there sets names;
     }
 
-pub Removes-from : (old mid new : Entries) (number : ℕ) (place : Place) (was : Kept) (total : ℕ) → kept_at old number ≡ Some was → mid ≡ remove_entry (is_at (nat_cmp number)) old → ((other : ℕ) → kept_at mid other ≡ cond (is_at (nat_cmp number) other) None (kept_at old other)) → Puts mid new place None → total + length was.contents.items ≡ contents_sum (rows_of old) → Removes old new number place total
+pub Removes-from : (old mid new : Entries) (number : ℕ) (place : Place) (was : Kept) (total : ℕ) → kept_at old number ≡ Some was → mid ≡ remove_entry (is_at (nat_cmp number)) old → ((other : ℕ) → kept_at mid other ≡ cond (is_at (nat_cmp number) other) None (kept_at old other)) → Puts mid new place None → total + length was.contents.bytes ≡ contents_sum (rows_of old) → Removes old new number place total
 Removes-from old mid new number place was total there gone found puts sum =
     let rows : rows_of new ≡ remove_entry (nat_eq number) (rows_of old) = puts.same_rows ∙ (ap rows_of gone ∙ rows-remove_entry old number) in
-    let sums : contents_sum (remove_entry (nat_eq number) (rows_of old)) + length was.contents.items ≡ contents_sum (rows_of old) =
+    let sums : contents_sum (remove_entry (nat_eq number) (rows_of old)) + length was.contents.bytes ≡ contents_sum (rows_of old) =
     sum_by-removed (λ row. length row.1.contents) number (node_shown was) (rows_of old) (node_at-kept old number was there) in
     let none : (name : List ℕ) → reserved_at mid number name ≡ None =
     λ name. ap (λ (k : Option Kept). number_in k name) (found number ∙ cond-true (is_at (nat_cmp number) number) _ _ (same_test number number ∙ eq-eqb number number refl)) in
@@ -70,11 +70,11 @@ Relocates-from old entered left new number from to puts takes replaces =
     }
 
 -- the room of the node that is kept
-pub room_of : (entries : Entries) (number len : ℕ) (kept : Kept) → HasContentsRoom entries number len → kept_at entries number ≡ Some kept → len ≤ vec_capacity kept.contents
-room_of entries number len kept room found = subst (λ (k : Kept). len ≤ vec_capacity k.contents) (same_Some _ _ (sym room.found ∙ found)) room.room
+pub room_of : (entries : Entries) (number len : ℕ) (kept : Kept) → HasContentsRoom entries number len → kept_at entries number ≡ Some kept → len ≤ kept.contents.room
+room_of entries number len kept room found = subst (λ (k : Kept). len ≤ k.contents.room) (same_Some _ _ (sym room.found ∙ found)) room.room
 
 -- what a node has is part of the sum
-pub part_le_sum : (entries : Entries) (number : ℕ) (kept : Kept) → kept_at entries number ≡ Some kept → length kept.contents.items ≤ contents_sum (rows_of entries)
+pub part_le_sum : (entries : Entries) (number : ℕ) (kept : Kept) → kept_at entries number ≡ Some kept → length kept.contents.bytes ≤ contents_sum (rows_of entries)
 part_le_sum entries number kept found = weight-le-sum_by (λ row. length row.1.contents) number (node_shown kept) (rows_of entries) (node_at-kept entries number kept found)
 
 pub kept_from_some : (entries : Entries) (number : ℕ) → IsSome (kept_at entries number) → (kept : Kept) × (kept_at entries number ≡ Some kept)

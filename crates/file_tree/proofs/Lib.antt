@@ -7,4 +7,9 @@ pub mod IndexLemmas
 pub mod KeptLemmas
 pub mod ListLemmas
 pub mod PartLemmas
+pub mod RowLoopLemmas
+pub mod RowNameLemmas
+pub mod RowPutLemmas
+pub mod RowTreeLemmas
+pub mod RowWayLemmas
 pub mod WalkLemmas

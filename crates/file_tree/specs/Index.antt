@@ -1,5 +1,5 @@
 -- How the nodes that the code keeps stand for the rows of a tree, and where the names in its directories are found.
-use Rattle.std.specs.Prelude.{◌≡◌, ◌≢◌, ◌≤◌, ◌<◌, ◌-◌, ℕ, List, [], ◌∷◌, ◌++◌, length, take, map, false, Option, Some, None, if◌then◌else◌, vec_capacity, nat_eq, ◌==◌}
+use Rattle.std.specs.Prelude.{◌≡◌, ◌≢◌, ◌≤◌, ◌<◌, ◌-◌, ℕ, List, [], ◌∷◌, ◌++◌, length, take, map, false, Option, Some, None, if◌then◌else◌, nat_eq, ◌==◌}
 use Rattle.std.specs.Map.{lookup, remove_entry}
 use Rattle.std.specs.BTreeMap.{is_at}
 use Rattle.std.specs.Ordering.{nat_cmp}
@@ -21,7 +21,7 @@ Entries = List (ℕ × Kept)
 
 -- what the tree shows of a node
 abbrev pub node_shown : Kept → Node
-node_shown kept = record { kind = kept.kind; place = record { directory = kept.parent; name = kept.name }; contents = kept.contents.items }
+node_shown kept = record { kind = kept.kind; place = record { directory = kept.parent; name = kept.name }; contents = kept.contents.bytes }
 
 abbrev pub rows_of : Entries → Nodes
 rows_of entries = map (λ entry. (entry.0, node_shown entry.1)) entries
@@ -60,6 +60,15 @@ published_nodes (Some (Made kind spot)) entries = take (length entries - 1) entr
 published_nodes (Some (Gone number spot)) entries = entries
 published_nodes (Some (Moved number from to)) entries = entries
 
+-- what is listed of each node, without what is listed of one that is only ready to be made, which is the last
+abbrev pub without_unpublished : {Row : Type 0} → Option Ready → List Row → List Row
+without_unpublished None rows = rows
+without_unpublished (Some Nothing) rows = rows
+without_unpublished (Some (Contents number len)) rows = rows
+without_unpublished (Some (Made kind spot)) rows = take (length rows - 1) rows
+without_unpublished (Some (Gone number spot)) rows = rows
+without_unpublished (Some (Moved number from to)) rows = rows
+
 -- what the directory is to keep under the name: its child, but 0 for the name that is held
 abbrev pub expected_number : Option Spot → Nodes → ℕ → List ℕ → Option ℕ
 expected_number None rows directory name = child_of rows directory name
@@ -75,7 +84,7 @@ IsReservedFree (Some spot) rows = child_of rows spot.directory spot.name ≡ Non
 pub record HasContentsRoom (entries : Entries) (number len : ℕ) : Type 0 where
   pub kept : Kept
   pub found : kept_at entries number ≡ Some kept
-  pub room : len ≤ vec_capacity kept.contents
+  pub room : len ≤ kept.contents.room
 
 -- the last node is the new one, and a directory without names
 pub record IsLast (entries : Entries) (next : ℕ) (node : Node) : Type 0 where

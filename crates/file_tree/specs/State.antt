@@ -1,13 +1,15 @@
 -- What contracts see of a tree: its rows and the next number, and for which change it is ready.
-use Rattle.std.specs.Prelude.{◌≡◌, ℕ, List, length, Option, Some, None, unwrap_or, Result, Ok, Err}
+use Rattle.std.specs.Prelude.{◌≡◌, ℕ, List, length, map, Option, Some, None, unwrap_or, Result, Ok, Err}
 use Rattle.file_world.specs.declared.operation.Kind.TheVariants.{File, Directory}
 use Rattle.file_world.specs.declared.operation.TreeOp.{TreeOp}
 use Rattle.file_world.specs.declared.operation.TreeOp.TheVariants.{Read, Write, Truncate, List as ListOf, Lookup, Create, Mkdir, Unlink, Rename}
 use Rattle.file_world.specs.declared.refusal.OpFault.{OpFault}
 use Rattle.file_world.specs.declared.refusal.OpFault.TheVariants.{Refused, NoMemory}
 use Rattle.file_world.specs.declared.reply.TreeReply.{TreeReply}
-use Rattle.file_world.specs.Tree.{FileTree, node_at}
+use Rattle.file_world.specs.Tree.{Nodes, FileTree, node_at, IsTree}
 use Rattle.file_world.specs.TreeEffect.{child_of, contents_of, write_at, tree_refusal, tree_reply}
+use Rattle.node_rows.specs.declared.rows.RowsFault.{RowsFault}
+use Rattle.node_rows.specs.declared.rows.RowsFault.TheVariants as on_rows
 use Rattle.file_tree.specs.declared.ready.Spot.{Spot}
 use Rattle.file_tree.specs.declared.ready.Ready.{Ready}
 use Rattle.file_tree.specs.declared.ready.Ready.TheVariants.{Nothing, Contents, Made, Gone, Moved}
@@ -16,6 +18,10 @@ use Rattle.file_tree.specs.declared.ready.Ready.TheVariants.{Nothing, Contents, 
 pub record TreeView : Type 0 where
   pub tree : FileTree
   pub ready : Option Ready
+
+-- the number of each node, and that of its directory
+abbrev pub directories_of_nodes : Nodes → List (ℕ × ℕ)
+directories_of_nodes rows = map (λ row. (row.0, row.1.place.directory)) rows
 
 abbrev pub spot : ℕ → List ℕ → Spot
 spot directory name = record { directory = directory; name = name }
@@ -45,3 +51,9 @@ abbrev pub Reserves : FileTree → TreeOp → Result TreeReply OpFault → Optio
 Reserves tree op (Ok reply) ready = (tree_refusal tree op ≡ None) × (reply ≡ tree_reply tree op) × (ready ≡ Some (ready_for tree op))
 Reserves tree op (Err (Refused refusal)) ready = (tree_refusal tree op ≡ Some refusal) × (ready ≡ None)
 Reserves tree op (Err NoMemory) ready = (tree_refusal tree op ≡ None) × (ready ≡ None)
+
+-- the tree of the rows is made, with nothing ready; or they are no tree's; or out of memory
+abbrev pub MakesTree : FileTree → Result TreeView RowsFault → Type 0
+MakesTree tree (Ok view) = IsTree tree × (view ≡ record { tree = tree; ready = None })
+MakesTree tree (Err on_rows.NotTree) = IsTree tree → ⊥
+MakesTree tree (Err on_rows.NoMemory) = Unit {0}

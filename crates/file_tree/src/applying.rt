@@ -1,6 +1,6 @@
 //! The changes that operations make. None of them takes memory.
 
-ghost use Rattle.std.specs.Prelude.{◌≡◌, ◌≤◌, ◌<◌, ◌^◌, ◌+◌, ◌-◌, ◌++◌, take, drop, length, Some, IsSome, vec_capacity};
+ghost use Rattle.std.specs.Prelude.{◌≡◌, ◌≤◌, ◌<◌, ◌^◌, ◌+◌, length, Some, IsSome};
 ghost use Rattle.file_world.specs.Limits.{longest_name};
 ghost use Rattle.file_world.specs.Tree.{node_at, contents_sum};
 ghost use Rattle.file_world.specs.TreeEffect.{at, contents_of, write_at, resize_to, tree_after};
@@ -13,38 +13,6 @@ use crate::ready::{Ready, Spot};
 use crate::refusals::length_at;
 use bl_syntax::NoMemory;
 use file_world::TreeOp;
-use std::alloc::AllocError;
-
-fn overwrite(place: &mut [u8], start: usize, bytes: &[u8])
-    requires { start + length bytes.now ≤ length place.old }
-    ensures { place.new ≡ take start place.old ++ bytes.now ++ drop (start + length bytes.now) place.old }
-{
-    place[start..start + bytes.len()].copy_from_slice(bytes);
-}
-
-fn put(contents: &mut Vec<u8>, offset: usize, bytes: &[u8])
-    requires room { length (write_at contents.old.items offset bytes.now) ≤ vec_capacity contents.old }
-    requires fits { offset + length bytes.now < 2 ^ 63 }
-    ensures { contents.new.items ≡ write_at contents.old.items offset bytes.now }
-{
-    if bytes.is_empty() {
-        return;
-    }
-    let end = offset + bytes.len();
-    if contents.len() < end {
-        let grown: Result<(), AllocError> = contents.resize(end, 0);
-        grown.unwrap();
-    }
-    overwrite(contents.as_mut_slice(), offset, bytes);
-}
-
-fn cut(contents: &mut Vec<u8>, len: usize)
-    requires room { len ≤ vec_capacity contents.old }
-    ensures { contents.new.items ≡ resize_to contents.old.items len }
-{
-    let resized: Result<(), AllocError> = contents.resize(len, 0);
-    resized.unwrap();
-}
 
 /// Writes the bytes at the offset in a file, and returns the sum of all contents.
 pub fn write(nodes: &mut KeptNodes, total: u64, number: u64, offset: u64, bytes: &[u8]) -> u64
@@ -58,7 +26,7 @@ pub fn write(nodes: &mut KeptNodes, total: u64, number: u64, offset: u64, bytes:
 {
     let node = nodes.get_mut(&number).unwrap();
     let before = node.contents.len() as u64;
-    put(&mut node.contents, offset as usize, bytes);
+    node.contents.write(offset as usize, bytes);
     let after = node.contents.len() as u64;
     total - before + after
 }
@@ -74,7 +42,7 @@ pub fn truncate(nodes: &mut KeptNodes, total: u64, number: u64, len: u64) -> u64
 {
     let node = nodes.get_mut(&number).unwrap();
     let before = node.contents.len() as u64;
-    cut(&mut node.contents, len as usize);
+    node.contents.resize(len as usize);
     total - before + len
 }
 

@@ -6,14 +6,19 @@
 
 mod applying;
 mod copying;
+mod directories;
+mod from_rows;
 mod listing;
 mod name;
 mod node;
 mod preparing;
 mod ready;
 mod refusals;
+mod row_tests;
+mod to_rows;
 mod tree;
 
+pub use directories::NodeDirectories;
 pub use file_world::{Kind, NamedNode, Names, OpFault, Refusal, TreeOp, TreeReply};
 pub use ready::{Ready, Spot};
 pub use tree::Tree;

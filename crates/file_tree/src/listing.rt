@@ -17,14 +17,6 @@ use file_world::{NamedNode, Names, TreeOp, TreeReply};
 use std::alloc::Global;
 use std::collections::BTreeMap;
 
-fn part(alloc: Global, contents: &[u8], offset: u64, len: u64) -> Result<Bytes, NoMemory>
-    ensures { IfOk result (λ bytes. bytes ≡ bytes_in contents.now offset len) }
-{
-    let start = (offset as usize).min(contents.len());
-    let end = start + (len as usize).min(contents.len() - start);
-    Ok(Bytes::from_vec(Vec::from_slice(alloc, &contents[start..end])?))
-}
-
 fn bytes_of(
     nodes: &KeptNodes,
     alloc: Global,
@@ -37,7 +29,7 @@ fn bytes_of(
 {
     match nodes.get(&number) {
         None => Ok(Bytes::new(alloc)),
-        Some(node) => part(alloc, node.contents.as_slice(), offset, len),
+        Some(node) => node.contents.part(alloc, offset as usize, len as usize),
     }
 }
 

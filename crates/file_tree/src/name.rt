@@ -1,48 +1,15 @@
-//! Names of nodes: which bytes are one, and a place of fixed size for one, in byte order.
+//! Names of nodes in a place of fixed size, in byte order.
 
 ghost use Rattle.std.specs.Prelude.{◌≡◌, ◌≤◌, ◌==◌, length};
-ghost use Rattle.std.specs.List.{list_all};
 ghost use Rattle.std.specs.Cmp.Lexicographic.{pointwise, slice_cmp, nat_list_cmp_total};
 ghost use Rattle.std.specs.Cmp.Rules.{comparing};
 ghost use Rattle.std.specs.Ordering.{nat_cmp};
 ghost use Rattle.std.proofs.Common.{rules, Some};
 ghost use Rattle.file_world.specs.Limits.{longest_name};
-ghost use Rattle.file_world.specs.FileNames.{is_node_name_byte, is_node_name};
 
 use bl_syntax::Short;
-use bl_syntax::byte_classes::{is_digit, is_lower_case, is_upper_case};
-use file_world::LONGEST_NAME;
 use std::cmp::Ordering;
 use std::marker::Model;
-
-fn is_node_name_byte(byte: u8) -> bool
-    ensures { result ≡ is_node_name_byte byte }
-{
-    is_lower_case(byte)
-        || is_upper_case(byte)
-        || is_digit(byte)
-        || byte == b'_'
-        || byte == b'.'
-        || byte == b'-'
-}
-
-fn are_node_name_bytes(bytes: &[u8]) -> bool
-    ensures { result ≡ list_all is_node_name_byte bytes.now }
-{
-    bytes.iter().all(|byte| is_node_name_byte(*byte))
-}
-
-/// Whether the bytes name a node: 1 to 64 letters, digits, `_`, `.` and `-`, and neither `.` nor `..`. A name that is
-/// too long is not read.
-pub fn is_node_name(name: &[u8]) -> bool
-    ensures { result ≡ is_node_name name.now }
-{
-    1 <= name.len()
-        && name.len() <= LONGEST_NAME
-        && are_node_name_bytes(name)
-        && !(name == b".".as_slice())
-        && !(name == b"..".as_slice())
-}
 
 /// At most 64 bytes, in byte order.
 #[derive(Debug)]
@@ -117,6 +84,13 @@ impl Name {
         Name {
             short: Short::new(bytes),
         }
+    }
+
+    /// The name of these bytes.
+    pub fn of_short(short: Short<64>) -> Name
+        ensures { result ≡ short }
+    {
+        Name { short }
     }
 
     /// The bytes in a place of fixed size.

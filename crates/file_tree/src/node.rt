@@ -1,6 +1,7 @@
 //! Nodes under their numbers, and the names in each directory.
 
 use crate::name::Name;
+use file_blocks::FileContents;
 use file_world::Kind;
 use std::alloc::AllocError;
 use std::collections::BTreeMap;
@@ -12,7 +13,7 @@ pub struct KeptNode {
     /// The number of its directory, or 0 for the root.
     pub parent: u64,
     pub name: Name,
-    pub contents: Vec<u8>,
+    pub contents: FileContents,
     /// The number of the node that each name in the directory stands for, or 0 for a name that is only held.
     pub names: BTreeMap<Name, u64>,
 }

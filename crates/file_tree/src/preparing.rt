@@ -12,6 +12,7 @@ use crate::node::{KeptNode, KeptNodes};
 use crate::ready::{Ready, Spot};
 use crate::refusals::{child, length_at, written_length};
 use bl_syntax::NoMemory;
+use file_blocks::FileContents;
 use file_world::{Kind, TreeOp};
 use std::alloc::{AllocFailed, Global};
 use std::collections::BTreeMap;
@@ -55,7 +56,7 @@ fn add(
         kind,
         parent: spot.directory,
         name: spot.name,
-        contents: Vec::new(alloc),
+        contents: FileContents::new(alloc),
         names: BTreeMap::new(alloc),
     };
     let put: Result<Option<KeptNode>, AllocFailed<(u64, KeptNode)>> = nodes.insert(next, node);
@@ -97,6 +98,7 @@ fn prepare_made(
 
 fn prepare_contents(
     nodes: &mut KeptNodes,
+    alloc: Global,
     next: u64,
     number: u64,
     len: u64,
@@ -108,11 +110,9 @@ fn prepare_contents(
     ensures err { OnErr result (Stays nodes.old.entries nodes.new.entries next) }
 {
     let node = nodes.get_mut(&number).unwrap();
-    let more = (len as usize).saturating_sub(node.contents.len());
-    let grown: Result<(), std::alloc::AllocError> = node.contents.reserve(more);
-    match grown {
+    match node.contents.reserve(alloc, len as usize) {
         Ok(()) => Ok(Ready::Contents(number, len)),
-        Err(_) => Err(NoMemory),
+        Err(refused) => Err(refused),
     }
 }
 
@@ -151,9 +151,9 @@ pub fn prepare(
         TreeOp::Read(_, _, _) | TreeOp::List(_) | TreeOp::Lookup(_, _) => Ok(Ready::Nothing),
         TreeOp::Write(file, offset, bytes) => {
             let len = written_length(length_at(nodes, file.0), *offset, bytes.len() as u64);
-            prepare_contents(nodes, next, file.0, len)
+            prepare_contents(nodes, alloc, next, file.0, len)
         }
-        TreeOp::Truncate(file, len) => prepare_contents(nodes, next, file.0, *len),
+        TreeOp::Truncate(file, len) => prepare_contents(nodes, alloc, next, file.0, *len),
         TreeOp::Create(directory, name) => {
             prepare_made(nodes, alloc, next, Kind::File, directory.0, name.as_slice())
         }

@@ -7,12 +7,13 @@ ghost use Rattle.file_world.specs.Tree.{node_at, contents_sum};
 ghost use Rattle.file_world.specs.TreeEffect.{file_tests, directory_tests, name_tests, length_tests, write_tests, truncate_tests, lookup_tests, make_tests, unlink_tests, rename_tests, tree_refusal, contents_of, child_of, has_names, is_full, has_way_past, length_after};
 ghost use Rattle.file_tree.specs.Index.{rows_of, reserved_at, tree_in, IsTreeIndex};
 
-use crate::name::{Name, is_node_name};
+use crate::name::Name;
 use crate::node::KeptNodes;
 use file_world::{
     Kind, LAST_NUMBER, LONGEST_NAME, MOST_BYTES, MOST_BYTES_TOGETHER, MOST_NODES, ROOT_NUMBER,
     Refusal, TreeOp,
 };
+use node_rows::names::is_node_name;
 
 fn kind_at(nodes: &KeptNodes, number: u64) -> Option<Kind>
     ensures { result ≡ option_map (λ node. node.kind) (node_at (rows_of nodes.now.entries) number) }

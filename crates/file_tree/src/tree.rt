@@ -1,20 +1,27 @@
 //! The tree and its calls.
 
-ghost use Rattle.std.specs.Prelude.{◌≡◌, None, Some, IfOk};
+ghost use Rattle.std.specs.Prelude.{◌≡◌, map, None, Some, IfOk};
 ghost use Rattle.file_world.specs.TreeEffect.{child_of, fresh_tree, tree_after};
-ghost use Rattle.file_tree.specs.State.{Reserves, IsReady};
+ghost use Rattle.file_world.specs.Tree.{IsTree};
+ghost use Rattle.node_rows.specs.Rows.{tree_row};
+ghost use Rattle.file_tree.specs.State.{directories_of_nodes, Reserves, IsReady, MakesTree};
 ghost use Rattle.file_tree.specs.Index.{option_number, above_zero};
 
 use crate::applying::change;
 use crate::copying::copy_nodes;
+use crate::directories::NodeDirectories;
+use crate::from_rows::tree_of_rows;
 use crate::listing::reply;
 use crate::name::Name;
 use crate::node::{KeptNode, KeptNodes};
 use crate::preparing::{forget, prepare};
 use crate::ready::Ready;
 use crate::refusals::{number_in, refusal};
+use crate::to_rows::published_rows;
 use bl_syntax::{NoMemory, NodeId};
+use file_blocks::FileContents;
 use file_world::{Kind, OpFault, ROOT_NUMBER, TreeOp, TreeReply};
+use node_rows::{RowsFault, TreeRows};
 use std::alloc::{AllocFailed, Global};
 use std::collections::BTreeMap;
 use std::marker::Model;
@@ -51,7 +58,7 @@ impl Tree {
             kind: Kind::Directory,
             parent: 0,
             name: Name::new(b""),
-            contents: Vec::new(alloc),
+            contents: FileContents::new(alloc),
             names: BTreeMap::new(alloc),
         };
         let mut nodes = BTreeMap::new(alloc);
@@ -83,6 +90,23 @@ impl Tree {
         ensures { result ≡ self.now.tree.next }
     {
         self.next
+    }
+
+    /// Each node with its directory, while nothing is ready.
+    pub fn directories(&self) -> NodeDirectories<'_>
+        requires { self.now.ready ≡ None }
+        ensures nodes { result ≡ directories_of_nodes self.now.tree.rows }
+        ensures whole { IsTree self.now.tree }
+    {
+        NodeDirectories::new(&self.nodes)
+    }
+
+    /// Gives up what is ready. It takes no memory.
+    pub fn forget(&mut self)
+        ensures { self.new ≡ record { tree = self.old.tree; ready = None } }
+    {
+        forget(&mut self.nodes, self.next, &self.ready);
+        self.ready = None;
     }
 
     /// The reply of an operation, with all memory taken for its change, or its first refusal. The rows and the next
@@ -123,6 +147,26 @@ impl Tree {
             nodes: copy_nodes(&self.nodes, self.next, &self.ready)?,
             next: self.next,
             total: self.total,
+            ready: None,
+        })
+    }
+
+    /// The rows of the nodes by rising number, in memory of their own.
+    pub fn to_rows(&self, alloc: Global) -> Result<TreeRows, NoMemory>
+        ensures { IfOk result (λ rows. map tree_row rows ≡ self.now.tree.rows) }
+    {
+        published_rows(alloc, &self.nodes, &self.ready)
+    }
+
+    /// The tree of these rows by rising number, with that number for the next node, in memory of its own.
+    pub fn from_rows(alloc: Global, next: u64, rows: &TreeRows) -> Result<Tree, RowsFault>
+        ensures { MakesTree (record { rows = map tree_row rows.now; next = next }) result }
+    {
+        let (nodes, total) = tree_of_rows(alloc, next, rows.as_slice())?;
+        Ok(Tree {
+            nodes,
+            next,
+            total,
             ready: None,
         })
     }

@@ -15,6 +15,7 @@ use bl_syntax::fields::u64_bytes;
 use pcfs_ports::{Disk, Failed};
 use std::alloc::{AllocError, AllocFailed, Global};
 use std::marker::Model;
+use std::mem::swap;
 
 /// The greatest length of an area with its closed gate, in bytes.
 pub const AREA_LIMIT: u64 = 67_108_864;
@@ -218,6 +219,52 @@ impl<D: Disk> Area<D> {
         }
         write_then_open(&mut self.disk, self.end, frame)?;
         self.end = end;
+        Ok(())
+    }
+
+    /// Writes an area without records over what another disk has, and exchanges the two disks: then the
+    /// area is the new one, and `other` the disk that it had.
+    ///
+    /// `AreaFull` is returned by length, before anything else. After it and after `NoMemory` the other
+    /// disk is as it was. `Disk` is returned only if that disk's count of faults rose. After every fault
+    /// the area is as it was, and its own disk is never written.
+    pub fn move_to(
+        &mut self,
+        alloc: Global,
+        other: &mut D,
+        generation: u64,
+        image: &[u8],
+    ) -> Result<(), AreaFault>
+        requires { IsGeneration generation }
+
+        ensures full { IsErrOf result AreaFault.AreaFull ↔ area_limit < length image.now + 25 }
+        ensures unchanged { IfErr result (λ fault. fault ≢ AreaFault.Disk → other.new ≡ other.old) }
+        ensures stays { OnErr result (self.new ≡ self.old) }
+        ensures moved { OnOk result (other.new ≡ self.old.disk) }
+        ensures end { OnOk result (self.new.end ≡ length image.now + 24) }
+        ensures fits { OnOk result (self.new.end < area_limit) }
+        ensures image { OnOk result (D.image self.new.disk ≡
+            option_map (written 0 (area_bytes generation image.now [] ++ 0 ∷ [])) (D.image other.old)) }
+        ensures pinned { OnOk result (IsPinned D.clock D.left_since D.image self.new.disk) }
+
+        // A crash at any moment leaves of the other disk what it had, or no open area, or the new one.
+        ensures any_moment { (bytes : List ℕ) → D.image other.old ≡ Some bytes →
+            IsPinned D.clock D.left_since D.image other.old →
+            MatchResult result
+            (λ _. LeavesOnly D.clock D.left_since other.old self.new.disk (IsOldOrShutOrNew bytes (area_bytes generation image.now [])))
+            (λ _. LeavesOnly D.clock D.left_since other.old other.new (IsOldOrShutOrNew bytes (area_bytes generation image.now []))) }
+
+        ensures told { MatchResult result
+            (λ _. is_some (D.image self.new.disk) ≡ is_some (D.image other.old))
+            (λ _. is_some (D.image other.new) ≡ is_some (D.image other.old)) }
+        ensures risen { IsErrOf result AreaFault.Disk → HasRisen (D.faults other.old) (D.faults other.new) }
+        ensures never_falls { MatchResult result
+            (λ _. D.faults other.old ≤ D.faults self.new.disk)
+            (λ _. D.faults other.old ≤ D.faults other.new) }
+    {
+        let gate = format_disk(alloc, other, generation, image)?;
+        swap(&mut self.disk, other);
+        self.end = gate;
         Ok(())
     }
 

@@ -8,4 +8,4 @@
 pub mod names;
 mod rows;
 
-pub use rows::{MetaRow, MetaRows, RowAttribute, RowAttributes, TreeRow, TreeRows};
+pub use rows::{MetaRow, MetaRows, RowAttribute, RowAttributes, RowsFault, TreeRow, TreeRows};

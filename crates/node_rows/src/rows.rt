@@ -1,7 +1,11 @@
-//! The rows of nodes.
+//! The rows of nodes, and why a half of a world was not made of rows.
 
-use bl_syntax::{Bytes, NodeId, Principal, Sequence, Short, Text};
+ghost use Rattle.std.specs.Prelude.{◌≡◌};
+ghost use Rattle.node_rows.specs.declared.rows.RowsFault.TheVariants.{NoMemory as OutOfMemory};
+
+use bl_syntax::{Bytes, NoMemory, NodeId, Principal, Sequence, Short, Text};
 use file_world::Kind;
+use std::alloc::{AllocError, AllocFailed};
 
 /// What the tree keeps of a node.
 #[derive(Debug, Drop)]
@@ -36,3 +40,36 @@ pub struct MetaRow {
 
 /// Owners and attributes by rising number.
 pub type MetaRows = Sequence<MetaRow>;
+
+/// Why a half of a world was not made of rows.
+#[derive(Debug, Clone, Copy, PartialEq, Eq)]
+pub enum RowsFault {
+    /// They are the rows of no tree within the limits, or of no owners and attributes.
+    NotTree,
+    /// A growth was refused.
+    NoMemory,
+}
+
+impl From<NoMemory> for RowsFault {
+    ghost from_gives = { λ _ fault. fault ≡ OutOfMemory };
+
+    fn from(_refused: NoMemory) -> RowsFault {
+        RowsFault::NoMemory
+    }
+}
+
+impl From<AllocError> for RowsFault {
+    ghost from_gives = { λ _ fault. fault ≡ OutOfMemory };
+
+    fn from(_refused: AllocError) -> RowsFault {
+        RowsFault::NoMemory
+    }
+}
+
+impl<T: Drop> From<AllocFailed<T>> for RowsFault {
+    ghost from_gives = { λ _ fault. fault ≡ OutOfMemory };
+
+    fn from(_refused: AllocFailed<T>) -> RowsFault {
+        RowsFault::NoMemory
+    }
+}

@@ -52,7 +52,7 @@ use Rattle.op_gate.specs.declared.damage.AdmitFault.{AdmitFault}
 use Rattle.op_gate.specs.declared.damage.AdmitFault.TheVariants.{Damaged, NoMemory}
 use Rattle.op_gate.specs.declared.planned.Pending.{Pending}
 use Rattle.op_gate.specs.declared.planned.Planned.TheVariants.{Answer, Keep}
-use Rattle.op_gate.specs.Admits.{FindsCited, IsPendingAs, GivesPending, IsTimely, GivesIssue, LacksNext, pending_issue, pending_statement, proof_damage, register_damage}
+use Rattle.op_gate.specs.Admits.{FindsCited, IsPendingAs, GivesPending, IsTimely, IsCheckedAs, GivesChecked, GivesIssue, LacksNext, pending_issue, pending_statement, proof_damage, register_damage}
 use Rattle.op_gate.specs.Damage.{HasShape, TakesEffect, IsNewAmong, IsFreeOf, IsDamagedBy, MayComeNext, TellsDamage, event_damages}
 use Rattle.op_gate.specs.DamageLaws.{IsTypedEvent}
 use Rattle.op_gate.specs.Decision.{IsPlanned}
@@ -194,18 +194,18 @@ pub good_found : (statements : List StatementView) (cited : List ℕ) (proof : P
 good_found statements cited proof g number good absent =
     none_fails (HasNumber statements) cited absent.place number (subst (AllByRecursion (HasNumber statements)) (sym good.cited) (have_numbers statements good.cites good.stand)) absent.first
 
--- what is reported of an issue with this grant, which its proof gives
-pub issued_told : (pass : ℕ) (checked : CheckedView) (g : GrantView) (result : Result Pending AdmitFault) → IsChecked checked → checked.goal ≡ g.goal → checked.grant ≡ g →
-    IfOk result (λ pending. pending ≡ pending_issue pass (numbers_of checked.cited) checked.proof checked.grant) → IfErr result (λ fault. fault ≡ NoMemory) → GivesIssue pass checked.cited checked.proof g result
-issued_told pass checked g (Ok pending) is goal same ok err = (
-  subst (λ (h : GrantView). IsGranted (statements_of checked.cited) g.goal checked.proof h) same (subst (λ (w : Goal). IsGranted (statements_of checked.cited) w checked.proof checked.grant) goal is),
-  ok ∙ ap (λ (h : GrantView). pending_issue pass (numbers_of checked.cited) checked.proof h) same,
-)
-issued_told pass checked g (Err fault) is goal same ok err = subst (λ (f : AdmitFault). GivesIssue pass checked.cited checked.proof g (Err f)) (sym err) tt
+-- a checked proof with this grant
+pub same_checked : (checked : CheckedView) (g : GrantView) → IsChecked checked → checked.goal ≡ g.goal → checked.grant ≡ g → IsCheckedAs checked.cited checked.proof g checked
+same_checked checked g is goal same = record {
+  cited_is = refl;
+  proof_is = refl;
+  grant_is = same;
+  granted = subst (λ (h : GrantView). IsGranted (statements_of checked.cited) g.goal checked.proof h) same (subst (λ (w : Goal). IsGranted (statements_of checked.cited) w checked.proof checked.grant) goal is);
+}
 
 -- a grant that the proof does not give
-pub other_grant : (pass : ℕ) (checked : CheckedView) (g : GrantView) → IsChecked checked → checked.goal ≡ g.goal → (checked.grant ≡ g → ⊥) → GivesIssue pass checked.cited checked.proof g (Err (Damaged Unproved))
-other_grant pass checked g is goal differs = (
+pub other_grant : (checked : CheckedView) (g : GrantView) → IsChecked checked → checked.goal ≡ g.goal → (checked.grant ≡ g → ⊥) → GivesChecked checked.cited checked.proof g (Err (Damaged Unproved))
+other_grant checked g is goal differs = (
   refl,
   λ granted.
       let both : graded checked.grant ≡ graded g = sym is.verdict_is ∙ ap (λ (w : Goal). verdict (statements_of checked.cited) w checked.proof) goal ∙ granted.verdict_is in
@@ -213,15 +213,42 @@ other_grant pass checked g is goal differs = (
 )
 
 -- a proof that is refused
-pub not_granted : (pass : ℕ) (cites : List Cite) (proof : ProofView) (g : GrantView) (fault : CheckFault) → IsFault fault (verdict (statements_of cites) g.goal proof) → GivesIssue pass cites proof g (Err (proof_damage fault))
-not_granted pass cites proof g (checks.NoHypothesis node) fails = (refl, λ granted. refused_proof cites proof g (checks.NoHypothesis node) (λ e. cc) fails granted)
-not_granted pass cites proof g (checks.WrongShape node) fails = (refl, λ granted. refused_proof cites proof g (checks.WrongShape node) (λ e. cc) fails granted)
-not_granted pass cites proof g (checks.NotEntailed node) fails = (refl, λ granted. refused_proof cites proof g (checks.NotEntailed node) (λ e. cc) fails granted)
-not_granted pass cites proof g (checks.NotInState node) fails = (refl, λ granted. refused_proof cites proof g (checks.NotInState node) (λ e. cc) fails granted)
-not_granted pass cites proof g (checks.ViewTooWeak node) fails = (refl, λ granted. refused_proof cites proof g (checks.ViewTooWeak node) (λ e. cc) fails granted)
-not_granted pass cites proof g (checks.BadTerm node) fails = (refl, λ granted. refused_proof cites proof g (checks.BadTerm node) (λ e. cc) fails granted)
-not_granted pass cites proof g (checks.TooManyConditions node) fails = (refl, λ granted. refused_proof cites proof g (checks.TooManyConditions node) (λ e. cc) fails granted)
-not_granted pass cites proof g checks.NoMemory fails = tt
+pub not_granted : (cites : List Cite) (proof : ProofView) (g : GrantView) (fault : CheckFault) → IsFault fault (verdict (statements_of cites) g.goal proof) → GivesChecked cites proof g (Err (proof_damage fault))
+not_granted cites proof g (checks.NoHypothesis node) fails = (refl, λ granted. refused_proof cites proof g (checks.NoHypothesis node) (λ e. cc) fails granted)
+not_granted cites proof g (checks.WrongShape node) fails = (refl, λ granted. refused_proof cites proof g (checks.WrongShape node) (λ e. cc) fails granted)
+not_granted cites proof g (checks.NotEntailed node) fails = (refl, λ granted. refused_proof cites proof g (checks.NotEntailed node) (λ e. cc) fails granted)
+not_granted cites proof g (checks.NotInState node) fails = (refl, λ granted. refused_proof cites proof g (checks.NotInState node) (λ e. cc) fails granted)
+not_granted cites proof g (checks.ViewTooWeak node) fails = (refl, λ granted. refused_proof cites proof g (checks.ViewTooWeak node) (λ e. cc) fails granted)
+not_granted cites proof g (checks.BadTerm node) fails = (refl, λ granted. refused_proof cites proof g (checks.BadTerm node) (λ e. cc) fails granted)
+not_granted cites proof g (checks.TooManyConditions node) fails = (refl, λ granted. refused_proof cites proof g (checks.TooManyConditions node) (λ e. cc) fails granted)
+not_granted cites proof g checks.NoMemory fails = tt
+
+-- what is reported of an issue whose proof is checked
+pub issued_told : (pass : ℕ) (cites : List Cite) (proof : ProofView) (g : GrantView) (checked : CheckedView) (result : Result Pending AdmitFault) → IsCheckedAs cites proof g checked →
+    IfOk result (λ pending. pending ≡ pending_issue pass (numbers_of checked.cited) checked.proof checked.grant) → IfErr result (λ fault. fault ≡ NoMemory) → GivesIssue pass cites proof g result
+issued_told pass cites proof g checked (Ok pending) is ok err = (
+  is.granted,
+  ok ∙ ap (λ (cs : List Cite). pending_issue pass (numbers_of cs) checked.proof checked.grant) is.cited_is ∙ ap (λ (p : ProofView). pending_issue pass (numbers_of cites) p checked.grant) is.proof_is
+      ∙ ap (λ (h : GrantView). pending_issue pass (numbers_of cites) proof h) is.grant_is,
+)
+issued_told pass cites proof g checked (Err fault) is ok err = subst (λ (f : AdmitFault). GivesIssue pass cites proof g (Err f)) (sym err) tt
+
+-- and of one whose proof is not
+pub issued_unchecked : (pass : ℕ) (cites : List Cite) (proof : ProofView) (g : GrantView) (fault : AdmitFault) → GivesChecked cites proof g (Err fault) → GivesIssue pass cites proof g (Err fault)
+issued_unchecked pass cites proof g (Damaged damage) gives = gives
+issued_unchecked pass cites proof g NoMemory gives = tt
+
+-- an issue that cites what was found, and whose grant is the verdict on its proof from that
+pub good_issue : (statements : List StatementView) (cited : List ℕ) (proof : ProofView) (g : GrantView) (cites : List Cite) → AreCitable cited → AreFound statements cited cites → IsGranted (statements_of cites) g.goal proof g →
+    IsGoodIssue statements (record { cited = cited; proof = proof; grant = g })
+good_issue statements cited proof g cites citable found granted =
+    record { cites = cites; cited = sym found.numbers_are; rising = AreCited-numbers cites (subst AreCitable (sym found.numbers_are) citable); stand = found.stand; granted = granted }
+
+-- the verdict of a good issue is from what was found of its numbers
+pub good_granted : (statements : List StatementView) (cited : List ℕ) (proof : ProofView) (g : GrantView) (cites : List Cite) → AreFound statements cited cites → IsGoodIssue statements (record { cited = cited; proof = proof; grant = g }) →
+    IsGranted (statements_of cites) g.goal proof g
+good_granted statements cited proof g cites found good =
+    subst (λ (cs : List Cite). IsGranted (statements_of cs) g.goal proof g) (cites_determined statements good.cites cites (sym good.cited ∙ sym found.numbers_are) good.stand found.stand) good.granted
 
 -- what is found of an issue whose statements were looked up
 pub issued_found : (h : HistoryView) (pass : ℕ) (cited : List ℕ) (proof : ProofView) (g : GrantView) (cites : List Cite) (told : Result Pending AdmitFault) → (state_of h).count < 2 ^ 48 - 1 → AreCitable cited →
@@ -229,16 +256,14 @@ pub issued_found : (h : HistoryView) (pass : ℕ) (cited : List ℕ) (proof : Pr
 issued_found h pass cited proof g cites (Ok pending) counted citable found gives =
     let is : pending ≡ pending_issue pass cited proof g = gives.1 ∙ ap (λ (ns : List ℕ). pending_issue pass ns proof g) found.numbers_are in
     record {
-      follows = record { cites = cites; cited = sym found.numbers_are; rising = AreCited-numbers cites (subst AreCitable (sym found.numbers_are) citable); stand = found.stand; granted = gives.0 };
+      follows = good_issue (sayings (state_of h).statements) cited proof g cites citable found gives.0;
       event_is = ap (λ (p : Pending). p.event) is;
       addition_is = ap (λ (p : Pending). p.addition) is;
       ready = tt;
     }
 issued_found h pass cited proof g cites (Err (Damaged damage)) counted citable found gives =
     subst (λ (d : Damage). IsDamagedBy (authority_of h) (state_of h) (Issued pass cited proof g) d) (sym gives.0)
-    (damaged_unproved (authority_of h) (state_of h) counted pass cited proof g
-    (λ good. gives.1 (subst (λ (cs : List Cite). IsGranted (statements_of cs) g.goal proof g)
-    (cites_determined (sayings (state_of h).statements) good.cites cites (sym good.cited ∙ sym found.numbers_are) good.stand found.stand) good.granted)))
+    (damaged_unproved (authority_of h) (state_of h) counted pass cited proof g (λ good. gives.1 (good_granted (sayings (state_of h).statements) cited proof g cites found good)))
 issued_found h pass cited proof g cites (Err NoMemory) counted citable found gives = tt
 
 -- what is found of an issue whose statements were looked up, or not found

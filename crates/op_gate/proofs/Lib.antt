@@ -1,5 +1,6 @@
 pub mod ActLemmas
 pub mod AdmitLemmas
+pub mod BaseDamageLemmas
 pub mod CheckLemmas
 pub mod CitingLemmas
 pub mod DecisionLemmas

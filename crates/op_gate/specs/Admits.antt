@@ -8,7 +8,7 @@ use Rattle.access_history.specs.Base.{BaseView}
 use Rattle.proof_term.specs.Proof.{ProofView}
 use Rattle.proof_verifier.specs.declared.cites.Cite.{Cite}
 use Rattle.proof_verifier.specs.Cited.{statements_of}
-use Rattle.proof_verifier.specs.CheckedView.{IsGranted}
+use Rattle.proof_verifier.specs.CheckedView.{CheckedView, IsGranted}
 use Rattle.proof_verifier.specs.declared.fault.CheckFault.{CheckFault}
 use Rattle.proof_verifier.specs.declared.fault.CheckFault.TheVariants as checks
 use Rattle.bl_syntax.specs.Grant.{GrantView}
@@ -55,6 +55,19 @@ pending_statement pass statement signature = record { event = Registered pass st
 -- what the state keeps of an issue, pending with its event
 abbrev pub pending_issue : ℕ → List ℕ → ProofView → GrantView → Pending
 pending_issue pass cited proof g = record { event = Issued pass cited proof g; addition = additions.Issue (record { cited = cited; proof = proof; grant = g }) }
+
+-- the checked proof is this one from what is cited, and the grant is the verdict on it
+pub record IsCheckedAs (cites : List Cite) (proof : ProofView) (g : GrantView) (checked : CheckedView) : Type 0 where
+  pub cited_is : checked.cited ≡ cites
+  pub proof_is : checked.proof ≡ proof
+  pub grant_is : checked.grant ≡ g
+  pub granted : IsGranted (statements_of cites) g.goal proof g
+
+-- the proof is checked, or the grant is not the verdict on it, or there was no memory
+abbrev pub GivesChecked : List Cite → ProofView → GrantView → Result CheckedView AdmitFault → Type 0
+GivesChecked cites proof g (Ok checked) = IsCheckedAs cites proof g checked
+GivesChecked cites proof g (Err (Damaged damage)) = (damage ≡ Unproved) × (IsGranted (statements_of cites) g.goal proof g → ⊥)
+GivesChecked cites proof g (Err NoMemory) = Unit {0}
 
 -- the grant is the verdict on the proof from what is cited and is pending, or it is not, or there was no memory
 abbrev pub GivesIssue : ℕ → List Cite → ProofView → GrantView → Result Pending AdmitFault → Type 0

@@ -1,4 +1,6 @@
 pub mod Admits
+pub mod BaseDamage
+pub mod BaseTests
 pub mod Checks
 pub mod Citations
 pub mod Damage

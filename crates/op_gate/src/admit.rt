@@ -6,7 +6,7 @@ ghost use Rattle.bl_syntax.specs.Citable.{AreCitable, DoRise};
 ghost use Rattle.access_history.specs.Citing.{numbers_of};
 ghost use Rattle.access_history.specs.Authority.{sayings};
 ghost use Rattle.access_history.specs.History.{authority_of, state_of};
-ghost use Rattle.op_gate.specs.Admits.{FindsCited, GivesPending, GivesIssue, IsTimely, LacksNext, pending_issue, pending_statement, proof_damage, register_damage};
+ghost use Rattle.op_gate.specs.Admits.{FindsCited, GivesChecked, GivesPending, GivesIssue, IsTimely, LacksNext, pending_issue, pending_statement, proof_damage, register_damage};
 ghost use Rattle.op_gate.specs.Damage.{IsDamagedBy};
 
 use crate::act::decide_act;
@@ -25,7 +25,7 @@ use proof_verifier::{CheckFault, Checked, Cites, verify};
 use std::alloc::Global;
 
 /// The greatest number of an event.
-const LAST_NUMBER: u64 = 0xffff_ffff_ffff;
+pub const LAST_NUMBER: u64 = 0xffff_ffff_ffff;
 
 /// The most statements that an issue cites.
 const MOST_CITED: usize = 64;
@@ -33,8 +33,8 @@ const MOST_CITED: usize = 64;
 /// The most bytes that an operation brings to be written.
 const MOST_BYTES: usize = 65536;
 
-// Why a statement may not be registered, as damage.
-fn register_damage(fault: RegistryFault) -> AdmitFault
+/// Why a statement may not be registered, as damage.
+pub fn register_damage(fault: RegistryFault) -> AdmitFault
     ensures { result ≡ register_damage fault }
 {
     match fault {
@@ -145,25 +145,35 @@ fn issue(alloc: Global, pass: u64, checked: Checked) -> Result<Pending, AdmitFau
     }
 }
 
-// The issue of a checked proof, if this is its grant.
-fn issue_again(
-    alloc: Global,
-    pass: u64,
-    checked: Checked,
-    grant: &Grant,
-) -> Result<Pending, AdmitFault>
+// The checked proof, if this is its grant.
+fn granting(checked: Checked, grant: &Grant) -> Result<Checked, AdmitFault>
     requires { checked.goal ≡ grant.now.goal }
-    ensures { GivesIssue pass checked.cited checked.proof grant.now result }
+    ensures { GivesChecked checked.cited checked.proof grant.now result }
 {
     if is_same_grant(checked.grant(), grant) {
-        issue(alloc, pass, checked)
+        Ok(checked)
     } else {
         Err(AdmitFault::Damaged(Damage::Unproved))
     }
 }
 
+/// The proof, checked again, if this grant is the verdict on it from what is cited.
+pub fn check_again(
+    alloc: Global,
+    cites: Cites,
+    proof: ProofTree,
+    grant: &Grant,
+) -> Result<Checked, AdmitFault>
+    ensures { GivesChecked cites proof grant.now result }
+{
+    match verify(alloc, cites, grant.goal(), proof) {
+        Ok(checked) => granting(checked, grant),
+        Err(fault) => Err(proof_damage(fault)),
+    }
+}
+
 // The issue of a grant, if it is the verdict on this proof from what is cited.
-fn verify_again(
+fn issue_again(
     alloc: Global,
     pass: u64,
     cites: Cites,
@@ -172,14 +182,14 @@ fn verify_again(
 ) -> Result<Pending, AdmitFault>
     ensures { GivesIssue pass cites proof grant.now result }
 {
-    match verify(alloc, cites, grant.goal(), proof) {
-        Ok(checked) => issue_again(alloc, pass, checked, grant),
-        Err(fault) => Err(proof_damage(fault)),
+    match check_again(alloc, cites, proof, grant) {
+        Ok(checked) => issue(alloc, pass, checked),
+        Err(fault) => Err(fault),
     }
 }
 
-// The statements of these numbers, as an issue cites them.
-fn find_cited(
+/// The statements of these numbers, as an issue cites them.
+pub fn find_cited(
     alloc: Global,
     statements: &[Registered],
     numbers: &[u32],
@@ -209,7 +219,7 @@ fn admit_issued(
     ensures { GivesPending history.now history.now (events.Issued pass cited.now proof grant.now) result }
 {
     match find_cited(alloc, history.statements(), cited.as_slice()) {
-        Ok(cites) => verify_again(alloc, pass, cites, proof, grant),
+        Ok(cites) => issue_again(alloc, pass, cites, proof, grant),
         Err(fault) => Err(fault),
     }
 }

@@ -5,8 +5,8 @@
 pub enum Damage {
     /// The header is wrong, or the image is cut or too long.
     Header,
-    /// The bytes are no image or event, or they are cut or too long; a moment lies outside the range, or the event's number
-    /// would.
+    /// The bytes are no image or event, or they are cut or too long; a moment lies outside the range, or the image's count
+    /// or the event's number would.
     Shape,
     /// A signature is not accepted.
     Unsigned,
@@ -17,14 +17,14 @@ pub enum Damage {
     NotAdmitted,
     /// The moment of an operation is before the last one.
     MomentFalls,
-    /// An equal statement is there, or as many statements as may be kept.
+    /// An equal statement is there, or there are more statements than may be kept.
     Duplicate,
 }
 
-/// Why an event was not kept.
+/// Why an event was not kept, or no history begins with a state.
 #[derive(Clone, Copy, Debug, PartialEq, Eq)]
 pub enum AdmitFault {
-    /// It may not come next.
+    /// It may not come next, or the state is no lawful base.
     Damaged(Damage),
     /// A growth was refused.
     NoMemory,

@@ -6,11 +6,12 @@ ghost use Rattle.access_history.specs.WellFormed.{IsWellFormed};
 
 use crate::act::{decide_act, deny};
 use crate::admit::{admit, reserve_next};
+use crate::base::test_base;
 use crate::cite::{Citation, cite};
 use crate::damage::AdmitFault;
 use crate::decide::{decide_issue, decide_register, decide_show, issued_procap};
 use crate::planned::{Pending, Planned};
-use access_history::{Denial, Event, History, Procaps, StepReply, StepRequest};
+use access_history::{Base, Denial, Event, History, Procaps, StepReply, StepRequest};
 use bl_syntax::{NoMemory, Principal};
 use file_world::Op;
 use policy_statement::Keyring;
@@ -100,6 +101,7 @@ impl Gate {
     ghost use Rattle.access_history.specs.Admission.{IsAdmitted};
     ghost use Rattle.access_history.specs.Answer.{moment_of};
     ghost use Rattle.access_history.specs.Replay.{replay, fresh};
+    ghost use Rattle.op_gate.specs.BaseDamage.{TellsBase};
     ghost use Rattle.op_gate.specs.Decides.{Decides};
     ghost use Rattle.op_gate.specs.Damage.{TellsDamage};
     ghost use Rattle.op_gate.specs.Decision.{IsDenial};
@@ -119,6 +121,30 @@ impl Gate {
             history: History::fresh(alloc, SealKey::new(key), ring)?,
             pending: None,
         })
+    }
+
+    /// A gate over the history that begins with this state, if one may begin with it under this key and this ring;
+    /// otherwise the state's first damage. Its signatures, its proofs, and whether its statements are new are tested
+    /// again, each over the whole of it.
+    pub fn from_base(
+        alloc: Global,
+        key: &[u8],
+        ring: Keyring,
+        base: Base,
+    ) -> Result<Gate, AdmitFault>
+        ensures gate { IfOk result (λ gate. gate ≡ record { key = key.now; ring = ring; base = base; events = []; pending = None }) }
+        ensures answer { TellsBase (authority_with key.now ring) base result }
+    {
+        match test_base(alloc, &ring, &base) {
+            Ok(()) => match History::from_base(alloc, SealKey::new(key), ring, base) {
+                Ok(history) => Ok(Gate {
+                    history,
+                    pending: None,
+                }),
+                Err(_) => Err(AdmitFault::NoMemory),
+            },
+            Err(fault) => Err(fault),
+        }
     }
 
     /// The ring of those whose signatures are accepted.

@@ -3,11 +3,12 @@
 //! An operation is admitted if for each of its needs, in order, the procap in the need's place passes every test; the
 //! first test that fails is the denial, whatever the operation would do. To decide changes nothing that is kept; to
 //! commit what was decided takes no memory and cannot fail. An event that was read from an area is tested as if it came now,
-//! and kept exactly if it may come next.
+//! and kept exactly if it may come next; a state that was read is tested whole before a history begins with it.
 #![tactic(auto)]
 
 mod act;
 mod admit;
+mod base;
 mod brings;
 mod cause;
 mod cite;

@@ -1,44 +1,208 @@
 -- What entries say, and when a step is full.
-use Rattle.std.proofs.Common.{◌≡◌, ◌⊎◌, ℕ, ◌+◌, List, [], ◌∷◌, ◌++◌, length, map, Some, None, refl, sym, ◌∙◌, ap, subst, inl, inr, arith, length-append}
+use Rattle.std.proofs.Common.{◌≡◌, ◌⊎◌, ℕ, zero, suc, ◌+◌, ◌-◌, ◌≤◌, List, [], ◌∷◌, ◌++◌, length, take, drop, map, Some, None, refl, sym, ◌∙◌, ap, subst, inl, inr, arith, append_assoc, length-append}
 use Rattle.std.specs.Prelude.{Option, ℤ}
-use Rattle.std.proofs.lemmas.List.{append-nil}
+use Rattle.std.proofs.lemmas.List.{append-nil, take_all, drop_all, length-drop, drop-drop, take-append-le, drop-append-le, take-append-drop}
 use Rattle.journal_core.specs.Area.{area_bytes, records, record_bytes}
 use Rattle.journal_core.proofs.RecordLemmas.{area_split, record_length}
 use Rattle.access_history.specs.declared.event.Event.{Event}
 use Rattle.access_history.specs.declared.request.StepRequest.{StepRequest}
 use Rattle.access_history.specs.declared.reply.StepReply.{StepReply}
+use Rattle.access_history.specs.Base.{BaseView}
+use Rattle.access_history.specs.Replay.{next_state, replay}
 use Rattle.access_history.specs.Lawful.{IsLawful}
 use Rattle.access_history.proofs.AnswerLemmas.{one_answer}
 use Rattle.journal_records.specs.EventSpelling.{event_spelling}
 use Rattle.pcfs_store.specs.declared.reply.StoreReply.{StoreReply}
 use Rattle.pcfs_store.specs.declared.reply.StoreReply.TheVariants.{Full, NoMemory}
-use Rattle.pcfs_store.specs.Image.{fresh_image}
-use Rattle.pcfs_store.specs.StoredHistory.{payloads_of}
-use Rattle.pcfs_store.specs.StoreView.{StoreView, AnswersIn, authority_of_store, IsStore}
-use Rattle.pcfs_store.specs.Entries.{happened, stop_entries, root_of, entries_of, events_among, bytes_for_all, used_by}
-use Rattle.pcfs_store.specs.Steps.{IsFullFor, Steps, answered, kept, full, failed, stopped, without_memory}
+use Rattle.checkpoint_image.specs.ImageSpelling.{image_spelling}
+use Rattle.pcfs_store.specs.declared.checkpoints.Checkpoint.{Checkpoint}
+use Rattle.pcfs_store.specs.StoredHistory.{payloads_of, state_after, area_since}
+use Rattle.pcfs_store.specs.StoreView.{StoreView, AnswersIn, authority_of_store, last_after, settled_of, AreInOrder, IsStore}
+use Rattle.pcfs_store.specs.Entries.{StoreEntry, happened, checkpointed, stopped as stop_mark, stop_entries, root_of, merged, entries_of, events_among, checkpoints_among, used_after, used_by}
+use Rattle.pcfs_store.specs.Checkpoints.{with_checkpoint}
+use Rattle.pcfs_store.proofs.SurvivalLemmas.{order_within, order_above}
+use Rattle.pcfs_store.specs.Steps.{IsFullFor, with_event, Steps, answered, kept, full, failed, stopped, without_memory}
 
--- ---- entries
+-- ---- events among entries
 
-pub events-entries : (events : List Event) (stop : Option ℕ) → events_among (map happened events ++ stop_entries stop) ≡ events
-events-entries [] None = refl
-events-entries [] (Some pass) = refl
-events-entries (event ∷ events) stop = ap (λ (l : List Event). event ∷ l) (events-entries events stop)
+among-append : (xs ys : List StoreEntry) → events_among (xs ++ ys) ≡ events_among xs ++ events_among ys
+among-append [] ys = refl
+among-append (happened event ∷ xs) ys = ap (λ (l : List Event). event ∷ l) (among-append xs ys)
+among-append (checkpointed pass ∷ xs) ys = among-append xs ys
+among-append (stop_mark pass ∷ xs) ys = among-append xs ys
 
-bytes-entries : (events : List Event) (stop : Option ℕ) → bytes_for_all (map happened events ++ stop_entries stop) ≡ length (records (payloads_of events))
-bytes-entries [] None = refl
-bytes-entries [] (Some pass) = refl
-bytes-entries (event ∷ events) stop =
-    let rest = bytes-entries events stop in
-    omega (arith, rest, record_length (event_spelling event), length-append (record_bytes (event_spelling event)) (records (payloads_of events)))
+among-happened : (events : List Event) → events_among (map happened events) ≡ events
+among-happened [] = refl
+among-happened (event ∷ events) = ap (λ (l : List Event). event ∷ l) (among-happened events)
 
-area-length : (generation : ℕ) (image : List ℕ) (payloads : List (List ℕ)) → length (area_bytes generation image payloads) ≡ 24 + length image + length (records payloads)
+among-stop : (stop : Option ℕ) → events_among (stop_entries stop) ≡ []
+among-stop None = refl
+among-stop (Some pass) = refl
+
+among-merged : (before : ℕ) (events : List Event) (checkpoints : List Checkpoint) → events_among (merged before events checkpoints) ≡ events
+among-merged before events [] = among-happened events
+among-merged before events (checkpoint ∷ checkpoints) =
+    let some = checkpoint.after - before in
+    among-append (map happened (take some events)) (checkpointed checkpoint.pass ∷ merged checkpoint.after (drop some events) checkpoints)
+    ∙ ap (λ (l : List Event). l ++ events_among (merged checkpoint.after (drop some events) checkpoints)) (among-happened (take some events))
+    ∙ ap (λ (l : List Event). take some events ++ l) (among-merged checkpoint.after (drop some events) checkpoints)
+    ∙ take-append-drop some events
+
+pub events-entries : (events : List Event) (checkpoints : List Checkpoint) (stop : Option ℕ) → events_among (merged 0 events checkpoints ++ stop_entries stop) ≡ events
+events-entries events checkpoints stop =
+    among-append (merged 0 events checkpoints) (stop_entries stop)
+    ∙ ap (λ (l : List Event). l ++ events_among (stop_entries stop)) (among-merged 0 events checkpoints)
+    ∙ ap (λ (l : List Event). events ++ l) (among-stop stop)
+    ∙ append-nil events
+
+-- ---- checkpoints among entries
+
+count-append : (xs ys : List StoreEntry) → checkpoints_among (xs ++ ys) ≡ checkpoints_among xs + checkpoints_among ys
+count-append [] ys = omega arith
+count-append (happened event ∷ xs) ys = count-append xs ys
+count-append (checkpointed pass ∷ xs) ys = let rest = count-append xs ys in omega (arith, rest)
+count-append (stop_mark pass ∷ xs) ys = count-append xs ys
+
+count-happened : (events : List Event) → checkpoints_among (map happened events) ≡ 0
+count-happened [] = refl
+count-happened (event ∷ events) = count-happened events
+
+count-stop : (stop : Option ℕ) → checkpoints_among (stop_entries stop) ≡ 0
+count-stop None = refl
+count-stop (Some pass) = refl
+
+count-merged : (before : ℕ) (events : List Event) (checkpoints : List Checkpoint) → checkpoints_among (merged before events checkpoints) ≡ length checkpoints
+count-merged before events [] = count-happened events
+count-merged before events (checkpoint ∷ checkpoints) =
+    let some = checkpoint.after - before in
+    let parts = count-append (map happened (take some events)) (checkpointed checkpoint.pass ∷ merged checkpoint.after (drop some events) checkpoints) in
+    let rest = count-merged checkpoint.after (drop some events) checkpoints in
+    omega (arith, parts, rest, count-happened (take some events))
+
+pub generation-entries : {D : Type 0} (s : StoreView D) → IsStore s → s.generation ≡ (root_of s).generation + checkpoints_among (entries_of s)
+generation-entries s store =
+    let parts = count-append (merged 0 s.events s.checkpoints) (stop_entries s.stop) in
+    let all = count-merged 0 s.events s.checkpoints in
+    omega (arith, parts, all, count-stop s.stop, store.counted)
+
+-- ---- bytes of the area
+
+pub area-length : (generation : ℕ) (image : List ℕ) (payloads : List (List ℕ)) → length (area_bytes generation image payloads) ≡ 24 + length image + length (records payloads)
 area-length generation image payloads =
     omega (arith, ap length (area_split generation image payloads), length-append (area_bytes generation image []) (records payloads), ap length (append-nil image))
 
+used-append : (state : BaseView) (used : ℕ) (xs ys : List StoreEntry) → used_after state used (xs ++ ys) ≡ used_after (replay state (events_among xs)) (used_after state used xs) ys
+used-append state used [] ys = refl
+used-append state used (happened event ∷ xs) ys = used-append (next_state state event) (used + (5 + length (event_spelling event))) xs ys
+used-append state used (checkpointed pass ∷ xs) ys = used-append state (24 + length (image_spelling state)) xs ys
+used-append state used (stop_mark pass ∷ xs) ys = used-append state used xs ys
+
+used-happened : (state : BaseView) (used : ℕ) (events : List Event) → used_after state used (map happened events) ≡ used + length (records (payloads_of events))
+used-happened state used [] = omega arith
+used-happened state used (event ∷ events) =
+    let rest = used-happened (next_state state event) (used + (5 + length (event_spelling event))) events in
+    omega (arith, rest, record_length (event_spelling event), length-append (record_bytes (event_spelling event)) (records (payloads_of events)))
+
+used-stop : (state : BaseView) (used : ℕ) (stop : Option ℕ) → used_after state used (stop_entries stop) ≡ used
+used-stop state used None = refl
+used-stop state used (Some pass) = refl
+
+-- the state after some first events, and then some
+after-both : (state : BaseView) (some more : ℕ) (events : List Event) → state_after (state_after state events some) (drop some events) more ≡ state_after state events (some + more)
+after-both state zero more events = ap (state_after state events) (let same : more ≡ 0 + more = omega arith in same)
+after-both state (suc some) more [] = ap (replay state) (take_all more [] (omega arith) ∙ sym (take_all (suc some + more) [] (omega arith)))
+after-both state (suc some) more (event ∷ events) =
+    after-both (next_state state event) some more events ∙ ap (state_after state (event ∷ events)) (let same : suc (some + more) ≡ suc some + more = omega arith in same)
+
+used-merged : (generation : ℕ) (state : BaseView) (before : ℕ) (events : List Event) (most : ℕ) (checkpoints : List Checkpoint) → AreInOrder before most checkpoints →
+    used_after state (24 + length (image_spelling state)) (merged before events checkpoints) ≡ length (area_since generation state events (last_after before checkpoints - before))
+used-merged generation state before events most [] order =
+    used-happened state (24 + length (image_spelling state)) events
+    ∙ sym (area-length generation (image_spelling state) (payloads_of events))
+    ∙ ap (λ (n : ℕ). length (area_since generation state events n)) (let none : 0 ≡ before - before = omega arith in none)
+used-merged generation state before events most (checkpoint ∷ checkpoints) order =
+    let some = checkpoint.after - before in
+    let last = last_after checkpoint.after checkpoints in
+    let more = last - checkpoint.after in
+    let above = order_above checkpoint.after most checkpoints order.1 in
+    let sum : some + more ≡ last - before = omega (arith, above, order.0) in
+    let then : BaseView = state_after state events some in
+    let rest : List StoreEntry = merged checkpoint.after (drop some events) checkpoints in
+    used-append state (24 + length (image_spelling state)) (map happened (take some events)) (checkpointed checkpoint.pass ∷ rest)
+    ∙ ap (λ (es : List Event). used_after (replay state es) (24 + length (image_spelling (replay state es))) rest) (among-happened (take some events))
+    ∙ used-merged generation then checkpoint.after (drop some events) most checkpoints order.1
+    ∙ ap (λ (b : BaseView). length (area_bytes generation (image_spelling b) (payloads_of (drop more (drop some events))))) (after-both state some more events)
+    ∙ ap (λ (es : List Event). length (area_bytes generation (image_spelling (state_after state events (some + more))) (payloads_of es))) (drop-drop more some events)
+    ∙ ap (λ (n : ℕ). length (area_since generation state events n)) sum
+
 pub used-entries : {D : Type 0} (s : StoreView D) → IsStore s → s.used ≡ used_by (root_of s) (entries_of s)
 used-entries s store =
-    store.used_is ∙ area-length s.generation fresh_image (payloads_of s.events) ∙ ap (λ (n : ℕ). 24 + length fresh_image + n) (sym (bytes-entries s.events s.stop))
+    let image_length : ℕ = length (image_spelling s.base) in
+    store.used_is
+    ∙ ap (λ (n : ℕ). length (area_since s.generation s.base s.events n)) (let none : settled_of s ≡ settled_of s - 0 = omega arith in none)
+    ∙ sym (used-merged s.generation s.base 0 s.events (length s.events) s.checkpoints store.in_order)
+    ∙ sym (used-stop (replay s.base (events_among (merged 0 s.events s.checkpoints))) (used_after s.base (24 + image_length) (merged 0 s.events s.checkpoints)) s.stop)
+    ∙ sym (used-append s.base (24 + image_length) (merged 0 s.events s.checkpoints) (stop_entries s.stop))
+
+-- the same over the root of a store with this base
+pub used-since : {D : Type 0} (opening now : StoreView D) → now.base ≡ opening.base → IsStore now → now.used ≡ used_by (root_of opening) (entries_of now)
+used-since opening now base store = used-entries now store ∙ ap (λ (b : BaseView). used_after b (24 + length (image_spelling b)) (entries_of now)) base
+
+-- ---- what is added to entries
+
+happened-push : (events : List Event) (event : Event) → map happened (events ++ event ∷ []) ≡ map happened events ++ happened event ∷ []
+happened-push [] event = refl
+happened-push (first ∷ events) event = ap (λ (l : List StoreEntry). happened first ∷ l) (happened-push events event)
+
+merged-push : (before most : ℕ) (events : List Event) (event : Event) (checkpoints : List Checkpoint) → AreInOrder before most checkpoints → most ≡ before + length events →
+    merged before (events ++ event ∷ []) checkpoints ≡ merged before events checkpoints ++ happened event ∷ []
+merged-push before most events event [] order is = happened-push events event
+merged-push before most events event (checkpoint ∷ checkpoints) order is =
+    let some = checkpoint.after - before in
+    let above = order_above checkpoint.after most checkpoints order.1 in
+    let under = order_within checkpoint.after most checkpoints order.1 in
+    let few : some ≤ length events = omega (arith, order.0, above, under, is) in
+    let rest : List StoreEntry = merged checkpoint.after (drop some events) checkpoints in
+    ap (λ (es : List Event). map happened es ++ checkpointed checkpoint.pass ∷ merged checkpoint.after (drop some (events ++ event ∷ [])) checkpoints) (take-append-le some events (event ∷ []) few)
+    ∙ ap (λ (es : List Event). map happened (take some events) ++ checkpointed checkpoint.pass ∷ merged checkpoint.after es checkpoints) (drop-append-le some events (event ∷ []) few)
+    ∙ ap (λ (l : List StoreEntry). map happened (take some events) ++ checkpointed checkpoint.pass ∷ l)
+    (merged-push checkpoint.after most (drop some events) event checkpoints order.1 (let long = length-drop some events in omega (arith, long, few, order.0, is)))
+    ∙ sym (append_assoc (map happened (take some events)) (checkpointed checkpoint.pass ∷ rest) (happened event ∷ []))
+
+merged-mark : (before most : ℕ) (events : List Event) (mark : Checkpoint) (checkpoints : List Checkpoint) → AreInOrder before most checkpoints → most ≡ before + length events → mark.after ≡ most →
+    merged before events (checkpoints ++ mark ∷ []) ≡ merged before events checkpoints ++ checkpointed mark.pass ∷ []
+merged-mark before most events mark [] order is at =
+    let all : length events ≤ mark.after - before = omega (arith, is, at) in
+    ap (λ (es : List Event). map happened es ++ checkpointed mark.pass ∷ map happened (drop (mark.after - before) events)) (take_all (mark.after - before) events all)
+    ∙ ap (λ (es : List Event). map happened events ++ checkpointed mark.pass ∷ map happened es) (drop_all (mark.after - before) events all)
+merged-mark before most events mark (checkpoint ∷ checkpoints) order is at =
+    let some = checkpoint.after - before in
+    let above = order_above checkpoint.after most checkpoints order.1 in
+    let under = order_within checkpoint.after most checkpoints order.1 in
+    let rest : List StoreEntry = merged checkpoint.after (drop some events) checkpoints in
+    ap (λ (l : List StoreEntry). map happened (take some events) ++ checkpointed checkpoint.pass ∷ l)
+    (merged-mark checkpoint.after most (drop some events) mark checkpoints order.1 (let long = length-drop some events in omega (arith, long, order.0, above, under, is)) at)
+    ∙ sym (append_assoc (map happened (take some events)) (checkpointed checkpoint.pass ∷ rest) (checkpointed mark.pass ∷ []))
+
+no-stop : (entries more : List StoreEntry) (stop : Option ℕ) → stop ≡ None → (entries ++ more) ++ stop_entries stop ≡ (entries ++ stop_entries stop) ++ more
+no-stop entries more None none = append-nil (entries ++ more) ∙ ap (λ (l : List StoreEntry). l ++ more) (sym (append-nil entries))
+no-stop entries more (Some pass) none = absurd cc
+
+module _ {D : Type 0} (s : StoreView D) (running : s.stop ≡ None) where
+  -- an event that is kept, a checkpoint that is made, and a disk that fails add their entry at the end
+  pub entries-kept : (event : Event) (active : D) → IsStore s → entries_of (with_event s event active) ≡ entries_of s ++ happened event ∷ []
+  entries-kept event active store =
+      ap (λ (l : List StoreEntry). l ++ stop_entries s.stop) (merged-push 0 (length s.events) s.events event s.checkpoints store.in_order (omega arith))
+      ∙ no-stop (merged 0 s.events s.checkpoints) (happened event ∷ []) s.stop running
+
+  pub entries-made : (pass : ℕ) (active : D) → IsStore s → entries_of (with_checkpoint s pass active) ≡ entries_of s ++ checkpointed pass ∷ []
+  entries-made pass active store =
+      ap (λ (l : List StoreEntry). l ++ stop_entries s.stop) (merged-mark 0 (length s.events) s.events (record { after = length s.events; pass = pass }) s.checkpoints store.in_order (omega arith) refl)
+      ∙ no-stop (merged 0 s.events s.checkpoints) (checkpointed pass ∷ []) s.stop running
+
+  pub entries-stopped : (active other : D) (pass : ℕ) → entries_of (record s { active = active; other = other; stop = Some pass }) ≡ entries_of s ++ stop_mark pass ∷ []
+  entries-stopped active other pass =
+      sym (ap (λ (o : Option ℕ). (merged 0 s.events s.checkpoints ++ stop_entries o) ++ stop_mark pass ∷ []) running ∙ ap (λ (l : List StoreEntry). l ++ stop_mark pass ∷ []) (append-nil (merged 0 s.events s.checkpoints)))
 
 -- ---- full
 

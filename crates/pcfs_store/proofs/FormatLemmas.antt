@@ -1,12 +1,12 @@
 -- What the making of a store leaves.
-use Rattle.std.proofs.Common.{◌≡◌, ℕ, List, [], ◌∷◌, ◌++◌, length, get_or, Some, None, Bool, true, false, refl, sym, ◌∙◌, ap, subst, inl, inr, ⊎_elim, arith, ◌≤◌}
+use Rattle.std.proofs.Common.{◌≡◌, ℕ, ◌+◌, List, [], ◌∷◌, ◌++◌, length, get_or, Some, None, Bool, true, false, refl, sym, ◌∙◌, ap, subst, inl, inr, ⊎_elim, arith, ◌<◌, ◌≤◌}
 use Rattle.std.specs.Prelude.{Option, is_some, nat_lt, ◌==◌, ◌||◌, if◌then◌else◌}
 use Rattle.std.specs.Option.{option_map}
 use Rattle.std.specs.Int.{w64, from_be_bytes}
 use Rattle.std.specs.Prelude.{take, drop, Result, Ok, Err, IfOk, IfErr, MatchResult}
 use Rattle.std.proofs.lemmas.Bool.{ne_eqb}
 use Rattle.pcfs_ports.specs.Disk.{written, IsPinned, Idles, LeavesOnly}
-use Rattle.journal_core.specs.Area.{area_bytes, IsShut, generation_of}
+use Rattle.journal_core.specs.Area.{area_limit, area_bytes, IsShut, Closed, generation_of}
 use Rattle.journal_core.specs.AreaView.{AreaView}
 use Rattle.journal_core.specs.Rest.{Rests, IsOldOrShutOrNew}
 use Rattle.journal_core.proofs.AreaLemmas.{closed_written}
@@ -14,8 +14,10 @@ use Rattle.journal_core.proofs.RestsLemmas.{some_same}
 use Rattle.policy_statement.specs.Ring.{KeyView}
 use Rattle.op_gate.specs.Decision.{GateView}
 use Rattle.access_history.specs.declared.event.Event.{Event}
+use Rattle.access_history.specs.Base.{BaseView}
 use Rattle.access_history.specs.Replay.{fresh}
-use Rattle.pcfs_store.specs.Image.{fresh_image}
+use Rattle.checkpoint_image.specs.ImageSpelling.{image_spelling}
+use Rattle.pcfs_store.specs.Image.{fresh_image, IsImageOf}
 use Rattle.pcfs_store.specs.Newest.{newest, one_of, newer}
 use Rattle.pcfs_store.specs.StoredHistory.{payloads_of}
 use Rattle.pcfs_store.specs.StoreView.{StoreView, body_of}
@@ -23,6 +25,7 @@ use Rattle.pcfs_store.specs.Inside.{store_of}
 use Rattle.pcfs_store.specs.Ready.{IsBehind, IsReady}
 use Rattle.pcfs_store.specs.Formats.{IsNewStore, IsNoneOrFresh, PairsLeft}
 use Rattle.pcfs_store.proofs.SurvivalLemmas.{IsTellable, survives_closed}
+use Rattle.pcfs_store.proofs.ImageLemmas.{fresh_spelling, fresh_has_image}
 
 -- an area that is shut has no generation, and one that has none is shut
 pub none_shut : (bytes : List ℕ) → IsShut bytes → generation_of bytes ≡ None
@@ -53,12 +56,13 @@ one_open first second e shut = clash (e ∙ ap (λ (o : Option ℕ). is_some o |
     clash : true ≡ false → ⊥
     clash e = cc
 
-fresh_tellable : IsTellable 1 fresh []
+fresh_tellable : IsTellable 1 fresh [] 0
 fresh_tellable = record {
   generated = record { low = omega arith; high = omega arith };
-  is_image = record { is_fresh = refl; image_is = refl };
+  within = omega arith;
+  is_image = subst (IsImageOf fresh) fresh_spelling fresh_has_image;
   spelled = tt;
-  fits = omega arith;
+  fits = subst (λ (image : List ℕ). length (area_bytes 1 image []) < area_limit) fresh_spelling (omega arith);
 }
 
 -- what a crash leaves on the first disk beside a second one that is shut
@@ -68,7 +72,7 @@ none_or_fresh old first second shut behind left =
     (λ is_old. inl (none (subst IsShut (sym is_old) shut)))
     (λ other. ⊎_elim
     (λ is_shut. inl (none is_shut))
-    (λ is_new. inr (survives_closed false first second 1 fresh [] fresh_tellable is_new (subst (IsBehind false 1) (sym (none_shut second behind)) tt)))
+    (λ is_new. inr (survives_closed false first second 1 fresh [] 0 fresh_tellable (subst (λ (image : List ℕ). Closed (area_bytes 1 image []) first) fresh_spelling is_new) (subst (IsBehind false 1) (sym (none_shut second behind)) tt)))
     other)
     left
   where
@@ -101,17 +105,19 @@ module _ {D : Type 0} (clock : D → ℕ) (left_since : D → ℕ → List ℕ �
       (leaves.since (clock a) x idles_a.later left_x))
 
   -- the disk of a new store is at rest
-  pub new_rests : (a : D) (active : AreaView D) (other : D) (gate : GateView) (s : StoreView D) (first : List ℕ) → s ≡ store_of active other false 1 gate None → gate.events ≡ [] →
+  pub new_rests : (a : D) (active : AreaView D) (other : D) (gate : GateView) (s : StoreView D) (first : List ℕ) → s ≡ store_of active other false 1 gate [] None → gate.base ≡ fresh → gate.events ≡ [] →
       image active.disk ≡ option_map (written 0 (area_bytes 1 fresh_image [] ++ 0 ∷ [])) (image a) → IsPinned clock left_since image active.disk → image a ≡ Some first → Rests clock left_since image s.active (body_of s)
-  new_rests a active other gate s first is none made pinned told =
+  new_rests a active other gate s first is base none made pinned told =
       subst (λ (new : StoreView D). Rests clock left_since image new.active (body_of new)) (sym is)
-      (subst (λ (events : List Event). Rests clock left_since image active.disk (area_bytes 1 fresh_image (payloads_of events))) (sym none)
+      (subst (λ (b : BaseView). Rests clock left_since image active.disk (area_bytes 1 (image_spelling b) (payloads_of gate.events))) (sym base)
+      (subst (λ (events : List Event). Rests clock left_since image active.disk (area_bytes 1 (image_spelling fresh) (payloads_of events))) (sym none)
+      (subst (λ (bytes : List ℕ). Rests clock left_since image active.disk (area_bytes 1 bytes [])) fresh_spelling
       (record {
         bytes = written 0 (area_bytes 1 fresh_image [] ++ 0 ∷ []) first;
         told = made ∙ ap (option_map (written 0 (area_bytes 1 fresh_image [] ++ 0 ∷ []))) told;
         closed = closed_written [] (area_bytes 1 fresh_image []) first refl;
         pinned = pinned;
-      }))
+      }))))
 
   -- ---- what was made
 
@@ -192,3 +198,14 @@ module _ {D : Type 0} (clock : D → ℕ) (left_since : D → ℕ → List ℕ �
       MatchResult made (λ s. clock a ≤ clock s.active) (λ e. clock a ≤ clock e.1)
   format_a_later a mid_a (Ok s) first later leaves = omega (arith, later, leaves.later)
   format_a_later a mid_a (Err e) first later leaves = omega (arith, later, leaves.later)
+
+-- ---- the gate of a new store
+
+pub new_has_image : (gate : GateView) → gate.base ≡ fresh → IsImageOf gate.base (image_spelling gate.base)
+new_has_image gate is = subst (λ (b : BaseView). IsImageOf b (image_spelling b)) (sym is) (subst (IsImageOf fresh) fresh_spelling fresh_has_image)
+
+pub new_used : (gate : GateView) (end : ℕ) → gate.base ≡ fresh → gate.events ≡ [] → end ≡ length fresh_image + 24 → end ≡ length (area_bytes 1 (image_spelling gate.base) (payloads_of gate.events))
+new_used gate end base none is =
+    subst (λ (b : BaseView). end ≡ length (area_bytes 1 (image_spelling b) (payloads_of gate.events))) (sym base)
+    (subst (λ (events : List Event). end ≡ length (area_bytes 1 (image_spelling fresh) (payloads_of events))) (sym none)
+    (subst (λ (bytes : List ℕ). end ≡ length (area_bytes 1 bytes [])) fresh_spelling (let same : length fresh_image + 24 ≡ length (area_bytes 1 fresh_image []) = refl in is ∙ same)))

@@ -1,6 +1,10 @@
+pub mod ImageLemmas
 pub mod SurvivalLemmas
 pub mod FittingLemmas
 pub mod StepLemmas
 pub mod FormatLemmas
 pub mod EntryLemmas
+pub mod IssueLemmas
 pub mod EndLemmas
+pub mod CheckpointLemmas
+pub mod PlacingLemmas

@@ -3,7 +3,7 @@ use Rattle.std.proofs.Common.{◌≡◌, ◌≢◌, ℕ, ◌+◌, ◌<◌, ◌�
 use Rattle.std.specs.Prelude.{Option, is_some, ℤ}
 use Rattle.pcfs_ports.specs.Faults.{HasRisen}
 use Rattle.pcfs_ports.specs.Disk.{LeavesOnly}
-use Rattle.journal_core.specs.Area.{area_limit, area_bytes, record_bytes, StandsForBody, generation_of, Closed}
+use Rattle.journal_core.specs.Area.{area_limit, record_bytes, StandsForBody, generation_of, Closed}
 use Rattle.journal_core.specs.AreaView.{AreaView}
 use Rattle.journal_core.specs.Rest.{Rests, IsWithOrWithout}
 use Rattle.journal_core.proofs.RecordLemmas.{record_length}
@@ -15,14 +15,13 @@ use Rattle.bl_syntax.proofs.GrantLemmas.{AllByRecursion-push}
 use Rattle.journal_records.specs.EventSpelling.{event_spelling, IsSpellableEvent}
 use Rattle.pcfs_store.specs.declared.reply.StoreReply.{StoreReply}
 use Rattle.pcfs_store.specs.declared.reply.StoreReply.TheVariants.{Step, Stopped}
-use Rattle.pcfs_store.specs.Image.{fresh_image}
-use Rattle.pcfs_store.specs.StoredHistory.{payloads_of}
+use Rattle.pcfs_store.specs.StoredHistory.{area_since}
 use Rattle.pcfs_store.specs.Newest.{one_of}
-use Rattle.pcfs_store.specs.StoreView.{StoreView, first_disk, second_disk, body_of, AnswersIn, IsStore}
-use Rattle.pcfs_store.specs.Ready.{IsBehind, IsReady, IsCurrent, StopsLeave, StopsNow, SurvivesWithOrWithout, Keeps, ready, halted}
+use Rattle.pcfs_store.specs.StoreView.{StoreView, first_disk, second_disk, settled_of, body_of, AnswersIn, IsStore}
+use Rattle.pcfs_store.specs.Ready.{IsBehind, IsReady, IsCurrent, StopsLeave, StopsNow, SurvivesWithOrWithout, Keeps, ready, halted, halted_whole}
 use Rattle.pcfs_store.specs.Steps.{IsFullFor, with_event, Steps, kept, failed, LeavesStep}
 use Rattle.pcfs_store.specs.Keeping.{Writes, HasWritten}
-use Rattle.pcfs_store.proofs.SurvivalLemmas.{IsTellable, tellable_store, tellable_push, survives_closed, area_push, left_pairs, ready_survives_now, if_some}
+use Rattle.pcfs_store.proofs.SurvivalLemmas.{IsTellable, tellable_store, tellable_push, survives_closed, since_push, image_push, order_within, order_more, left_pairs, ready_survives_now, if_some}
 
 none_some : (o : Option ℕ) (pass : ℕ) → o ≡ None → o ≡ Some pass → ⊥
 none_some o pass none some = cc
@@ -92,23 +91,28 @@ module _ {D : Type 0} (clock : D → ℕ) (left_since : D → ℕ → List ℕ �
     abbrev payload : List ℕ
     payload = event_spelling event
 
-    push_is : area_bytes old.generation fresh_image (payloads_of (old.events ++ event ∷ [])) ≡ body_of old ++ record_bytes payload
-    push_is = area_push old.generation fresh_image old.events event
+    within : settled_of old ≤ length old.events
+    within = order_within 0 (length old.events) old.checkpoints store.in_order
 
-    push_long : length (area_bytes old.generation fresh_image (payloads_of (old.events ++ event ∷ []))) ≡ old.used + (5 + length payload)
+    push_is : area_since old.generation old.base (old.events ++ event ∷ []) (settled_of old) ≡ body_of old ++ record_bytes payload
+    push_is = since_push old.generation old.base old.events event (settled_of old) within
+
+    push_long : length (area_since old.generation old.base (old.events ++ event ∷ []) (settled_of old)) ≡ old.used + (5 + length payload)
     push_long = omega (arith, ap length push_is, length-append (body_of old) (record_bytes payload), record_length payload, store.used_is)
 
-    push_fits : length (area_bytes old.generation fresh_image (payloads_of (old.events ++ event ∷ []))) < area_limit
+    push_fits : length (area_since old.generation old.base (old.events ++ event ∷ []) (settled_of old)) < area_limit
     push_fits = omega (arith, push_long, writes.room)
 
-    pub push_tellable : IsTellable old.generation old.base (old.events ++ event ∷ [])
-    push_tellable = tellable_push old.generation old.base old.events event (tellable_store old store) writes.spelled push_fits
+    pub push_tellable : IsTellable old.generation old.base (old.events ++ event ∷ []) (settled_of old)
+    push_tellable = tellable_push old.generation old.base old.events (settled_of old) event (tellable_store old store) writes.spelled push_fits
 
     -- a store keeps what a store keeps
     pub push_store : IsStore (with_event old event after.disk)
     push_store = record {
       generated = store.generated;
-      is_image = store.is_image;
+      counted = store.counted;
+      in_order = let more = length-append old.events (event ∷ []) in order_more 0 (length old.events) (length (old.events ++ event ∷ [])) old.checkpoints (omega (arith, more)) store.in_order;
+      is_image = image_push old.base old.events event (settled_of old) within store.is_image;
       spelled = AllByRecursion-push IsSpellableEvent old.events event store.spelled writes.spelled;
       used_is = sym push_long;
       fits = subst (λ (n : ℕ). n < area_limit) push_long push_fits;
@@ -126,8 +130,8 @@ module _ {D : Type 0} (clock : D → ℕ) (left_since : D → ℕ → List ℕ �
         let behind : IsBehind old.second_active old.generation (generation_of o) =
         subst (λ (bytes : List ℕ). IsBehind old.second_active old.generation (generation_of bytes)) (some_same is_ready.other_bytes o (sym is_ready.other_told ∙ is_ready.other_pinned o left_o)) is_ready.behind in
         ⊎_elim
-        (λ without. inl (survives_closed old.second_active a o old.generation old.base old.events (tellable_store old store) without behind))
-        (λ with_it. inr (survives_closed old.second_active a o old.generation old.base (old.events ++ event ∷ []) push_tellable
+        (λ without. inl (survives_closed old.second_active a o old.generation old.base old.events (settled_of old) (tellable_store old store) without behind))
+        (λ with_it. inr (survives_closed old.second_active a o old.generation old.base (old.events ++ event ∷ []) (settled_of old) push_tellable
         (subst (λ (body : List ℕ). Closed body a) (sym push_is) with_it) behind))
         ((goes_on is_ready).each a left_a))
         x y left_x left_y
@@ -142,7 +146,7 @@ module _ {D : Type 0} (clock : D → ℕ) (left_since : D → ℕ → List ℕ �
 
     module _ (written : HasWritten clock left_since image faults (record { disk = old.active; end = old.used }) after event) where
       rests_after : (bytes : List ℕ) → image old.active ≡ Some bytes → StandsForBody (body_of old) bytes →
-          Rests clock left_since image after.disk (area_bytes old.generation fresh_image (payloads_of (old.events ++ event ∷ [])))
+          Rests clock left_since image after.disk (area_since old.generation old.base (old.events ++ event ∷ []) (settled_of old))
       rests_after bytes told stands = subst (Rests clock left_since image after.disk) (sym push_is) (written.rests (body_of old) bytes (sym store.used_is) told stands)
 
       ready_after : IsReady clock left_since image old → IsReady clock left_since image (with_event old event after.disk)
@@ -156,10 +160,10 @@ module _ {D : Type 0} (clock : D → ℕ) (left_since : D → ℕ → List ℕ �
       }
 
       active_after : (told : Option (List ℕ)) → image old.active ≡ told → IfSome told (StandsForBody (body_of old)) → (told_now : Option (List ℕ)) → image after.disk ≡ told_now →
-          IfSome told_now (StandsForBody (area_bytes old.generation fresh_image (payloads_of (old.events ++ event ∷ []))))
+          IfSome told_now (StandsForBody (area_since old.generation old.base (old.events ++ event ∷ []) (settled_of old)))
       active_after (Some bytes) told stands told_now now =
           let rests = rests_after bytes told stands in
-          if_some told_now (StandsForBody (area_bytes old.generation fresh_image (payloads_of (old.events ++ event ∷ [])))) rests.bytes (sym now ∙ rests.told) rests.closed.stands
+          if_some told_now (StandsForBody (area_since old.generation old.base (old.events ++ event ∷ []) (settled_of old))) rests.bytes (sym now ∙ rests.told) rests.closed.stands
       active_after None told stands None now = tt
       active_after None told stands (Some bytes) now = absurd (untold (image old.active) (image after.disk) bytes told now writes.told)
         where
@@ -194,6 +198,7 @@ module _ {D : Type 0} (clock : D → ℕ) (left_since : D → ℕ → List ℕ �
           stays : Keeps clock left_since image old → Keeps clock left_since image (with_event old event after.disk)
           stays (ready is_ready) = ready (ready_after is_ready)
           stays (halted earlier met stop leaves) = absurd (none_some old.stop earlier running stop)
+          stays (halted_whole earlier stop leaves) = absurd (none_some old.stop earlier running stop)
 
           unlike : Step reply ≡ Stopped → ⊥
           unlike e = cc
@@ -226,3 +231,4 @@ module _ {D : Type 0} (clock : D → ℕ) (left_since : D → ℕ → List ℕ �
         stays : Keeps clock left_since image old → Keeps clock left_since image (record old { active = after.disk; stop = Some pass })
         stays (ready is_ready) = halted pass event refl (leaves_now is_ready)
         stays (halted first met stop leaves) = absurd (none_some old.stop first running stop)
+        stays (halted_whole first stop leaves) = absurd (none_some old.stop first running stop)

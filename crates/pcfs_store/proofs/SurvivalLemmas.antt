@@ -1,10 +1,10 @@
 -- Bytes that stand for a history, and what survives of a store.
-use Rattle.std.proofs.Common.{◌≡◌, ℕ, ◌+◌, ◌<◌, ◌≤◌, List, [], ◌∷◌, ◌++◌, length, take, drop, get_or, map, Some, None, IfSome, Bool, true, false, refl, sym, ◌∙◌, ap, subst, arith, append_assoc}
+use Rattle.std.proofs.Common.{◌≡◌, ℕ, zero, suc, ◌+◌, ◌<◌, ◌≤◌, List, [], ◌∷◌, ◌++◌, length, take, drop, get_or, map, Some, None, IfSome, Bool, true, false, refl, sym, ◌∙◌, ap, subst, arith, append_assoc, length-append}
 use Rattle.std.specs.Prelude.{Option, nat_lt, ◌==◌, if◌then◌else◌}
 use Rattle.std.specs.Option.{option_map}
 use Rattle.std.specs.Int.{w64, from_be_bytes}
 use Rattle.std.proofs.lemmas.Bool.{le-ltb, lt-ltb}
-use Rattle.std.proofs.lemmas.List.{take_all}
+use Rattle.std.proofs.lemmas.List.{take_all, take-append-le, drop-append-le}
 use Rattle.journal_core.specs.Area.{area_limit, area_bytes, base_bytes, record_bytes, records, Begins, StandsForBody, IsGeneration, IsArea, generation_of, Closed}
 use Rattle.journal_core.proofs.RecordLemmas.{base_generation, base_within, records_push}
 use Rattle.journal_core.proofs.ReadingLemmas.{base_begins, opens}
@@ -15,10 +15,13 @@ use Rattle.access_history.specs.Base.{BaseView}
 use Rattle.bl_syntax.proofs.GrantLemmas.{AllByRecursion-push}
 use Rattle.journal_records.specs.EventSpelling.{erase, event_spelling, IsSpellableEvent}
 use Rattle.journal_records.proofs.EventLemmas.{same_spelling}
-use Rattle.pcfs_store.specs.Image.{fresh_image, IsImageOf}
-use Rattle.pcfs_store.specs.StoredHistory.{payloads_of, AreSpellable, StandsFor, Resumes}
+use Rattle.access_history.specs.Replay.{replay}
+use Rattle.checkpoint_image.specs.ImageSpelling.{image_spelling}
+use Rattle.pcfs_store.specs.declared.checkpoints.Checkpoint.{Checkpoint}
+use Rattle.pcfs_store.specs.Image.{IsImageOf}
+use Rattle.pcfs_store.specs.StoredHistory.{payloads_of, AreSpellable, state_after, area_since, StandsFor, Resumes}
 use Rattle.pcfs_store.specs.Newest.{newer, one_of, newest, SurvivesWhole, SurvivesWholeClosed}
-use Rattle.pcfs_store.specs.StoreView.{StoreView, first_disk, second_disk, body_of, IsStore}
+use Rattle.pcfs_store.specs.StoreView.{StoreView, first_disk, second_disk, last_after, settled_of, head_of, records_of, body_of, AreInOrder, IsStore}
 use Rattle.pcfs_store.specs.Ready.{IsBehind, IsReady, IsCurrent, StopsNow}
 
 -- ---- generations
@@ -94,60 +97,128 @@ stands_erased bytes generation base events stands = record {
   is_area = subst (λ (l : List (List ℕ)). IsArea bytes generation stands.image l) (sym (payloads_erased events)) stands.is_area;
 }
 
--- a whole history is resumed by its events without their passes
-resumes_whole : (base : BaseView) (events : List Event) → Resumes base (map erase events) base events (length events)
-resumes_whole base events = record {
-  skipped = 0;
-  skipped_few = omega arith;
+all_dropped : (n : ℕ) (events : List Event) → AreSpellable events → AreSpellable (drop n events)
+all_dropped zero events spelled = spelled
+all_dropped (suc n) [] spelled = tt
+all_dropped (suc n) (event ∷ events) spelled = all_dropped n events spelled.1
+
+-- a whole history is resumed by the state after some first of its events, and the others without their passes
+resumes_since : (base : BaseView) (events : List Event) (settled : ℕ) → settled ≤ length events → Resumes (state_after base events settled) (map erase (drop settled events)) base events (length events)
+resumes_since base events settled within = record {
+  skipped = settled;
+  skipped_few = within;
   kept_few = omega arith;
   base_is = refl;
-  events_are = ap (map erase) (sym (take_all (length events) events (omega arith)));
+  events_are = ap (λ (es : List Event). map erase (drop settled es)) (sym (take_all (length events) events (omega arith)));
 }
 
--- bytes that stand for a history and count: it survives
-pub survives_stands : (base : BaseView) (events : List Event) (first second bytes : List ℕ) (generation : ℕ) → newest first second ≡ Some bytes → StandsFor bytes generation base events →
-    SurvivesWhole base events first second
-survives_stands base events first second bytes generation counts stands = record {
+-- bytes that stand for the state after some first events and the others, and count: the history survives
+pub survives_stands : (base : BaseView) (events : List Event) (settled : ℕ) → settled ≤ length events → (first second bytes : List ℕ) (generation : ℕ) → newest first second ≡ Some bytes →
+    StandsFor bytes generation (state_after base events settled) (drop settled events) → SurvivesWhole base events first second
+survives_stands base events settled within first second bytes generation counts stands = record {
   bytes = bytes;
   counts = counts;
   generation = generation;
-  found_base = base;
-  found = map erase events;
-  stands = stands_erased bytes generation base events stands;
-  resumes = resumes_whole base events;
+  found_base = state_after base events settled;
+  found = map erase (drop settled events);
+  stands = stands_erased bytes generation (state_after base events settled) (drop settled events) stands;
+  resumes = resumes_since base events settled within;
 }
 
--- what a history has to keep to be told in an area
-pub record IsTellable (generation : ℕ) (base : BaseView) (events : List Event) : Type 0 where
+-- what a history has to keep to be told in an area by the image of the state after its first `settled` events
+pub record IsTellable (generation : ℕ) (base : BaseView) (events : List Event) (settled : ℕ) : Type 0 where
   pub generated : IsGeneration generation
-  pub is_image : IsImageOf base fresh_image
+  pub within : settled ≤ length events
+  pub is_image : IsImageOf (state_after base events settled) (image_spelling (state_after base events settled))
   pub spelled : AreSpellable events
-  pub fits : length (area_bytes generation fresh_image (payloads_of events)) < area_limit
+  pub fits : length (area_since generation base events settled) < area_limit
 
-pub tellable_store : {D : Type 0} (s : StoreView D) → IsStore s → IsTellable s.generation s.base s.events
-tellable_store s store = record { generated = store.generated; is_image = store.is_image; spelled = store.spelled; fits = subst (λ (n : ℕ). n < area_limit) store.used_is store.fits }
+-- ---- checkpoints in order
 
-pub tellable_push : (generation : ℕ) (base : BaseView) (events : List Event) (event : Event) → IsTellable generation base events → IsSpellableEvent event →
-    length (area_bytes generation fresh_image (payloads_of (events ++ event ∷ []))) < area_limit → IsTellable generation base (events ++ event ∷ [])
-tellable_push generation base events event told spelled fits = record { generated = told.generated; is_image = told.is_image; spelled = AllByRecursion-push IsSpellableEvent events event told.spelled spelled; fits = fits }
+pub order_within : (least most : ℕ) (checkpoints : List Checkpoint) → AreInOrder least most checkpoints → last_after least checkpoints ≤ most
+order_within least most [] order = order
+order_within least most (checkpoint ∷ checkpoints) order = order_within checkpoint.after most checkpoints order.1
+
+pub order_above : (least most : ℕ) (checkpoints : List Checkpoint) → AreInOrder least most checkpoints → least ≤ last_after least checkpoints
+order_above least most [] order = omega arith
+order_above least most (checkpoint ∷ checkpoints) order = let later = order_above checkpoint.after most checkpoints order.1 in omega (arith, order.0, later)
+
+pub order_more : (least most more : ℕ) (checkpoints : List Checkpoint) → most ≤ more → AreInOrder least most checkpoints → AreInOrder least more checkpoints
+order_more least most more [] le order = omega (arith, le, order)
+order_more least most more (checkpoint ∷ checkpoints) le order = (order.0, order_more checkpoint.after most more checkpoints le order.1)
+
+pub tellable_store : {D : Type 0} (s : StoreView D) → IsStore s → IsTellable s.generation s.base s.events (settled_of s)
+tellable_store s store = record {
+  generated = store.generated;
+  within = order_within 0 (length s.events) s.checkpoints store.in_order;
+  is_image = store.is_image;
+  spelled = store.spelled;
+  fits = subst (λ (n : ℕ). n < area_limit) store.used_is store.fits;
+}
+
+-- ---- one event more
+
+-- the state after some first events is the same
+pub state_push : (base : BaseView) (events : List Event) (event : Event) (settled : ℕ) → settled ≤ length events → state_after base (events ++ event ∷ []) settled ≡ state_after base events settled
+state_push base events event settled within = ap (replay base) (take-append-le settled events (event ∷ []) within)
+
+-- the area has its record more
+pub since_push : (generation : ℕ) (base : BaseView) (events : List Event) (event : Event) (settled : ℕ) → settled ≤ length events →
+    area_since generation base (events ++ event ∷ []) settled ≡ area_since generation base events settled ++ record_bytes (event_spelling event)
+since_push generation base events event settled within =
+    ap (λ (b : BaseView). area_bytes generation (image_spelling b) (payloads_of (drop settled (events ++ event ∷ [])))) (state_push base events event settled within)
+    ∙ ap (λ (es : List Event). area_bytes generation (image_spelling (state_after base events settled)) (payloads_of es)) (drop-append-le settled events (event ∷ []) within)
+    ∙ area_push generation (image_spelling (state_after base events settled)) (drop settled events) event
+
+pub image_push : (base : BaseView) (events : List Event) (event : Event) (settled : ℕ) → settled ≤ length events → IsImageOf (state_after base events settled) (image_spelling (state_after base events settled)) →
+    IsImageOf (state_after base (events ++ event ∷ []) settled) (image_spelling (state_after base (events ++ event ∷ []) settled))
+image_push base events event settled within is_image = subst (λ (b : BaseView). IsImageOf b (image_spelling b)) (sym (state_push base events event settled within)) is_image
+
+pub tellable_push : (generation : ℕ) (base : BaseView) (events : List Event) (settled : ℕ) (event : Event) → IsTellable generation base events settled → IsSpellableEvent event →
+    length (area_since generation base (events ++ event ∷ []) settled) < area_limit → IsTellable generation base (events ++ event ∷ []) settled
+tellable_push generation base events settled event told spelled fits = record {
+  generated = told.generated;
+  within = let more = length-append events (event ∷ []) in omega (arith, told.within, more);
+  is_image = image_push base events event settled told.within told.is_image;
+  spelled = AllByRecursion-push IsSpellableEvent events event told.spelled spelled;
+  fits = fits;
+}
+
+-- ---- what survives
+
+-- bytes of a tellable history stand for its state and its records
+pub stands_since : (generation : ℕ) (base : BaseView) (events : List Event) (settled : ℕ) (bytes : List ℕ) → IsTellable generation base events settled → StandsForBody (area_since generation base events settled) bytes →
+    StandsFor bytes generation (state_after base events settled) (drop settled events)
+stands_since generation base events settled bytes told stands = record {
+  image = image_spelling (state_after base events settled);
+  is_image = told.is_image;
+  spelled = all_dropped settled events told.spelled;
+  is_area = record { generated = told.generated; fits = told.fits; stands = stands };
+}
+
+-- their generation
+pub generation_since : (generation : ℕ) (base : BaseView) (events : List Event) (settled : ℕ) (bytes : List ℕ) → IsTellable generation base events settled → StandsForBody (area_since generation base events settled) bytes →
+    generation_of bytes ≡ Some generation
+generation_since generation base events settled bytes told stands =
+    generation_begins bytes generation (image_spelling (state_after base events settled)) (payloads_of (drop settled events)) told.generated told.fits stands.front
 
 -- bytes of the area that counts, beside others that are older
-pub survives_beside : (second : Bool) (active other : List ℕ) (generation : ℕ) (base : BaseView) (events : List Event) → IsTellable generation base events →
-    StandsForBody (area_bytes generation fresh_image (payloads_of events)) active → IsBehind second generation (generation_of other) →
+pub survives_beside : (second : Bool) (active other : List ℕ) (generation : ℕ) (base : BaseView) (events : List Event) (settled : ℕ) → IsTellable generation base events settled →
+    StandsForBody (area_since generation base events settled) active → IsBehind second generation (generation_of other) →
     SurvivesWhole base events (one_of active other second) (one_of other active second)
-survives_beside second active other generation base events told stands behind =
-    survives_stands base events (one_of active other second) (one_of other active second) active generation
-    (newest_active second active other generation (generation_begins active generation fresh_image (payloads_of events) told.generated told.fits stands.front) behind)
-    (record { image = fresh_image; is_image = told.is_image; spelled = told.spelled; is_area = record { generated = told.generated; fits = told.fits; stands = stands } })
+survives_beside second active other generation base events settled told stands behind =
+    survives_stands base events settled told.within (one_of active other second) (one_of other active second) active generation
+    (newest_active second active other generation (generation_since generation base events settled active told stands) behind)
+    (stands_since generation base events settled active told stands)
 
 -- the same of bytes that are closed
-pub survives_closed : (second : Bool) (active other : List ℕ) (generation : ℕ) (base : BaseView) (events : List Event) → IsTellable generation base events →
-    Closed (area_bytes generation fresh_image (payloads_of events)) active → IsBehind second generation (generation_of other) →
+pub survives_closed : (second : Bool) (active other : List ℕ) (generation : ℕ) (base : BaseView) (events : List Event) (settled : ℕ) → IsTellable generation base events settled →
+    Closed (area_since generation base events settled) active → IsBehind second generation (generation_of other) →
     SurvivesWholeClosed base events (one_of active other second) (one_of other active second)
-unfolding survives_beside survives_stands stands_erased
-survives_closed second active other generation base events told closed behind = record {
-  survives = survives_beside second active other generation base events told closed.stands behind;
-  gate = subst (λ (payloads : List (List ℕ)). length (area_bytes generation fresh_image payloads) < length active) (sym (payloads_erased events)) closed.gate;
+unfolding survives_beside survives_stands stands_erased stands_since
+survives_closed second active other generation base events settled told closed behind = record {
+  survives = survives_beside second active other generation base events settled told closed.stands behind;
+  gate = subst (λ (payloads : List (List ℕ)). length (area_bytes generation (image_spelling (state_after base events settled)) payloads) < length active) (sym (payloads_erased (drop settled events))) closed.gate;
 }
 
 -- ---- stores
@@ -186,7 +257,7 @@ module _ {D : Type 0} where
     pub current_survives : IsStore s → IsCurrent clock left_since image s → (x y : List ℕ) → image (first_disk s) ≡ Some x → image (second_disk s) ≡ Some y → SurvivesWhole s.base s.events x y
     current_survives store current x y is_x is_y =
         told_pairs image s.second_active s.active s.other (SurvivesWhole s.base s.events)
-        (λ a o is_a is_o. survives_beside s.second_active a o s.generation s.base s.events (tellable_store s store)
+        (λ a o is_a is_o. survives_beside s.second_active a o s.generation s.base s.events (settled_of s) (tellable_store s store)
         (at_some (image s.active) (StandsForBody (body_of s)) a is_a current.active)
         (at_some (image s.other) (λ bytes. IsBehind s.second_active s.generation (generation_of bytes)) o is_o current.other))
         x y is_x is_y
@@ -195,7 +266,7 @@ module _ {D : Type 0} where
     pub ready_survives_now : IsStore s → IsReady clock left_since image s → StopsNow clock left_since image s (SurvivesWholeClosed s.base s.events)
     ready_survives_now store ready x y left_x left_y =
         left_pairs clock left_since s.second_active s.active s.active s.other (SurvivesWholeClosed s.base s.events)
-        (λ a o left_a left_o. survives_closed s.second_active a o s.generation s.base s.events (tellable_store s store)
+        (λ a o left_a left_o. survives_closed s.second_active a o s.generation s.base s.events (settled_of s) (tellable_store s store)
         (subst (Closed (body_of s)) (some_same ready.rests.bytes a (sym ready.rests.told ∙ ready.rests.pinned a left_a)) ready.rests.closed)
         (subst (λ (bytes : List ℕ). IsBehind s.second_active s.generation (generation_of bytes)) (some_same ready.other_bytes o (sym ready.other_told ∙ ready.other_pinned o left_o)) ready.behind))
         x y left_x left_y
@@ -204,22 +275,22 @@ module _ {D : Type 0} where
     pub ready_survives : IsStore s → IsReady clock left_since image s → (x y : List ℕ) → image (first_disk s) ≡ Some x → image (second_disk s) ≡ Some y → SurvivesWholeClosed s.base s.events x y
     ready_survives store ready x y is_x is_y =
         told_pairs image s.second_active s.active s.other (SurvivesWholeClosed s.base s.events)
-        (λ a o is_a is_o. survives_closed s.second_active a o s.generation s.base s.events (tellable_store s store)
+        (λ a o is_a is_o. survives_closed s.second_active a o s.generation s.base s.events (settled_of s) (tellable_store s store)
         (subst (Closed (body_of s)) (some_same ready.rests.bytes a (sym ready.rests.told ∙ is_a)) ready.rests.closed)
         (subst (λ (bytes : List ℕ). IsBehind s.second_active s.generation (generation_of bytes)) (some_same ready.other_bytes o (sym ready.other_told ∙ is_o)) ready.behind))
         x y is_x is_y
 
-    -- the newest area that a read of the disks of a current store gives stands for its history, under its generation
+    -- the newest area that a read of the disks of a current store gives stands for the state of its last checkpoint and the events since, under its generation
     pub current_stands : IsStore s → IsCurrent clock left_since image s → (x y : List ℕ) → image (first_disk s) ≡ Some x → image (second_disk s) ≡ Some y →
-        (bytes : List ℕ) × (newest x y ≡ Some bytes) × StandsFor bytes s.generation s.base s.events
+        (bytes : List ℕ) × (newest x y ≡ Some bytes) × StandsFor bytes s.generation (head_of s) (records_of s)
     current_stands store current x y is_x is_y =
-        told_pairs image s.second_active s.active s.other (λ u v. (bytes : List ℕ) × (newest u v ≡ Some bytes) × StandsFor bytes s.generation s.base s.events)
+        told_pairs image s.second_active s.active s.other (λ u v. (bytes : List ℕ) × (newest u v ≡ Some bytes) × StandsFor bytes s.generation (head_of s) (records_of s))
         (λ a o is_a is_o.
         let told = tellable_store s store in
         let stands = at_some (image s.active) (StandsForBody (body_of s)) a is_a current.active in (
           a,
-          newest_active s.second_active a o s.generation (generation_begins a s.generation fresh_image (payloads_of s.events) told.generated told.fits stands.front)
+          newest_active s.second_active a o s.generation (generation_since s.generation s.base s.events (settled_of s) a told stands)
               (at_some (image s.other) (λ bytes. IsBehind s.second_active s.generation (generation_of bytes)) o is_o current.other),
-          record { image = fresh_image; is_image = told.is_image; spelled = told.spelled; is_area = record { generated = told.generated; fits = told.fits; stands = stands } },
+          stands_since s.generation s.base s.events (settled_of s) a told stands,
         ))
         x y is_x is_y

@@ -11,6 +11,7 @@ pub record IsNewStore {D : Type 0} (key : List ℕ) (ring : List KeyView) (s : S
   pub ring_is : s.ring ≡ ring
   pub base_is : s.base ≡ fresh
   pub no_events : s.events ≡ []
+  pub no_checkpoints : s.checkpoints ≡ []
   pub generation_is : s.generation ≡ 1
   pub used_is : s.used ≡ 89
   pub on_first : s.second_active ≡ false

@@ -1,7 +1,6 @@
 -- The image of the state with which an area begins. The format is this project's own. Its numbers are big-endian.
 use Rattle.std.specs.Prelude.{◌≡◌, ℕ, List, [], ◌∷◌, ◌++◌, codes}
-use Rattle.access_history.specs.Base.{BaseView}
-use Rattle.access_history.specs.Replay.{fresh}
+pub use Rattle.checkpoint.specs.Reading.{IsImageOf}
 
 -- the number 0 in four bytes, and in eight
 abbrev pub zero_in_four : List ℕ
@@ -22,8 +21,3 @@ root_bytes = 0 ∷ 0 ∷ 0 ∷ 0 ∷ 0 ∷ 0 ∷ 0 ∷ 1 ∷ [] ++ 2 ∷ [] ++ 5
 abbrev pub fresh_image : List ℕ
 fresh_image =
     first_moment_bytes ++ zero_in_eight ++ 0 ∷ 0 ∷ 0 ∷ 0 ∷ 0 ∷ 0 ∷ 0 ∷ 2 ∷ [] ++ zero_in_four ++ zero_in_four ++ 0 ∷ 0 ∷ 0 ∷ 1 ∷ [] ++ root_bytes
-
--- The bytes are the image of a state. So far a store begins before its first event alone: images of other states come with checkpoints.
-pub record IsImageOf (base : BaseView) (image : List ℕ) : Type 0 where
-  pub is_fresh : base ≡ fresh
-  pub image_is : image ≡ fresh_image

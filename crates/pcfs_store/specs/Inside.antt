@@ -1,12 +1,13 @@
 -- What the fields of a store stand for.
-use Rattle.std.specs.Prelude.{◌≡◌, ℕ, Bool, Option, None}
+use Rattle.std.specs.Prelude.{◌≡◌, ℕ, Bool, List, Option, None}
 use Rattle.journal_core.specs.AreaView.{AreaView}
 use Rattle.op_gate.specs.Decision.{GateView}
+use Rattle.pcfs_store.specs.declared.checkpoints.Checkpoint.{Checkpoint}
 use Rattle.pcfs_store.specs.StoreView.{StoreView, IsStore}
 
 -- the store of these fields
-abbrev pub store_of : {D : Type 0} → AreaView D → D → Bool → ℕ → GateView → Option ℕ → StoreView D
-store_of area other second_active generation gate stop = record {
+abbrev pub store_of : {D : Type 0} → AreaView D → D → Bool → ℕ → GateView → List Checkpoint → Option ℕ → StoreView D
+store_of area other second_active generation gate checkpoints stop = record {
   active = area.disk;
   other = other;
   second_active = second_active;
@@ -16,10 +17,11 @@ store_of area other second_active generation gate stop = record {
   ring = gate.ring;
   base = gate.base;
   events = gate.events;
+  checkpoints = checkpoints;
   stop = stop;
 }
 
 -- the fields keep what a store keeps, and nothing is pending
-pub record IsKeeping {D : Type 0} (area : AreaView D) (other : D) (second_active : Bool) (generation : ℕ) (gate : GateView) (stop : Option ℕ) : Type 0 where
-  pub store : IsStore (store_of area other second_active generation gate stop)
+pub record IsKeeping {D : Type 0} (area : AreaView D) (other : D) (second_active : Bool) (generation : ℕ) (gate : GateView) (checkpoints : List Checkpoint) (stop : Option ℕ) : Type 0 where
+  pub store : IsStore (store_of area other second_active generation gate checkpoints stop)
   pub idle : gate.pending ≡ None

@@ -8,5 +8,7 @@ pub mod Keeping
 pub mod Entries
 pub mod Ready
 pub mod Steps
+pub mod Checkpoints
+pub mod Moving
 pub mod Formats
 pub mod Laws

@@ -48,7 +48,9 @@ module _ {D : Type 0} (clock : D → ℕ) (left_since : D → ℕ → List ℕ �
   abbrev pub StopsNow : StoreView D → (List ℕ → List ℕ → Type 0) → Type 0
   StopsNow s P = StopsLeave s s P
 
-  -- What a store keeps through all its steps: it is ready; or a disk failed, and a crash now leaves its history, or with it the event that met the fault.
+  -- What a store keeps through all its steps and checkpoints: it is ready; or a disk failed in a step, and a crash now leaves its history, or with it the event that met the fault; or a disk failed in a
+  -- checkpoint, and a crash now leaves its history.
   pub data Keeps (s : StoreView D) : Type 0 where
     ready : IsReady s → Keeps s
     halted : (pass : ℕ) (met : Event) → s.stop ≡ Some pass → StopsNow s (SurvivesWithOrWithout s.base s.events met) → Keeps s
+    halted_whole : (pass : ℕ) → s.stop ≡ Some pass → StopsNow s (SurvivesWholeClosed s.base s.events) → Keeps s

@@ -1,4 +1,4 @@
-//! What is answered to a step.
+//! What is answered to a step, and to a checkpoint.
 
 use access_history::StepReply;
 
@@ -9,8 +9,21 @@ pub enum StoreReply {
     Step(StepReply),
     /// The answer would keep an event that does not fit, and nothing was kept.
     Full,
-    /// A disk failed, now or in an earlier step, and nothing was kept.
+    /// A disk failed, now or in an earlier call, and nothing was kept.
     Stopped,
     /// There was no memory, and nothing was decided.
+    NoMemory,
+}
+
+/// What became of a checkpoint.
+#[derive(Clone, Copy, Debug, PartialEq, Eq)]
+pub enum CheckpointReply {
+    /// The area that counts has the image of the state, and no records.
+    Checkpointed,
+    /// The image does not fit, or there is no next generation. Nothing was done.
+    Full,
+    /// A disk failed, now or in an earlier call.
+    Stopped,
+    /// There was no memory, and nothing was done.
     NoMemory,
 }

@@ -1,19 +1,25 @@
 //! The store.
 
-ghost use Rattle.std.specs.Prelude.{◌≡◌, ◌≢◌, ◌↔◌, ◌≤◌, ◌-◌, Some, None, IsSome, IsTrue, length, is_some};
+ghost use Rattle.std.specs.Prelude.{◌≡◌, ◌≢◌, ◌↔◌, ◌<◌, ◌≤◌, ◌-◌, ◌^◌, [], Some, None, IsSome, IsTrue, length, is_some};
 ghost use Rattle.journal_core.specs.Area.{area_bytes, IsGeneration};
-ghost use Rattle.access_history.specs.Replay.{fresh};
-ghost use Rattle.pcfs_store.specs.Image.{fresh_image};
+ghost use Rattle.checkpoint_image.specs.ImageSpelling.{image_spelling};
+ghost use Rattle.pcfs_store.specs.Image.{IsImageOf};
 ghost use Rattle.pcfs_store.specs.StoredHistory.{payloads_of, AreSpellable};
 
+use crate::checkpoints::{Checkpoint, move_area};
 use crate::keeping::keep_pending;
-use crate::reply::StoreReply;
+use crate::reply::{CheckpointReply, StoreReply};
 use access_history::StepRequest;
+use bl_syntax::{Bytes, NoMemory};
+use checkpoint::state_image;
 use journal_core::{Area, AreaFault};
 use op_gate::{Decision, Gate};
 use pcfs_ports::Disk;
 use std::alloc::Global;
 use std::marker::Model;
+
+/// The greatest generation that an area may have.
+const LAST_GENERATION: u64 = 0xffff_ffff_ffff;
 
 /// A history on two disks: its area is on the one of them that counts, which is closed at every moment, and the history is
 /// in memory too. A step of it costs, beside its decision, two syncs if it keeps an event.
@@ -24,6 +30,7 @@ pub struct Store<D: Disk> {
     second_active: bool,
     generation: u64,
     gate: Gate,
+    checkpoints: Vec<Checkpoint>,
     stop: Option<u64>,
 }
 
@@ -37,24 +44,28 @@ impl<D: Disk> Model for Store<D> {
 
     ghost use Rattle.pcfs_store.specs.Inside.{store_of, IsKeeping};
 
-    ghost view = { λ s. store_of s.active s.other s.second_active s.generation s.gate s.stop };
+    ghost view = { λ s. store_of s.active s.other s.second_active s.generation s.gate s.checkpoints.items s.stop };
 
-    ghost invariant = { λ s. IsKeeping s.active s.other s.second_active s.generation s.gate s.stop };
+    ghost invariant = { λ s. IsKeeping s.active s.other s.second_active s.generation s.gate s.checkpoints.items s.stop };
 }
 
 impl<D: Disk> Store<D> {
-    ghost use Rattle.std.specs.Prelude.{Option};
+    ghost use Rattle.std.specs.Prelude.{Option, List, ℕ, IfOk};
+    ghost use Rattle.pcfs_ports.specs.Disk.{IsPinned};
     ghost use Rattle.bl_syntax.specs.TimeOrder.{IsMoment};
     ghost use Rattle.access_history.specs.declared.event.Event.{Event};
     ghost use Rattle.access_history.specs.declared.reply.StepReply.{StepReply};
     ghost use Rattle.access_history.specs.WellFormed.{IsWellFormed};
-    ghost use Rattle.pcfs_store.specs.StoreView.{IsStore, AnswersIn, first_disk, second_disk};
+    ghost use Rattle.pcfs_store.specs.StoreView.{IsStore, AnswersIn, first_disk, second_disk, state_of_store};
     ghost use Rattle.pcfs_store.specs.Ready.{IsReady, IsCurrent, Keeps, StopsLeave, StopsNow, SurvivesWithOrWithout};
     ghost use Rattle.pcfs_store.specs.Steps.{Steps, LeavesStep};
+    ghost use Rattle.pcfs_store.specs.Checkpoints.{MakesCheckpoint, IsNewestCheckpoint, Checkpoints};
+    ghost use Rattle.pcfs_store.specs.Newest.{SurvivesWholeClosed};
 
     /// A store over what was read of two disks. The area is the one that counts, the second exactly if `second_active`; it
-    /// has that generation, the image of a store before its first event, and the records of the gate's history.
+    /// has that generation, the image of the gate's base, and the records of its events. It takes no memory.
     pub fn from_scan(
+        alloc: Global,
         active: Area<D>,
         other: D,
         second_active: bool,
@@ -62,9 +73,9 @@ impl<D: Disk> Store<D> {
         gate: Gate,
     ) -> Store<D>
         requires generated { IsGeneration generation }
-        requires is_fresh { gate.base ≡ fresh }
+        requires image { IsImageOf gate.base (image_spelling gate.base) }
         requires spelled { AreSpellable gate.events }
-        requires used { active.end ≡ length (area_bytes generation fresh_image (payloads_of gate.events)) }
+        requires used { active.end ≡ length (area_bytes generation (image_spelling gate.base) (payloads_of gate.events)) }
         requires nothing_pending { gate.pending ≡ None }
         ensures { result ≡ record {
           active = active.disk;
@@ -76,6 +87,7 @@ impl<D: Disk> Store<D> {
           ring = gate.ring;
           base = gate.base;
           events = gate.events;
+          checkpoints = [];
           stop = None;
         } }
     {
@@ -85,6 +97,7 @@ impl<D: Disk> Store<D> {
             second_active,
             generation,
             gate,
+            checkpoints: Vec::new(alloc),
             stop: None,
         }
     }
@@ -169,6 +182,103 @@ impl<D: Disk> Store<D> {
                 }
             }
             Decision::NoMemory => StoreReply::NoMemory,
+        }
+    }
+
+    /// Makes a checkpoint: the image of the state is written on the disk that does not count, under the next generation, and
+    /// from then on that disk counts, and the records of later events follow this image. The history stays as it is. All
+    /// memory is taken before the first of the six calls of that disk.
+    ///
+    /// `Full` comes exactly if the image does not fit or there is no next generation. `Stopped` comes if a disk failed
+    /// earlier, and then no disk is touched; or if the other disk fails now, and only if its count of faults rose. After
+    /// `Full` and `NoMemory` all is as it was.
+    pub fn checkpoint(&mut self, alloc: Global, pass: u64) -> CheckpointReply
+        ensures answer { MakesCheckpoint D.faults self.old pass result self.new }
+
+        // The store stays ready unless a disk fails now, and keeps its history even then.
+        ensures ready { IsReady D.clock D.left_since D.image self.old → result ≢ CheckpointReply.Stopped → IsReady D.clock D.left_since D.image self.new }
+        ensures keeps { Keeps D.clock D.left_since D.image self.old → Keeps D.clock D.left_since D.image self.new }
+        ensures current { IsCurrent D.clock D.left_since D.image self.old → result ≢ CheckpointReply.Stopped → IsCurrent D.clock D.left_since D.image self.new }
+
+        // A store whose area lacked its closed gate is ready after it.
+        ensures makes_ready { IsCurrent D.clock D.left_since D.image self.old → result ≡ CheckpointReply.Checkpointed → (active other : List ℕ) →
+            D.image self.old.active ≡ Some active → D.image self.old.other ≡ Some other → IsPinned D.clock D.left_since D.image self.old.active →
+            IsReady D.clock D.left_since D.image self.new }
+
+        // A crash at any moment leaves the history.
+        ensures any_moment { IsReady D.clock D.left_since D.image self.old → StopsLeave D.clock D.left_since D.image self.old self.new (SurvivesWholeClosed self.old.base self.old.events) }
+
+        // After a fault of a disk it is still there.
+        ensures halts { IsReady D.clock D.left_since D.image self.old → result ≡ CheckpointReply.Stopped → StopsNow D.clock D.left_since D.image self.new (SurvivesWholeClosed self.old.base self.old.events) }
+
+        // What a read gives then is the area of the next generation, with the image of the state.
+        ensures newest { IsCurrent D.clock D.left_since D.image self.old → result ≡ CheckpointReply.Checkpointed → (first second : List ℕ) →
+            D.image (first_disk self.new) ≡ Some first → D.image (second_disk self.new) ≡ Some second → IsNewestCheckpoint self.old first second }
+
+        ensures first_told { is_some (D.image (first_disk self.new)) ≡ is_some (D.image (first_disk self.old)) }
+        ensures second_told { is_some (D.image (second_disk self.new)) ≡ is_some (D.image (second_disk self.old)) }
+        ensures first_never_falls { D.faults (first_disk self.old) ≤ D.faults (first_disk self.new) }
+        ensures second_never_falls { D.faults (second_disk self.old) ≤ D.faults (second_disk self.new) }
+    {
+        self.try_checkpoint(alloc, pass)
+    }
+
+    // Makes a checkpoint.
+    fn try_checkpoint(&mut self, alloc: Global, pass: u64) -> CheckpointReply
+        ensures { Checkpoints D.clock D.left_since D.image D.faults self.old pass result self.new }
+    {
+        if self.stop.is_some() {
+            return CheckpointReply::Stopped;
+        }
+        if LAST_GENERATION <= self.generation {
+            return CheckpointReply::Full;
+        }
+        match self.image(alloc) {
+            Ok(image) => self.place_image(alloc, pass, image.as_slice()),
+            Err(_) => CheckpointReply::NoMemory,
+        }
+    }
+
+    // The image of the state.
+    fn image(&self, alloc: Global) -> Result<Bytes, NoMemory>
+        ensures { IfOk result (IsImageOf (state_of_store self.now)) }
+    {
+        let history = self.gate.history();
+        history.lawful();
+        state_image(alloc, history)
+    }
+
+    // Makes a checkpoint with the image of the state.
+    fn place_image(&mut self, alloc: Global, pass: u64, image: &[u8]) -> CheckpointReply
+        requires running { self.old.stop ≡ None }
+        requires numbered { self.old.generation < 2 ^ 48 - 1 }
+        requires image { IsImageOf (state_of_store self.old) image.now }
+        ensures { Checkpoints D.clock D.left_since D.image D.faults self.old pass result self.new }
+    {
+        let made = Checkpoint {
+            after: self.gate.history().events().len() as u64,
+            pass,
+        };
+        match move_area(
+            alloc,
+            &mut self.active,
+            &mut self.other,
+            self.generation + 1,
+            image,
+            &mut self.checkpoints,
+            made,
+        ) {
+            Ok(()) => {
+                self.second_active = !self.second_active;
+                self.generation += 1;
+                CheckpointReply::Checkpointed
+            }
+            Err(AreaFault::AreaFull) => CheckpointReply::Full,
+            Err(AreaFault::NoMemory) => CheckpointReply::NoMemory,
+            Err(AreaFault::Disk) => {
+                self.stop = Some(made.pass);
+                CheckpointReply::Stopped
+            }
         }
     }
 }

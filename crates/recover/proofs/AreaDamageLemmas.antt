@@ -10,9 +10,10 @@ use Rattle.journal_core.proofs.RestsLemmas.{if_told, at_told}
 use Rattle.journal_core.proofs.ReadingLemmas.{front_area, area_not_broken}
 use Rattle.journal_core.proofs.RecordLemmas.{area_split, record_length}
 use Rattle.access_history.specs.Authority.{Authority}
+use Rattle.access_history.specs.Base.{BaseView}
 use Rattle.op_gate.specs.declared.damage.Damage.{Damage}
 use Rattle.op_gate.specs.declared.damage.Damage.TheVariants.{Header, Shape}
-use Rattle.pcfs_store.specs.Image.{fresh_image}
+use Rattle.checkpoint.specs.Reading.{IsImageOf}
 use Rattle.recover.specs.declared.fault.OpenFault.{OpenFault}
 use Rattle.recover.specs.declared.fault.OpenFault.TheVariants.{NoStore, Damaged, Disk, NoMemory}
 use Rattle.recover.specs.AreaDamage.{IsDamagedArea, no_base, no_image, no_payload, no_record, AreLawfulPayloads}
@@ -34,8 +35,8 @@ pub why_front : (authority : Authority) (bytes : List ℕ) (generation : ℕ) (i
 why_front authority bytes generation image payloads NoStore front has = absurd has
 why_front authority bytes generation image payloads (Damaged number damage) front has =
     ⊎_elim
-    (λ other. subst (λ (n : ℕ). IsDamagedArea authority bytes n damage) (sym other.0) (subst (λ (d : Damage). IsDamagedArea authority bytes 0 d) (sym other.1) (no_image generation image payloads front other.2)))
-    (λ at. no_payload generation payloads number damage (subst (λ (i : List ℕ). IsFront bytes generation i payloads) at.0 front) at.1)
+    (λ damaged. subst (λ (n : ℕ). IsDamagedArea authority bytes n damage) (sym damaged.0) (no_image generation image payloads damage front damaged.1))
+    (λ at. no_payload generation image at.0 payloads number damage front at.1 at.2)
     has
 why_front authority bytes generation image payloads Disk front has = absurd has
 why_front authority bytes generation image payloads NoMemory front has = tt
@@ -46,12 +47,11 @@ opens_there bytes number generation image payloads front broken =
     ⊎_elim (λ is_open. is_open) (λ shut. absurd (area_not_broken bytes generation image payloads number (front_area bytes generation image payloads front shut) broken)) (cases_eq (get_or bytes (length (area_bytes generation image payloads)) 0) 1)
 
 -- the record after lawful payloads is cut
-pub why_broken : (authority : Authority) (bytes : List ℕ) (number generation : ℕ) (image : List ℕ) (payloads : List (List ℕ)) (told : ℕ) → IsFront bytes generation image payloads → IsBroken number bytes → image ≡ fresh_image → AreLawfulPayloads authority payloads →
-    (length payloads < area_limit → told ≡ length payloads + 1) → IsWhy authority bytes (Damaged told Shape)
-why_broken authority bytes number generation image payloads told front broken image_is lawful told_is =
-    let here : IsFront bytes generation fresh_image payloads = subst (λ (i : List ℕ). IsFront bytes generation i payloads) image_is front in
+pub why_broken : (authority : Authority) (bytes : List ℕ) (number generation : ℕ) (image : List ℕ) (base : BaseView) (payloads : List (List ℕ)) (told : ℕ) → IsFront bytes generation image payloads → IsBroken number bytes → IsImageOf base image →
+    AreLawfulPayloads authority base payloads → (length payloads < area_limit → told ≡ length payloads + 1) → IsWhy authority bytes (Damaged told Shape)
+why_broken authority bytes number generation image base payloads told front broken is lawful told_is =
     subst (λ (n : ℕ). IsDamagedArea authority bytes n Shape) (sym (told_is (few_payloads bytes generation image payloads front)))
-    (no_record generation payloads here lawful (opens_there bytes number generation fresh_image payloads here broken))
+    (no_record generation image base payloads front is lawful (opens_there bytes number generation image payloads front broken))
 
 -- a scan of a front found none
 pub why_no_front : (authority : Authority) (fault : ScanFault) (told : Option (List ℕ)) → (fault ≢ scans.Disk → IfSome told (IsFrontReported fault)) → IfSome told (λ bytes. IsWhy authority bytes (front_fault fault))

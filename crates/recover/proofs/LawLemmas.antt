@@ -1,95 +1,25 @@
--- An area has at most one first damage, and none if it stands for a lawful history.
-use Rattle.std.proofs.Common.{◌≡◌, ◌<◌, ◌+◌, ◌⊎◌, ℕ, List, [], ◌∷◌, ◌++◌, length, take, drop, get_or, map, refl, sym, ap, subst, ◌∙◌, arith, inl, inr, ⊎_elim, append_assoc, length-append, length-take, take-append-drop, Some, None}
+-- Bytes stand for one history; an area has at most one first damage, and none if it stands for a lawful history.
+use Rattle.std.proofs.Common.{◌≡◌, ◌+◌, ◌⊎◌, ℕ, List, [], ◌∷◌, ◌++◌, length, get_or, map, refl, sym, ap, subst, ◌∙◌, arith, inl, inr, ⊎_elim}
 use Rattle.std.specs.List.{AllByRecursion}
-use Rattle.std.proofs.lemmas.List.{map-append, length-map, append-nil}
-use Rattle.journal_core.specs.Area.{area_bytes, IsFront, IsArea, IsShut}
+use Rattle.journal_core.specs.Area.{area_bytes, IsFront, IsShut}
 use Rattle.journal_core.proofs.ReadingLemmas.{one_area, one_front, front_has_base, area_front, opens}
 use Rattle.access_history.specs.declared.event.Event.{Event}
-use Rattle.access_history.specs.declared.event.Event.TheVariants.{Registered, Issued, Acted}
 use Rattle.access_history.specs.Authority.{Authority}
 use Rattle.access_history.specs.Base.{BaseView}
-use Rattle.access_history.specs.Lawful.{AreLawful, no_event, one_more, IsLawful, MayFollow}
-use Rattle.access_history.specs.Replay.{fresh, replay, next_state}
-use Rattle.access_history.proofs.ReplayLemmas.{count-replay, replay-more}
-use Rattle.journal_records.specs.EventSpelling.{event_spelling, erase, IsSpellableEvent, IsReadEvent}
-use Rattle.journal_records.proofs.EventLemmas.{apart, same_spelling}
+use Rattle.access_history.specs.Lawful.{IsLawful, IsLawfulBase}
+use Rattle.access_history.specs.Replay.{replay}
+use Rattle.journal_records.specs.EventSpelling.{event_spelling, erase, IsReadEvent}
+use Rattle.journal_records.proofs.EventLemmas.{apart}
 use Rattle.op_gate.specs.declared.damage.Damage.{Damage}
 use Rattle.op_gate.specs.Damage.{IsDamagedBy, MayComeNext}
 use Rattle.op_gate.proofs.AdmitLemmas.{damaged_not_next, first_damages}
-use Rattle.pcfs_store.specs.Image.{fresh_image}
-use Rattle.pcfs_store.specs.Newest.{newest, Survives, SurvivesClosed}
-use Rattle.pcfs_store.specs.StoredHistory.{payloads_of, AreSpellable, Resumes, StandsFor}
-use Rattle.recover.specs.Opening.{IsNewestClosed, IsNewestDamaged, IsNewestHistory}
-use Rattle.recover.specs.AreaDamage.{AreRead, IsDamagedPayload, no_event as spells_no_event, of_event, IsDamagedAt, AreLawfulPayloads, IsDamagedArea, no_base, no_image, no_payload, no_record}
-
--- ---- events without their passes
-
-erase_twice : (event : Event) → erase (erase event) ≡ erase event
-erase_twice (Registered pass statement signature) = refl
-erase_twice (Issued pass cited proof g) = refl
-erase_twice (Acted pass caller op procaps moment) = refl
-
-erased_spellable : (event : Event) → IsSpellableEvent event → IsSpellableEvent (erase event)
-erased_spellable (Registered pass statement signature) is = is
-erased_spellable (Issued pass cited proof g) is = is
-erased_spellable (Acted pass caller op procaps moment) is = is
-
-erased_follows : (authority : Authority) (state : BaseView) (event : Event) → MayFollow authority state event → MayFollow authority state (erase event)
-erased_follows authority state (Registered pass statement signature) may = may
-erased_follows authority state (Issued pass cited proof g) may = may
-erased_follows authority state (Acted pass caller op procaps moment) may = may
-
-erased_next : (state : BaseView) (event : Event) → next_state state (erase event) ≡ next_state state event
-erased_next state (Registered pass statement signature) = refl
-erased_next state (Issued pass cited proof g) = refl
-erased_next state (Acted pass caller op procaps moment) = refl
-
-erased_replay : (state : BaseView) (events : List Event) → replay state (map erase events) ≡ replay state events
-erased_replay state [] = refl
-erased_replay state (event ∷ events) = ap (λ (s : BaseView). replay s (map erase events)) (erased_next state event) ∙ erased_replay (next_state state event) events
-
-erased_lawful : (authority : Authority) (base : BaseView) (events : List Event) → AreLawful authority base events → AreLawful authority base (map erase events)
-erased_lawful authority base _ no_event = no_event
-erased_lawful authority base _ (one_more before event lawful follows) =
-    subst (AreLawful authority base) (sym (map-append erase before (event ∷ [])))
-    (one_more (map erase before) (erase event) (erased_lawful authority base before lawful)
-    (subst (λ (s : BaseView). MayFollow authority s (erase event)) (sym (erased_replay base before)) (erased_follows authority (replay base before) event follows)))
-
-erased_read : (events : List Event) → AreSpellable events → AllByRecursion IsReadEvent (map erase events)
-erased_read [] spelled = tt
-erased_read (event ∷ events) spelled = (record { spelled = erased_spellable event spelled.0; erased = erase_twice event }, erased_read events spelled.1)
-
-erased_payloads : (events : List Event) → payloads_of (map erase events) ≡ payloads_of events
-erased_payloads [] = refl
-erased_payloads (event ∷ events) = ap (λ (p : List ℕ). p ∷ payloads_of (map erase events)) (same_spelling event) ∙ ap (λ (ps : List (List ℕ)). event_spelling event ∷ ps) (erased_payloads events)
-
--- ---- each event, over the state that the events before it left
-
-AreFollowing : Authority → BaseView → List Event → Type 0
-AreFollowing authority state [] = Unit {0}
-AreFollowing authority state (event ∷ events) = MayFollow authority state event × AreFollowing authority (next_state state event) events
-
-following_push : (authority : Authority) (state : BaseView) (events : List Event) (event : Event) → AreFollowing authority state events → MayFollow authority (replay state events) event → AreFollowing authority state (events ++ event ∷ [])
-unfolding AreFollowing
-following_push authority state [] event all here = (here, tt)
-following_push authority state (first ∷ events) event all here = (all.0, following_push authority (next_state state first) events event all.1 here)
-
-following : (authority : Authority) (base : BaseView) (events : List Event) → AreLawful authority base events → AreFollowing authority base events
-unfolding AreFollowing
-following authority base events no_event = tt
-following authority base events (one_more before event lawful follows) = following_push authority base before event (following authority base before lawful) follows
-
-follows_at : (authority : Authority) (state : BaseView) (earlier later : List Event) (event : Event) → AreFollowing authority state (earlier ++ event ∷ later) → MayFollow authority (replay state earlier) event
-unfolding AreFollowing
-follows_at authority state [] later event all = all.0
-follows_at authority state (first ∷ earlier) later event all = follows_at authority (next_state state first) earlier later event all.1
-
--- an event of a lawful history could come where it came
-next_at : (authority : Authority) (events earlier later : List Event) (event : Event) → IsLawful authority fresh events → events ≡ earlier ++ event ∷ later → MayComeNext authority (replay fresh earlier) event
-next_at authority events earlier later event lawful parts = record {
-  counted = omega (arith, lawful.counted, ap length parts, length-append earlier (event ∷ later), count-replay fresh earlier);
-  follows = follows_at authority fresh earlier later event (subst (AreFollowing authority fresh) parts (following authority fresh events lawful.each));
-}
+use Rattle.op_gate.specs.BaseDamage.{IsDamagedBase}
+use Rattle.op_gate.proofs.BaseDamageLemmas.{one_base_damage, lawful_base_not_damaged}
+use Rattle.checkpoint.specs.Reading.{IsImageOf}
+use Rattle.pcfs_store.specs.StoredHistory.{payloads_of, AreSpellable, StandsFor}
+use Rattle.recover.specs.AreaDamage.{AreRead, IsDamagedImage, no_state, of_state, IsDamagedPayload, no_event as spells_no_event, of_event, IsDamagedAt, AreLawfulPayloads, IsDamagedArea, no_base, no_image, no_payload, no_record}
+use Rattle.recover.proofs.FollowingLemmas.{erased_history, erased_payloads, erased_read, next_at}
+use Rattle.recover.proofs.ImageLemmas.{one_state}
 
 -- ---- payloads of events
 
@@ -128,7 +58,7 @@ among (event ∷ events) (p ∷ before) payload others each same =
     }
 
 -- payloads have one list of events
-one_list : (first second : List Event) → AllByRecursion IsReadEvent first → AllByRecursion IsReadEvent second → payloads_of first ≡ payloads_of second → first ≡ second
+pub one_list : (first second : List Event) → AllByRecursion IsReadEvent first → AllByRecursion IsReadEvent second → payloads_of first ≡ payloads_of second → first ≡ second
 one_list [] [] one other same = refl
 one_list [] (d ∷ second) one other same = absurd cc
 one_list (c ∷ first) [] one other same = absurd cc
@@ -146,12 +76,12 @@ payload_not_damaged authority state payload _ event read spelled may (of_event f
     damaged_not_next authority state event damage (subst (λ (e : Event). IsDamagedBy authority state e damage) (one_event found event found_read read (sym found_spelled ∙ spelled)) damaged) may
 
 -- so payloads of lawful events are not damaged
-lawful_not_damaged : (authority : Authority) (payloads : List (List ℕ)) (events : List Event) (number : ℕ) (damage : Damage) → AreRead payloads events → IsLawful authority fresh events → IsDamagedAt authority payloads number damage → ⊥
-lawful_not_damaged authority payloads events number damage read lawful at =
+lawful_not_damaged : (authority : Authority) (base : BaseView) (payloads : List (List ℕ)) (events : List Event) (number : ℕ) (damage : Damage) → AreRead payloads events → IsLawful authority base events → IsDamagedAt authority base payloads number damage → ⊥
+lawful_not_damaged authority base payloads events number damage read lawful at =
     let it = among events at.before at.payload at.others read.each (sym at.parts ∙ read.payloads_are) in
     let earlier : at.events ≡ it.earlier = one_list at.events it.earlier at.read.each it.reads (sym at.read.payloads_are ∙ it.before_are) in
-    payload_not_damaged authority (replay fresh at.events) at.payload damage it.event it.read it.payload_is
-    (subst (λ (es : List Event). MayComeNext authority (replay fresh es) it.event) (sym earlier) (next_at authority events it.earlier it.later it.event lawful it.parts))
+    payload_not_damaged authority (replay base at.events) at.payload damage it.event it.read it.payload_is
+    (subst (λ (es : List Event). MayComeNext authority (replay base es) it.event) (sym earlier) (next_at authority base events it.earlier it.later it.event lawful it.parts))
     at.damaged
 
 -- a payload has one damage
@@ -180,160 +110,129 @@ splits (f ∷ first) (s ∷ second) p q ps qs same =
     (splits first second p q ps qs tails)
 
 -- payloads are damaged first at one place, by one damage
-one_at : (authority : Authority) (payloads : List (List ℕ)) (m n : ℕ) (c d : Damage) → IsDamagedAt authority payloads m c → IsDamagedAt authority payloads n d → (m ≡ n) × (c ≡ d)
-one_at authority payloads m n c d one other =
+one_at : (authority : Authority) (base : BaseView) (payloads : List (List ℕ)) (m n : ℕ) (c d : Damage) → IsDamagedAt authority base payloads m c → IsDamagedAt authority base payloads n d → (m ≡ n) × (c ≡ d)
+one_at authority base payloads m n c d one other =
     ⊎_elim
     (λ all.
     let events : one.events ≡ other.events = one_list one.events other.events one.read.each other.read.each (sym one.read.payloads_are ∙ all.0 ∙ other.read.payloads_are) in (
       omega (arith, one.number_is, other.number_is, ap length all.0),
-      one_payload_damage authority (replay fresh other.events) other.payload c d
-          (subst (λ (es : List Event). IsDamagedPayload authority (replay fresh es) other.payload c) events (subst (λ (p : List ℕ). IsDamagedPayload authority (replay fresh one.events) p c) all.1 one.damaged))
+      one_payload_damage authority (replay base other.events) other.payload c d
+          (subst (λ (es : List Event). IsDamagedPayload authority (replay base es) other.payload c) events (subst (λ (p : List ℕ). IsDamagedPayload authority (replay base one.events) p c) all.1 one.damaged))
           other.damaged,
     ))
     (λ differ. ⊎_elim
-    (λ longer. absurd (lawful_not_damaged authority other.before other.events m c other.read other.lawful
+    (λ longer. absurd (lawful_not_damaged authority base other.before other.events m c other.read other.lawful
     (record { before = one.before; payload = one.payload; others = longer.0; parts = longer.1; number_is = one.number_is; events = one.events; read = one.read; lawful = one.lawful; damaged = one.damaged })))
-    (λ longer. absurd (lawful_not_damaged authority one.before one.events n d one.read one.lawful
+    (λ longer. absurd (lawful_not_damaged authority base one.before one.events n d one.read one.lawful
     (record { before = other.before; payload = other.payload; others = longer.0; parts = longer.1; number_is = other.number_is; events = other.events; read = other.read; lawful = other.lawful; damaged = other.damaged })))
     differ)
     (splits one.before other.before one.payload other.payload one.others other.others (sym one.parts ∙ other.parts))
 
+-- ---- images
+
+-- the image of a state that a history may begin with is not damaged
+lawful_image : (authority : Authority) (base : BaseView) (image : List ℕ) (damage : Damage) → IsImageOf base image → IsLawfulBase authority base → IsDamagedImage authority image damage → ⊥
+lawful_image authority base image _ is lawful (no_state none) = none base is
+lawful_image authority base image _ is lawful (of_state other damage other_is damaged) =
+    lawful_base_not_damaged authority base damage (subst (λ (b : BaseView). IsDamagedBase authority b damage) (one_state other base image other_is is) damaged) lawful
+
+-- an image has one damage
+one_image_damage : (authority : Authority) (image : List ℕ) (c d : Damage) → IsDamagedImage authority image c → IsDamagedImage authority image d → c ≡ d
+one_image_damage authority image _ _ (no_state none) (no_state other) = refl
+one_image_damage authority image _ _ (no_state none) (of_state base d is damaged) = absurd (none base is)
+one_image_damage authority image _ _ (of_state base c is damaged) (no_state none) = absurd (none base is)
+one_image_damage authority image _ _ (of_state base c is damaged) (of_state other d other_is other_damaged) =
+    one_base_damage authority other c d (subst (λ (b : BaseView). IsDamagedBase authority b c) (one_state base other image is other_is) damaged) other_damaged
+
 -- ---- areas
 
+-- two readings of the front of the same bytes
 same_image : (bytes : List ℕ) (g h : ℕ) (i j : List ℕ) (ps qs : List (List ℕ)) → IsFront bytes g i ps → IsFront bytes h j qs → i ≡ j
 same_image bytes g h i j ps qs one other = (one_front bytes g h i j ps qs one other).1
 
 same_payloads : (bytes : List ℕ) (g h : ℕ) (i j : List ℕ) (ps qs : List (List ℕ)) → IsFront bytes g i ps → IsFront bytes h j qs → ps ≡ qs
 same_payloads bytes g h i j ps qs one other = (one_front bytes g h i j ps qs one other).2
 
+same_state : (bytes : List ℕ) (g h : ℕ) (i j : List ℕ) (ps qs : List (List ℕ)) (base other : BaseView) → IsFront bytes g i ps → IsFront bytes h j qs → IsImageOf base i → IsImageOf other j → base ≡ other
+same_state bytes g h i j ps qs base other one two is other_is = one_state base other j (subst (IsImageOf base) (same_image bytes g h i j ps qs one two) is) other_is
+
+-- the damage of the payloads in one reading, in the words of another
+moved : (authority : Authority) (bytes : List ℕ) (g h : ℕ) (i j : List ℕ) (ps qs : List (List ℕ)) (base other : BaseView) (number : ℕ) (damage : Damage) → IsFront bytes g i ps → IsFront bytes h j qs → IsImageOf base i → IsImageOf other j →
+    IsDamagedAt authority base ps number damage → IsDamagedAt authority other qs number damage
+moved authority bytes g h i j ps qs base other number damage one two is other_is at =
+    subst (λ (b : BaseView). IsDamagedAt authority b qs number damage) (same_state bytes g h i j ps qs base other one two is other_is)
+    (subst (λ (rs : List (List ℕ)). IsDamagedAt authority base rs number damage) (same_payloads bytes g h i j ps qs one two) at)
+
+-- a front with the image of a state that a history may begin with has no damaged image
+not_image : (authority : Authority) (bytes : List ℕ) (g h : ℕ) (i j : List ℕ) (ps qs : List (List ℕ)) (base : BaseView) (damage : Damage) → IsFront bytes g i ps → IsFront bytes h j qs → IsImageOf base i → IsLawfulBase authority base →
+    IsDamagedImage authority j damage → ⊥
+not_image authority bytes g h i j ps qs base damage one two is lawful damaged = lawful_image authority base j damage (subst (IsImageOf base) (same_image bytes g h i j ps qs one two) is) lawful damaged
+
+-- and no damaged payload, if its payloads are lawful
+not_payload : (authority : Authority) (bytes : List ℕ) (g h : ℕ) (i j : List ℕ) (ps qs : List (List ℕ)) (base other : BaseView) (number : ℕ) (damage : Damage) → IsFront bytes g i ps → IsFront bytes h j qs → IsImageOf base i → IsImageOf other j →
+    AreLawfulPayloads authority base ps → IsDamagedAt authority other qs number damage → ⊥
+not_payload authority bytes g h i j ps qs base other number damage one two is other_is lawful at =
+    lawful_not_damaged authority base ps lawful.events number damage lawful.read lawful.lawful (moved authority bytes h g j i qs ps other base number damage two one other_is is at)
+
 pub damages_determined : (authority : Authority) (bytes : List ℕ) (m n : ℕ) (c d : Damage) → IsDamagedArea authority bytes m c → IsDamagedArea authority bytes n d → (m ≡ n) × (c ≡ d)
 damages_determined authority bytes _ _ _ _ (no_base base) (no_base other) = (refl, refl)
-damages_determined authority bytes _ _ _ _ (no_base base) (no_image h j qs front differs) = absurd (front_has_base bytes h j qs front base)
-damages_determined authority bytes _ _ _ _ (no_base base) (no_payload h qs n d front at) = absurd (front_has_base bytes h fresh_image qs front base)
-damages_determined authority bytes _ _ _ _ (no_base base) (no_record h qs front lawful is_open) = absurd (front_has_base bytes h fresh_image qs front base)
-damages_determined authority bytes _ _ _ _ (no_image g i ps front differs) (no_base base) = absurd (front_has_base bytes g i ps front base)
-damages_determined authority bytes _ _ _ _ (no_image g i ps front differs) (no_image h j qs other other_differs) = (refl, refl)
-damages_determined authority bytes _ _ _ _ (no_image g i ps front differs) (no_payload h qs n d other at) = absurd (differs (same_image bytes g h i fresh_image ps qs front other))
-damages_determined authority bytes _ _ _ _ (no_image g i ps front differs) (no_record h qs other lawful is_open) = absurd (differs (same_image bytes g h i fresh_image ps qs front other))
-damages_determined authority bytes _ _ _ _ (no_payload g ps m c front at) (no_base base) = absurd (front_has_base bytes g fresh_image ps front base)
-damages_determined authority bytes _ _ _ _ (no_payload g ps m c front at) (no_image h j qs other differs) = absurd (differs (same_image bytes h g j fresh_image qs ps other front))
-damages_determined authority bytes _ _ _ _ (no_payload g ps m c front at) (no_payload h qs n d other other_at) =
-    one_at authority qs m n c d (subst (λ (rs : List (List ℕ)). IsDamagedAt authority rs m c) (same_payloads bytes g h fresh_image fresh_image ps qs front other) at) other_at
-damages_determined authority bytes _ _ _ _ (no_payload g ps m c front at) (no_record h qs other lawful is_open) =
-    absurd (lawful_not_damaged authority qs lawful.events m c lawful.read lawful.lawful (subst (λ (rs : List (List ℕ)). IsDamagedAt authority rs m c) (same_payloads bytes g h fresh_image fresh_image ps qs front other) at))
-damages_determined authority bytes _ _ _ _ (no_record g ps front lawful is_open) (no_base base) = absurd (front_has_base bytes g fresh_image ps front base)
-damages_determined authority bytes _ _ _ _ (no_record g ps front lawful is_open) (no_image h j qs other differs) = absurd (differs (same_image bytes h g j fresh_image qs ps other front))
-damages_determined authority bytes _ _ _ _ (no_record g ps front lawful is_open) (no_payload h qs n d other at) =
-    absurd (lawful_not_damaged authority ps lawful.events n d lawful.read lawful.lawful (subst (λ (rs : List (List ℕ)). IsDamagedAt authority rs n d) (same_payloads bytes h g fresh_image fresh_image qs ps other front) at))
-damages_determined authority bytes _ _ _ _ (no_record g ps front lawful is_open) (no_record h qs other other_lawful other_open) =
-    (ap (λ (rs : List (List ℕ)). length rs + 1) (same_payloads bytes g h fresh_image fresh_image ps qs front other), refl)
+damages_determined authority bytes _ _ _ _ (no_base base) (no_image h j qs d front damaged) = absurd (front_has_base bytes h j qs front base)
+damages_determined authority bytes _ _ _ _ (no_base base) (no_payload h j b qs n d front is at) = absurd (front_has_base bytes h j qs front base)
+damages_determined authority bytes _ _ _ _ (no_base base) (no_record h j b qs front is lawful is_open) = absurd (front_has_base bytes h j qs front base)
+damages_determined authority bytes _ _ _ _ (no_image g i ps c front damaged) (no_base base) = absurd (front_has_base bytes g i ps front base)
+damages_determined authority bytes _ _ _ _ (no_image g i ps c front damaged) (no_image h j qs d other other_damaged) =
+    (refl, one_image_damage authority j c d (subst (λ (image : List ℕ). IsDamagedImage authority image c) (same_image bytes g h i j ps qs front other) damaged) other_damaged)
+damages_determined authority bytes _ _ _ _ (no_image g i ps c front damaged) (no_payload h j b qs n d other is at) = absurd (not_image authority bytes h g j i qs ps b c other front is at.lawful.lawful_base damaged)
+damages_determined authority bytes _ _ _ _ (no_image g i ps c front damaged) (no_record h j b qs other is lawful is_open) = absurd (not_image authority bytes h g j i qs ps b c other front is lawful.lawful.lawful_base damaged)
+damages_determined authority bytes _ _ _ _ (no_payload g i a ps m c front is at) (no_base base) = absurd (front_has_base bytes g i ps front base)
+damages_determined authority bytes _ _ _ _ (no_payload g i a ps m c front is at) (no_image h j qs d other damaged) = absurd (not_image authority bytes g h i j ps qs a d front other is at.lawful.lawful_base damaged)
+damages_determined authority bytes _ _ _ _ (no_payload g i a ps m c front is at) (no_payload h j b qs n d other other_is other_at) =
+    one_at authority b qs m n c d (moved authority bytes g h i j ps qs a b m c front other is other_is at) other_at
+damages_determined authority bytes _ _ _ _ (no_payload g i a ps m c front is at) (no_record h j b qs other other_is lawful is_open) = absurd (not_payload authority bytes h g j i qs ps b a m c other front other_is is lawful at)
+damages_determined authority bytes _ _ _ _ (no_record g i a ps front is lawful is_open) (no_base base) = absurd (front_has_base bytes g i ps front base)
+damages_determined authority bytes _ _ _ _ (no_record g i a ps front is lawful is_open) (no_image h j qs d other damaged) = absurd (not_image authority bytes g h i j ps qs a d front other is lawful.lawful.lawful_base damaged)
+damages_determined authority bytes _ _ _ _ (no_record g i a ps front is lawful is_open) (no_payload h j b qs n d other other_is at) = absurd (not_payload authority bytes g h i j ps qs a b n d front other is other_is lawful at)
+damages_determined authority bytes _ _ _ _ (no_record g i a ps front is lawful is_open) (no_record h j b qs other other_is other_lawful other_open) =
+    (ap (λ (rs : List (List ℕ)). length rs + 1) (same_payloads bytes g h i j ps qs front other), refl)
 
 -- a front is open
 pub damaged_open : (authority : Authority) (bytes : List ℕ) (number : ℕ) (damage : Damage) → IsDamagedArea authority bytes number damage → IsShut bytes → ⊥
 damaged_open authority bytes _ _ (no_base base) shut = shut base.is_open
-damaged_open authority bytes _ _ (no_image g i ps front differs) shut = shut (opens bytes g i ps front.fits front.front)
-damaged_open authority bytes _ _ (no_payload g ps n d front at) shut = shut (opens bytes g fresh_image ps front.fits front.front)
-damaged_open authority bytes _ _ (no_record g ps front lawful is_open) shut = shut (opens bytes g fresh_image ps front.fits front.front)
+damaged_open authority bytes _ _ (no_image g i ps d front damaged) shut = shut (opens bytes g i ps front.fits front.front)
+damaged_open authority bytes _ _ (no_payload g i b ps n d front is at) shut = shut (opens bytes g i ps front.fits front.front)
+damaged_open authority bytes _ _ (no_record g i b ps front is lawful is_open) shut = shut (opens bytes g i ps front.fits front.front)
 
 -- the payloads of a lawful history are of events of pass 0, which are lawful too
-lawful_payloads : (authority : Authority) (events : List Event) → AreSpellable events → IsLawful authority fresh events → AreLawfulPayloads authority (payloads_of events)
-lawful_payloads authority events spelled lawful = record {
+lawful_payloads : (authority : Authority) (base : BaseView) (events : List Event) → AreSpellable events → IsLawful authority base events → AreLawfulPayloads authority base (payloads_of events)
+lawful_payloads authority base events spelled lawful = record {
   events = map erase events;
   read = record { payloads_are = sym (erased_payloads events); each = erased_read events spelled };
-  lawful = record { lawful_base = lawful.lawful_base; counted = omega (arith, lawful.counted, length-map events erase); each = erased_lawful authority fresh events lawful.each };
+  lawful = erased_history authority base events lawful;
 }
 
-pub lawful_area : (authority : Authority) (bytes : List ℕ) (generation : ℕ) (events : List Event) (number : ℕ) (damage : Damage) → StandsFor bytes generation fresh events → IsLawful authority fresh events → IsDamagedArea authority bytes number damage → ⊥
-lawful_area authority bytes generation events _ _ stands lawful (no_base base) =
-    front_has_base bytes generation stands.image (payloads_of events) (area_front bytes generation stands.image (payloads_of events) stands.is_area) base
-lawful_area authority bytes generation events _ _ stands lawful (no_image g i ps front differs) =
-    differs (same_image bytes g generation i stands.image ps (payloads_of events) front (area_front bytes generation stands.image (payloads_of events) stands.is_area) ∙ stands.is_image.image_is)
-lawful_area authority bytes generation events _ _ stands lawful (no_payload g ps number damage front at) =
-    let same = same_payloads bytes g generation fresh_image stands.image ps (payloads_of events) front (area_front bytes generation stands.image (payloads_of events) stands.is_area) in
-    let found = lawful_payloads authority events stands.spelled lawful in
-    lawful_not_damaged authority (payloads_of events) found.events number damage found.read found.lawful (subst (λ (rs : List (List ℕ)). IsDamagedAt authority rs number damage) same at)
-lawful_area authority bytes generation events _ _ stands lawful (no_record g ps front found is_open) =
-    let same = one_front bytes g generation fresh_image stands.image ps (payloads_of events) front (area_front bytes generation stands.image (payloads_of events) stands.is_area) in
+-- the front of bytes that stand for a history
+stood : (bytes : List ℕ) (generation : ℕ) (base : BaseView) (events : List Event) (stands : StandsFor bytes generation base events) → IsFront bytes generation stands.image (payloads_of events)
+stood bytes generation base events stands = area_front bytes generation stands.image (payloads_of events) stands.is_area
+
+pub lawful_area : (authority : Authority) (bytes : List ℕ) (generation : ℕ) (base : BaseView) (events : List Event) (number : ℕ) (damage : Damage) → StandsFor bytes generation base events → IsLawful authority base events →
+    IsDamagedArea authority bytes number damage → ⊥
+lawful_area authority bytes generation base events _ _ stands lawful (no_base none) = front_has_base bytes generation stands.image (payloads_of events) (stood bytes generation base events stands) none
+lawful_area authority bytes generation base events _ _ stands lawful (no_image g i ps damage front damaged) =
+    not_image authority bytes generation g stands.image i (payloads_of events) ps base damage (stood bytes generation base events stands) front stands.is_image lawful.lawful_base damaged
+lawful_area authority bytes generation base events _ _ stands lawful (no_payload g i b ps number damage front is at) =
+    not_payload authority bytes generation g stands.image i (payloads_of events) ps base b number damage (stood bytes generation base events stands) front stands.is_image is (lawful_payloads authority base events stands.spelled lawful) at
+lawful_area authority bytes generation base events _ _ stands lawful (no_record g i b ps front is found is_open) =
+    let same = one_front bytes g generation i stands.image ps (payloads_of events) front (stood bytes generation base events stands) in
     stands.is_area.stands.shut (
     subst (λ (h : ℕ). get_or bytes (length (area_bytes h stands.image (payloads_of events))) 0 ≡ 1) same.0
-    (subst (λ (i : List ℕ). get_or bytes (length (area_bytes g i (payloads_of events))) 0 ≡ 1) same.1
-    (subst (λ (rs : List (List ℕ)). get_or bytes (length (area_bytes g fresh_image rs)) 0 ≡ 1) same.2 is_open)))
+    (subst (λ (image : List ℕ). get_or bytes (length (area_bytes g image (payloads_of events))) 0 ≡ 1) same.1
+    (subst (λ (rs : List (List ℕ)). get_or bytes (length (area_bytes g i rs)) 0 ≡ 1) same.2 is_open)))
 
--- ---- what a crash leaves
-
-following_front : (authority : Authority) (state : BaseView) (events others : List Event) → AreFollowing authority state (events ++ others) → AreFollowing authority state events
-unfolding AreFollowing
-following_front authority state [] others all = tt
-following_front authority state (event ∷ events) others all = (all.0, following_front authority (next_state state event) events others all.1)
-
-followed : (authority : Authority) (base : BaseView) (before events : List Event) → AreLawful authority base before → AreFollowing authority (replay base before) events → AreLawful authority base (before ++ events)
-unfolding AreFollowing
-followed authority base before [] lawful all = subst (AreLawful authority base) (sym (append-nil before)) lawful
-followed authority base before (event ∷ events) lawful all =
-    subst (AreLawful authority base) (append_assoc before (event ∷ []) events)
-    (followed authority base (before ++ event ∷ []) events (one_more before event lawful all.0) (subst (λ (s : BaseView). AreFollowing authority s events) (sym (replay-more base before event)) all.1))
-
--- the first events of a lawful history are lawful, also without their passes
-first_lawful : (authority : Authority) (events : List Event) (kept : ℕ) → IsLawful authority fresh events → IsLawful authority fresh (map erase (take kept events))
-first_lawful authority events kept lawful =
-    let front : AreFollowing authority fresh (take kept events) =
-    following_front authority fresh (take kept events) (drop kept events) (subst (AreFollowing authority fresh) (sym (take-append-drop kept events)) (following authority fresh events lawful.each)) in
-    record {
-      lawful_base = lawful.lawful_base;
-      counted = omega (arith, lawful.counted, length-map (take kept events) erase, length-take kept events);
-      each = erased_lawful authority fresh (take kept events) (followed authority fresh [] (take kept events) no_event front);
-    }
-
-reads_erased : (events : List Event) → AreSpellable (map erase events) → AllByRecursion IsReadEvent (map erase events)
-reads_erased [] spelled = tt
-reads_erased (event ∷ events) spelled = (record { spelled = spelled.0; erased = erase_twice event }, reads_erased events spelled.1)
-
--- nothing is skipped: only the state before the first event has an image
-none_skipped : (events found : List Event) (base : BaseView) (kept : ℕ) (r : Resumes base found fresh events kept) → base ≡ fresh → found ≡ map erase (take kept events)
-none_skipped events found base kept r is_fresh =
-    let counts : fresh.count ≡ fresh.count + length (take r.skipped events) = ap (λ (s : BaseView). s.count) (sym is_fresh ∙ r.base_is) ∙ count-replay fresh (take r.skipped events) in
-    let none : r.skipped ≡ 0 = omega (arith, counts, length-take r.skipped events, r.skipped_few, r.kept_few) in
-    r.events_are ∙ ap (λ (n : ℕ). map erase (drop n (take kept events))) none
-
-some_bytes : (first second : List ℕ) → Some first ≡ Some second → first ≡ second
-some_bytes first second same = cc
-
-module _ (authority : Authority) (events : List Event) (kept : ℕ) (x y : List ℕ) (lawful : IsLawful authority fresh events) (left : SurvivesClosed fresh events kept x y) where
-  abbrev survivor : Survives fresh events kept x y
-  survivor = left.survives
-
-  found_are : survivor.found ≡ map erase (take kept events)
-  found_are = none_skipped events survivor.found survivor.found_base kept survivor.resumes survivor.stands.is_image.is_fresh
-
-  stands_fresh : StandsFor survivor.bytes survivor.generation fresh survivor.found
-  stands_fresh = subst (λ (b : BaseView). StandsFor survivor.bytes survivor.generation b survivor.found) survivor.stands.is_image.is_fresh survivor.stands
-
-  found_lawful : IsLawful authority fresh survivor.found
-  found_lawful = subst (IsLawful authority fresh) (sym found_are) (first_lawful authority events kept lawful)
-
-  pub survivor_counts : newest x y ≡ None → ⊥
-  survivor_counts none = let other : Some survivor.bytes ≡ None = sym survivor.counts ∙ none in absurd cc
-
-  pub survivor_lawful : (number : ℕ) (damage : Damage) → IsNewestDamaged authority number damage x y → ⊥
-  survivor_lawful number damage is =
-      lawful_area authority survivor.bytes survivor.generation survivor.found number damage stands_fresh found_lawful
-      (subst (λ (b : List ℕ). IsDamagedArea authority b number damage) (some_bytes is.bytes survivor.bytes (sym is.counts ∙ survivor.counts)) is.damaged)
-
-  found_read : AllByRecursion IsReadEvent survivor.found
-  found_read = subst (AllByRecursion IsReadEvent) (sym found_are) (reads_erased (take kept events) (subst AreSpellable found_are survivor.stands.spelled))
-
-  pub survivor_opened : (generation : ℕ) (found : List Event) → IsNewestHistory authority generation found x y → (found ≡ map erase (take kept events)) × IsNewestClosed generation found x y
-  survivor_opened generation found is =
-      let bytes : is.bytes ≡ survivor.bytes = some_bytes is.bytes survivor.bytes (sym is.counts ∙ survivor.counts) in
-      let area : IsArea survivor.bytes generation is.stands.image (payloads_of found) = subst (λ (b : List ℕ). IsArea b generation is.stands.image (payloads_of found)) bytes is.stands.is_area in
-      let same = one_area survivor.bytes survivor.generation generation survivor.stands.image is.stands.image (payloads_of survivor.found) (payloads_of found) survivor.stands.is_area area in
-      let events_are : survivor.found ≡ found = one_list survivor.found found found_read is.each same.2 in (
-        sym events_are ∙ found_are,
-        record {
-          bytes = survivor.bytes;
-          counts = survivor.counts;
-          gate = subst (λ (g : ℕ). length (area_bytes g fresh_image (payloads_of found)) < length survivor.bytes) same.0
-              (subst (λ (i : List ℕ). length (area_bytes survivor.generation i (payloads_of found)) < length survivor.bytes) survivor.stands.is_image.image_is
-              (subst (λ (ps : List (List ℕ)). length (area_bytes survivor.generation survivor.stands.image ps) < length survivor.bytes) same.2 left.gate));
-        },
-      )
+-- bytes stand for one history
+pub one_history : (bytes : List ℕ) (m n : ℕ) (base other : BaseView) (events found : List Event) → StandsFor bytes m base events → StandsFor bytes n other found → (m ≡ n) × (base ≡ other) × (map erase events ≡ map erase found)
+one_history bytes m n base other events found one two =
+    let same = one_area bytes m n one.image two.image (payloads_of events) (payloads_of found) one.is_area two.is_area in (
+      same.0,
+      one_state base other two.image (subst (IsImageOf base) same.1 one.is_image) two.is_image,
+      one_list (map erase events) (map erase found) (erased_read events one.spelled) (erased_read found two.spelled) (erased_payloads events ∙ same.2 ∙ sym (erased_payloads found)),
+    )

@@ -1,5 +1,5 @@
 -- The payloads of an area, one after the other, over plain values.
-use Rattle.std.proofs.Common.{◌≡◌, ◌≤◌, ◌<◌, ◌+◌, ℕ, List, [], ◌∷◌, ◌++◌, length, take, drop, get_or, refl, sym, ap, subst, ◌∙◌, arith, inr}
+use Rattle.std.proofs.Common.{◌≡◌, ◌≤◌, ◌<◌, ◌+◌, ℕ, List, [], ◌∷◌, ◌++◌, length, take, drop, get_or, refl, sym, ap, subst, ◌∙◌, arith}
 use Rattle.std.specs.Prelude.{Result, Ok, Err, OnOk, OnErr}
 use Rattle.std.specs.List.{AllByRecursion}
 use Rattle.std.proofs.lemmas.List.{map-append, length-take-le, take-append-drop, take_all, take_more, drop_more}
@@ -9,7 +9,7 @@ use Rattle.access_history.specs.Authority.{Authority}
 use Rattle.access_history.specs.Base.{BaseView}
 use Rattle.access_history.specs.History.{HistoryView, authority_of, authority_with}
 use Rattle.access_history.specs.Lawful.{IsLawful}
-use Rattle.access_history.specs.Replay.{fresh, replay}
+use Rattle.access_history.specs.Replay.{replay}
 use Rattle.bl_syntax.proofs.GrantLemmas.{AllByRecursion-push}
 use Rattle.bl_syntax.specs.declared.codec_fault.CodecFault.{CodecFault}
 use Rattle.bl_syntax.specs.declared.codec_fault.CodecFault.TheVariants as codec
@@ -20,12 +20,11 @@ use Rattle.op_gate.specs.declared.damage.AdmitFault.{AdmitFault}
 use Rattle.op_gate.specs.declared.damage.AdmitFault.TheVariants.{Damaged, NoMemory}
 use Rattle.op_gate.specs.Damage.{TellsDamage}
 use Rattle.op_gate.specs.Decision.{GateView}
-use Rattle.pcfs_store.specs.Image.{fresh_image}
 use Rattle.pcfs_store.specs.StoredHistory.{payloads_of}
 use Rattle.recover.specs.declared.fault.OpenFault.{OpenFault}
 use Rattle.recover.specs.declared.fault.OpenFault.TheVariants as opens
 use Rattle.recover.specs.AreaDamage.{AreRead, IsDamagedPayload, no_event, of_event, IsDamagedAt}
-use Rattle.recover.specs.Reading.{IsSameGate, KeepsPayload, AdmitsPayload, AdmitsPayloads, HasDamage, fault_at, unread}
+use Rattle.recover.specs.Reading.{IsSameGate, KeepsPayload, AdmitsPayload, AdmitsPayloads, fault_at, unread}
 
 -- what became of a payload that is the spelling of an event
 pub admitted : (old new : GateView) (payload : List ℕ) (event : Event) (told : Result (Unit {0}) AdmitFault) → IsReadEvent event → payload ≡ event_spelling event →
@@ -64,18 +63,18 @@ pub read_all : (payloads : List (List ℕ)) (place : ℕ) (events : List Event) 
 read_all payloads place events all read = subst (λ (ps : List (List ℕ)). AreRead ps events) (take_all place payloads all) read
 
 -- the history of a gate is lawful
-pub lawful_gate : (history : HistoryView) (gate : GateView) (key : List ℕ) (ring : List KeyView) → history.key ≡ gate.key → history.ring ≡ gate.ring → history.base ≡ gate.base → history.events ≡ gate.events →
-    gate.key ≡ key → gate.ring ≡ ring → gate.base ≡ fresh → IsLawful (authority_of history) history.base history.events → IsLawful (authority_with key ring) fresh gate.events
-lawful_gate history gate key ring key_is ring_is base_is events_are key_same ring_same base_same lawful =
-    subst (λ (es : List Event). IsLawful (authority_with key ring) fresh es) events_are
+pub lawful_gate : (history : HistoryView) (gate : GateView) (key : List ℕ) (ring : List KeyView) (base : BaseView) → history.key ≡ gate.key → history.ring ≡ gate.ring → history.base ≡ gate.base → history.events ≡ gate.events →
+    gate.key ≡ key → gate.ring ≡ ring → gate.base ≡ base → IsLawful (authority_of history) history.base history.events → IsLawful (authority_with key ring) base gate.events
+lawful_gate history gate key ring base key_is ring_is base_is events_are key_same ring_same base_same lawful =
+    subst (λ (es : List Event). IsLawful (authority_with key ring) base es) events_are
     (subst (λ (b : BaseView). IsLawful (authority_with key ring) b history.events) (base_is ∙ base_same)
     (subst (λ (r : List KeyView). IsLawful (authority_with key r) history.base history.events) (ring_is ∙ ring_same)
     (subst (λ (k : List ℕ). IsLawful (authority_with k history.ring) history.base history.events) (key_is ∙ key_same) lawful)))
 
 -- the payload at a place is the first that is damaged
-damaged_at : (authority : Authority) (payloads : List (List ℕ)) (place : ℕ) (payload : List ℕ) (events : List Event) (damage : Damage) → place < length payloads → payload ≡ get_or payloads place [] → AreRead (take place payloads) events → IsLawful authority fresh events →
-    IsDamagedPayload authority (replay fresh events) payload damage → IsDamagedAt authority payloads (place + 1) damage
-damaged_at authority payloads place payload events damage within is read lawful damaged = record {
+damaged_at : (authority : Authority) (base : BaseView) (payloads : List (List ℕ)) (place : ℕ) (payload : List ℕ) (events : List Event) (damage : Damage) → place < length payloads → payload ≡ get_or payloads place [] → AreRead (take place payloads) events →
+    IsLawful authority base events → IsDamagedPayload authority (replay base events) payload damage → IsDamagedAt authority base payloads (place + 1) damage
+damaged_at authority base payloads place payload events damage within is read lawful damaged = record {
   before = take place payloads;
   payload = payload;
   others = drop (place + 1) payloads;
@@ -88,19 +87,12 @@ damaged_at authority payloads place payload events damage within is read lawful 
 }
 
 -- what is reported of it
-pub fault_there : (payloads : List (List ℕ)) (place : ℕ) (old new : GateView) (payload : List ℕ) (key : List ℕ) (ring : List KeyView) (fault : AdmitFault) (events : List Event) → place < length payloads → payload ≡ get_or payloads place [] →
-    AreRead (take place payloads) old.events → old.key ≡ key → old.ring ≡ ring → old.base ≡ fresh → IsLawful (authority_with key ring) fresh old.events → AdmitsPayload old payload (Err fault) new →
-    AdmitsPayloads (authority_with key ring) payloads (Err (fault_at (place + 1) fault)) events
-fault_there payloads place old new payload key ring (Damaged damage) events within is read key_is ring_is base_is lawful admits =
-    damaged_at (authority_with key ring) payloads place payload old.events damage within is read lawful
+pub fault_there : (payloads : List (List ℕ)) (place : ℕ) (old new : GateView) (payload : List ℕ) (key : List ℕ) (ring : List KeyView) (base : BaseView) (fault : AdmitFault) (events : List Event) → place < length payloads → payload ≡ get_or payloads place [] →
+    AreRead (take place payloads) old.events → old.key ≡ key → old.ring ≡ ring → old.base ≡ base → IsLawful (authority_with key ring) base old.events → AdmitsPayload old payload (Err fault) new →
+    AdmitsPayloads (authority_with key ring) base payloads (Err (fault_at (place + 1) fault)) events
+fault_there payloads place old new payload key ring base (Damaged damage) events within is read key_is ring_is base_is lawful admits =
+    damaged_at (authority_with key ring) base payloads place payload old.events damage within is read lawful
     (subst (λ (b : BaseView). IsDamagedPayload (authority_with key ring) (replay b old.events) payload damage) base_is
     (subst (λ (r : List KeyView). IsDamagedPayload (authority_with key r) (replay old.base old.events) payload damage) ring_is
     (subst (λ (k : List ℕ). IsDamagedPayload (authority_with k old.ring) (replay old.base old.events) payload damage) key_is admits.0)))
-fault_there payloads place old new payload key ring NoMemory events within is read key_is ring_is base_is lawful admits = tt
-
--- what is wrong with the payloads after a right image
-pub payloads_damaged : (authority : Authority) (image : List ℕ) (payloads : List (List ℕ)) (fault : OpenFault) (events : List Event) → image ≡ fresh_image → AdmitsPayloads authority payloads (Err fault) events → HasDamage authority image payloads fault
-payloads_damaged authority image payloads opens.NoStore events is admits = absurd admits
-payloads_damaged authority image payloads (opens.Damaged number damage) events is admits = inr (is, admits)
-payloads_damaged authority image payloads opens.Disk events is admits = absurd admits
-payloads_damaged authority image payloads opens.NoMemory events is admits = tt
+fault_there payloads place old new payload key ring base NoMemory events within is read key_is ring_is base_is lawful admits = tt

@@ -1,6 +1,11 @@
 //! Laws of the definitions. The functions do nothing: each contract is a law.
 
-ghost use Rattle.recover.specs.Laws.{DamagesAreDetermined, LawfulAreNotDamaged, DamagedAreOpen, SurvivorsAreOpened};
+ghost use Rattle.recover.specs.Laws.{HistoriesAreDetermined, DamagesAreDetermined, LawfulAreNotDamaged, DamagedAreOpen, SurvivorsAreOpened};
+
+/// Bytes stand for at most one history, as far as they say it: they do not hold the passes of its events.
+pub fn histories_are_determined()
+    ensures { HistoriesAreDetermined }
+{}
 
 /// An area has at most one first damage, and is open if it has one.
 pub fn damages_are_determined()
@@ -13,8 +18,8 @@ pub fn lawful_areas_are_not_damaged()
     ensures { LawfulAreNotDamaged }
 {}
 
-/// What a crash leaves of a store that is ready is opened again: the newest area is not damaged, and has the events that are
-/// left and its closed gate. So the store that is opened has these events, and is ready.
+/// What a crash leaves of a store that is ready is opened again: the newest area is not damaged, and its history
+/// resumes the events that are left, with its closed gate. So the store that is opened has that history, and is ready.
 pub fn what_survives_is_opened()
     ensures { SurvivorsAreOpened }
 {}

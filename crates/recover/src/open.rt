@@ -5,7 +5,7 @@ ghost use Rattle.pcfs_ports.specs.Faults.{HasRisen};
 ghost use Rattle.pcfs_ports.specs.Disk.{IsPinned, Idles};
 ghost use Rattle.journal_core.specs.Area.{IsArea, IsBroken};
 ghost use Rattle.access_history.specs.History.{authority_with};
-ghost use Rattle.pcfs_store.specs.Image.{fresh_image};
+ghost use Rattle.checkpoint_image.specs.ImageSpelling.{image_spelling};
 ghost use Rattle.pcfs_store.specs.StoredHistory.{payloads_of};
 ghost use Rattle.recover.specs.Opening.{HoldsArea, IsNotOpened, IsOpened, IsScanned, IsWhy, front_fault};
 
@@ -81,7 +81,7 @@ fn open_area<D: Disk>(
     ring: Keyring,
 ) -> Result<(Area<D>, u64, Gate), (OpenFault, D)>
     ensures holds { IfOk result (λ found. HoldsArea key.now ring found.0.end found.1 found.2) }
-    ensures area { IfOk result (λ found. IfSome (D.image disk) (λ bytes. IsArea bytes found.1 fresh_image (payloads_of found.2.events))) }
+    ensures area { IfOk result (λ found. IfSome (D.image disk) (λ bytes. IsArea bytes found.1 (image_spelling found.2.base) (payloads_of found.2.events))) }
     ensures pinned { IfOk result (λ found. IsPinned D.clock D.left_since D.image found.0.disk) }
     ensures why { IfErr result (λ e. IfSome (D.image disk) (λ bytes. IsWhy (authority_with key.now ring) bytes e.0)) }
     ensures risen { IfErr result (λ e. e.0 ≡ OpenFault.Disk → HasRisen (D.faults disk) (D.faults e.1)) }
@@ -133,11 +133,11 @@ pub fn open_store<D: Disk>(
     let mut b = b;
     match find_newest(&mut a, &mut b) {
         Ok(Some(false)) => match open_area(alloc, a, key, ring) {
-            Ok((area, generation, gate)) => Ok(Store::from_scan(area, b, false, generation, gate)),
+            Ok((area, generation, gate)) => Ok(Store::from_scan(alloc, area, b, false, generation, gate)),
             Err((fault, a)) => Err((fault, a, b)),
         },
         Ok(Some(true)) => match open_area(alloc, b, key, ring) {
-            Ok((area, generation, gate)) => Ok(Store::from_scan(area, a, true, generation, gate)),
+            Ok((area, generation, gate)) => Ok(Store::from_scan(alloc, area, a, true, generation, gate)),
             Err((fault, b)) => Err((fault, a, b)),
         },
         Ok(None) => Err((OpenFault::NoStore, a, b)),

@@ -2,25 +2,39 @@
 
 ghost use Rattle.std.specs.Prelude.{◌≡◌, [], IfErr, IfOk};
 ghost use Rattle.access_history.specs.History.{authority_with};
-ghost use Rattle.access_history.specs.Replay.{fresh};
-ghost use Rattle.recover.specs.Reading.{AdmitsPayload, AdmitsPayloads, HasDamage, HoldsHistory, IsSameGate, fault_at, unread};
+ghost use Rattle.recover.specs.Reading.{AdmitsPayload, AdmitsPayloads, HasDamage, HoldsHistory, IsSameGate, ReadsGate, fault_at, unread};
 
 use crate::fault::OpenFault;
 use bl_syntax::CodecFault;
+use checkpoint::read_base;
 use journal_core::Scan;
 use journal_records::read_event;
 use op_gate::{AdmitFault, Damage, Gate};
-use pcfs_store::FRESH_IMAGE;
 use policy_statement::Keyring;
 use std::alloc::Global;
 
-// A fault of reading the event of a payload.
+// A fault of reading an image, or the event of a payload.
 fn unread(fault: CodecFault) -> AdmitFault
     ensures { result ≡ unread fault }
 {
     match fault {
         CodecFault::NoMemory => AdmitFault::NoMemory,
         _ => AdmitFault::Damaged(Damage::Shape),
+    }
+}
+
+// A gate that begins with the state of an image, exactly if a history may begin with that state.
+fn read_gate(
+    alloc: Global,
+    image: &[u8],
+    key: &[u8],
+    ring: Keyring,
+) -> Result<Gate, AdmitFault>
+    ensures { ReadsGate key.now ring image.now result }
+{
+    match read_base(alloc, image) {
+        Ok(base) => Gate::from_base(alloc, key, ring, base),
+        Err(fault) => Err(unread(fault)),
     }
 }
 
@@ -50,10 +64,9 @@ fn fault_at(number: u64, fault: AdmitFault) -> OpenFault
 
 // Keeps the events of all payloads, or reports the first that is damaged.
 fn admit_payloads(alloc: Global, gate: &mut Gate, scan: &Scan) -> Result<(), OpenFault>
-    requires base { gate.old.base ≡ fresh }
-    requires events { gate.old.events ≡ [] }
+    requires { gate.old.events ≡ [] }
     ensures same { IsSameGate gate.old gate.new }
-    ensures answer { AdmitsPayloads (authority_with gate.old.key gate.old.ring) scan.now.payloads result gate.new.events }
+    ensures answer { AdmitsPayloads (authority_with gate.old.key gate.old.ring) gate.old.base scan.now.payloads result gate.new.events }
 {
     gate.forget();
     for place in 0..scan.count() {
@@ -65,8 +78,8 @@ fn admit_payloads(alloc: Global, gate: &mut Gate, scan: &Scan) -> Result<(), Ope
     Ok(())
 }
 
-/// The history of what a scan found, under this key and ring: exactly if the image is that of a store before its first event,
-/// and the payloads are those of lawful events; otherwise the first damage.
+/// The history of what a scan found, under this key and ring: exactly if a history may begin with the state of the image, and
+/// the payloads are those of lawful events; otherwise the first damage.
 pub fn read_history(
     alloc: Global,
     scan: &Scan,
@@ -76,10 +89,7 @@ pub fn read_history(
     ensures ok { IfOk result (λ gate. HoldsHistory key.now ring scan.now.image scan.now.payloads gate) }
     ensures err { IfErr result (λ fault. HasDamage (authority_with key.now ring) scan.now.image scan.now.payloads fault) }
 {
-    if scan.image() != FRESH_IMAGE.as_slice() {
-        return Err(OpenFault::Damaged(0, Damage::Shape));
-    }
-    match Gate::fresh(alloc, key, ring) {
+    match read_gate(alloc, scan.image(), key, ring) {
         Ok(mut gate) => match admit_payloads(alloc, &mut gate, scan) {
             Ok(()) => {
                 gate.history().lawful();
@@ -87,6 +97,6 @@ pub fn read_history(
             }
             Err(fault) => Err(fault),
         },
-        Err(_) => Err(OpenFault::NoMemory),
+        Err(fault) => Err(fault_at(0, fault)),
     }
 }

@@ -1,1 +1,2 @@
 pub mod HalvesLemmas
+pub mod MadeLemmas

@@ -1,4 +1,5 @@
 pub mod Halves
+pub mod Made
 pub mod Needed
 pub mod State
 pub mod StateCode

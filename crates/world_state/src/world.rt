@@ -4,15 +4,19 @@ ghost use Rattle.std.specs.Prelude.{◌≡◌, IfOk};
 ghost use Rattle.file_world.specs.Effect.{world_after};
 ghost use Rattle.file_world.specs.Facts.{facts};
 ghost use Rattle.file_world.specs.World.{IsWorld, fresh_world};
+ghost use Rattle.node_rows.specs.Rows.{item_rows, AreOfSameNodes};
+ghost use Rattle.world_state.specs.Made.{JoinsHalves, MakesWorld};
 ghost use Rattle.world_state.specs.State.{IsWorldReady, ReservesWorld, meta_state, tree_state};
 
 use crate::half::{half_of, is_operation, op_of};
 use crate::halves::{apply, reserve};
+use crate::same_nodes::are_of_same_nodes;
 use attr_state::Meta;
 use bl_syntax::{NoMemory, Principal, StatePred};
 use condition_set::Facts;
 use file_tree::Tree;
 use file_world::{Op, OpFault, OpReply};
+use node_rows::{MetaRows, RowsFault, TreeRows};
 use std::alloc::Global;
 use std::marker::Model;
 
@@ -45,6 +49,49 @@ impl World {
         let tree = Tree::new(alloc)?;
         let meta = Meta::new(alloc)?;
         Ok(World { tree, meta })
+    }
+
+    /// The world of these halves, which are ready for nothing any more. They are refused exactly if they differ in nodes
+    /// or directories. It takes no memory.
+    pub fn from_parts(tree: Tree, meta: Meta) -> Result<World, RowsFault>
+        ensures { JoinsHalves tree.tree meta.marks result }
+    {
+        let mut tree = tree;
+        let mut meta = meta;
+        tree.forget();
+        meta.forget();
+        if are_of_same_nodes(&tree, &meta) {
+            Ok(World { tree, meta })
+        } else {
+            Err(RowsFault::NotTree)
+        }
+    }
+
+    /// The world of these rows, with this number for the next node. They are refused exactly if they are not of the same
+    /// nodes, or no world within the limits.
+    pub fn from_rows(
+        alloc: Global,
+        next: u64,
+        tree: &TreeRows,
+        meta: &MetaRows,
+    ) -> Result<World, RowsFault>
+        ensures { MakesWorld next tree.now meta.now result }
+    {
+        match Tree::from_rows(alloc, next, tree) {
+            Err(fault) => Err(fault),
+            Ok(tree) => match Meta::from_rows(alloc, meta) {
+                Err(fault) => Err(fault),
+                Ok(meta) => World::from_parts(tree, meta),
+            },
+        }
+    }
+
+    /// The rows of the nodes by rising number, those of the tree and those of owners and attributes.
+    pub fn to_rows(&self, alloc: Global) -> Result<(TreeRows, MetaRows), NoMemory>
+        ensures same { IfOk result (λ rows. AreOfSameNodes rows.0 rows.1) }
+        ensures rows { IfOk result (λ rows. item_rows rows.0 rows.1 ≡ self.now.world.rows) }
+    {
+        Ok((self.tree.to_rows(alloc)?, self.meta.to_rows(alloc)?))
     }
 
     /// The file tree.

@@ -15,7 +15,7 @@ pub returns : goal.returns
 returns c =
     let old = c.args.nodes.now.entries in
     let was = kept_from_some old c.args.number c.requires.there in
-    let freed : c.length_at-freed.result ≡ length was.0.contents.items =
+    let freed : c.length_at-freed.result ≡ length was.0.contents.bytes =
     c.length_at-freed.ensures ∙ ap (λ (n : Option Node). length (contents_of n)) (node_at-kept old c.args.number was.0 was.1) in
     Removes-from old c.remove.new.self.entries c.release.new.nodes.entries c.args.number (spot_place c.args.spot.now) was.0 _ was.1 c.remove.ensures.entries c.remove.ensures.updates.0 c.release.ensures
     (omega (arith, freed, part_le_sum old c.args.number was.0 was.1, c.requires.summed))

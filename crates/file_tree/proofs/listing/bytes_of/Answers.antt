@@ -14,4 +14,4 @@ pub returns-in-Some : goal.returns-in-Some
 returns-in-Some c =
     let found = node_at-kept c.args.nodes.now.entries c.args.number c.in-Some.node.now (sym c.in-Some.ensures.value) in
     subst (λ (contents : List ℕ). IfOk c.part.result (λ bytes. bytes ≡ bytes_in contents c.args.offset c.args.len))
-    (c.as_slice.ensures.value ∙ ap contents_of (sym found)) c.part.ensures
+    (ap contents_of (sym found)) c.part.ensures

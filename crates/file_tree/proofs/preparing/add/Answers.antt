@@ -12,6 +12,6 @@ returns-in-Ok-clause-ok c =
     record {
       kept = kept;
       last = c.in-Ok.ensures.entries ∙ insert-last c.args.nodes.now.entries c.args.next kept c.insert-put.ensures.was_ordered c.requires;
-      shows = (let f : List ℕ → Node = λ contents. record { kind = c.args.kind; place = spot_place c.args.spot.now; contents = contents } in ap f c.new.ensures.items);
+      shows = (let f : List ℕ → Node = λ contents. record { kind = c.args.kind; place = spot_place c.args.spot.now; contents = contents } in ap f c.new.ensures);
       no_names = c.new-2.ensures.empty;
     }

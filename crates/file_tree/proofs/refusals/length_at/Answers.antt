@@ -1,4 +1,4 @@
-use Rattle.std.proofs.Common.{◌≡◌, Option, length, sym, ap, ◌∙◌, arith}
+use Rattle.std.proofs.Common.{Option, length, sym, ap, ◌∙◌}
 use Rattle.file_world.specs.Tree.{Node}
 use Rattle.file_world.specs.TreeEffect.{contents_of}
 use Rattle.file_tree.proofs.IndexLemmas.{node_at-kept, node_at-missing}
@@ -9,5 +9,4 @@ returns-in-None c = sym (ap (λ (n : Option Node). length (contents_of n)) (node
 
 pub returns-in-Some : goal.returns-in-Some
 returns-in-Some c =
-    let e : c.len.result ≡ length c.in-Some.node.now.contents.items = omega (arith, c.len.ensures, c.in-Some.node.now.contents.ok.0) in
-    e ∙ sym (ap (λ (n : Option Node). length (contents_of n)) (node_at-kept c.args.nodes.now.entries c.args.number c.in-Some.node.now (sym c.in-Some.ensures.value)))
+    c.len.ensures ∙ sym (ap (λ (n : Option Node). length (contents_of n)) (node_at-kept c.args.nodes.now.entries c.args.number c.in-Some.node.now (sym c.in-Some.ensures.value)))

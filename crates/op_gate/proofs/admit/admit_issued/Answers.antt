@@ -4,7 +4,7 @@ use Rattle.op_gate.proofs.admit.admit_issued.Goals as goal
 
 pub returns-in-Ok : goal.returns-in-Ok
 returns-in-Ok c =
-    issued_cited c.args.history.now c.args.pass c.args.cited.now c.args.proof c.args.grant.now c.in-Ok.cites c.verify_again.result c.statements.result.now c.as_slice.result.now c.requires c.statements.ensures.same c.as_slice.ensures c.in-Ok.ensures c.verify_again.ensures
+    issued_cited c.args.history.now c.args.pass c.args.cited.now c.args.proof c.args.grant.now c.in-Ok.cites c.issue_again.result c.statements.result.now c.as_slice.result.now c.requires c.statements.ensures.same c.as_slice.ensures c.in-Ok.ensures c.issue_again.ensures
 
 pub returns-in-Err : goal.returns-in-Err
 returns-in-Err c =

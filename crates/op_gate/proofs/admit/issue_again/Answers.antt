@@ -1,13 +1,9 @@
--- The grant is the one that the proof gives, or another.
-use Rattle.std.proofs.Common.{sym, ◌∙◌}
-use Rattle.op_gate.proofs.AdmitLemmas.{issued_told, other_grant}
-use Rattle.op_gate.proofs.CheckLemmas.{is_so, is_not_so}
+-- The proof is checked again and its grant is pending, or it is not.
+use Rattle.op_gate.proofs.AdmitLemmas.{issued_told, issued_unchecked}
 use Rattle.op_gate.proofs.admit.issue_again.Goals as goal
 
-pub returns-then-is_same_grant : goal.returns-then-is_same_grant
-returns-then-is_same_grant c =
-    issued_told c.args.pass c.args.checked c.args.grant.now c.issue.result c.grant.ensures.kept c.requires (sym c.grant.ensures.same ∙ is_so _ _ c.is_same_grant.ensures c.if-is_same_grant.true) c.issue.ensures.ok c.issue.ensures.err
+pub returns-in-Ok : goal.returns-in-Ok
+returns-in-Ok c = issued_told c.args.pass c.args.cites c.args.proof c.args.grant.now c.in-Ok.checked c.issue.result c.in-Ok.ensures c.issue.ensures.ok c.issue.ensures.err
 
-pub returns-else-is_same_grant : goal.returns-else-is_same_grant
-returns-else-is_same_grant c =
-    other_grant c.args.pass c.args.checked c.args.grant.now c.grant.ensures.kept c.requires (λ same. is_not_so _ _ c.is_same_grant.ensures c.if-is_same_grant.false (c.grant.ensures.same ∙ same))
+pub returns-in-Err : goal.returns-in-Err
+returns-in-Err c = issued_unchecked c.args.pass c.args.cites c.args.proof c.args.grant.now c.in-Err.fault c.in-Err.ensures

@@ -17,7 +17,7 @@ returns-in-Ok-read_history-clause-why g c = λ number.
     let scan = c.in-Ok.scan in
     let holds = c.in-Ok-read_history.ensures.ok in
     if_told told (λ bytes. IsBroken number bytes → IsWhy authority bytes (Damaged c.saturating_add.result Shape)) (λ bytes is broken.
-    why_broken authority bytes number scan.generation scan.image scan.payloads c.saturating_add.result
+    why_broken authority bytes number scan.generation scan.image c.in-Ok-read_history.field-0.base scan.payloads c.saturating_add.result
     (at_told told (λ bytes. IsFront bytes scan.generation scan.image scan.payloads) bytes is c.in-Ok.ensures.ok) broken holds.image_is
     (record { events = c.in-Ok-read_history.field-0.events; read = holds.read; lawful = holds.lawful })
     (λ few. omega (arith, few, c.saturating_add.ensures, c.count.ensures)))

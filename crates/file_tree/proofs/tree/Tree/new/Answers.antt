@@ -12,6 +12,6 @@ invariant_of-result c =
     let kept : Kept = record { kind = Directory; parent = 0; name = c.new.result; contents = c.new-2.result; names = c.new-3.result } in
     let entries : c.insert-put.new.self.entries ≡ (1, kept) ∷ [] = c.in-Ok.ensures.entries ∙ ap (λ (es : Entries). insert_entry nat_cmp es 1 kept) c.new-nodes.ensures.empty in
     fresh_kept c.insert-put.new.self.entries kept entries
-    (ap (λ (n : List ℕ). record { kind = Directory; place = record { directory = 0; name = n }; contents = c.new-2.result.items }) c.new.ensures
-    ∙ ap (λ (items : List ℕ). record { kind = Directory; place = record { directory = 0; name = [] }; contents = items }) c.new-2.ensures.items)
+    (ap (λ (n : List ℕ). record { kind = Directory; place = record { directory = 0; name = n }; contents = c.new-2.result.bytes }) c.new.ensures
+    ∙ ap (λ (items : List ℕ). record { kind = Directory; place = record { directory = 0; name = [] }; contents = items }) c.new-2.ensures)
     c.new-3.ensures.empty

@@ -1,0 +1,86 @@
+//! Copies of what a state keeps.
+
+ghost use Rattle.std.specs.Prelude.{◌≡◌, ◌≤◌, ◌<◌, ◌∷◌, ◌++◌, [], IfOk, OnOk, length};
+
+use crate::event::{Issue, Issues, Statements};
+use bl_syntax::{Bytes, NoMemory, Sequence};
+use policy_statement::{Registered, Registry};
+use std::alloc::Global;
+
+// The same bytes, in memory of their own.
+fn copy_bytes(alloc: Global, bytes: &[u8]) -> Result<Bytes, NoMemory>
+    ensures { IfOk result (λ copied. copied ≡ bytes.now) }
+{
+    let mut copied = Bytes::new(alloc);
+    copied.extend(bytes)?;
+    Ok(copied)
+}
+
+// An equal statement with an equal signature, in memory of its own.
+fn copy_registered(alloc: Global, entry: &Registered) -> Result<Registered, NoMemory>
+    ensures { IfOk result (λ copied. copied ≡ entry.now) }
+{
+    let statement = entry.statement().copy(alloc)?;
+    let signature = copy_bytes(alloc, entry.signature())?;
+    Ok(Registered::new(statement, signature))
+}
+
+/// Equal statements with equal signatures, in memory of their own.
+pub fn copy_statements(alloc: Global, entries: &[Registered]) -> Result<Statements, NoMemory>
+    ensures { IfOk result (λ copied. copied ≡ entries.now) }
+{
+    let mut copied = Sequence::new(alloc);
+    for entry in entries {
+        copied.push(copy_registered(alloc, entry)?)?;
+    }
+    Ok(copied)
+}
+
+// An equal issue, in memory of its own.
+fn copy_issue(alloc: Global, issue: &Issue) -> Result<Issue, NoMemory>
+    ensures { IfOk result (λ copied. copied ≡ issue.now) }
+{
+    let cited = issue.cited.copy(alloc)?;
+    let proof = issue.proof.copy(alloc)?;
+    let grant = issue.grant.copy(alloc)?;
+    Ok(Issue {
+        cited,
+        proof,
+        grant,
+    })
+}
+
+/// Equal issues, in memory of their own.
+pub fn copy_issues(alloc: Global, issues: &[Issue]) -> Result<Issues, NoMemory>
+    ensures { IfOk result (λ copied. copied ≡ issues.now) }
+{
+    let mut copied = Sequence::new(alloc);
+    for issue in issues {
+        copied.push(copy_issue(alloc, issue)?)?;
+    }
+    Ok(copied)
+}
+
+/// Keeps an equal statement with an equal signature, in memory of its own. There are fewer than 4,096.
+pub fn keep_copy(alloc: Global, registry: &mut Registry, entry: &Registered) -> Result<(), NoMemory>
+    requires { length registry.old.entries < 4096 }
+    ensures { OnOk result (registry.new.entries ≡ registry.old.entries ++ entry.now ∷ []) }
+{
+    registry.reserve()?;
+    let statement = entry.statement().copy(alloc)?;
+    let signature = copy_bytes(alloc, entry.signature())?;
+    let _ = registry.keep(statement, signature);
+    Ok(())
+}
+
+/// The registry of equal statements with equal signatures, in memory of its own. There are at most 4,096.
+pub fn registry_of(alloc: Global, entries: &[Registered]) -> Result<Registry, NoMemory>
+    requires { length entries.now ≤ 4096 }
+    ensures { IfOk result (λ registry. registry.entries ≡ entries.now) }
+{
+    let mut registry = Registry::new(alloc);
+    for entry in entries {
+        keep_copy(alloc, &mut registry, entry)?;
+    }
+    Ok(registry)
+}

@@ -1,0 +1,134 @@
+-- What a state is written of fits the fields of an image.
+use Rattle.std.proofs.Common.{◌≡◌, ℕ, ℤ, ◌<◌, ◌≤◌, ◌^◌, List, [], ◌∷◌, ◌++◌, length, map, Option, Some, None, false, true, refl, sym, ap, ap₂, ◌∙◌, subst, arith, append_assoc}
+use Rattle.std.specs.Prelude.{IsTrue}
+use Rattle.std.specs.Option.{option_map, option_map_or}
+use Rattle.std.specs.List.{AllByRecursion}
+use Rattle.std.specs.Str.{bytes_eq}
+use Rattle.std.proofs.lemmas.List.{length-map}
+use Rattle.std.proofs.lemmas.Slice.Eq.{bytes_eq-Decides}
+use Rattle.sha2.proofs.Facts256.{length-sha256}
+use Rattle.pcfs_hmac.specs.Hmac.{hmac}
+use Rattle.policy_statement.specs.Messages.{statement_message}
+use Rattle.policy_statement.specs.Registered.{RegisteredView}
+use Rattle.policy_statement.specs.Ring.{KeyView, key_of}
+use Rattle.proof_verifier.specs.declared.cites.Cite.{Cite}
+use Rattle.file_world.specs.FileNames.{is_attribute_name}
+use Rattle.file_world.specs.Attributes.{Attributes}
+use Rattle.file_world.specs.World.{Item, World, IsWorld}
+use Rattle.access_history.specs.declared.event.Issue.{Issue}
+use Rattle.access_history.specs.Authority.{IsSignedEntry}
+use Rattle.access_history.specs.Base.{BaseView}
+use Rattle.access_history.specs.Citing.{numbers_of, IsGoodIssue}
+use Rattle.access_history.specs.History.{authority_with}
+use Rattle.access_history.specs.Lawful.{IsLawfulBase}
+use Rattle.access_history.specs.Authority.{sayings}
+use Rattle.record_parts.specs.Fields.{FitsOneByte}
+use Rattle.bl_syntax.specs.Statement.{StatementView}
+use Rattle.node_rows.specs.declared.rows.TreeRow.{TreeRow}
+use Rattle.node_rows.specs.declared.rows.MetaRow.{MetaRow}
+use Rattle.node_rows.specs.Rows.{item_rows, AreOfSameNodes}
+use Rattle.node_rows.proofs.NameLengthLemmas.{short_name_or_none, short_attribute_name}
+use Rattle.checkpoint_image.specs.NodeSpelling.{nodes_spelling, IsSpellableNode, AreSpellableNodes, HasFittingParts}
+use Rattle.checkpoint_image.specs.ImageSpelling.{head_spelling, statements_spelling, issues_spelling, image_spelling, IsSpellableEntry, IsSpellableIssue, HasFittingSignature, HasFewCited, HaveFittingRows}
+use Rattle.checkpoint_image.proofs.LoopLemmas.{as_many_rows}
+use Rattle.checkpoint_image.proofs.WorldLemmas.{worlds_have_images}
+use Rattle.checkpoint.specs.Reading.{IsImageOf}
+use Rattle.checkpoint.specs.Writing.{FitsImage, state_with, front_spelling}
+
+-- ---- nodes
+
+names_fit : (attributes : Attributes) → AllByRecursion (λ attribute. IsTrue (is_attribute_name attribute.0)) attributes → AllByRecursion (λ attribute. FitsOneByte attribute.0) attributes
+names_fit [] h = tt
+names_fit (a ∷ attributes) h = let short = short_attribute_name a.0 h.0 in (omega (arith, short.not_above), names_fit attributes h.1)
+
+parts_fit : (row : ℕ × Item) → IsSpellableNode row → HasFittingParts row.1
+parts_fit row h = record {
+  name = omega (arith, short_name_or_none row.1.place.name h.name);
+  few = h.attributes.few;
+  names = names_fit row.1.attributes h.attributes.named;
+  contents = h.contents;
+}
+
+all_parts_fit : (rows : List (ℕ × Item)) → AllByRecursion IsSpellableNode rows → AllByRecursion (λ row. HasFittingParts row.1) rows
+all_parts_fit [] h = tt
+all_parts_fit (row ∷ rows) h = (parts_fit row h.0, all_parts_fit rows h.1)
+
+-- the rows of a world within the limits may be written
+pub rows_fit : (world : World) (trees : List TreeRow) (metas : List MetaRow) → IsWorld world → AreOfSameNodes trees metas → item_rows trees metas ≡ world.rows → HaveFittingRows trees metas
+rows_fit world trees metas is same rows_are =
+    let spelled : AreSpellableNodes (item_rows trees metas) = subst AreSpellableNodes (sym rows_are) (worlds_have_images world is) in
+    record {
+      few = omega (arith, as_many_rows trees metas same, spelled.few);
+      same = same;
+      parts = all_parts_fit (item_rows trees metas) spelled.each;
+    }
+
+-- ---- an image
+
+-- what stands before the nodes, and the nodes, are the image
+pub image_written : (world : World) (statements : List RegisteredView) (issues : List Issue) (moment : ℤ) (count : ℕ) → front_spelling statements issues moment count world.next ++ nodes_spelling world.rows ≡ image_spelling (state_with world statements issues moment count)
+unfolding image_spelling
+image_written world statements issues moment count =
+    append_assoc (head_spelling moment count world.next) (statements_spelling statements ++ issues_spelling issues) (nodes_spelling world.rows)
+    ∙ ap (λ (bytes : List ℕ). head_spelling moment count world.next ++ bytes) (append_assoc (statements_spelling statements) (issues_spelling issues) (nodes_spelling world.rows))
+
+-- a state that was written is spelled by its image
+pub is_image : (world : World) (statements : List RegisteredView) (issues : List Issue) (moment : ℤ) (count : ℕ) (image front : List ℕ) (rows : List (ℕ × Item)) → IsWorld world → FitsImage (state_with world statements issues moment count)
+    → count < 2 ^ 64 → AllByRecursion IsSpellableEntry statements → AllByRecursion IsSpellableIssue issues → front ≡ front_spelling statements issues moment count world.next → rows ≡ world.rows → image ≡ front ++ nodes_spelling rows
+    → IsImageOf (state_with world statements issues moment count) image
+is_image world statements issues moment count image front rows is fits counted entries each front_is rows_are image_is = record {
+  spelled = record {
+    moment = fits.moment;
+    count = counted;
+    next = omega (arith, is.tree.next_fits);
+    statements = record { few = fits.statements.few; each = entries };
+    issues = record { few = fits.issues.few; each = each };
+    nodes = worlds_have_images world is;
+  };
+  world = is;
+  image_is = image_is ∙ (ap₂ (λ (bytes : List ℕ) (nodes : List (ℕ × Item)). bytes ++ nodes_spelling nodes) front_is rows_are ∙ image_written world statements issues moment count);
+}
+
+-- ---- signatures and cited numbers
+
+length-hmac : (key text : List ℕ) → length (hmac key text) ≡ 32
+unfolding hmac
+length-hmac key text = length-sha256 _
+
+accepted_length : (found : Option (List ℕ)) (message signature : List ℕ) → option_map_or (λ (tag : List ℕ). bytes_eq tag signature) (option_map (λ (key : List ℕ). hmac key message) found) false ≡ true → length signature ≡ 32
+accepted_length None message signature e = absurd cc
+accepted_length (Some key) message signature e = sym (ap length ((bytes_eq-Decides (hmac key message) signature).0 e)) ∙ length-hmac key message
+
+signatures_fit : (key : List ℕ) (ring : List KeyView) (entries : List RegisteredView) → AllByRecursion (IsSignedEntry (authority_with key ring)) entries → AllByRecursion HasFittingSignature entries
+signatures_fit key ring [] h = tt
+signatures_fit key ring (entry ∷ entries) h =
+    let len : length entry.signature ≡ 32 = accepted_length (key_of ring entry.statement.who) (statement_message entry.statement) entry.signature h.0 in
+    (omega (arith, len), signatures_fit key ring entries h.1)
+
+few_cited : (statements : List StatementView) (issues : List Issue) → AllByRecursion (IsGoodIssue statements) issues → AllByRecursion HasFewCited issues
+few_cited statements [] h = tt
+few_cited statements (issue ∷ issues) h =
+    let good = h.0 in
+    let number : Cite → ℕ = λ (c : Cite). c.number in
+    let len : length issue.cited ≡ length good.cites = ap length good.cited ∙ length-map good.cites number in
+    let few : length good.cites ≤ 64 = good.rising.few in
+    (omega (arith, len, few), few_cited statements issues h.1)
+
+pub lawful_fits : (key : List ℕ) (ring : List KeyView) (base : BaseView) → IsLawfulBase (authority_with key ring) base → length base.issues < 2 ^ 32 → FitsImage base
+lawful_fits key ring base is few = record {
+  moment = is.moment_in_range;
+  statements = record { few = omega (arith, is.statements_fit); each = signatures_fit key ring base.statements is.statements_signed };
+  issues = record { few = few; each = few_cited (sayings base.statements) base.issues is.good_issues };
+}
+
+-- ---- a state by its parts
+
+-- the state of these parts is the one that has them
+pub state_is : (base : BaseView) (world : World) (statements : List RegisteredView) (issues : List Issue) (moment : ℤ) (count : ℕ) → world ≡ base.world → statements ≡ base.statements → issues ≡ base.issues → moment ≡ base.moment → count ≡ base.count
+    → state_with world statements issues moment count ≡ base
+state_is base world statements issues moment count world_is statements_are issues_are moment_is count_is =
+    ap (λ (w : World). state_with w statements issues moment count) world_is
+    ∙ (ap (λ (s : List RegisteredView). state_with base.world s issues moment count) statements_are
+    ∙ (ap (λ (i : List Issue). state_with base.world base.statements i moment count) issues_are
+    ∙ (ap (λ (m : ℤ). state_with base.world base.statements base.issues m count) moment_is
+    ∙ ap (λ (n : ℕ). state_with base.world base.statements base.issues base.moment n) count_is)))

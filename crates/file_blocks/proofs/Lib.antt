@@ -1,0 +1,4 @@
+pub mod OverLemmas
+pub mod BlockLemmas
+pub mod ContentsLemmas
+pub mod StepLemmas

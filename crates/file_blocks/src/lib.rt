@@ -1,0 +1,12 @@
+//! The contents of one file, in blocks on the heap.
+//!
+//! Contracts see the bytes, and the room: how long the contents may become without taking memory. A write and a read
+//! touch the blocks that they cover, and growing copies nothing of what is there.
+#![tactic(auto)]
+
+mod block;
+mod contents;
+mod spans;
+
+pub use block::BLOCK_BYTES;
+pub use contents::FileContents;

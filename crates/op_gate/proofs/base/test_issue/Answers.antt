@@ -1,0 +1,25 @@
+-- The statements are found and the proof is checked, or not.
+use Rattle.std.proofs.Common.{sym, subst}
+use Rattle.std.specs.Prelude.{Result}
+use Rattle.access_history.specs.Authority.{sayings}
+use Rattle.access_history.specs.Citing.{IsGoodIssue}
+use Rattle.op_gate.specs.declared.damage.AdmitFault.{AdmitFault}
+use Rattle.op_gate.specs.declared.damage.Damage.TheVariants.{Unproved}
+use Rattle.op_gate.specs.BaseTests.{TellsTest}
+use Rattle.op_gate.proofs.BaseDamageLemmas.{issue_good, issue_unchecked, issue_uncited}
+use Rattle.op_gate.proofs.base.test_issue.Goals as goal
+use Rattle.op_gate.proofs.base.test_issue.Goals.{in-Ok-check_again, in-Err-check_again}
+
+pub returns-after-check_again : goal.returns-after-check_again
+returns-after-check_again c =
+    let statements = sayings c.args.entries.now in
+    let issue = c.args.issue.now in
+    elim c.match-check_again.branch [
+      | in-Ok-check_again w ↦ subst (λ (r : Result (Unit {0}) AdmitFault). TellsTest (IsGoodIssue statements issue) Unproved r) (sym w.result-is)
+          (issue_good statements issue c.as_slice.result.now c.in-Ok-copy.proof c.in-Ok.cites w.in-Ok-check_again.field-0 c.as_slice.ensures c.in-Ok-copy.ensures c.in-Ok.ensures w.in-Ok-check_again.ensures)
+      | in-Err-check_again w ↦ subst (λ (r : Result (Unit {0}) AdmitFault). TellsTest (IsGoodIssue statements issue) Unproved r) (sym w.result-is)
+          (issue_unchecked statements issue c.as_slice.result.now c.in-Ok-copy.proof c.in-Ok.cites w.in-Err-check_again.fault c.as_slice.ensures c.in-Ok-copy.ensures c.in-Ok.ensures w.in-Err-check_again.ensures)
+    ]
+
+pub returns-in-Err : goal.returns-in-Err
+returns-in-Err c = issue_uncited (sayings c.args.entries.now) c.args.issue.now c.as_slice.result.now c.in-Err.uncited c.as_slice.ensures c.in-Err.ensures
