@@ -11,8 +11,9 @@ use Rattle.journal_records.proofs.EventLemmas.{event_codec, same_spelling}
 use Rattle.checkpoint_image.specs.ImageSpelling.{image_spelling, IsSpellableImage}
 use Rattle.checkpoint_image.specs.ImageReading.{image_at, whole_image}
 use Rattle.checkpoint_image.proofs.ImageLemmas.{image_codec}
-use Rattle.reader_laws.specs.Cuts.{AreCutsRefused, IsLeftOverRefused}
-use Rattle.reader_laws.proofs.CutLemmas.{whole_cuts, left_over}
+use Rattle.checkpoint.specs.Reading.{field}
+use Rattle.reader_laws.specs.Cuts.{AreCutsRefused, IsLeftOverRefused, AreCutImagesShort}
+use Rattle.reader_laws.proofs.CutLemmas.{cut_at, whole_cuts, left_over}
 use Rattle.reader_laws.proofs.GrantLemmas.{procaps}
 use Rattle.reader_laws.proofs.RecordLemmas.{events}
 use Rattle.reader_laws.proofs.ImageLemmas.{images}
@@ -51,3 +52,6 @@ event_left_over e byte rest spelled =
 pub cut_images : AreCutsRefused Short IsSpellableImage image_spelling whole_image
 unfolding whole_image
 cut_images = whole_cuts IsSpellableImage image_spelling image_at image_codec images
+
+pub cut_states : AreCutImagesShort
+cut_states base front byte rest image = field Short (cut_at IsSpellableImage image_spelling image_at image_codec images (length front) base front byte rest image.spelled (sym image.image_is))

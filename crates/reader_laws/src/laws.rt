@@ -22,7 +22,7 @@ ghost use Rattle.journal_records.specs.EventSpelling.{event_spelling, IsSpellabl
 ghost use Rattle.journal_records.specs.EventReading.{whole_event};
 ghost use Rattle.checkpoint_image.specs.ImageSpelling.{image_spelling, IsSpellableImage};
 ghost use Rattle.checkpoint_image.specs.ImageReading.{whole_image};
-ghost use Rattle.reader_laws.specs.Cuts.{AreCutsRefused, IsLeftOverRefused};
+ghost use Rattle.reader_laws.specs.Cuts.{AreCutsRefused, IsLeftOverRefused, AreCutImagesShort};
 
 /// A name, a text, a point in time or a term that is cut short is refused as short.
 pub fn cut_fields_are_short()
@@ -55,6 +55,7 @@ pub fn cut_inputs_are_short()
     ensures procaps { AreCutsRefused Short IsSpellableProcap procap_spelling whole_procap }
     ensures events { AreCutsRefused Short IsSpellableEvent event_spelling whole_event }
     ensures images { AreCutsRefused Short IsSpellableImage image_spelling whole_image }
+    ensures states { AreCutImagesShort }
 {}
 
 /// Bytes after a whole procap or a whole event are refused at the first of them.
