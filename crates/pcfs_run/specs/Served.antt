@@ -115,7 +115,9 @@ pub data EndsServing (secrets : Secrets) (count : ℕ) (rests : Rests) (before a
   out_of_memory : (end : ServeEnd) → (IsNetFault end → ⊥) → IsServed secrets rests before.ports.disks after.ports.disks (number_of end) count None → AreAttended count before.net after.net end → after.ports.streams.held ≡ before.ports.streams.held →
       EndsServing secrets count rests before after 9
 
--- How a run ends: it serves, and takes nothing of its input; or it is a run of another command, and the listener and the nonces tell what they did before.
+-- How a run ends: it serves, and takes nothing of its input; or it is a run of another command, and the listener and the nonces tell what they did before; or memory ran out before the words were read, and nothing was done.
 pub data RunEnds (secrets : Secrets) (words : List (String Global)) (rests : Rests) (before after : ServePorts) : ℕ → Type 0 where
   serves : (status port count : ℕ) → IsServe words port count → after.ports.streams.left ≡ before.ports.streams.left → after.ports.streams.read_faults ≡ before.ports.streams.read_faults → EndsServing secrets count rests before after status → RunEnds secrets words rests before after status
+  unread : AreBytesKept before.ports.disks after.ports.disks → IsNetKept before.net after.net → after.ports.streams.left ≡ before.ports.streams.left → after.ports.streams.read_faults ≡ before.ports.streams.read_faults → after.ports.streams.held ≡ before.ports.streams.held →
+      RunEnds secrets words rests before after 9
   alone : (status : ℕ) → ((port count : ℕ) → IsServe words port count → ⊥) → EndsWith secrets words rests before.ports after.ports status → IsNetKept before.net after.net → RunEnds secrets words rests before after status
