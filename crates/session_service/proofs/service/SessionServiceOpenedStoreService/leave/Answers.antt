@@ -13,5 +13,5 @@ pub returns-clause-belongs : goal.returns-clause-belongs
 returns-clause-belongs g c = (
   c.retire.ensures.lock ∙ c.requires.door.0,
   AreOfConnections-one_more c.into_pass-pass.result.1 c.args.door.now.served c.served_after-door.result c.into_pass-pass.result.0.number c.into_pass-pass.result.0.own c.args.door.now.door.retired c.retire.new.door.retired c.served_after-door.ensures c.retire.ensures.retired
-  (λ not. ap (λ p. p.own) c.into_pass-pass.ensures.0 ∙ c.requires.token.1 (sym c.into_pass-pass.ensures.1 ∙ not)) c.requires.door.1,
+      (λ not. ap (λ p. p.own) c.into_pass-pass.ensures.0 ∙ c.requires.token.1 (sym c.into_pass-pass.ensures.1 ∙ not)) c.requires.door.1,
 )
