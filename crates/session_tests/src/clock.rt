@@ -1,9 +1,10 @@
 //! A clock that is set while a session waits for its turn. The session's operation is allowed at the moment of its turn alone.
 
-ghost use Rattle.std.specs.Prelude.{◌≡◌, None};
+ghost use Rattle.std.specs.Prelude.{◌≡◌, [], None};
 ghost use Rattle.std.specs.List.{AllByRecursion};
 ghost use Rattle.journal_records.specs.EventSpelling.{IsReadEvent};
 
+use crate::pair::{Errand, both_at_once};
 use crate::setting::{Sign, give_bytes, opened};
 use pcfs_ports::{Failed, MemoryDisk, SetClock, Sink, Source};
 use pcfs_store::Store;
@@ -13,8 +14,8 @@ use std::alloc::Global;
 use std::sync::Wait;
 use std::test::Fail;
 use std::thread;
-use std::thread::{Threads, join};
-use tree_lock::{Job, Pass, TreeLock};
+use std::thread::Threads;
+use tree_lock::{Job, Pass, Recorded, TreeLock};
 
 // The signs: the user has logged in; the lock is held; the user asks for the operation; it was done.
 #[derive(Drop)]
@@ -70,7 +71,7 @@ impl<'a> Source for LateSource<'a> {
                 self.signs.ready.give();
                 self.signs.held.wait();
                 self.signs.asked.give();
-                Ok(give_bytes(ASKING, buf))
+                Ok(give_bytes(REQUEST, buf))
             }
             _ => Ok(0),
         }
@@ -105,45 +106,71 @@ const LOGIN: &[u8] =
     b"login bob 8c747c2e83ff4cc228462cb3a09e77c1bc7df6397add9e18ea6c2d031f1735ce\n";
 
 // Bob asks for a file, under a procap that is good from 200 on.
-const ASKING: &[u8] =
+const REQUEST: &[u8] =
     b"do create #1 made 470103626f6200000000000000010201040100000000000000c80600525f7c1df0ca13ca6b7cf8daa465635d12b6f8875262d9ae9f69906ab35ed059\n";
 
-// Holds the lock for one turn, once the user has logged in.
-fn hold<R: Wait>(
-    rt: &R,
-    lock: &TreeLock<OpenedStore<MemoryDisk>>,
-    mut pass: Pass<OpenedStore<MemoryDisk>>,
-    clock: &SetClock,
-    signs: &Signs,
-)
-    requires { pass.lock ≡ lock.now }
-{
-    signs.ready.wait();
-    lock.turn(rt, &mut pass, Holding { signs, clock });
+// One who holds the lock for one turn, once the user has logged in.
+#[derive(Drop)]
+struct Holder<'a, V: Recorded> {
+    lock: &'a TreeLock<V>,
+    pass: Pass<V>,
+    clock: &'a SetClock,
+    signs: &'a Signs,
 }
 
-// Whether the session came to its end.
-fn ask<R: Wait>(
-    rt: &R,
+impl<'a, R: Wait> Errand<R> for Holder<'a, OpenedStore<MemoryDisk>> {
+    ghost use Rattle.std.specs.Prelude.{◌≡◌};
+
+    ghost ready = { λ it. it.pass.lock ≡ it.lock.now };
+
+    fn go(self, rt: &R) -> bool {
+        let Holder {
+            lock,
+            mut pass,
+            clock,
+            signs,
+        } = self;
+        signs.ready.wait();
+        lock.turn(rt, &mut pass, Holding { signs, clock });
+        true
+    }
+}
+
+// The user's session.
+#[derive(Drop)]
+struct Asking<'a, V: Recorded> {
     alloc: Global,
-    lock: &TreeLock<OpenedStore<MemoryDisk>>,
-    mut pass: Pass<OpenedStore<MemoryDisk>>,
-    clock: &SetClock,
-    signs: &Signs,
-) -> bool
-    requires { pass.lock ≡ lock.now }
-{
-    let end = serve_session(
-        rt,
-        alloc,
-        lock,
-        &mut pass,
-        &mut LateSource { signs, reads: 0 },
-        &mut TellingSink { signs },
-        clock,
-        [0; 16],
-    );
-    end == SessionEnd::Done
+    lock: &'a TreeLock<V>,
+    pass: Pass<V>,
+    clock: &'a SetClock,
+    signs: &'a Signs,
+}
+
+impl<'a, R: Wait> Errand<R> for Asking<'a, OpenedStore<MemoryDisk>> {
+    ghost use Rattle.std.specs.Prelude.{◌≡◌};
+
+    ghost ready = { λ it. it.pass.lock ≡ it.lock.now };
+
+    fn go(self, rt: &R) -> bool {
+        let Asking {
+            alloc,
+            lock,
+            mut pass,
+            clock,
+            signs,
+        } = self;
+        let end = serve_session(
+            rt,
+            alloc,
+            lock,
+            &mut pass,
+            &mut LateSource { signs, reads: 0 },
+            &mut TellingSink { signs },
+            clock,
+            [0; 16],
+        );
+        end == SessionEnd::Done
+    }
 }
 
 // Whether the session came to its end, while another holds the lock.
@@ -156,20 +183,25 @@ fn ask_while_held<R: Threads + Wait + Sync>(
 ) -> bool
     requires running { store.stop ≡ None }
     requires each { AllByRecursion IsReadEvent store.events }
+    requires unsettled { store.checkpoints ≡ [] }
 {
     let opened = OpenedStore::new(store);
     match TreeLock::new(alloc, opened) {
         Ok((lock, mut door)) => {
-            let first = lock.pass(&mut door);
-            let second = lock.pass(&mut door);
-            let shared = &lock;
-            let hold_on = move || -> ()
-                requires { first.lock ≡ shared.now }
-            { hold(rt, shared, first, clock, signs) };
-            let ask_then = move || -> bool
-                requires { second.lock ≡ shared.now }
-            { ask(rt, alloc, shared, second, clock, signs) };
-            join(rt, hold_on, ask_then).1
+            let holder = Holder {
+                lock: &lock,
+                pass: lock.pass(&mut door),
+                clock,
+                signs,
+            };
+            let asking = Asking {
+                alloc,
+                lock: &lock,
+                pass: lock.pass(&mut door),
+                clock,
+                signs,
+            };
+            both_at_once(rt, holder, asking)
         }
         Err(_) => false,
     }
@@ -185,10 +217,8 @@ fn the_clock_is_read_in_the_turn(rt: HostRuntime) -> Result<(), Fail> {
     };
     let clock = SetClock::new(100);
     let store = opened(&rt, rt.alloc(), SET_UP)?;
-    assert!(rt;
-        ask_while_held(&rt, rt.alloc(), store, &clock, &signs),
-        "the session did not end"
-    );
+    let ended = ask_while_held(&rt, rt.alloc(), store, &clock, &signs);
+    assert!(rt; ended, "the session did not end");
     assert!(rt;
         signs.ready.was_seen() && signs.held.was_seen() && signs.asked.was_seen(),
         "a sign was not seen"

@@ -2,10 +2,11 @@
 //!
 //! If a proof were checked under the lock, the other session would have no turn, and the checker would wait in vain.
 
-ghost use Rattle.std.specs.Prelude.{◌≡◌, None};
+ghost use Rattle.std.specs.Prelude.{◌≡◌, [], None};
 ghost use Rattle.std.specs.List.{AllByRecursion};
 ghost use Rattle.journal_records.specs.EventSpelling.{IsReadEvent};
 
+use crate::pair::{Errand, both_at_once};
 use crate::setting::{Sign, input_of, opened};
 use bl_syntax::Goal;
 use pcfs_ports::{Failed, MemoryDisk, MemorySource, SetClock, Sink};
@@ -18,8 +19,8 @@ use shared_store::OpenedStore;
 use std::alloc::Global;
 use std::sync::Wait;
 use std::test::Fail;
-use std::thread::{Threads, join};
-use tree_lock::{Pass, TreeLock};
+use std::thread::Threads;
+use tree_lock::{Pass, Recorded, TreeLock};
 
 // Checks a proof once the file was made.
 #[derive(Drop)]
@@ -75,29 +76,42 @@ const MAKING: &str = "login bob 8c747c2e83ff4cc228462cb3a09e77c1bc7df6397add9e18
 do create #1 made 470103626f620000000000000001020000423c3d31bd120b85dfff5b6eb6f5ff56e9b219dd5e90b52cd644ea08f9798965
 ";
 
-// Whether the session came to its end.
-fn talk<R: Wait>(
-    rt: &R,
+// A session.
+#[derive(Drop)]
+struct Talk<'a, V: Recorded> {
     alloc: Global,
-    lock: &TreeLock<OpenedStore<MemoryDisk>>,
-    mut pass: Pass<OpenedStore<MemoryDisk>>,
-    made: &Sign,
-    mut input: MemorySource,
-) -> bool
-    requires { pass.lock ≡ lock.now }
-{
-    let end = serve_session_with(
-        rt,
-        alloc,
-        lock,
-        &mut pass,
-        &mut input,
-        &mut TellingSink { made },
-        &SetClock::new(100),
-        [0; 16],
-        &mut WaitingChecker { made },
-    );
-    end == SessionEnd::Done
+    lock: &'a TreeLock<V>,
+    pass: Pass<V>,
+    made: &'a Sign,
+    input: MemorySource,
+}
+
+impl<'a, R: Wait> Errand<R> for Talk<'a, OpenedStore<MemoryDisk>> {
+    ghost use Rattle.std.specs.Prelude.{◌≡◌};
+
+    ghost ready = { λ it. it.pass.lock ≡ it.lock.now };
+
+    fn go(self, rt: &R) -> bool {
+        let Talk {
+            alloc,
+            lock,
+            mut pass,
+            made,
+            mut input,
+        } = self;
+        let end = serve_session_with(
+            rt,
+            alloc,
+            lock,
+            &mut pass,
+            &mut input,
+            &mut TellingSink { made },
+            &SetClock::new(100),
+            [0; 16],
+            &mut WaitingChecker { made },
+        );
+        end == SessionEnd::Done
+    }
 }
 
 // Whether both sessions came to their ends, each in a thread of its own.
@@ -111,21 +125,26 @@ fn talk_at_once<R: Threads + Wait + Sync>(
 ) -> bool
     requires running { store.stop ≡ None }
     requires each { AllByRecursion IsReadEvent store.events }
+    requires unsettled { store.checkpoints ≡ [] }
 {
     let opened = OpenedStore::new(store);
     match TreeLock::new(alloc, opened) {
         Ok((lock, mut door)) => {
-            let first = lock.pass(&mut door);
-            let second = lock.pass(&mut door);
-            let shared = &lock;
-            let prove = move || -> bool
-                requires { first.lock ≡ shared.now }
-            { talk(rt, alloc, shared, first, made, proving) };
-            let make = move || -> bool
-                requires { second.lock ≡ shared.now }
-            { talk(rt, alloc, shared, second, made, making) };
-            let (proved, was_made) = join(rt, prove, make);
-            proved && was_made
+            let first = Talk {
+                alloc,
+                lock: &lock,
+                pass: lock.pass(&mut door),
+                made,
+                input: proving,
+            };
+            let second = Talk {
+                alloc,
+                lock: &lock,
+                pass: lock.pass(&mut door),
+                made,
+                input: making,
+            };
+            both_at_once(rt, first, second)
         }
         Err(_) => false,
     }

@@ -9,4 +9,6 @@ mod files;
 #[cfg(test)]
 mod held;
 #[cfg(test)]
+mod pair;
+#[cfg(test)]
 mod setting;

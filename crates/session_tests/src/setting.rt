@@ -1,6 +1,6 @@
 //! What the tests begin with: keys, a store after an operator's script, and signs that threads give each other.
 
-ghost use Rattle.std.specs.Prelude.{◌≡◌, ◌≤◌, None, IfOk, length};
+ghost use Rattle.std.specs.Prelude.{◌≡◌, ◌≤◌, [], None, IfOk, length};
 ghost use Rattle.std.specs.List.{AllByRecursion};
 ghost use Rattle.journal_records.specs.EventSpelling.{IsReadEvent};
 
@@ -102,6 +102,7 @@ fn open(
     disks: Ended<MemoryDisk>,
 ) -> Result<Store<MemoryDisk>, Fail>
     ensures running { IfOk result (λ store. store.stop ≡ None) }
+    ensures unsettled { IfOk result (λ store. store.checkpoints ≡ []) }
     ensures each { IfOk result (λ store. AllByRecursion IsReadEvent store.events) }
 {
     let ring = match secrets.ring.copy(alloc) {
@@ -121,6 +122,7 @@ pub fn opened<R: Threads + Wait + Sync>(
     script: &str,
 ) -> Result<Store<MemoryDisk>, Fail>
     ensures running { IfOk result (λ store. store.stop ≡ None) }
+    ensures unsettled { IfOk result (λ store. store.checkpoints ≡ []) }
     ensures each { IfOk result (λ store. AllByRecursion IsReadEvent store.events) }
 {
     let secrets = match secrets(alloc) {
