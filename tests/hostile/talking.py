@@ -60,8 +60,11 @@ class Session:
     """A connection that was greeted."""
 
     def __init__(self, port, patience=PATIENCE):
-        self.connection = connected(port, patience)
-        self.pending = b""
+        self.greeted(connected(port, patience))
+
+    def greeted(self, connection):
+        """Takes the greeting on a connection."""
+        self.connection, self.pending = connection, b""
         greeting = self.line()
         found = GREETING.fullmatch(greeting or b"")
         if not found:

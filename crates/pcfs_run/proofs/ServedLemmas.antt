@@ -1,5 +1,5 @@
 -- How a run ends that serves.
-use Rattle.std.proofs.Common.{◌≡◌, ◌∙◌, ◌⊎◌, inl, inr, ℕ, ◌≤◌, List, [], ◌∷◌, ◌++◌, map, Bool, Option, Some, None, codes, decimal, refl, sym, ap, subst, arith, add-zero}
+use Rattle.std.proofs.Common.{◌≡◌, ◌∙◌, ◌⊎◌, inl, inr, ℕ, ◌≤◌, List, [], ◌∷◌, ◌++◌, ◌-◌, take, drop, append_assoc, map, Bool, Option, Some, None, codes, decimal, refl, sym, ap, subst, arith, add-zero}
 use Rattle.pcfs_ports.specs.Accepted.{FallsBy}
 use Rattle.pcfs_ports.specs.Faults.{HasRisen}
 use Rattle.access_history.specs.Answer.{Answers}
@@ -17,7 +17,8 @@ use Rattle.pcfs_server.specs.declared.end.ServeEnd.TheVariants as serve_ends
 use Rattle.pcfs_session.specs.LineAnswer.{authority_under}
 use Rattle.pcfs_session.specs.Streams.{Streams}
 use Rattle.pcfs_session.proofs.StoredLemmas.{HasRisen-earlier}
-use Rattle.pcfs_store.specs.Entries.{StoreEntry, happened, stopped, stop_entries, entries_of, events_among}
+use Rattle.pcfs_store.specs.Entries.{StoreEntry, happened, checkpointed, stopped, stop_entries, merged, entries_of, events_among}
+use Rattle.pcfs_store.specs.declared.checkpoints.Checkpoint.{Checkpoint}
 use Rattle.pcfs_store.specs.Newest.{one_of}
 use Rattle.pcfs_store.specs.Ready.{IsReady, SurvivesWithOrWithout}
 use Rattle.pcfs_store.specs.StoreView.{StoreView, IsStore, first_disk, second_disk}
@@ -40,17 +41,34 @@ use Rattle.pcfs_run.specs.Served as serving
 events-append : (xs ys : List StoreEntry) → events_among (xs ++ ys) ≡ events_among xs ++ events_among ys
 events-append [] ys = refl
 events-append (happened event ∷ xs) ys = ap (λ (l : List Event). event ∷ l) (events-append xs ys)
+events-append (checkpointed pass ∷ xs) ys = events-append xs ys
 events-append (stopped pass ∷ xs) ys = events-append xs ys
 
 -- the mark among a store's entries is its stop
-stop-entries : (events : List Event) (stop : Option ℕ) → stop_among (map happened events ++ stop_entries stop) ≡ stop
-stop-entries [] None = refl
-stop-entries [] (Some pass) = refl
-stop-entries (event ∷ events) stop = stop-entries events stop
+stop-happened : (events : List Event) (rest : List StoreEntry) → stop_among (map happened events ++ rest) ≡ stop_among rest
+stop-happened [] rest = refl
+stop-happened (event ∷ events) rest = stop-happened events rest
+
+stop-merged : (before : ℕ) (events : List Event) (checkpoints : List Checkpoint) (rest : List StoreEntry) → stop_among (merged before events checkpoints ++ rest) ≡ stop_among rest
+stop-merged before events [] rest = stop-happened events rest
+stop-merged before events (checkpoint ∷ checkpoints) rest =
+    let some = take (checkpoint.after - before) events in
+    let others = merged checkpoint.after (drop (checkpoint.after - before) events) checkpoints in
+    ap stop_among (append_assoc (map happened some) (checkpointed checkpoint.pass ∷ others) rest)
+    ∙ stop-happened some (checkpointed checkpoint.pass ∷ (others ++ rest))
+    ∙ stop-merged checkpoint.after (drop (checkpoint.after - before) events) checkpoints rest
+
+stop-last : (stop : Option ℕ) → stop_among (stop_entries stop) ≡ stop
+stop-last None = refl
+stop-last (Some pass) = refl
+
+stop-entries : (events : List Event) (checkpoints : List Checkpoint) (stop : Option ℕ) → stop_among (merged 0 events checkpoints ++ stop_entries stop) ≡ stop
+stop-entries events checkpoints stop = stop-merged 0 events checkpoints (stop_entries stop) ∙ stop-last stop
 
 stop-append : (xs ys : List StoreEntry) → stop_among xs ≡ None → stop_among (xs ++ ys) ≡ stop_among ys
 stop-append [] ys none = refl
 stop-append (happened event ∷ xs) ys none = stop-append xs ys none
+stop-append (checkpointed pass ∷ xs) ys none = stop-append xs ys none
 stop-append (stopped pass ∷ xs) ys none = absurd cc
 
 same_place : (x y : Bool) → Some x ≡ Some y → x ≡ y
@@ -107,11 +125,11 @@ module _ {D : Type 0} (clock : D → ℕ) (left_since : D → ℕ → List ℕ �
     -- the mark is none of the opening
     added_stop : (attended count : ℕ) (grown : IsGrown attended count s s') → stop_among grown.added ≡ s'.stop
     added_stop attended count grown =
-        sym (stop-append (entries_of s) grown.added (stop-entries s.events s.stop ∙ opened.running)) ∙ ap stop_among (sym grown.parts) ∙ stop-entries s'.events s'.stop
+        sym (stop-append (entries_of s) grown.added (stop-entries s.events s.checkpoints s.stop ∙ opened.running)) ∙ ap stop_among (sym grown.parts) ∙ stop-entries s'.events s'.checkpoints s'.stop
 
     added_events : (attended count : ℕ) (grown : IsGrown attended count s s') → s'.events ≡ s.events ++ events_among grown.added
     added_events attended count grown =
-        sym (events-entries s'.events s'.stop) ∙ ap events_among grown.parts ∙ events-append (entries_of s) grown.added ∙ ap (λ (l : List Event). l ++ events_among grown.added) (events-entries s.events s.stop)
+        sym (events-entries s'.events s'.checkpoints s'.stop) ∙ ap events_among grown.parts ∙ events-append (entries_of s) grown.added ∙ ap (λ (l : List Event). l ++ events_among grown.added) (events-entries s.events s.checkpoints s.stop)
 
     -- the event that met the fault
     is_met : IsReady clock left_since image s → (pass : ℕ) → s'.stop ≡ Some pass → (met : Event) × IsMet secrets s'.events pass met × IfTold (disks_of clock left_since image faults (first_disk s') (second_disk s')) (SurvivesWithOrWithout fresh s'.events met)

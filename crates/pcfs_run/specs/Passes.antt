@@ -2,7 +2,7 @@
 use Rattle.std.specs.Prelude.{◌≡◌, ℕ, ◌≤◌, List, [], ◌∷◌, ◌++◌, map, length, eqb, Option, Some, None}
 use Rattle.std.specs.List.{AllByRecursion, IsDistinct}
 use Rattle.tree_lock.specs.Merge.{Merges}
-use Rattle.pcfs_store.specs.Entries.{StoreEntry, happened, stopped, entries_of}
+use Rattle.pcfs_store.specs.Entries.{StoreEntry, happened, checkpointed, stopped, entries_of}
 use Rattle.pcfs_store.specs.StoreView.{StoreView}
 use Rattle.session_history.specs.Passes.{AllOfPass}
 use Rattle.session_service.specs.Connections.{AreOfConnections}
@@ -28,4 +28,5 @@ pub record IsGrown {D : Type 0} (attended count : ℕ) (old new : StoreView D) :
 abbrev pub stop_among : List StoreEntry → Option ℕ
 stop_among [] = None
 stop_among (happened event ∷ entries) = stop_among entries
+stop_among (checkpointed pass ∷ entries) = stop_among entries
 stop_among (stopped pass ∷ entries) = Some pass

@@ -123,6 +123,7 @@ pub fn serve_store<
 ) -> (ServeEnd, Store<D>)
     requires running { store.stop ≡ None }
     requires each { AllByRecursion IsReadEvent store.events }
+    requires unsettled { store.checkpoints ≡ [] }
     requires some { 1 ≤ count }
     requires few { count ≤ 1000000 }
     ensures gone_on { HasGoneOn D.clock D.left_since D.image D.faults store result.1 }

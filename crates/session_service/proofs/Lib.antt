@@ -1,5 +1,4 @@
 pub mod ConnectionLemmas
-pub mod CountLemmas
 pub mod AskingLemmas
 pub mod SaidLemmas
 pub mod SpokenLemmas

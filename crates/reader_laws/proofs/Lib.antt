@@ -1,0 +1,9 @@
+pub mod ExtendedLemmas
+pub mod FieldLemmas
+pub mod FormulaLemmas
+pub mod GrantLemmas
+pub mod ProofLemmas
+pub mod RecordLemmas
+pub mod ImageLemmas
+pub mod CutLemmas
+pub mod WholeLemmas
