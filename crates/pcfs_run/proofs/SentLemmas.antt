@@ -5,6 +5,7 @@ use denote.Param.SendFields.{declared_send, as_row_send}
 use Rattle.pcfs_store.specs.contracts.store.Store.TheInside as inside
 use Rattle.shared_store.specs.contracts.opened.OpenedStore.TheInside as opened
 use Rattle.journal_core.proofs.area.Area.TheSendSync as area
+use Rattle.pcfs_store.proofs.checkpoints.Checkpoint.TheSendSync as checkpoint
 use Rattle.std.proofs.Crossing.{crosses}
 use Rattle.std.proofs.MapsCrossing as maps
 use Rattle.bl_syntax.proofs.formula.Formula.TheLaws.TheKnot.{send-Formula}
@@ -89,7 +90,7 @@ pub gate_send : IsSend Gate.the_row
 gate_send = search (sendable, crosses, history_send, pending_send) depth 100 fits 20000
 
 store_inside : (D : RattleType) (g : Disk.Ghosts D.Denot) → IsSend D → IsSend (inside.the_row D g)
-store_inside D g send = search (sendable, as_row_send, declared_send, crosses, area.the_send, gate_send, send) depth 100 fits 20000
+store_inside D g send = search (sendable, as_row_send, declared_send, crosses, area.the_send, gate_send, checkpoint.the_send, send) depth 100 fits 20000
 
 pub store_send : (D : RattleType) (g : Disk.Ghosts D.Denot) → IsSend D → IsSend (Store.the_row D g)
 store_send D g send = view_send (inside.the_row D g) _ _ _ _ (store_inside D g send)
