@@ -318,8 +318,12 @@ def keeper(session):
 
 def alice(session):
     session.ask(login("alice", session.nonce).encode())
-    for line in (root_verify("alice", "write"), root_verify("alice", "read"), "do create #1 notes @1", "do list #1 @2", "procap 1", "do write #2 0 00 @1"):
-        session.ask(line.encode())
+    session.ask(root_verify("alice", "write").encode())
+    session.ask(root_verify("alice", "read").encode())
+    for number, operation in ((1, "create #1 notes"), (2, "list #1")):
+        told = session.ask(f"procap {number}".encode())
+        if told.startswith(b"ok procap "):
+            session.ask(f"do {operation} {told[10:].decode()}".encode())
     session.leave()
 
 
