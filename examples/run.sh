@@ -1,7 +1,7 @@
 #!/usr/bin/env bash
 # Runs each example by the built program, in a folder with the secrets of the examples beside it, and compares the replies
 # with those that are kept; so too three scripts over one store; then random scripts, whose replies are compared with
-# those of the model. Exits 1 if some differ.
+# those of the model; and sessions of three users (sessions.sh). Exits 1 if some differ.
 # usage: examples/run.sh [PROGRAM], by default crates/pcfs/out/pcfs
 set -euo pipefail
 here=$(cd "$(dirname "$0")" && pwd)
@@ -154,6 +154,21 @@ if python3 "$here/pcfs_model.py" rows "$here"/../crates/pcfs_rows/data/*.rows > 
     agree=$((agree + 1))
 else
     grep -A 3 differs rows || true
+    differ=$((differ + 1))
+fi
+
+# users have sessions over one store, over the loopback address, on a port that is free
+free_port() {
+    python3 -c 'import socket; it = socket.create_server(("127.0.0.1", 0)); print(it.getsockname()[1])' 2> /dev/null
+}
+if ! port=$(free_port) || ! command -v openssl > /dev/null || ! command -v xxd > /dev/null; then
+    echo "not run: sessions, for want of a loopback address, openssl or xxd"
+elif bash "$here/sessions.sh" "$program" "$port" > told 2>&1; then
+    echo "agrees sessions"
+    agree=$((agree + 1))
+else
+    cat told
+    echo "differs sessions"
     differ=$((differ + 1))
 fi
 echo "$agree passed, $differ failed"

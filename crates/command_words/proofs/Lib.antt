@@ -1,3 +1,2 @@
 pub mod GivenLemmas
 pub mod TaskLemmas
-pub mod WordsLemmas

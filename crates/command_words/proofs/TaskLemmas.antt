@@ -1,6 +1,6 @@
 -- What a command asks for by its name and what is given to it.
 use Rattle.std.proofs.Common.{◌≡◌, inl, inr, false, refl, ◌^◌, ◌-◌, ℕ, List, [], ap₂, sym, subst, ◌∙◌, Option, Some, None}
-use Rattle.std.specs.Prelude.{Box, MatchOption, codes, String, option_map}
+use Rattle.std.specs.Prelude.{Box, IfSome, MatchOption, codes, String, option_map}
 use Rattle.std.specs.Box.{box_value}
 use Rattle.std.specs.Str.{bytes_eq}
 use Rattle.std.proofs.lemmas.Bool.{false≢true}
@@ -16,7 +16,7 @@ use Rattle.command_words.specs.Commands.{program}
 use Rattle.command_words.specs.CommandWords.{GivesNumber, GivesPieces}
 use Rattle.command_words.specs.Tasks.{AreKnown, AskForNoRun, AsksFor, Finds, IsFit, IsServing, IsTaskOf, texts_of}
 use Rattle.command_words.specs.declared.words.Task.{Task}
-use Rattle.command_words.specs.declared.words.Task.TheVariants.{Script, Stored, Init, Audit, Check, Load, Serve}
+use Rattle.command_words.specs.declared.words.Task.TheVariants.{Script, Stored, Init, Checkpoint, Audit, Check, Load, Serve}
 
 -- ---- names
 
@@ -31,6 +31,7 @@ module _ (given : List Row) where
   no_audit none Script is = absurd (differ (codes "audit") (codes "script") refl is.0)
   no_audit none Stored is = absurd (differ (codes "audit") (codes "script") refl is.0)
   no_audit none Init is = absurd (differ (codes "audit") (codes "init") refl is)
+  no_audit none Checkpoint is = absurd (differ (codes "audit") (codes "checkpoint") refl is)
   no_audit none (Audit pieces) is = none pieces is.1
   no_audit none Check is = absurd (differ (codes "audit") (codes "check") refl is)
   no_audit none (Load rounds seed) is = absurd (differ (codes "audit") (codes "load") refl is.0)
@@ -45,6 +46,7 @@ module _ (given : List Row) where
   no_load none Script is = absurd (differ (codes "load") (codes "script") refl is.0)
   no_load none Stored is = absurd (differ (codes "load") (codes "script") refl is.0)
   no_load none Init is = absurd (differ (codes "load") (codes "init") refl is)
+  no_load none Checkpoint is = absurd (differ (codes "load") (codes "checkpoint") refl is)
   no_load none (Audit pieces) is = absurd (differ (codes "load") (codes "audit") refl is.0)
   no_load none Check is = absurd (differ (codes "load") (codes "check") refl is)
   no_load none (Load rounds seed) is = none rounds seed is.1 is.2
@@ -54,20 +56,22 @@ module _ (given : List Row) where
   no_serve none Script is = absurd (differ (codes "serve") (codes "script") refl is.0)
   no_serve none Stored is = absurd (differ (codes "serve") (codes "script") refl is.0)
   no_serve none Init is = absurd (differ (codes "serve") (codes "init") refl is)
+  no_serve none Checkpoint is = absurd (differ (codes "serve") (codes "checkpoint") refl is)
   no_serve none (Audit pieces) is = absurd (differ (codes "serve") (codes "audit") refl is.0)
   no_serve none Check is = absurd (differ (codes "serve") (codes "check") refl is)
   no_serve none (Load rounds seed) is = absurd (differ (codes "serve") (codes "load") refl is.0)
   no_serve none (Serve port count) is = none port count is.1 is.2
 
   -- the name is no command's
-  pub no_command : (name : Text) → (name ≡ codes "script" → ⊥) → (name ≡ codes "init" → ⊥) → (name ≡ codes "audit" → ⊥) → (name ≡ codes "check" → ⊥) → (name ≡ codes "load" → ⊥) → (name ≡ codes "serve" → ⊥) → (task : Task) → IsTaskOf name given task → ⊥
-  no_command name no_script no_init no_audit no_check no_load no_serve Script is = no_script is.0
-  no_command name no_script no_init no_audit no_check no_load no_serve Stored is = no_script is.0
-  no_command name no_script no_init no_audit no_check no_load no_serve Init is = no_init is
-  no_command name no_script no_init no_audit no_check no_load no_serve (Audit pieces) is = no_audit is.0
-  no_command name no_script no_init no_audit no_check no_load no_serve Check is = no_check is
-  no_command name no_script no_init no_audit no_check no_load no_serve (Load rounds seed) is = no_load is.0
-  no_command name no_script no_init no_audit no_check no_load no_serve (Serve port count) is = no_serve is.0
+  pub no_command : (name : Text) → (name ≡ codes "script" → ⊥) → (name ≡ codes "init" → ⊥) → (name ≡ codes "checkpoint" → ⊥) → (name ≡ codes "audit" → ⊥) → (name ≡ codes "check" → ⊥) → (name ≡ codes "load" → ⊥) → (name ≡ codes "serve" → ⊥) → (task : Task) → IsTaskOf name given task → ⊥
+  no_command name no_script no_init no_checkpoint no_audit no_check no_load no_serve Script is = no_script is.0
+  no_command name no_script no_init no_checkpoint no_audit no_check no_load no_serve Stored is = no_script is.0
+  no_command name no_script no_init no_checkpoint no_audit no_check no_load no_serve Init is = no_init is
+  no_command name no_script no_init no_checkpoint no_audit no_check no_load no_serve Checkpoint is = no_checkpoint is
+  no_command name no_script no_init no_checkpoint no_audit no_check no_load no_serve (Audit pieces) is = no_audit is.0
+  no_command name no_script no_init no_checkpoint no_audit no_check no_load no_serve Check is = no_check is
+  no_command name no_script no_init no_checkpoint no_audit no_check no_load no_serve (Load rounds seed) is = no_load is.0
+  no_command name no_script no_init no_checkpoint no_audit no_check no_load no_serve (Serve port count) is = no_serve is.0
 
   -- it is this command's
   pub as_named : (name literal : Text) (task : Option Task) → name ≡ literal → MatchOption task ((t : Task) → IsTaskOf literal given t → ⊥) (IsTaskOf literal given) → MatchOption task ((t : Task) → IsTaskOf name given t → ⊥) (IsTaskOf name given)
@@ -108,21 +112,27 @@ fits_found None task finds = absurd finds
 fits_found (Some f) Script finds = tt
 fits_found (Some f) Stored finds = tt
 fits_found (Some f) Init finds = tt
+fits_found (Some f) Checkpoint finds = tt
 fits_found (Some f) (Audit None) finds = tt
 fits_found (Some f) (Audit (Some n)) finds = finds.1.not_below
 fits_found (Some f) Check finds = tt
 fits_found (Some f) (Load rounds seed) finds = finds.1.not_above
-fits_found (Some f) (Serve port count) finds = tt
+fits_found (Some f) (Serve port count) finds = (finds.2.not_below, finds.2.not_above)
 
 -- what is asked for has its numbers in their ranges
 pub fits : (words : List (String Global)) (task : Task) → AsksFor words task → IsFit task
 fits words task asks = fits_found (subcommand_of program (texts_of words)) task asks.finds
+
+pub fits_asked : (words : List (String Global)) (asked : Option Task) → MatchOption asked (AreKnown words → ⊥) (AsksFor words) → IfSome asked IsFit
+fits_asked words None unknown = tt
+fits_asked words (Some task) asks = fits words task asks
 
 serving_only : (found : Option (Text × List Row)) (port count : ℕ) → Finds found (Serve port count) → (task : Task) → Finds found task → IsServing task
 serving_only None port count serves task finds = absurd serves
 serving_only (Some f) port count serves Script finds = absurd (differ (codes "serve") (codes "script") refl (sym serves.0 ∙ finds.0))
 serving_only (Some f) port count serves Stored finds = absurd (differ (codes "serve") (codes "script") refl (sym serves.0 ∙ finds.0))
 serving_only (Some f) port count serves Init finds = absurd (differ (codes "serve") (codes "init") refl (sym serves.0 ∙ finds))
+serving_only (Some f) port count serves Checkpoint finds = absurd (differ (codes "serve") (codes "checkpoint") refl (sym serves.0 ∙ finds))
 serving_only (Some f) port count serves (Audit pieces) finds = absurd (differ (codes "serve") (codes "audit") refl (sym serves.0 ∙ finds.0))
 serving_only (Some f) port count serves Check finds = absurd (differ (codes "serve") (codes "check") refl (sym serves.0 ∙ finds))
 serving_only (Some f) port count serves (Load rounds seed) finds = absurd (differ (codes "serve") (codes "load") refl (sym serves.0 ∙ finds.0))

@@ -22,6 +22,9 @@ script_app = with_rule (new_app (codes "script")) (flag_rule (codes "stored"))
 abbrev pub init_app : App
 init_app = new_app (codes "init")
 
+abbrev pub checkpoint_app : App
+checkpoint_app = new_app (codes "checkpoint")
+
 abbrev pub audit_app : App
 audit_app = with_rule (new_app (codes "audit")) (option_rule (codes "pieces"))
 
@@ -39,7 +42,7 @@ abbrev pub no_commands : App
 no_commands = record { top = record (new_shape (codes "pcfs")) { no_binary_name = true; subcommand_required = true }; subs = [] }
 
 abbrev pub stored_commands : App
-stored_commands = with_subcommand (with_subcommand (with_subcommand no_commands script_app.top) init_app.top) audit_app.top
+stored_commands = with_subcommand (with_subcommand (with_subcommand (with_subcommand no_commands script_app.top) init_app.top) audit_app.top) checkpoint_app.top
 
 abbrev pub program : App
 program = with_subcommand (with_subcommand (with_subcommand stored_commands check_app.top) load_app.top) serve_app.top

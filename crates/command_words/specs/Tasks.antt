@@ -4,7 +4,7 @@ use Rattle.std.specs.String.{string_bytes}
 use Rattle.std.specs.declared.alloc.Global.{Global}
 use Rattle.clap.specs.Words.{Row, Text, fault_of, first_of, subcommand_of}
 use Rattle.command_words.specs.declared.words.Task.{Task}
-use Rattle.command_words.specs.declared.words.Task.TheVariants.{Script, Stored, Init, Audit, Check, Load, Serve}
+use Rattle.command_words.specs.declared.words.Task.TheVariants.{Script, Stored, Init, Checkpoint, Audit, Check, Load, Serve}
 use Rattle.command_words.specs.CommandWords.{GivesNumber, GivesPieces}
 use Rattle.command_words.specs.Commands.{program}
 
@@ -13,6 +13,7 @@ abbrev pub IsTaskOf : Text → List Row → Task → Type 0
 IsTaskOf name given Script = (name ≡ codes "script") × (first_of (codes "stored") given ≡ Some (codes "true") → ⊥)
 IsTaskOf name given Stored = (name ≡ codes "script") × (first_of (codes "stored") given ≡ Some (codes "true"))
 IsTaskOf name given Init = name ≡ codes "init"
+IsTaskOf name given Checkpoint = name ≡ codes "checkpoint"
 IsTaskOf name given (Audit pieces) = (name ≡ codes "audit") × GivesPieces given pieces
 IsTaskOf name given Check = name ≡ codes "check"
 IsTaskOf name given (Load rounds seed) = (name ≡ codes "load") × GivesNumber 0 20000 (codes "rounds") given rounds × GivesNumber 0 (2 ^ 64 - 1) (codes "seed") given seed
@@ -41,16 +42,18 @@ abbrev pub IsFit : Task → Type 0
 IsFit Script = Unit {0}
 IsFit Stored = Unit {0}
 IsFit Init = Unit {0}
+IsFit Checkpoint = Unit {0}
 IsFit (Audit pieces) = IfSome pieces (λ n. 1 ≤ n)
 IsFit Check = Unit {0}
 IsFit (Load rounds seed) = rounds ≤ 20000
-IsFit (Serve port count) = Unit {0}
+IsFit (Serve port count) = (1 ≤ count) × (count ≤ 1000000)
 
 -- sessions are asked for, which need more ports than a run without them
 abbrev pub IsServing : Task → Type 0
 IsServing Script = ⊥
 IsServing Stored = ⊥
 IsServing Init = ⊥
+IsServing Checkpoint = ⊥
 IsServing (Audit pieces) = ⊥
 IsServing Check = ⊥
 IsServing (Load rounds seed) = ⊥

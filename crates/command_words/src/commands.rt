@@ -79,7 +79,8 @@ fn stored_commands<'a>(alloc: Global) -> Result<Command<'a>, AllocError>
     let audit = audit_command(alloc)?;
     let with_script = no_commands(alloc).subcommand(script)?;
     let with_init = with_script.subcommand(Command::new(alloc, "init"))?;
-    let command = with_init.subcommand(audit)?;
+    let with_audit = with_init.subcommand(audit)?;
+    let command = with_audit.subcommand(Command::new(alloc, "checkpoint"))?;
     Ok(command)
 }
 

@@ -6,7 +6,7 @@
 
 mod commands;
 mod given;
-pub mod numerals;
-pub mod words;
+mod numerals;
+mod words;
 
 pub use words::{Task, task_of};

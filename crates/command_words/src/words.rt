@@ -1,7 +1,6 @@
 //! What the words of a command ask for.
 
-ghost use Rattle.std.specs.Prelude.{◌≡◌, ◌↔◌, IsTrue, MatchOption, IfOk};
-ghost use Rattle.std.specs.String.{string_bytes};
+ghost use Rattle.std.specs.Prelude.{◌≡◌, MatchOption, IfOk};
 ghost use Rattle.clap.specs.Words.{found_of, rows_of, subcommand_rows_of};
 ghost use Rattle.command_words.specs.Tasks.{AreKnown, AsksFor, Finds, IsTaskOf};
 
@@ -21,6 +20,8 @@ pub enum Task {
     Stored,
     /// A store in the first area.
     Init,
+    /// A checkpoint of the store in the areas.
+    Checkpoint,
     /// An audit of the history in the areas, at once or in so many pieces.
     Audit(Option<usize>),
     /// An inquiry.
@@ -29,13 +30,6 @@ pub enum Task {
     Load(u64, u64),
     /// Sessions over the areas on this port, for so many connections.
     Serve(u16, u64),
-}
-
-/// Whether the word is this name.
-pub fn is_word(word: &String, name: &str) -> bool
-    ensures { IsTrue result ↔ (string_bytes word.now ≡ name.now) }
-{
-    word.as_str() == name
 }
 
 // What the command of this name asks for; none if there is no such command, or a number that is given to it is not one.
@@ -47,6 +41,9 @@ fn task_named(name: &str, given: &ArgMatches<'_>) -> Option<Task>
     }
     if name == "init" {
         return Some(Task::Init);
+    }
+    if name == "checkpoint" {
+        return Some(Task::Checkpoint);
     }
     if name == "audit" {
         return audit_task(given);

@@ -1,4 +1,4 @@
 pub mod PassLemmas
 pub mod SentLemmas
-pub mod ServeWordsLemmas
 pub mod ServedLemmas
+pub mod WordsLemmas

@@ -12,6 +12,7 @@ use Rattle.shared_store.specs.declared.entry.LockEntry.{LockEntry}
 use Rattle.shared_store.specs.LockHistory.{lock_entries, bare}
 use Rattle.shared_store.specs.OpenedView.{OpenedView}
 use Rattle.shared_store.proofs.MergedLemmas.{closed_are_merged}
+use Rattle.session_service.specs.Connections.{AreOfConnections, no_more, was_attended, was_not_attended}
 use Rattle.pcfs_run.specs.Passes.{IsGrown}
 
 module _ {D : Type 0} where
@@ -35,10 +36,16 @@ module _ {D : Type 0} where
   own_of [] all = tt
   own_of (r ∷ rs) all = (all.0, own_of rs all.1)
 
+  -- without their numbers they are those of as many connections
+  connections_of : (count : ℕ) (retired : List (Retired (LockEntry D))) → AreOfConnections count retired → AreOfConnections count (passes_of retired)
+  connections_of _ _ no_more = no_more
+  connections_of _ _ (was_attended count number own passes are) = was_attended count number (bare own) (passes_of passes) (connections_of count passes are)
+  connections_of _ _ (was_not_attended count number passes are) = was_not_attended count number (passes_of passes) (connections_of count passes are)
+
   -- a lock was made over the first store, all its passes were taken in, and the last store came out
-  pub IsGrown-closed : (first last : OpenedView D) (door : DoormanView (LockEntry D)) (attended count : ℕ) → door.opening ≡ lock_entries first → IsClosed door (lock_entries last) → attended ≤ length door.retired → door.made ≤ count →
+  pub IsGrown-closed : (first last : OpenedView D) (door : DoormanView (LockEntry D)) (was_attended count : ℕ) → door.opening ≡ lock_entries first → IsClosed door (lock_entries last) → AreOfConnections attended door.retired → door.made ≤ count →
       IsGrown attended count first.store last.store
-  IsGrown-closed first last door attended count is closed each few =
+  IsGrown-closed first last door attended count is closed of_connections few =
       let m = (closed_are_merged first last door is closed).1 in
       let all : length (passes_of door.retired) ≡ length door.retired = length-map door.retired (λ (r : Retired (LockEntry D)). (r.0, bare r.1)) in
       record {
@@ -50,7 +57,7 @@ module _ {D : Type 0} where
           within = subst (λ (n : ℕ). AllByRecursion (λ (p : ℕ × List StoreEntry). (1 ≤ p.0) × (p.0 ≤ n)) (passes_of door.retired)) (sym (all ∙ closed.all)) (within_of door.made door.retired closed.knows.numbers.within);
           own = own_of door.retired m.of_passes;
           merged = subst (λ (ls : List (List StoreEntry)). Merges ls m.rest) (sym (lists_same door.retired)) m.merged;
-          each = subst (λ (n : ℕ). attended ≤ n) (sym all) each;
+          of_connections = connections_of attended door.retired of_connections;
           few = subst (λ (n : ℕ). n ≤ count) (sym (all ∙ closed.all)) few;
         };
       }
@@ -61,5 +68,5 @@ module _ {D : Type 0} where
   IsGrown-none s count = record {
     added = [];
     parts = sym (append-nil (entries_of s));
-    of_passes = record { passes = []; distinct = tt; within = tt; own = tt; merged = ends tt; each = omega arith; few = omega arith };
+    of_passes = record { passes = []; distinct = tt; within = tt; own = tt; merged = ends tt; of_connections = no_more; few = omega arith };
   }

@@ -1,12 +1,12 @@
 -- How a run ends that serves.
-use Rattle.std.proofs.Common.{◌≡◌, ◌∙◌, ◌⊎◌, inl, inr, ℕ, ◌≤◌, List, [], ◌∷◌, ◌++◌, map, Bool, Option, Some, None, codes, decimal, refl, sym, ap, subst, arith, add-zero}
+use Rattle.std.proofs.Common.{◌≡◌, ◌∙◌, ◌⊎◌, inl, inr, ℕ, ◌+◌, ◌≤◌, List, [], ◌∷◌, ◌++◌, ◌-◌, length, take, drop, append_assoc, map, Bool, Option, Some, None, codes, decimal, refl, sym, ap, subst, arith, add-zero}
 use Rattle.pcfs_ports.specs.Accepted.{FallsBy}
 use Rattle.pcfs_ports.specs.Faults.{HasRisen}
 use Rattle.access_history.specs.Answer.{Answers}
 use Rattle.access_history.specs.Base.{BaseView}
 use Rattle.access_history.specs.History.{authority_with}
 use Rattle.access_history.specs.Lawful.{IsLawful}
-use Rattle.access_history.specs.Replay.{fresh, replay}
+use Rattle.access_history.specs.Replay.{replay}
 use Rattle.access_history.specs.declared.event.Event.{Event}
 use Rattle.access_history.proofs.HeadlineLemmas.{Headline-lawful}
 use Rattle.policy_statement.specs.Ring.{KeyView}
@@ -17,11 +17,12 @@ use Rattle.pcfs_server.specs.declared.end.ServeEnd.TheVariants as serve_ends
 use Rattle.pcfs_session.specs.LineAnswer.{authority_under}
 use Rattle.pcfs_session.specs.Streams.{Streams}
 use Rattle.pcfs_session.proofs.StoredLemmas.{HasRisen-earlier}
-use Rattle.pcfs_store.specs.Entries.{StoreEntry, happened, stopped, stop_entries, entries_of, events_among}
+use Rattle.pcfs_store.specs.Entries.{StoreEntry, happened, checkpointed, stopped, stop_entries, merged, entries_of, checkpoints_among, events_among}
+use Rattle.pcfs_store.specs.declared.checkpoints.Checkpoint.{Checkpoint}
 use Rattle.pcfs_store.specs.Newest.{one_of}
 use Rattle.pcfs_store.specs.Ready.{IsReady, SurvivesWithOrWithout}
 use Rattle.pcfs_store.specs.StoreView.{StoreView, IsStore, first_disk, second_disk}
-use Rattle.pcfs_store.proofs.EntryLemmas.{events-entries}
+use Rattle.pcfs_store.proofs.EntryLemmas.{events-entries, generation-entries}
 use Rattle.recover.specs.declared.fault.OpenFault.{OpenFault}
 use Rattle.recover.specs.declared.fault.OpenFault.TheVariants as opens
 use Rattle.recover.specs.Opening.{IsNotOpened, IsNewestClosed}
@@ -40,17 +41,47 @@ use Rattle.pcfs_run.specs.Served as serving
 events-append : (xs ys : List StoreEntry) → events_among (xs ++ ys) ≡ events_among xs ++ events_among ys
 events-append [] ys = refl
 events-append (happened event ∷ xs) ys = ap (λ (l : List Event). event ∷ l) (events-append xs ys)
+events-append (checkpointed pass ∷ xs) ys = events-append xs ys
 events-append (stopped pass ∷ xs) ys = events-append xs ys
 
+checkpoints-append : (xs ys : List StoreEntry) → checkpoints_among (xs ++ ys) ≡ checkpoints_among xs + checkpoints_among ys
+checkpoints-append [] ys = omega arith
+checkpoints-append (happened event ∷ xs) ys = checkpoints-append xs ys
+checkpoints-append (checkpointed pass ∷ xs) ys = let rest = checkpoints-append xs ys in omega (arith, rest)
+checkpoints-append (stopped pass ∷ xs) ys = checkpoints-append xs ys
+
+-- among the entries of a store without checkpoints there are none
+no_checkpoints_among : {D : Type 0} (s : StoreView D) → IsStore s → s.checkpoints ≡ [] → checkpoints_among (entries_of s) ≡ 0
+no_checkpoints_among s store none =
+    let generation_is = generation-entries s store in
+    let are_none : length s.checkpoints ≡ 0 = ap length none in
+    omega (arith, generation_is, are_none)
+
 -- the mark among a store's entries is its stop
-stop-entries : (events : List Event) (stop : Option ℕ) → stop_among (map happened events ++ stop_entries stop) ≡ stop
-stop-entries [] None = refl
-stop-entries [] (Some pass) = refl
-stop-entries (event ∷ events) stop = stop-entries events stop
+stop-happened : (events : List Event) (rest : List StoreEntry) → stop_among (map happened events ++ rest) ≡ stop_among rest
+stop-happened [] rest = refl
+stop-happened (event ∷ events) rest = stop-happened events rest
+
+stop-merged : (before : ℕ) (events : List Event) (checkpoints : List Checkpoint) (rest : List StoreEntry) → stop_among (merged before events checkpoints ++ rest) ≡ stop_among rest
+stop-merged before events [] rest = stop-happened events rest
+stop-merged before events (checkpoint ∷ checkpoints) rest =
+    let some = take (checkpoint.after - before) events in
+    let others = merged checkpoint.after (drop (checkpoint.after - before) events) checkpoints in
+    ap stop_among (append_assoc (map happened some) (checkpointed checkpoint.pass ∷ others) rest)
+    ∙ stop-happened some (checkpointed checkpoint.pass ∷ (others ++ rest))
+    ∙ stop-merged checkpoint.after (drop (checkpoint.after - before) events) checkpoints rest
+
+stop-last : (stop : Option ℕ) → stop_among (stop_entries stop) ≡ stop
+stop-last None = refl
+stop-last (Some pass) = refl
+
+stop-entries : (events : List Event) (checkpoints : List Checkpoint) (stop : Option ℕ) → stop_among (merged 0 events checkpoints ++ stop_entries stop) ≡ stop
+stop-entries events checkpoints stop = stop-merged 0 events checkpoints (stop_entries stop) ∙ stop-last stop
 
 stop-append : (xs ys : List StoreEntry) → stop_among xs ≡ None → stop_among (xs ++ ys) ≡ stop_among ys
 stop-append [] ys none = refl
 stop-append (happened event ∷ xs) ys none = stop-append xs ys none
+stop-append (checkpointed pass ∷ xs) ys none = stop-append xs ys none
 stop-append (stopped pass ∷ xs) ys none = absurd cc
 
 same_place : (x y : Bool) → Some x ≡ Some y → x ≡ y
@@ -80,10 +111,10 @@ module _ {D : Type 0} (clock : D → ℕ) (left_since : D → ℕ → List ℕ �
   -- ---- a store that was opened and served
 
   module _ (may_stay : (d : D) (bytes : List ℕ) → image d ≡ Some bytes → left_since d (clock d) bytes) (s s' : StoreView D) (store : IsStore s) (store' : IsStore s') (opened : Opened s) (goes : HasGoneOn clock left_since image faults s s') where
-    -- what holds under the store's own key, ring and base does under those of the run
-    under : (P : List ℕ → List KeyView → BaseView → Type 0) → P s'.key s'.ring s'.base → P secrets.seal_key secrets.ring fresh
+    -- what holds under the key, ring and base of the store that was served does under those of the run and the store that was opened
+    under : (P : List ℕ → List KeyView → BaseView → Type 0) → P s'.key s'.ring s'.base → P secrets.seal_key secrets.ring s.base
     under P holds =
-        subst (λ (base : BaseView). P secrets.seal_key secrets.ring base) (goes.base_stays ∙ opened.base_is)
+        subst (λ (base : BaseView). P secrets.seal_key secrets.ring base) goes.base_stays
         (subst (λ (ring : List KeyView). P secrets.seal_key ring s'.base) (goes.ring_stays ∙ opened.ring_is)
         (subst (λ (key : List ℕ). P key s'.ring s'.base) (goes.key_stays ∙ opened.key_is) holds))
 
@@ -95,8 +126,11 @@ module _ {D : Type 0} (clock : D → ℕ) (left_since : D → ℕ → List ℕ �
     lawful_then : IsLawful (authority_with s'.key s'.ring) s'.base s'.events
     lawful_then = goes.lawful lawful_first
 
-    lawful_now : IsLawful (authority_under secrets) fresh s'.events
+    lawful_now : IsLawful (authority_under secrets) s.base s'.events
     lawful_now = under (λ key ring base. IsLawful (authority_with key ring) base s'.events) lawful_then
+
+    no_checkpoints : s'.checkpoints ≡ []
+    no_checkpoints = goes.checkpoints_stay ∙ opened.unsettled
 
     other_is : one_of (image (second_disk s')) (image (first_disk s')) s.second_active ≡ one_of (image b) (image a) s.second_active
     other_is =
@@ -107,14 +141,20 @@ module _ {D : Type 0} (clock : D → ℕ) (left_since : D → ℕ → List ℕ �
     -- the mark is none of the opening
     added_stop : (attended count : ℕ) (grown : IsGrown attended count s s') → stop_among grown.added ≡ s'.stop
     added_stop attended count grown =
-        sym (stop-append (entries_of s) grown.added (stop-entries s.events s.stop ∙ opened.running)) ∙ ap stop_among (sym grown.parts) ∙ stop-entries s'.events s'.stop
+        sym (stop-append (entries_of s) grown.added (stop-entries s.events s.checkpoints s.stop ∙ opened.running)) ∙ ap stop_among (sym grown.parts) ∙ stop-entries s'.events s'.checkpoints s'.stop
+
+    added_checkpoints : (attended count : ℕ) (grown : IsGrown attended count s s') → checkpoints_among grown.added ≡ 0
+    added_checkpoints attended count grown =
+        let all : checkpoints_among (entries_of s ++ grown.added) ≡ 0 = ap checkpoints_among (sym grown.parts) ∙ no_checkpoints_among s' store' no_checkpoints in
+        let parts = checkpoints-append (entries_of s) grown.added in
+        omega (arith, all, parts)
 
     added_events : (attended count : ℕ) (grown : IsGrown attended count s s') → s'.events ≡ s.events ++ events_among grown.added
     added_events attended count grown =
-        sym (events-entries s'.events s'.stop) ∙ ap events_among grown.parts ∙ events-append (entries_of s) grown.added ∙ ap (λ (l : List Event). l ++ events_among grown.added) (events-entries s.events s.stop)
+        sym (events-entries s'.events s'.checkpoints s'.stop) ∙ ap events_among grown.parts ∙ events-append (entries_of s) grown.added ∙ ap (λ (l : List Event). l ++ events_among grown.added) (events-entries s.events s.checkpoints s.stop)
 
     -- the event that met the fault
-    is_met : IsReady clock left_since image s → (pass : ℕ) → s'.stop ≡ Some pass → (met : Event) × IsMet secrets s'.events pass met × IfTold (disks_of clock left_since image faults (first_disk s') (second_disk s')) (SurvivesWithOrWithout fresh s'.events met)
+    is_met : IsReady clock left_since image s → (pass : ℕ) → s'.stop ≡ Some pass → (met : Event) × IsMet secrets s.base s'.events pass met × IfTold (disks_of clock left_since image faults (first_disk s') (second_disk s')) (SurvivesWithOrWithout s.base s'.events met)
     is_met ready pass is =
         let halts = goes.halts ready pass is in
         let asked = halts.asked in (
@@ -135,23 +175,27 @@ module _ {D : Type 0} (clock : D → ℕ) (left_since : D → ℕ → List ℕ �
         IsServed secrets (rests_of clock left_since image faults a b (first_disk s') (second_disk s')) (disks_of clock left_since image faults a b) (disks_of clock left_since image faults (first_disk s') (second_disk s')) attended count stop
     is_served attended count stop is grown = record {
       generation = s.generation;
+      base = s.base;
       opened = s.events;
       added = grown.added;
       events = s'.events;
       found = opened.newest_history;
       of_passes = grown.of_passes;
+      no_checkpoints = added_checkpoints attended count grown;
       stop_is = added_stop attended count grown ∙ is;
       events_are = added_events attended count grown;
       lawful = lawful_now;
-      headline = Headline-lawful (authority_under secrets) fresh s'.events lawful_now;
+      headline = Headline-lawful (authority_under secrets) s.base s'.events lawful_now;
       whole = λ runs x y is_x is_y x' y' is_x' is_y'.
           under (λ key ring base. IsNewestOf s.generation base s'.events x' y')
           (subst (λ (n : ℕ). IsNewestOf n s'.base s'.events x' y') goes.generation_stays
-          (newest_of clock left_since image faults s' store' (goes.current (opened.current x y is_x is_y) (is ∙ runs)) x' y' is_x' is_y'));
+          (newest_of clock left_since image faults s' store' (goes.current (opened.current x y is_x is_y) (is ∙ runs)) no_checkpoints x' y' is_x' is_y'));
       closed = λ runs x y is_x is_y gate.
           let ready = goes.ready (opened.ready x y is_x is_y gate) (is ∙ runs) in (
             pinned_at clock left_since image faults s' (first_disk s') (second_disk s') refl refl ready,
-            λ x' y' is_x' is_y'. subst (λ (n : ℕ). IsNewestClosed n s'.events x' y') goes.generation_stays (closed_of clock left_since image faults s' store' ready x' y' is_x' is_y'),
+            λ x' y' is_x' is_y'.
+                under (λ key ring base. IsNewestClosed s.generation base s'.events x' y')
+                (subst (λ (n : ℕ). IsNewestClosed n s'.base s'.events x' y') goes.generation_stays (closed_of clock left_since image faults s' store' ready no_checkpoints x' y' is_x' is_y')),
           );
       risen = λ pass stops. risen_since s s' opened (goes.failed pass (is ∙ stops));
       survives = λ pass stops x y is_x is_y gate. is_met (opened.ready x y is_x is_y gate) pass (is ∙ stops);

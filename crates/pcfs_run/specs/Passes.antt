@@ -2,19 +2,20 @@
 use Rattle.std.specs.Prelude.{◌≡◌, ℕ, ◌≤◌, List, [], ◌∷◌, ◌++◌, map, length, eqb, Option, Some, None}
 use Rattle.std.specs.List.{AllByRecursion, IsDistinct}
 use Rattle.tree_lock.specs.Merge.{Merges}
-use Rattle.pcfs_store.specs.Entries.{StoreEntry, happened, stopped, entries_of}
+use Rattle.pcfs_store.specs.Entries.{StoreEntry, happened, checkpointed, stopped, entries_of}
 use Rattle.pcfs_store.specs.StoreView.{StoreView}
 use Rattle.session_history.specs.Passes.{AllOfPass}
+use Rattle.session_service.specs.Connections.{AreOfConnections}
 
--- These entries were added in the turns of passes, each with a number of its own from 1 on: a pass has the entries of its turns, which carry its number, and all that were added are a merge of these lists. There are no more than `count` passes, and no
--- fewer than connections that were attended.
+-- These entries were added in the turns of the connections that were attended. Passes have numbers of their own from 1 on, of which there are no more than `count`. As many as connections were attended are those of these connections, and each other one has
+-- no entries. A pass has the entries of its turns, which carry its number, and all that were added are a merge of these lists.
 pub record AreOfPasses (attended count : ℕ) (added : List StoreEntry) : Type 0 where
   pub passes : List (ℕ × List StoreEntry)
   pub distinct : IsDistinct eqb (map (λ p. p.0) passes)
   pub within : AllByRecursion (λ p. (1 ≤ p.0) × (p.0 ≤ length passes)) passes
   pub own : AllByRecursion (λ p. AllOfPass p.0 p.1) passes
   pub merged : Merges (map (λ p. p.1) passes) added
-  pub each : attended ≤ length passes
+  pub of_connections : AreOfConnections attended passes
   pub few : length passes ≤ count
 
 -- from one store to another the entries grew by those of the passes of connections
@@ -27,4 +28,5 @@ pub record IsGrown {D : Type 0} (attended count : ℕ) (old new : StoreView D) :
 abbrev pub stop_among : List StoreEntry → Option ℕ
 stop_among [] = None
 stop_among (happened event ∷ entries) = stop_among entries
+stop_among (checkpointed pass ∷ entries) = stop_among entries
 stop_among (stopped pass ∷ entries) = Some pass

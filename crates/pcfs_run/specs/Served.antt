@@ -9,7 +9,8 @@ use Rattle.journal_core.specs.Area.{generation_of}
 use Rattle.access_history.specs.Answer.{Answers}
 use Rattle.access_history.specs.Headline.{Headline}
 use Rattle.access_history.specs.Lawful.{IsLawful}
-use Rattle.access_history.specs.Replay.{fresh, replay}
+use Rattle.access_history.specs.Base.{BaseView}
+use Rattle.access_history.specs.Replay.{replay}
 use Rattle.access_history.specs.WellFormed.{IsWellFormed}
 use Rattle.access_history.specs.declared.event.Event.{Event}
 use Rattle.access_history.specs.declared.request.StepRequest.{StepRequest}
@@ -21,7 +22,7 @@ use Rattle.pcfs_server.specs.declared.end.ServeEnd.TheVariants as serve_ends
 use Rattle.pcfs_server.specs.Ends.{number_of, HasTaken, HasCause, IsNetFault}
 use Rattle.pcfs_session.specs.LineAnswer.{authority_under}
 use Rattle.pcfs_session.specs.ScriptEnds.{with_line_end}
-use Rattle.pcfs_store.specs.Entries.{StoreEntry, events_among}
+use Rattle.pcfs_store.specs.Entries.{StoreEntry, checkpoints_among, events_among}
 use Rattle.pcfs_store.specs.Newest.{newer, one_of}
 use Rattle.pcfs_store.specs.Ready.{SurvivesWithOrWithout}
 use Rattle.recover.specs.Opening.{IsNewestHistory, IsNewestDamaged, IsNewestClosed}
@@ -56,33 +57,35 @@ pub record AreAttended (count : ℕ) (before after : Net) (end : ServeEnd) : Typ
   pub risen : IsNetFault end → HasRisen before.faults after.faults ⊎ HasRisen before.nonce_faults after.nonce_faults
 
 -- The event is what the answer to a request of the pass keeps, over the history of these events, which it goes on lawfully.
-pub record IsMet (secrets : Secrets) (events : List Event) (pass : ℕ) (met : Event) : Type 0 where
+pub record IsMet (secrets : Secrets) (base : BaseView) (events : List Event) (pass : ℕ) (met : Event) : Type 0 where
   pub moment : ℤ
   pub request : StepRequest
   pub reply : StepReply
   pub in_range : IsMoment moment
   pub well_formed : IsWellFormed request
-  pub answers : Answers (authority_under secrets) (replay fresh events) pass moment request reply (Some met)
-  pub lawful : IsLawful (authority_under secrets) fresh (events ++ met ∷ [])
+  pub answers : Answers (authority_under secrets) (replay base events) pass moment request reply (Some met)
+  pub lawful : IsLawful (authority_under secrets) base (events ++ met ∷ [])
 
--- The store on the disks was opened, and connections had sessions over it. The history that was found is that of the newest area. Its events at the end are those, and then the ones that the sessions' passes added; they are lawful, so the headline
+-- The store on the disks was opened, and connections had sessions over it. The history that was found is that of the newest area, from its image. Its events at the end are those, and then the ones that the sessions' passes added, who make no checkpoint; they are lawful, so the headline
 -- holds of them. Unless a disk failed, the newest area has the generation of the opened one, and stands for all these events; and if the opened one had its closed gate, it has too, and nothing is pending. If one failed in a turn of some pass, its count
 -- rose; and if the opened area had its closed gate, the newest one stands for these events, or for them with the one that met the fault. The other area is as it was.
 pub record IsServed (secrets : Secrets) (rests : Rests) (before after : Disks) (attended count : ℕ) (stop : Option ℕ) : Type 0 where
   pub generation : ℕ
+  pub base : BaseView
   pub opened : List Event
   pub added : List StoreEntry
   pub events : List Event
-  pub found : IfTold before (IsNewestHistory (authority_under secrets) generation opened)
+  pub found : IfTold before (IsNewestHistory (authority_under secrets) generation base opened)
   pub of_passes : AreOfPasses attended count added
+  pub no_checkpoints : checkpoints_among added ≡ 0
   pub stop_is : stop_among added ≡ stop
   pub events_are : events ≡ opened ++ events_among added
-  pub lawful : IsLawful (authority_under secrets) fresh events
-  pub headline : Headline (authority_under secrets) fresh events (replay fresh events).world
-  pub whole : stop ≡ None → IfTold before (λ x y. IfTold after (IsNewestOf generation fresh events))
-  pub closed : stop ≡ None → IfTold before (λ x y. IsNewestClosed generation opened x y → rests.after × IfTold after (IsNewestClosed generation events))
+  pub lawful : IsLawful (authority_under secrets) base events
+  pub headline : Headline (authority_under secrets) base events (replay base events).world
+  pub whole : stop ≡ None → IfTold before (λ x y. IfTold after (IsNewestOf generation base events))
+  pub closed : stop ≡ None → IfTold before (λ x y. IsNewestClosed generation base opened x y → rests.after × IfTold after (IsNewestClosed generation base events))
   pub risen : (pass : ℕ) → stop ≡ Some pass → HasDiskFailed before after
-  pub survives : (pass : ℕ) → stop ≡ Some pass → IfTold before (λ x y. IsNewestClosed generation opened x y → (met : Event) × IsMet secrets events pass met × IfTold after (SurvivesWithOrWithout fresh events met))
+  pub survives : (pass : ℕ) → stop ≡ Some pass → IfTold before (λ x y. IsNewestClosed generation base opened x y → (met : Event) × IsMet secrets base events pass met × IfTold after (SurvivesWithOrWithout base events met))
   pub other_stays : IfTold before (λ x y. (second : Bool) → newer (generation_of x) (generation_of y) ≡ Some second → one_of after.b after.a second ≡ one_of before.b before.a second)
 
 -- what is written at an end at which no disk has failed, and the status: a line; or memory ran out, and nothing is
@@ -115,7 +118,9 @@ pub data EndsServing (secrets : Secrets) (count : ℕ) (rests : Rests) (before a
   out_of_memory : (end : ServeEnd) → (IsNetFault end → ⊥) → IsServed secrets rests before.ports.disks after.ports.disks (number_of end) count None → AreAttended count before.net after.net end → after.ports.streams.held ≡ before.ports.streams.held →
       EndsServing secrets count rests before after 9
 
--- How a run ends: it serves, and takes nothing of its input; or it is a run of another command, and the listener and the nonces tell what they did before.
+-- How a run ends: it serves, and takes nothing of its input; or it is a run of another command, and the listener and the nonces tell what they did before; or memory ran out before the words were read, and nothing was done.
 pub data RunEnds (secrets : Secrets) (words : List (String Global)) (rests : Rests) (before after : ServePorts) : ℕ → Type 0 where
   serves : (status port count : ℕ) → IsServe words port count → after.ports.streams.left ≡ before.ports.streams.left → after.ports.streams.read_faults ≡ before.ports.streams.read_faults → EndsServing secrets count rests before after status → RunEnds secrets words rests before after status
+  unread : AreBytesKept before.ports.disks after.ports.disks → IsNetKept before.net after.net → after.ports.streams.left ≡ before.ports.streams.left → after.ports.streams.read_faults ≡ before.ports.streams.read_faults → after.ports.streams.held ≡ before.ports.streams.held →
+      RunEnds secrets words rests before after 9
   alone : (status : ℕ) → ((port count : ℕ) → IsServe words port count → ⊥) → EndsWith secrets words rests before.ports after.ports status → IsNetKept before.net after.net → RunEnds secrets words rests before after status

@@ -1,16 +1,17 @@
 //! A run of the program that may serve: its words, its ports, and the status that it ends with.
 
-ghost use Rattle.std.specs.Prelude.{◌≤◌, ℕ, List, Option};
+ghost use Rattle.std.specs.Prelude.{◌≡◌, ◌≤◌, ℕ, List, MatchOption, Option, Some};
+ghost use Rattle.command_words.specs.declared.words.Task.TheVariants.{Serve};
 ghost use Rattle.pcfs_ports.specs.Disk.{IsPinned};
 ghost use Rattle.pcfs_run.specs.Served.{EndsServing, RunEnds};
 
 use crate::serving::serve_store;
 use crate::telling::tell_end;
-use crate::words::serving_of;
+use command_words::{Task, task_of};
 use pcfs_ports::{Clock, Disk, Listener, Nonces, Sink, Source};
 use pcfs_secrets::Secrets;
 use pcfs_tools::answering::OUT_OF_MEMORY;
-use pcfs_top::run::{Ended, run_alone, tell_unopened};
+use pcfs_top::run::{Ended, run_asked, tell_unopened};
 use recover::open_store;
 use std::alloc::Global;
 use std::sync::Wait;
@@ -80,8 +81,21 @@ fn serve<
     }
 }
 
+// The port and the number of connections, if sessions are asked for.
+fn serving_of(asked: Option<Task>) -> Option<(u16, u64)>
+    ensures { MatchOption result ((port count : ℕ) → asked ≡ Some (Serve port count) → ⊥) (λ s. asked ≡ Some (Serve s.0 s.1)) }
+{
+    match asked {
+        Some(task) => match task {
+            Task::Serve(port, count) => Some((port, count)),
+            _ => None,
+        },
+        None => None,
+    }
+}
+
 /// Runs the program: with `serve`, a port and a number of connections, each of so many that come to that port has a session
-/// over the store on the disks, 64 at once; every other command is that of `run_alone`. The words are tested first, then the
+/// over the store on the disks, 64 at once; every other command is that of `run_alone`. The words are read first, then the
 /// store is opened, and only then the port is listened on.
 ///
 /// Returns the disks and the status to end with. With `serve` that is 0, so many were attended or no more come, and the last
@@ -125,10 +139,18 @@ pub fn run<
           net = record { waiting = L.waiting net.new; over = L.over net.new; faults = L.faults net.new; nonce_faults = N.faults nonces.new };
         }) result.status }
 {
-    match serving_of(words) {
+    let asked = match task_of(alloc, words) {
+        Ok(asked) => asked,
+        Err(_) => return Ended {
+            status: OUT_OF_MEMORY,
+            a,
+            b,
+        },
+    };
+    match serving_of(asked) {
         Some((port, count)) => serve(
             rt, alloc, secrets, output, a, b, port, count, clock, net, nonces,
         ),
-        None => run_alone(rt, alloc, words, secrets, input, output, a, b),
+        None => run_asked(rt, alloc, asked, secrets, input, output, a, b),
     }
 }

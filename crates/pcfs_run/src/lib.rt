@@ -8,6 +8,5 @@
 mod commands;
 mod serving;
 mod telling;
-mod words;
 
 pub use commands::run;

@@ -1,9 +1,10 @@
 //! Sessions over a store, one for each connection.
 
-ghost use Rattle.std.specs.Prelude.{◌≡◌, ◌≤◌, length, None};
+ghost use Rattle.std.specs.Prelude.{◌≡◌, ◌≤◌, [], None};
 ghost use Rattle.std.specs.List.{AllByRecursion};
 ghost use Rattle.journal_records.specs.EventSpelling.{IsReadEvent};
 ghost use Rattle.pcfs_server.specs.Ends.{number_of};
+ghost use Rattle.session_service.specs.Connections.{AreOfConnections};
 ghost use Rattle.shared_store.specs.GoesOn.{HasGoneOn};
 ghost use Rattle.pcfs_run.specs.Passes.{IsGrown};
 ghost use Rattle.pcfs_run.specs.Served.{AreAttended};
@@ -40,13 +41,14 @@ fn attend_all<
 ) -> ServeEnd
     requires lock { front.old.door.lock ≡ service.now.lock.now }
     requires unmade { front.old.door.made ≡ 0 }
+    requires none { front.old.door.retired ≡ [] }
     requires unserved { front.old.served ≡ 0 }
     requires few { count ≤ 1000000 }
     ensures same_reference { front.new.nonces.ghost_name ≡ front.old.nonces.ghost_name }
     ensures lock { front.new.door.lock ≡ service.now.lock.now }
     ensures out { front.new.door.out ≡ front.old.door.out }
     ensures opening { front.new.door.opening ≡ front.old.door.opening }
-    ensures each { number_of result ≤ length front.new.door.retired }
+    ensures of_connections { AreOfConnections (number_of result) front.new.door.retired }
     ensures made { front.new.door.made ≤ count }
     ensures attended { AreAttended count
         (record { waiting = L.waiting net.old; over = L.over net.old; faults = L.faults net.old; nonce_faults = N.faults front.old.nonces.now })
@@ -75,11 +77,12 @@ fn serve_under<
 ) -> (ServeEnd, Doorman<OpenedStore<D>>)
     requires lock { door.lock ≡ lock.now }
     requires unmade { door.made ≡ 0 }
+    requires none { door.retired ≡ [] }
     requires few { count ≤ 1000000 }
     ensures lock { result.1.lock ≡ lock.now }
     ensures out { result.1.out ≡ door.out }
     ensures opening { result.1.opening ≡ door.opening }
-    ensures each { number_of result.0 ≤ length result.1.retired }
+    ensures of_connections { AreOfConnections (number_of result.0) result.1.retired }
     ensures made { result.1.made ≤ count }
     ensures attended { AreAttended count
         (record { waiting = L.waiting net.old; over = L.over net.old; faults = L.faults net.old; nonce_faults = N.faults nonces.old })
@@ -120,6 +123,7 @@ pub fn serve_store<
 ) -> (ServeEnd, Store<D>)
     requires running { store.stop ≡ None }
     requires each { AllByRecursion IsReadEvent store.events }
+    requires unsettled { store.checkpoints ≡ [] }
     requires some { 1 ≤ count }
     requires few { count ≤ 1000000 }
     ensures gone_on { HasGoneOn D.clock D.left_since D.image D.faults store result.1 }

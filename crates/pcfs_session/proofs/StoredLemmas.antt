@@ -55,19 +55,20 @@ still_runs faults old _ pass clock request _ going (steps.failed reply event act
 still_runs faults old _ pass clock request _ going (steps.stopped earlier is) = absurd (going refl)
 still_runs faults old _ pass clock request _ going (steps.without_memory is) = is
 
--- the area stays in its place, and the other disk is not touched
+-- the area stays in its place, the other disk is not touched, and no checkpoint is made
 record StaysInPlace {D : Type 0} (old new : StoreView D) : Type 0 where
   generation : new.generation ≡ old.generation
   place : new.second_active ≡ old.second_active
   other : new.other ≡ old.other
+  checkpoints : new.checkpoints ≡ old.checkpoints
 
 stays_in_place : {D : Type 0} (faults : D → ℕ) (old new : StoreView D) (pass : ℕ) (clock : ℤ) (request : StepRequest) (reply : StoreReply) → Steps faults old pass clock request reply new → StaysInPlace old new
-stays_in_place faults old _ pass clock request _ (steps.answered reply is answer) = record { generation = refl; place = refl; other = refl }
-stays_in_place faults old _ pass clock request _ (steps.kept reply event active is answer room) = record { generation = refl; place = refl; other = refl }
-stays_in_place faults old _ pass clock request _ (steps.full reply event is answer is_full) = record { generation = refl; place = refl; other = refl }
-stays_in_place faults old _ pass clock request _ (steps.failed reply event active is answer room risen) = record { generation = refl; place = refl; other = refl }
-stays_in_place faults old _ pass clock request _ (steps.stopped earlier is) = record { generation = refl; place = refl; other = refl }
-stays_in_place faults old _ pass clock request _ (steps.without_memory is) = record { generation = refl; place = refl; other = refl }
+stays_in_place faults old _ pass clock request _ (steps.answered reply is answer) = record { generation = refl; place = refl; other = refl; checkpoints = refl }
+stays_in_place faults old _ pass clock request _ (steps.kept reply event active is answer room) = record { generation = refl; place = refl; other = refl; checkpoints = refl }
+stays_in_place faults old _ pass clock request _ (steps.full reply event is answer is_full) = record { generation = refl; place = refl; other = refl; checkpoints = refl }
+stays_in_place faults old _ pass clock request _ (steps.failed reply event active is answer room risen) = record { generation = refl; place = refl; other = refl; checkpoints = refl }
+stays_in_place faults old _ pass clock request _ (steps.stopped earlier is) = record { generation = refl; place = refl; other = refl; checkpoints = refl }
+stays_in_place faults old _ pass clock request _ (steps.without_memory is) = record { generation = refl; place = refl; other = refl; checkpoints = refl }
 
 abbrev seen : {D : Type 0} → StoreView D → Asker → InterpreterView D
 seen store asker = record { store = store; asker = asker }
@@ -94,6 +95,7 @@ module _ {D : Type 0} (clock : D → ℕ) (left_since : D → ℕ → List ℕ �
     generation_stays = (stays_in_place faults old new asker.pass asker.clock request result s.answer).generation;
     place_stays = (stays_in_place faults old new asker.pass asker.clock request result s.answer).place;
     other_stays = (stays_in_place faults old new asker.pass asker.clock request result s.answer).other;
+    checkpoints_stay = (stays_in_place faults old new asker.pass asker.clock request result s.answer).checkpoints;
     stop_for = running_for new.stop (still_runs faults old new asker.pass asker.clock request result going s.answer);
     ready = λ is none. s.stays_ready is going;
     halts = λ is event same. none_some event same;
@@ -142,6 +144,7 @@ module _ {D : Type 0} (clock : D → ℕ) (left_since : D → ℕ → List ℕ �
       generation_stays = refl;
       place_stays = refl;
       other_stays = refl;
+      checkpoints_stay = refl;
       ready = λ is_ready none. none_some event (sym none);
       halts = λ is_ready e same.
           let m = s.met is_ready refl in
@@ -188,6 +191,7 @@ module _ {D : Type 0} (clock : D → ℕ) (left_since : D → ℕ → List ℕ �
     generation_stays = refl;
     place_stays = refl;
     other_stays = refl;
+    checkpoints_stay = refl;
     ready = λ is none. is;
     halts = λ is event same. none_some event same;
     current = λ is none. is;
@@ -226,6 +230,7 @@ module _ {D : Type 0} (clock : D → ℕ) (left_since : D → ℕ → List ℕ �
     generation_stays = other.generation_stays ∙ one.generation_stays;
     place_stays = other.place_stays ∙ one.place_stays;
     other_stays = other.other_stays ∙ one.other_stays;
+    checkpoints_stay = other.checkpoints_stay ∙ one.checkpoints_stay;
     ready = λ is none. other.ready (one.ready is refl) none;
     halts = λ is event same. other.halts (one.ready is refl) event same;
     current = λ is none. other.current (one.current is refl) none;

@@ -21,13 +21,14 @@ IsStopFor (Some pass) (Some event) = Unit {0}
 -- Below, of a disk d `clock d` is the present moment, `left_since d t bytes` says that a crash at some moment since t may have left these bytes, `image d` is what a read gives, if d tells it, and `faults d`
 -- counts its faults.
 module _ {D : Type 0} (clock : D → ℕ) (left_since : D → ℕ → List ℕ → Type 0) (image : D → Option (List ℕ)) (faults : D → ℕ) where
-  -- From one moment of a store to a later one, at which a disk has failed for this event, if one has. The area that counts has the same generation on the same disk, and the other disk is not touched. While none has, a store that was ready is ready, and what a read gives stands for its history. If one has, a
+  -- From one moment of a store to a later one, at which a disk has failed for this event, if one has. The area that counts has the same generation on the same disk, the other disk is not touched, and no checkpoint is made. While none has, a store that was ready is ready, and what a read gives stands for its history. If one has, a
   -- count rose; and of a store that was ready a crash leaves the history, or with it the event.
   pub record StoreGoesOn (old new : StoreView D) (met : Option Event) : Type 0 where
     pub stop_for : IsStopFor new.stop met
     pub generation_stays : new.generation ≡ old.generation
     pub place_stays : new.second_active ≡ old.second_active
     pub other_stays : new.other ≡ old.other
+    pub checkpoints_stay : new.checkpoints ≡ old.checkpoints
     pub ready : IsReady clock left_since image old → met ≡ None → IsReady clock left_since image new
     pub halts : IsReady clock left_since image old → (event : Event) → met ≡ Some event → StopsNow clock left_since image new (SurvivesWithOrWithout new.base new.events event)
     pub current : IsCurrent clock left_since image old → met ≡ None → IsCurrent clock left_since image new

@@ -1,6 +1,6 @@
 -- The ends of a run.
 use Rattle.std.proofs.Common.{◌≡◌, ◌⊎◌, inl, inr, ℕ, ◌≤◌, ◌<◌, le-ltb, lt-ltb, Bool, true, false, List, [], length, take, drop, ap, sym, subst, ◌∙◌, arith, Option, Some, None, refl}
-use Rattle.std.specs.Prelude.{String, codes, IfSome, nat_lt, ◌==◌, if◌then◌else◌}
+use Rattle.std.specs.Prelude.{String, codes, IfSome, nat_lt, not, ◌==◌, if◌then◌else◌}
 use Rattle.std.specs.Int.{w64, from_be_bytes}
 use Rattle.std.specs.Option.{option_map}
 use Rattle.std.specs.declared.alloc.Global.{Global}
@@ -8,6 +8,8 @@ use Rattle.std.proofs.lemmas.Int.{ints}
 use Rattle.pcfs_ports.specs.Faults.{HasRisen}
 use Rattle.pcfs_ports.specs.Disk.{IsPinned}
 use Rattle.journal_core.specs.Area.{IsShut, Closed, StandsForBody, area_bytes, generation_of}
+use Rattle.access_history.specs.Base.{BaseView}
+use Rattle.access_history.specs.Replay.{fresh}
 use Rattle.access_history.specs.declared.event.Event.{Event}
 use Rattle.access_history.specs.History.{authority_with}
 use Rattle.access_history.specs.Lawful.{IsLawful}
@@ -15,13 +17,20 @@ use Rattle.policy_statement.specs.Ring.{KeyView}
 use Rattle.pcfs_secrets.specs.declared.secrets.Secrets.{Secrets}
 use Rattle.pcfs_store.specs.Formats.{IsNewStore, IsNoneOrFresh, PairsLeft}
 use Rattle.pcfs_store.specs.Image.{fresh_image}
-use Rattle.pcfs_store.specs.StoredHistory.{payloads_of}
+use Rattle.pcfs_store.specs.StoredHistory.{StandsFor, area_since, payloads_of, state_after}
 use Rattle.pcfs_store.specs.Newest.{newer, newest, one_of}
-use Rattle.pcfs_store.specs.StoreView.{StoreView, first_disk, second_disk, IsStore, body_of}
+use Rattle.pcfs_store.specs.StoreView.{StoreView, first_disk, second_disk, IsStore, body_of, head_of, last_after, records_of, settled_of, state_of_store}
 use Rattle.pcfs_store.specs.Ready.{IsReady, IsCurrent, IsBehind}
 use Rattle.pcfs_store.specs.declared.format.FormatFault.{FormatFault}
 use Rattle.pcfs_store.specs.declared.format.FormatFault.TheVariants as formats
-use Rattle.pcfs_store.proofs.SurvivalLemmas.{at_some, told_pairs, tellable_store, generation_begins, newest_active, ready_current}
+use Rattle.pcfs_store.specs.declared.checkpoints.Checkpoint.{Checkpoint}
+use Rattle.pcfs_store.specs.declared.reply.CheckpointReply.{CheckpointReply}
+use Rattle.pcfs_store.specs.declared.reply.CheckpointReply.TheVariants as checkpoints
+use Rattle.pcfs_store.specs.Checkpoints.{Checkpoints, IsFullForCheckpoint, IsNewestCheckpoint, MakesCheckpoint}
+use Rattle.pcfs_store.specs.Checkpoints as makes
+use Rattle.checkpoint_image.specs.ImageSpelling.{image_spelling}
+use Rattle.pcfs_store.proofs.ImageLemmas.{fresh_spelling}
+use Rattle.pcfs_store.proofs.SurvivalLemmas.{at_some, told_pairs, tellable_store, generation_since, newest_active, ready_current, current_stands}
 use Rattle.recover.specs.declared.fault.OpenFault.{OpenFault}
 use Rattle.recover.specs.declared.fault.OpenFault.TheVariants as opens
 use Rattle.recover.specs.Opening.{IsNotOpened, IsNewestClosed}
@@ -33,13 +42,14 @@ use Rattle.pcfs_session.specs.Streams.{Streams}
 use Rattle.pcfs_audit.specs.ReportText.{report_text}
 use Rattle.command_words.specs.Tasks.{AskForNoRun, AsksFor}
 use Rattle.command_words.specs.declared.words.Task.TheVariants.{Stored, Init, Audit, Load}
+use Rattle.command_words.specs.declared.words.Task.TheVariants as tasks
 use Rattle.pcfs_tools.specs.Audited.{TellsAudit, reported, unreported, audit_status}
 use Rattle.pcfs_tools.specs.LastLine.{IsTold, IsUntold}
 use Rattle.pcfs_tools.specs.Load.{IsLoaded}
 use Rattle.pcfs_tools.specs.ScriptStatus.{AnswersInput}
 use Rattle.pcfs_tools.proofs.MemoryLemmas.{secrets_of}
 use Rattle.pcfs_top.specs.Ports.{Disks, Ports, Rests, AreBytesKept}
-use Rattle.pcfs_top.specs.Run.{AreOfStore, of_script, of_audit, HasNoArea, IsNotLost, IsOpened, IsNewestOf, Returns, HasCause, EndsWith, TellsUnopened, TellsUnmade, damaged_text}
+use Rattle.pcfs_top.specs.Run.{AreOfStore, of_script, of_checkpoint, of_audit, HasNoArea, IsNotLost, IsOpened, IsNewestOf, IsNewestImage, NewestStays, Returns, HasCause, EndsWith, TellsCheckpoint, TellsUnopened, TellsUnmade, damaged_text}
 use Rattle.pcfs_top.specs.Run as run
 use Rattle.pcfs_session.specs.ScriptRun.{IsLawfulStanding, script_pass}
 use Rattle.pcfs_session.specs.Stored.{StoreGoesOn}
@@ -92,6 +102,17 @@ has_no_area x y none = let both = none_of (generation_of x) (generation_of y) x 
 told_some : (o : Option (List ℕ)) (P : List ℕ → Type 0) (bytes : List ℕ) → o ≡ Some bytes → P bytes → IfSome o P
 told_some o P bytes is holds = subst (λ (p : Option (List ℕ)). IfSome p P) (sym is) holds
 
+-- ---- a store without checkpoints
+
+-- its area has the image of its base, and the records of all its events
+pub body_unsettled : {D : Type 0} (s : StoreView D) → s.checkpoints ≡ [] → body_of s ≡ area_bytes s.generation (image_spelling s.base) (payloads_of s.events)
+body_unsettled s unsettled = ap (λ (cs : List Checkpoint). area_since s.generation s.base s.events (last_after 0 cs)) unsettled
+
+-- bytes that stand for the state of its last checkpoint and the events since stand for its history
+stands_unsettled : {D : Type 0} (s : StoreView D) (bytes : List ℕ) → s.checkpoints ≡ [] → StandsFor bytes s.generation (head_of s) (records_of s) → StandsFor bytes s.generation s.base s.events
+stands_unsettled s bytes unsettled stands =
+    subst (λ (cs : List Checkpoint). StandsFor bytes s.generation (state_after s.base s.events (last_after 0 cs)) (drop (last_after 0 cs) s.events)) unsettled stands
+
 -- ---- disks
 
 module _ {D : Type 0} (clock : D → ℕ) (left_since : D → ℕ → List ℕ → Type 0) (image : D → Option (List ℕ)) (faults : D → ℕ) where
@@ -143,17 +164,12 @@ module _ {D : Type 0} (clock : D → ℕ) (left_since : D → ℕ → List ℕ �
     behind_at other told = at_some (image s.other) (λ bytes. IsBehind s.second_active s.generation (generation_of bytes)) other told current.other
 
     generation_at : (active : List ℕ) → image s.active ≡ Some active → generation_of active ≡ Some s.generation
-    generation_at active told =
-        let t = tellable_store s store in generation_begins active s.generation fresh_image (payloads_of s.events) t.generated t.fits (body_at active told).front
+    generation_at active told = generation_since s.generation s.base s.events (settled_of s) active (tellable_store s store) (body_at active told)
 
-    pub newest_of : (x y : List ℕ) → image (first_disk s) ≡ Some x → image (second_disk s) ≡ Some y → IsNewestOf s.generation s.base s.events x y
-    newest_of = told_pairs image s.second_active s.active s.other (IsNewestOf s.generation s.base s.events) (λ a o is_a is_o.
-        let t = tellable_store s store in
-        record {
-          bytes = a;
-          counts = newest_active s.second_active a o s.generation (generation_at a is_a) (behind_at o is_o);
-          stands = record { image = fresh_image; is_image = t.is_image; spelled = t.spelled; is_area = record { generated = t.generated; fits = t.fits; stands = body_at a is_a } };
-        })
+    pub newest_of : s.checkpoints ≡ [] → (x y : List ℕ) → image (first_disk s) ≡ Some x → image (second_disk s) ≡ Some y → IsNewestOf s.generation s.base s.events x y
+    newest_of unsettled x y is_x is_y =
+        let found = current_stands clock left_since image s store current x y is_x is_y in
+        record { bytes = found.0; counts = found.1; stands = stands_unsettled s found.0 unsettled found.2 }
 
     pub counts_now : (x y : List ℕ) → image (first_disk s) ≡ Some x → image (second_disk s) ≡ Some y → newer (generation_of x) (generation_of y) ≡ Some s.second_active
     counts_now = told_pairs image s.second_active s.active s.other (λ x y. newer (generation_of x) (generation_of y) ≡ Some s.second_active)
@@ -162,14 +178,17 @@ module _ {D : Type 0} (clock : D → ℕ) (left_since : D → ℕ → List ℕ �
   same_some : (x y : List ℕ) → Some x ≡ Some y → x ≡ y
   same_some x y is = cc
 
-  pub closed_of : (s : StoreView D) → IsStore s → IsReady clock left_since image s → (x y : List ℕ) → image (first_disk s) ≡ Some x → image (second_disk s) ≡ Some y → IsNewestClosed s.generation s.events x y
-  closed_of s store ready = told_pairs image s.second_active s.active s.other (IsNewestClosed s.generation s.events) (λ a o is_a is_o.
+  pub closed_of : (s : StoreView D) → IsStore s → IsReady clock left_since image s → s.checkpoints ≡ [] → (x y : List ℕ) → image (first_disk s) ≡ Some x → image (second_disk s) ≡ Some y → IsNewestClosed s.generation s.base s.events x y
+  closed_of s store ready unsettled = told_pairs image s.second_active s.active s.other (IsNewestClosed s.generation s.base s.events) (λ a o is_a is_o.
       let current = ready_current clock left_since image s ready in
       record {
         bytes = a;
         counts = newest_active s.second_active a o s.generation (generation_at s store current a is_a) (behind_at s store current o is_o);
-        gate = subst (λ (bytes : List ℕ). length (body_of s) < length bytes) (same_some ready.rests.bytes a (sym ready.rests.told ∙ is_a)) ready.rests.closed.gate;
+        gate = subst (λ (body : List ℕ). length body < length a) (body_unsettled s unsettled) (subst (λ (bytes : List ℕ). length (body_of s) < length bytes) (same_some ready.rests.bytes a (sym ready.rests.told ∙ is_a)) ready.rests.closed.gate);
       })
+
+  same_place : (x y : Bool) → Some x ≡ Some y → x ≡ y
+  same_place x y is = cc
 
   -- the disk that does not count
   pub other_same : (second : Bool) (active active' other : D) (x y : Option (List ℕ)) → image (one_of active other second) ≡ x → image (one_of other active second) ≡ y →
@@ -187,7 +206,12 @@ module _ {D : Type 0} (clock : D → ℕ) (left_since : D → ℕ → List ℕ �
     on_second s first = ap (λ (w : Bool). one_of s.other s.active w) first
 
     fresh_body : (s : StoreView D) → IsNewStore secrets.seal_key secrets.ring s → body_of s ≡ area_bytes 1 fresh_image []
-    fresh_body s new = ap (λ (n : ℕ). area_bytes n fresh_image (payloads_of s.events)) new.generation_is ∙ ap (λ (es : List Event). area_bytes 1 fresh_image (payloads_of es)) new.no_events
+    fresh_body s new =
+        body_unsettled s new.no_checkpoints
+        ∙ ap (λ (n : ℕ). area_bytes n (image_spelling s.base) (payloads_of s.events)) new.generation_is
+        ∙ ap (λ (b : BaseView). area_bytes 1 (image_spelling b) (payloads_of s.events)) new.base_is
+        ∙ ap (λ (es : List Event). area_bytes 1 (image_spelling fresh) (payloads_of es)) new.no_events
+        ∙ ap (λ (bytes : List ℕ). area_bytes 1 bytes []) (sym fresh_spelling)
 
     has_area : (s : StoreView D) (a' : D) → IsNewStore secrets.seal_key secrets.ring s → a' ≡ first_disk s → IsReady clock left_since image s → IfSome (image a') (Closed (area_bytes 1 fresh_image []))
     has_area s a' new a_is ready =
@@ -238,6 +262,12 @@ module _ {D : Type 0} (clock : D → ℕ) (left_since : D → ℕ → List ℕ �
 
   -- ---- a store that is opened
 
+  -- of one of two disks a count rose since the start
+  risen_since : (secrets : Secrets) (a b : D) (s s' : StoreView D) → opening.IsOpened clock left_since image faults a b secrets.seal_key secrets.ring s → HasRisen (faults (first_disk s)) (faults (first_disk s')) ⊎ HasRisen (faults (second_disk s)) (faults (second_disk s')) →
+      HasRisen (faults a) (faults (first_disk s')) ⊎ HasRisen (faults b) (faults (second_disk s'))
+  risen_since secrets a b s s' opened (inl risen) = inl (HasRisen-earlier (faults a) (faults (first_disk s)) (faults (first_disk s')) opened.first_read.handled.never_falls risen)
+  risen_since secrets a b s s' opened (inr risen) = inr (HasRisen-earlier (faults b) (faults (second_disk s)) (faults (second_disk s')) opened.second_read.handled.never_falls risen)
+
   -- where the script begins
   pub opened_start : (secrets : Secrets) (a b : D) (s : StoreView D) → opening.IsOpened clock left_since image faults a b secrets.seal_key secrets.ring s → IsLawfulStanding (standing_over s None (first_asker script_pass))
   opened_start secrets a b s opened =
@@ -274,8 +304,7 @@ module _ {D : Type 0} (clock : D → ℕ) (left_since : D → ℕ → List ℕ �
       asker_is = refl;
       running = refl;
       lawful = opened_start secrets a b s opened;
-      base_is = opened.base_is;
-      used_is = store.used_is;
+      used_is = store.used_is ∙ ap (λ (body : List ℕ). length body) (body_unsettled s opened.unsettled);
       found = opened.newest_history;
     }
 
@@ -291,13 +320,125 @@ module _ {D : Type 0} (clock : D → ℕ) (left_since : D → ℕ → List ℕ �
         untold_as words secrets (rests_of a b a' b') (record { streams = before; disks = disks_of a b }) (record { streams = after; disks = disks_of a' b' }) result
         (record { a_stays = ap image a_is ∙ opened.first_read.same; b_stays = ap image b_is ∙ opened.second_read.same }) left untold
 
-  module _ (words : List (String Global)) (secrets : Secrets) (a b : D) (is : AsksFor words Stored) where
-    -- of one of two disks a count rose since the start
-    risen_since : (s s' : StoreView D) → opening.IsOpened clock left_since image faults a b secrets.seal_key secrets.ring s → HasRisen (faults (first_disk s)) (faults (first_disk s')) ⊎ HasRisen (faults (second_disk s)) (faults (second_disk s')) →
-        HasRisen (faults a) (faults (first_disk s')) ⊎ HasRisen (faults b) (faults (second_disk s'))
-    risen_since s s' opened (inl risen) = inl (HasRisen-earlier (faults a) (faults (first_disk s)) (faults (first_disk s')) opened.first_read.handled.never_falls risen)
-    risen_since s s' opened (inr risen) = inr (HasRisen-earlier (faults b) (faults (second_disk s)) (faults (second_disk s')) opened.second_read.handled.never_falls risen)
+  -- ---- a checkpoint
 
+  -- what is said of two disks by their place, of the one that counts and of the other
+  told_at : (second : Bool) (active other : D) (x y : List ℕ) → image (one_of active other second) ≡ Some x → image (one_of other active second) ≡ Some y → (image active ≡ Some (one_of x y second)) × (image other ≡ Some (one_of y x second))
+  told_at false active other x y is_x is_y = (is_x, is_y)
+  told_at true active other x y is_x is_y = (is_y, is_x)
+
+  pinned_active : (second : Bool) (active other : D) → IsPinned clock left_since image (one_of active other second) → IsPinned clock left_since image (one_of other active second) → IsPinned clock left_since image active
+  pinned_active false active other one two = one
+  pinned_active true active other one two = two
+
+  risen_other : (second : Bool) (active other new : D) → HasRisen (faults other) (faults new) →
+      HasRisen (faults (one_of active other second)) (faults (one_of active new second)) ⊎ HasRisen (faults (one_of other active second)) (faults (one_of new active second))
+  risen_other false active other new risen = inr risen
+  risen_other true active other new risen = inl risen
+
+  -- the store after each answer
+  full_same : (s s' : StoreView D) (pass : ℕ) → MakesCheckpoint faults s pass checkpoints.Full s' → (s' ≡ s) × IsFullForCheckpoint s
+  full_same s _ pass (makes.full running is_full) = (refl, is_full)
+
+  made_fits : (s s' : StoreView D) (pass : ℕ) → MakesCheckpoint faults s pass checkpoints.Checkpointed s' → IsFullForCheckpoint s → ⊥
+  made_fits s _ pass (makes.made active running room) = room
+
+  stopped_fits : (s s' : StoreView D) (pass : ℕ) → s.stop ≡ None → MakesCheckpoint faults s pass checkpoints.Stopped s' → IsFullForCheckpoint s → ⊥
+  stopped_fits s _ pass running (makes.failed other runs room risen) = room
+  stopped_fits s _ pass running (makes.stopped earlier is) = none_some earlier (sym running ∙ is)
+
+  unmade_same : (s s' : StoreView D) (pass : ℕ) → MakesCheckpoint faults s pass checkpoints.NoMemory s' → s' ≡ s
+  unmade_same s _ pass (makes.without_memory running) = refl
+
+  stopped_risen : (s s' : StoreView D) (pass : ℕ) → s.stop ≡ None → MakesCheckpoint faults s pass checkpoints.Stopped s' → HasRisen (faults (first_disk s)) (faults (first_disk s')) ⊎ HasRisen (faults (second_disk s)) (faults (second_disk s'))
+  stopped_risen s _ pass running (makes.failed other runs room risen) = risen_other s.second_active s.active s.other other risen
+  stopped_risen s _ pass running (makes.stopped earlier is) = none_some earlier (sym running ∙ is)
+
+  -- the disk that counted, in its place
+  active_is : (second : Bool) (active other : D) (x y : Option (List ℕ)) → image (one_of active other second) ≡ x → image (one_of other active second) ≡ y → image active ≡ one_of x y second
+  active_is false active other x y is_x is_y = is_x
+  active_is true active other x y is_x is_y = is_y
+
+  made_place : (second : Bool) (active new : D) → one_of (image (one_of new active (not second))) (image (one_of active new (not second))) second ≡ image active
+  made_place false active new = refl
+  made_place true active new = refl
+
+  stopped_place : (second : Bool) (active new : D) → one_of (image (one_of active new second)) (image (one_of new active second)) second ≡ image active
+  stopped_place false active new = refl
+  stopped_place true active new = refl
+
+  made_stays : (s s' : StoreView D) (pass : ℕ) → MakesCheckpoint faults s pass checkpoints.Checkpointed s' → one_of (image (first_disk s')) (image (second_disk s')) s.second_active ≡ image s.active
+  made_stays s _ pass (makes.made active running room) = made_place s.second_active s.active active
+
+  stopped_stays : (s s' : StoreView D) (pass : ℕ) → s.stop ≡ None → MakesCheckpoint faults s pass checkpoints.Stopped s' → one_of (image (first_disk s')) (image (second_disk s')) s.second_active ≡ image s.active
+  stopped_stays s _ pass running (makes.failed other runs room risen) = stopped_place s.second_active s.active other
+  stopped_stays s _ pass running (makes.stopped earlier is) = none_some earlier (sym running ∙ is)
+
+  newest_image : (s : StoreView D) (x y : List ℕ) → IsNewestCheckpoint s x y → IsNewestImage (s.generation + 1) (state_of_store s) x y
+  newest_image s x y n = record { bytes = n.bytes; counts = n.counts; closed = n.closed }
+
+  module _ (words : List (String Global)) (secrets : Secrets) (a b : D) (is : AsksFor words tasks.Checkpoint) (s : StoreView D) (store : IsStore s) (opened : opening.IsOpened clock left_since image faults a b secrets.seal_key secrets.ring s)
+      (may_stay : (d : D) (bytes : List ℕ) → image d ≡ Some bytes → left_since d (clock d) bytes) (pass : ℕ) (s' : StoreView D) where
+    abbrev is_start : IsOpened secrets s.generation (disks_of a b) (standing_over s None (first_asker script_pass))
+    is_start = is_opened words secrets a b (of_checkpoint is) s store opened
+
+    -- the bytes are as they were, and nothing is pending
+    kept_by : s' ≡ s → AreBytesKept (disks_of a b) (disks_of (first_disk s') (second_disk s'))
+    kept_by same = record {
+      a_stays = ap (λ (n : StoreView D). image (first_disk n)) same ∙ opened.first_read.same;
+      b_stays = ap (λ (n : StoreView D). image (second_disk n)) same ∙ opened.second_read.same;
+    }
+
+    rests_by : s' ≡ s → AtRest (first_disk s') (second_disk s')
+    rests_by same = (
+      subst (λ (n : StoreView D). IsPinned clock left_since image (first_disk n)) (sym same) opened.first_read.pinned,
+      subst (λ (n : StoreView D). IsPinned clock left_since image (second_disk n)) (sym same) opened.second_read.pinned,
+    )
+
+    -- the disk that counted is as it was
+    stays_by : one_of (image (first_disk s')) (image (second_disk s')) s.second_active ≡ image s.active → NewestStays (disks_of a b) (disks_of (first_disk s') (second_disk s'))
+    stays_by stays x y is_x is_y second counts =
+        let now = counts_now s store (opened.current x y is_x is_y) x y (opened.first_read.same ∙ is_x) (opened.second_read.same ∙ is_y) in
+        subst (λ (w : Bool). one_of (image (first_disk s')) (image (second_disk s')) w ≡ one_of (image a) (image b) w) (same_place s.second_active second (sym now ∙ counts))
+        (stays ∙ active_is s.second_active s.active s.other (image a) (image b) opened.first_read.same opened.second_read.same)
+
+    -- it was made: the store is ready, and its newest area has the image of the state
+    is_ready : Checkpoints clock left_since image faults s pass checkpoints.Checkpointed s' → (x y : List ℕ) → image a ≡ Some x → image b ≡ Some y → IsReady clock left_since image s'
+    is_ready made x y is_x is_y =
+        let told = told_at s.second_active s.active s.other x y (opened.first_read.same ∙ is_x) (opened.second_read.same ∙ is_y) in
+        made.makes_ready (opened.current x y is_x is_y) refl (one_of x y s.second_active) (one_of y x s.second_active) told.0 told.1
+        (pinned_active s.second_active s.active s.other opened.first_read.pinned opened.second_read.pinned)
+
+    ends : (before after : Streams) (result : ℕ) (reply : CheckpointReply) → Checkpoints clock left_since image faults s pass reply s' → after.left ≡ before.left → TellsCheckpoint reply before.held before.write_faults result after.held after.write_faults →
+        EndsWith secrets words (rests_of a b (first_disk s') (second_disk s')) (record { streams = before; disks = disks_of a b }) (record { streams = after; disks = disks_of (first_disk s') (second_disk s') }) result
+    ends before after result checkpoints.Checkpointed made left tells =
+        told_as words secrets (rests_of a b (first_disk s') (second_disk s')) (record { streams = before; disks = disks_of a b }) (record { streams = after; disks = disks_of (first_disk s') (second_disk s') }) 0 (codes "ok checkpoint") result
+        (run.checkpointed s.generation (standing_over s None (first_asker script_pass)) is is_start (made_fits s s' pass made.answer) (stays_by (made_stays s s' pass made.answer)) (λ x y is_x is_y. (
+          pinned_at s' (first_disk s') (second_disk s') refl refl (is_ready made x y is_x is_y),
+          λ x' y' is_x' is_y'. newest_image s x' y' (made.newest (opened.current x y is_x is_y) refl x' y' is_x' is_y'),
+        ))) left tells
+    ends before after result checkpoints.Full made left tells =
+        told_as words secrets (rests_of a b (first_disk s') (second_disk s')) (record { streams = before; disks = disks_of a b }) (record { streams = after; disks = disks_of (first_disk s') (second_disk s') }) 14 (codes "full") result
+        (let full = full_same s s' pass made.answer in run.full s.generation (standing_over s None (first_asker script_pass)) is is_start full.1 (kept_by full.0) (rests_by full.0)) left tells
+    ends before after result checkpoints.Stopped made left tells =
+        told_as words secrets (rests_of a b (first_disk s') (second_disk s')) (record { streams = before; disks = disks_of a b }) (record { streams = after; disks = disks_of (first_disk s') (second_disk s') }) 5 (codes "stopped") result
+        (run.not_checkpointed s.generation (standing_over s None (first_asker script_pass)) is is_start (stopped_fits s s' pass opened.running made.answer) (risen_since secrets a b s s' opened (stopped_risen s s' pass opened.running made.answer)) (stays_by (stopped_stays s s' pass opened.running made.answer))
+        (λ x y is_x is_y closed x' y' is_x' is_y'. made.halts (opened.ready x y is_x is_y closed) refl x' y' (may_stay (first_disk s') x' is_x') (may_stay (second_disk s') y' is_y'))) left tells
+    ends before after result checkpoints.NoMemory made left tells =
+        untold_as words secrets (rests_of a b (first_disk s') (second_disk s')) (record { streams = before; disks = disks_of a b }) (record { streams = after; disks = disks_of (first_disk s') (second_disk s') }) result
+        (kept_by (unmade_same s s' pass made.answer)) left tells
+
+    pub EndsWith-checkpointed : (before after : Streams) (result : ℕ) (reply : CheckpointReply) (a' b' : D) → Checkpoints clock left_since image faults s pass reply s' → after.left ≡ before.left →
+        TellsCheckpoint reply before.held before.write_faults result after.held after.write_faults → a' ≡ first_disk s' → b' ≡ second_disk s' →
+        EndsWith secrets words (rests_of a b a' b') (record { streams = before; disks = disks_of a b }) (record { streams = after; disks = disks_of a' b' }) result
+    EndsWith-checkpointed before after result reply a' b' made left tells a_is b_is =
+        subst (λ (x : D). EndsWith secrets words (rests_of a b x b') (record { streams = before; disks = disks_of a b }) (record { streams = after; disks = disks_of x b' }) result) (sym a_is)
+        (subst (λ (y : D). EndsWith secrets words (rests_of a b (first_disk s') y) (record { streams = before; disks = disks_of a b }) (record { streams = after; disks = disks_of (first_disk s') y }) result) (sym b_is)
+        (ends before after result reply made left tells))
+
+  -- ---- a script over a store that is opened
+
+  module _ (words : List (String Global)) (secrets : Secrets) (a b : D) (is : AsksFor words Stored) where
     other_is : (s s' : StoreView D) (met : Option Event) → opening.IsOpened clock left_since image faults a b secrets.seal_key secrets.ring s → StoreGoesOn clock left_since image faults s s' met →
         one_of (image (second_disk s')) (image (first_disk s')) s.second_active ≡ one_of (image b) (image a) s.second_active
     other_is s s' met opened goes =
@@ -305,20 +446,17 @@ module _ {D : Type 0} (clock : D → ℕ) (left_since : D → ℕ → List ℕ �
         ∙ ap (λ (w : Bool). one_of (image (one_of s.other s'.active w)) (image (one_of s'.active s.other w)) s.second_active) goes.place_stays
         ∙ other_same s.second_active s.active s'.active s.other (image a) (image b) opened.first_read.same opened.second_read.same
 
-    same_place : (x y : Bool) → Some x ≡ Some y → x ≡ y
-    same_place x y is = cc
-
     returns_of : (may_stay : (d : D) (bytes : List ℕ) → image d ≡ Some bytes → left_since d (clock d) bytes) (s s' : StoreView D) (met : Option Event) (asker : Asker) → IsStore s → IsStore s' → opening.IsOpened clock left_since image faults a b secrets.seal_key secrets.ring s →
         StoreGoesOn clock left_since image faults s s' met → Returns (rests_of a b (first_disk s') (second_disk s')) s.generation (disks_of a b) (disks_of (first_disk s') (second_disk s')) (standing_over s None (first_asker script_pass)) (standing_over s' met asker)
     returns_of may_stay s s' met asker store store' opened goes = record {
       whole = λ x y is_x is_y none x' y' is_x' is_y'.
-          subst (λ (n : ℕ). IsNewestOf n s'.base s'.events x' y') goes.generation_stays (newest_of s' store' (goes.current (opened.current x y is_x is_y) none) x' y' is_x' is_y');
+          subst (λ (n : ℕ). IsNewestOf n s'.base s'.events x' y') goes.generation_stays (newest_of s' store' (goes.current (opened.current x y is_x is_y) none) (goes.checkpoints_stay ∙ opened.unsettled) x' y' is_x' is_y');
       closed = λ x y is_x is_y closed none.
           let ready = goes.ready (opened.ready x y is_x is_y closed) none in (
             pinned_at s' (first_disk s') (second_disk s') refl refl ready,
-            λ x' y' is_x' is_y'. subst (λ (n : ℕ). IsNewestClosed n s'.events x' y') goes.generation_stays (closed_of s' store' ready x' y' is_x' is_y'),
+            λ x' y' is_x' is_y'. subst (λ (n : ℕ). IsNewestClosed n s'.base s'.events x' y') goes.generation_stays (closed_of s' store' ready (goes.checkpoints_stay ∙ opened.unsettled) x' y' is_x' is_y'),
           );
-      failed = λ event same. risen_since s s' opened (goes.failed event same);
+      failed = λ event same. risen_since secrets a b s s' opened (goes.failed event same);
       survives = λ x y is_x is_y closed event same x' y' is_x' is_y'.
           goes.halts (opened.ready x y is_x is_y closed) event same x' y' (may_stay (first_disk s') x' is_x') (may_stay (second_disk s') y' is_y');
       other_stays = λ x y is_x is_y second counts.

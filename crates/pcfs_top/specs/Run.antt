@@ -1,22 +1,25 @@
 -- How a run of the program ends: its status, what it took, what it wrote, and what it leaves on its disks. If a port does not tell its bytes, nothing is said of them (this project's own).
-use Rattle.std.specs.Prelude.{◌≡◌, ◌⊎◌, ℕ, List, [], ◌++◌, String, codes, length, Bool, Option, Some, None, IfSome}
+use Rattle.std.specs.Prelude.{◌≡◌, ◌⊎◌, ◌<◌, ◌≤◌, ◌+◌, ◌-◌, ◌^◌, ℕ, List, [], ◌++◌, String, codes, length, Bool, Option, Some, None, IfSome}
 use Rattle.std.specs.Fmt.{decimal}
 use Rattle.std.specs.declared.alloc.Global.{Global}
 use Rattle.pcfs_ports.specs.Faults.{HasRisen}
 use Rattle.pcfs_ports.specs.Told.{with_back, HoldsSome}
-use Rattle.journal_core.specs.Area.{IsShut, Closed, area_bytes, generation_of}
+use Rattle.journal_core.specs.Area.{IsShut, Closed, area_bytes, area_limit, generation_of}
 use Rattle.access_history.specs.Base.{BaseView}
-use Rattle.access_history.specs.Replay.{fresh}
+use Rattle.access_history.specs.Replay.{replay}
 use Rattle.access_history.specs.declared.event.Event.{Event}
 use Rattle.op_gate.specs.declared.damage.Damage.{Damage}
 use Rattle.op_gate.specs.declared.damage.Damage.TheVariants.{Header, Shape, Unsigned, Unproved, NotAdmitted, MomentFalls, Duplicate}
+use Rattle.checkpoint_image.specs.ImageSpelling.{image_spelling}
 use Rattle.pcfs_store.specs.Image.{fresh_image}
 use Rattle.pcfs_store.specs.StoredHistory.{payloads_of, StandsFor}
 use Rattle.pcfs_store.specs.Formats.{IsNoneOrFresh}
-use Rattle.pcfs_store.specs.Newest.{newer, newest, one_of}
+use Rattle.pcfs_store.specs.Newest.{SurvivesWholeClosed, newer, newest, one_of}
 use Rattle.pcfs_store.specs.Ready.{SurvivesWithOrWithout}
 use Rattle.pcfs_store.specs.declared.format.FormatFault.{FormatFault}
 use Rattle.pcfs_store.specs.declared.format.FormatFault.TheVariants as formats
+use Rattle.pcfs_store.specs.declared.reply.CheckpointReply.{CheckpointReply}
+use Rattle.pcfs_store.specs.declared.reply.CheckpointReply.TheVariants as checkpoints
 use Rattle.recover.specs.declared.fault.OpenFault.{OpenFault}
 use Rattle.recover.specs.declared.fault.OpenFault.TheVariants as opens
 use Rattle.recover.specs.Opening.{IsNewestHistory, IsNewestDamaged, IsNewestClosed}
@@ -29,7 +32,7 @@ use Rattle.pcfs_audit.specs.Report.{IsReport}
 use Rattle.pcfs_audit.specs.ReportText.{report_text}
 use Rattle.pcfs_audit.specs.declared.report.Report.{Report}
 use Rattle.command_words.specs.Tasks.{AskForNoRun, AsksFor}
-use Rattle.command_words.specs.declared.words.Task.TheVariants.{Script, Stored, Init, Audit, Check, Load}
+use Rattle.command_words.specs.declared.words.Task.TheVariants.{Script, Stored, Init, Checkpoint, Audit, Check, Load}
 use Rattle.pcfs_tools.specs.Audited.{audit_status}
 use Rattle.pcfs_tools.specs.Inquired.{TellsInquiry}
 use Rattle.pcfs_tools.specs.LastLine.{IsTold, IsUntold}
@@ -38,9 +41,10 @@ use Rattle.pcfs_tools.specs.Memory.{MemoryEnds}
 use Rattle.pcfs_tools.specs.ScriptStatus.{ScriptStatus}
 use Rattle.pcfs_top.specs.Ports.{Disks, Ports, Rests, IfTold, HasDiskFailed, AreBytesKept}
 
--- the words ask for a script over the store in the areas, or for an audit of it
+-- the words ask for a script over the store in the areas, for a checkpoint of it, or for an audit of it
 pub data AreOfStore (words : List (String Global)) : Type 0 where
   of_script : AsksFor words Stored → AreOfStore words
+  of_checkpoint : AsksFor words Checkpoint → AreOfStore words
   of_audit : (pieces : Option ℕ) → AsksFor words (Audit pieces) → AreOfStore words
 
 -- the number under which a damage is reported
@@ -61,15 +65,14 @@ damaged_text record_number damage = codes "damaged " ++ (decimal record_number +
 abbrev pub HasNoArea : List ℕ → List ℕ → Type 0
 HasNoArea x y = IsShut x × IsShut y
 
--- a store was opened whose area has this generation, and a script or an audit begins over it: its history is that of the newest area, and lawful, and the area has so many bytes before its closed gate
+-- a store was opened whose area has this generation, and a script, a checkpoint or an audit begins over it: its history is that of the newest area, and lawful, and the area has so many bytes before its closed gate
 pub record IsOpened (secrets : Secrets) (generation : ℕ) (before : Disks) (start : Standing) : Type 0 where
   pub secrets_are : start.secrets ≡ secrets
   pub asker_is : start.asker ≡ first_asker script_pass
   pub running : start.met ≡ None
   pub lawful : IsLawfulStanding start
-  pub base_is : start.base ≡ fresh
-  pub used_is : start.used ≡ length (area_bytes generation fresh_image (payloads_of start.events))
-  pub found : IfTold before (IsNewestHistory (authority_under secrets) generation start.events)
+  pub used_is : start.used ≡ length (area_bytes generation (image_spelling start.base) (payloads_of start.events))
+  pub found : IfTold before (IsNewestHistory (authority_under secrets) generation start.base start.events)
 
 -- the newest area of these two has this generation, and its bytes stand for the history; passes are in no bytes
 pub record IsNewestOf (generation : ℕ) (base : BaseView) (events : List Event) (x y : List ℕ) : Type 0 where
@@ -82,10 +85,28 @@ pub record IsNewestOf (generation : ℕ) (base : BaseView) (events : List Event)
 -- the one event that met the fault. The area that did not count is as it was.
 pub record Returns (rests : Rests) (generation : ℕ) (before after : Disks) (start end : Standing) : Type 0 where
   pub whole : IfTold before (λ x y. end.met ≡ None → IfTold after (IsNewestOf generation end.base end.events))
-  pub closed : IfTold before (λ x y. IsNewestClosed generation start.events x y → end.met ≡ None → rests.after × IfTold after (IsNewestClosed generation end.events))
+  pub closed : IfTold before (λ x y. IsNewestClosed generation start.base start.events x y → end.met ≡ None → rests.after × IfTold after (IsNewestClosed generation end.base end.events))
   pub failed : (met : Event) → end.met ≡ Some met → HasDiskFailed before after
-  pub survives : IfTold before (λ x y. IsNewestClosed generation start.events x y → (met : Event) → end.met ≡ Some met → IfTold after (SurvivesWithOrWithout end.base end.events met))
+  pub survives : IfTold before (λ x y. IsNewestClosed generation start.base start.events x y → (met : Event) → end.met ≡ Some met → IfTold after (SurvivesWithOrWithout end.base end.events met))
   pub other_stays : IfTold before (λ x y. (second : Bool) → newer (generation_of x) (generation_of y) ≡ Some second → one_of after.b after.a second ≡ one_of before.b before.a second)
+
+-- the state of a store that was opened
+abbrev pub state_of_start : Standing → BaseView
+state_of_start start = replay start.base start.events
+
+-- the newest area of these two has that generation, the image of that state, no records, and its closed gate
+pub record IsNewestImage (generation : ℕ) (state : BaseView) (x y : List ℕ) : Type 0 where
+  pub bytes : List ℕ
+  pub counts : newest x y ≡ Some bytes
+  pub closed : Closed (area_bytes generation (image_spelling state) []) bytes
+
+-- a checkpoint of the state does not fit into an area with its closed gate, or there is no next generation
+abbrev pub HasNoNextArea : ℕ → BaseView → Type 0
+HasNoNextArea generation state = (area_limit < length (image_spelling state) + 25) ⊎ (2 ^ 48 - 1 ≤ generation)
+
+-- the bytes of the disk whose area counted are as they were
+abbrev pub NewestStays : Disks → Disks → Type 0
+NewestStays before after = IfTold before (λ x y. (second : Bool) → newer (generation_of x) (generation_of y) ≡ Some second → one_of after.a after.b second ≡ one_of before.a before.b second)
 
 -- What is left where the making of a store met the fault of a disk: if an area was open, all bytes are as they were; if none was, none is, or the new one. The second disk is as it was.
 pub record IsNotLost (before after : Disks) : Type 0 where
@@ -102,6 +123,12 @@ pub data HasCause (secrets : Secrets) (words : List (String Global)) (rests : Re
   no_store : AreOfStore words → IfTold before HasNoArea → AreBytesKept before after → HasCause secrets words rests before after 4 (codes "nostore")
   damaged : (number : ℕ) (damage : Damage) → AreOfStore words → IfTold before (IsNewestDamaged (authority_under secrets) number damage) → AreBytesKept before after → HasCause secrets words rests before after 3 (damaged_text number damage)
   not_opened : AreOfStore words → HasDiskFailed before after → (rests.before → AreBytesKept before after) → HasCause secrets words rests before after 5 (codes "stopped")
+  checkpointed : (generation : ℕ) (start : Standing) → AsksFor words Checkpoint → IsOpened secrets generation before start → (HasNoNextArea generation (state_of_start start) → ⊥) → NewestStays before after →
+      IfTold before (λ x y. rests.after × IfTold after (IsNewestImage (generation + 1) (state_of_start start))) → HasCause secrets words rests before after 0 (codes "ok checkpoint")
+  full : (generation : ℕ) (start : Standing) → AsksFor words Checkpoint → IsOpened secrets generation before start → HasNoNextArea generation (state_of_start start) → AreBytesKept before after → rests.after →
+      HasCause secrets words rests before after 14 (codes "full")
+  not_checkpointed : (generation : ℕ) (start : Standing) → AsksFor words Checkpoint → IsOpened secrets generation before start → (HasNoNextArea generation (state_of_start start) → ⊥) → HasDiskFailed before after → NewestStays before after →
+      IfTold before (λ x y. IsNewestClosed generation start.base start.events x y → IfTold after (SurvivesWholeClosed start.base start.events)) → HasCause secrets words rests before after 5 (codes "stopped")
   audited : (pieces : Option ℕ) (generation : ℕ) (start : Standing) (report : Report) → AsksFor words (Audit pieces) → IsOpened secrets generation before start → IsReport (authority_under secrets) start.base start.events report →
       AreBytesKept before after → rests.after → HasCause secrets words rests before after (audit_status report.rows) (report_text report)
   loaded : (rounds seed : ℕ) (told : List ℕ) → AsksFor words (Load rounds seed) → IsLoaded rounds seed told → after ≡ before → HasCause secrets words rests before after 0 told
@@ -112,6 +139,13 @@ TellsUnopened opens.NoStore held faults result held_after faults_after = IsTold 
 TellsUnopened (opens.Damaged number damage) held faults result held_after faults_after = IsTold 3 (damaged_text number damage) held faults result held_after faults_after ⊎ IsUntold held result held_after
 TellsUnopened opens.Disk held faults result held_after faults_after = IsTold 5 (codes "stopped") held faults result held_after faults_after
 TellsUnopened opens.NoMemory held faults result held_after faults_after = IsUntold held result held_after
+
+-- what is reported of a checkpoint
+abbrev pub TellsCheckpoint : CheckpointReply → Option (List ℕ) → ℕ → ℕ → Option (List ℕ) → ℕ → Type 0
+TellsCheckpoint checkpoints.Checkpointed held faults result held_after faults_after = IsTold 0 (codes "ok checkpoint") held faults result held_after faults_after
+TellsCheckpoint checkpoints.Full held faults result held_after faults_after = IsTold 14 (codes "full") held faults result held_after faults_after
+TellsCheckpoint checkpoints.Stopped held faults result held_after faults_after = IsTold 5 (codes "stopped") held faults result held_after faults_after
+TellsCheckpoint checkpoints.NoMemory held faults result held_after faults_after = IsUntold held result held_after
 
 -- what is reported of why no store was made
 abbrev pub TellsUnmade : FormatFault → Option (List ℕ) → ℕ → ℕ → Option (List ℕ) → ℕ → Type 0

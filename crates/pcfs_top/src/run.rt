@@ -1,12 +1,12 @@
 //! A run of the program: its words, its input and its output and its disks, and the status that it ends with.
 
-ghost use Rattle.std.specs.Prelude.{◌≡◌, ◌≤◌, ℕ, List, Option, String, IfOk, IfSome};
+ghost use Rattle.std.specs.Prelude.{◌≡◌, ◌≤◌, ℕ, List, Option, String, IfOk, IfSome, MatchOption};
 ghost use Rattle.std.specs.declared.alloc.Global.{Global};
 ghost use Rattle.pcfs_ports.specs.Disk.{IsPinned};
 ghost use Rattle.pcfs_session.specs.ScriptEnds.{with_line_end};
-ghost use Rattle.command_words.specs.Tasks.{AsksFor, IsFit};
-ghost use Rattle.command_words.specs.declared.words.Task.TheVariants.{Stored, Init, Audit};
-ghost use Rattle.pcfs_top.specs.Run.{EndsWith, TellsUnopened, TellsUnmade, damage_number, damaged_text};
+ghost use Rattle.command_words.specs.Tasks.{AreKnown, AsksFor, IsFit};
+ghost use Rattle.command_words.specs.declared.words.Task.TheVariants.{Stored, Init, Checkpoint, Audit};
+ghost use Rattle.pcfs_top.specs.Run.{EndsWith, TellsCheckpoint, TellsUnopened, TellsUnmade, damage_number, damaged_text};
 
 use bl_syntax::decimal::put_counted;
 use bl_syntax::{Bytes, NoMemory};
@@ -14,7 +14,7 @@ use command_words::{Task, task_of};
 use op_gate::Damage;
 use pcfs_ports::{Disk, Sink, Source};
 use pcfs_secrets::Secrets;
-use pcfs_store::{FormatFault, format_store};
+use pcfs_store::{CheckpointReply, FormatFault, format_store};
 use pcfs_tools::answering::{DISK_FAULT, DONE, OUT_OF_MEMORY, run_over, tell};
 use pcfs_tools::{audit_history, inquire, load, run_in_memory};
 use recover::{OpenFault, open_store};
@@ -33,6 +33,9 @@ const NO_STORE: u8 = 4;
 
 /// An area is open.
 const ALREADY_STORE: u8 = 10;
+
+/// The checkpoint does not fit.
+const FULL: u8 = 14;
 
 /// How a run ended: its status, and the disks as they came back.
 #[derive(Debug, Drop)]
@@ -118,6 +121,58 @@ fn run_stored<I: Source, O: Sink, D: Disk>(
             store.keeps();
             let (a, b) = store.into_disks();
             Ended { status, a, b }
+        }
+        Err((fault, a, b)) => Ended {
+            status: tell_unopened(alloc, output, fault),
+            a,
+            b,
+        },
+    }
+}
+
+// Writes what a checkpoint answered, and returns the status to end with.
+fn tell_checkpoint<O: Sink>(output: &mut O, reply: CheckpointReply) -> u8
+    ensures { TellsCheckpoint reply (O.held output.old) (O.faults output.old) result (O.held output.new) (O.faults output.new) }
+{
+    match reply {
+        CheckpointReply::Checkpointed => tell(output, b"ok checkpoint\n", DONE),
+        CheckpointReply::Full => tell(output, b"full\n", FULL),
+        CheckpointReply::Stopped => tell(output, b"stopped\n", DISK_FAULT),
+        CheckpointReply::NoMemory => OUT_OF_MEMORY,
+    }
+}
+
+// Makes a checkpoint of the store on the disks.
+fn checkpoint_stored<O: Sink, D: Disk>(
+    alloc: Global,
+    secrets: &Secrets,
+    output: &mut O,
+    a: D,
+    b: D,
+) -> Ended<D>
+    ensures { (words : List (String Global)) (left : Option (List ℕ)) (read_faults : ℕ) → AsksFor words Checkpoint → EndsWith secrets.now words (record { before = IsPinned D.clock D.left_since D.image a × IsPinned D.clock D.left_since D.image b; after = IsPinned D.clock D.left_since D.image result.a × IsPinned D.clock D.left_since D.image result.b })
+        (record { streams = record { left = left; read_faults = read_faults; held = O.held output.old; write_faults = O.faults output.old }; disks = record { a = D.image a; b = D.image b; a_faults = D.faults a; b_faults = D.faults b } })
+        (record { streams = record { left = left; read_faults = read_faults; held = O.held output.new; write_faults = O.faults output.new }; disks = record { a = D.image result.a; b = D.image result.b; a_faults = D.faults result.a; b_faults = D.faults result.b } }) result.status }
+{
+    let ring = match secrets.ring.copy(alloc) {
+        Ok(ring) => ring,
+        Err(_) => return Ended {
+            status: OUT_OF_MEMORY,
+            a,
+            b,
+        },
+    };
+    match open_store(alloc, a, b, secrets.seal_key.as_slice(), ring) {
+        Ok(mut store) => {
+            store.keeps();
+            let reply = store.checkpoint(alloc, 0);
+            let status = tell_checkpoint(output, reply);
+            let (first_after, second_after) = store.into_disks();
+            Ended {
+                status,
+                a: first_after,
+                b: second_after,
+            }
         }
         Err((fault, a, b)) => Ended {
             status: tell_unopened(alloc, output, fault),
@@ -241,6 +296,7 @@ fn run_task<R: Threads + Wait + Sync, I: Source, O: Sink, D: Disk>(
         },
         Task::Stored => run_stored(alloc, secrets, input, output, a, b),
         Task::Init => init(alloc, secrets, output, a, b),
+        Task::Checkpoint => checkpoint_stored(alloc, secrets, output, a, b),
         Task::Audit(pieces) => audit_stored(rt, alloc, secrets, pieces, output, a, b),
         Task::Check => Ended {
             status: inquire(alloc, input, output),
@@ -260,18 +316,54 @@ fn run_task<R: Threads + Wait + Sync, I: Source, O: Sink, D: Disk>(
     }
 }
 
+/// Does what words ask for that were read; none if they are no command. What needs more ports than a run without
+/// connections is no command here.
+pub fn run_asked<R: Threads + Wait + Sync, I: Source, O: Sink, D: Disk>(
+    rt: &R,
+    alloc: Global,
+    asked: Option<Task>,
+    secrets: &Secrets,
+    input: &mut I,
+    output: &mut O,
+    a: D,
+    b: D,
+) -> Ended<D>
+    requires fit { IfSome asked IsFit }
+    ensures { (words : List (String Global)) → MatchOption asked (AreKnown words → ⊥) (AsksFor words) → EndsWith secrets.now words (record { before = IsPinned D.clock D.left_since D.image a × IsPinned D.clock D.left_since D.image b; after = IsPinned D.clock D.left_since D.image result.a × IsPinned D.clock D.left_since D.image result.b })
+        (record {
+          streams = record { left = I.left input.old; read_faults = I.faults input.old; held = O.held output.old; write_faults = O.faults output.old };
+          disks = record { a = D.image a; b = D.image b; a_faults = D.faults a; b_faults = D.faults b };
+        })
+        (record {
+          streams = record { left = I.left input.new; read_faults = I.faults input.new; held = O.held output.new; write_faults = O.faults output.new };
+          disks = record { a = D.image result.a; b = D.image result.b; a_faults = D.faults result.a; b_faults = D.faults result.b };
+        }) result.status }
+{
+    match asked {
+        Some(task) => run_task(rt, alloc, task, secrets, input, output, a, b),
+        None => Ended {
+            status: tell(output, b"usage\n", USAGE),
+            a,
+            b,
+        },
+    }
+}
+
 /// Runs the program: with the word `script` the lines of the input are answered over a store in memory, with
-/// `script --stored` over the one on the disks; with `init` a store is made on the first disk. With `audit` the history of
+/// `script --stored` over the one on the disks; with `init` a store is made on the first disk, and with `checkpoint` the state
+/// of the one on the disks is written as the image of a new area on the disk that does not count. With `audit` the history of
 /// the one on the disks is audited, with `audit --pieces N` in so many pieces; with `check` the inquiry in the input is
 /// answered; with `load N S` the script that so many rounds and that seed generate is run over a store in memory. Procaps are
 /// sealed under the key of the secrets, and statements are accepted whose signature their ring accepts.
 ///
-/// Returns the disks and the status to end with: 0, all is done, and of `init` the last line is `ok`; 1, the words are
+/// Returns the disks and the status to end with: 0, all is done, and of `init` the last line is `ok`, of `checkpoint`
+/// `ok checkpoint`; 1, the words are
 /// others, and the last line is `usage`; 2, a line has more than 262,144 bytes: `bad 3`; 3, the newest area is damaged, and
 /// the last line is `damaged` with the number of the record and the cause; 4, neither area is open: `nostore`; 5, a disk
 /// failed: `stopped`; 6, the input failed: `readfault`; 7, the output failed, and may lack any of its end; 9, memory ran out,
 /// without a last line; 10, an area is open already: `exists`; 11, the report of the audit has a row; 12, a line of the
-/// inquiry is wrong: `line` with its number, `bad`, and the fault; 13, the input has 1 GiB or more: `toolong`. At 2, 5, 6 and
+/// inquiry is wrong: `line` with its number, `bad`, and the fault; 13, the input has 1 GiB or more: `toolong`; 14, the image of a checkpoint does not fit into an area, or there is no next
+/// generation: `full`. At 2, 5, 6 and
 /// 13 the replies of a script to the lines before come before that line.
 pub fn run_alone<R: Threads + Wait + Sync, I: Source, O: Sink, D: Disk>(
     rt: &R,
@@ -294,12 +386,7 @@ pub fn run_alone<R: Threads + Wait + Sync, I: Source, O: Sink, D: Disk>(
         }) result.status }
 {
     match task_of(alloc, words) {
-        Ok(Some(task)) => run_task(rt, alloc, task, secrets, input, output, a, b),
-        Ok(None) => Ended {
-            status: tell(output, b"usage\n", USAGE),
-            a,
-            b,
-        },
+        Ok(asked) => run_asked(rt, alloc, asked, secrets, input, output, a, b),
         Err(_) => Ended {
             status: OUT_OF_MEMORY,
             a,

@@ -14,7 +14,6 @@ use Rattle.access_history.specs.declared.event.Event.{Event}
 use Rattle.access_history.specs.Authority.{Authority}
 use Rattle.access_history.specs.Base.{BaseView}
 use Rattle.access_history.specs.History.{authority_with}
-use Rattle.access_history.specs.Lawful.{IsLawful}
 use Rattle.journal_records.specs.EventSpelling.{IsReadEvent}
 use Rattle.op_gate.specs.Decision.{GateView}
 use Rattle.checkpoint_image.specs.ImageSpelling.{image_spelling}

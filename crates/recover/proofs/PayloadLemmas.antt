@@ -21,8 +21,6 @@ use Rattle.op_gate.specs.declared.damage.AdmitFault.TheVariants.{Damaged, NoMemo
 use Rattle.op_gate.specs.Damage.{TellsDamage}
 use Rattle.op_gate.specs.Decision.{GateView}
 use Rattle.pcfs_store.specs.StoredHistory.{payloads_of}
-use Rattle.recover.specs.declared.fault.OpenFault.{OpenFault}
-use Rattle.recover.specs.declared.fault.OpenFault.TheVariants as opens
 use Rattle.recover.specs.AreaDamage.{AreRead, IsDamagedPayload, no_event, of_event, IsDamagedAt}
 use Rattle.recover.specs.Reading.{IsSameGate, KeepsPayload, AdmitsPayload, AdmitsPayloads, fault_at, unread}
 

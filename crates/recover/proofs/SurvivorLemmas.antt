@@ -1,5 +1,5 @@
 -- What a crash leaves of a lawful history is opened, over plain values.
-use Rattle.std.proofs.Common.{◌≡◌, ◌<◌, ◌≤◌, ℕ, List, [], ◌∷◌, ◌++◌, length, take, drop, map, refl, sym, ap, subst, ◌∙◌, arith, take-append-drop, Some, None}
+use Rattle.std.proofs.Common.{◌≡◌, ◌<◌, ℕ, List, [], ◌∷◌, length, take, drop, map, refl, sym, ap, subst, ◌∙◌, take-append-drop, Some, None}
 use Rattle.std.specs.List.{AllByRecursion}
 use Rattle.std.proofs.lemmas.List.{take-take}
 use Rattle.journal_core.specs.Area.{area_bytes}
@@ -12,7 +12,7 @@ use Rattle.checkpoint_image.specs.ImageSpelling.{image_spelling}
 use Rattle.journal_records.specs.EventSpelling.{erase, IsReadEvent}
 use Rattle.op_gate.specs.declared.damage.Damage.{Damage}
 use Rattle.pcfs_store.specs.Newest.{newest, Survives, SurvivesClosed}
-use Rattle.pcfs_store.specs.StoredHistory.{payloads_of, AreSpellable, Resumes, StandsFor}
+use Rattle.pcfs_store.specs.StoredHistory.{payloads_of, Resumes, StandsFor}
 use Rattle.recover.specs.AreaDamage.{IsDamagedArea}
 use Rattle.recover.specs.Opening.{IsNewestClosed, IsNewestDamaged, IsNewestHistory}
 use Rattle.recover.proofs.FollowingLemmas.{back_lawful, erase_twice, erased_history, front_lawful}

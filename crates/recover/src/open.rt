@@ -133,11 +133,15 @@ pub fn open_store<D: Disk>(
     let mut b = b;
     match find_newest(&mut a, &mut b) {
         Ok(Some(false)) => match open_area(alloc, a, key, ring) {
-            Ok((area, generation, gate)) => Ok(Store::from_scan(alloc, area, b, false, generation, gate)),
+            Ok((area, generation, gate)) => Ok(Store::from_scan(
+                alloc, area, b, false, generation, gate,
+            )),
             Err((fault, a)) => Err((fault, a, b)),
         },
         Ok(Some(true)) => match open_area(alloc, b, key, ring) {
-            Ok((area, generation, gate)) => Ok(Store::from_scan(alloc, area, a, true, generation, gate)),
+            Ok((area, generation, gate)) => Ok(Store::from_scan(
+                alloc, area, a, true, generation, gate,
+            )),
             Err((fault, b)) => Err((fault, a, b)),
         },
         Ok(None) => Err((OpenFault::NoStore, a, b)),

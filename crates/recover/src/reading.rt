@@ -24,12 +24,7 @@ fn unread(fault: CodecFault) -> AdmitFault
 }
 
 // A gate that begins with the state of an image, exactly if a history may begin with that state.
-fn read_gate(
-    alloc: Global,
-    image: &[u8],
-    key: &[u8],
-    ring: Keyring,
-) -> Result<Gate, AdmitFault>
+fn read_gate(alloc: Global, image: &[u8], key: &[u8], ring: Keyring) -> Result<Gate, AdmitFault>
     ensures { ReadsGate key.now ring image.now result }
 {
     match read_base(alloc, image) {

@@ -18,7 +18,7 @@ use Rattle.line_forms.specs.declared.asked.Line.TheVariants as lines
 use Rattle.line_forms.specs.declared.command.Command.{Command}
 use Rattle.line_forms.specs.declared.command.Command.TheVariants.{At, As, Register, Procap, Verify, Check, Do}
 use Rattle.line_wire.specs.declared.reply.LineReply.{LineReply}
-use Rattle.pcfs_store.specs.Entries.{Root, StoreEntry, happened, stopped, state_of_entries}
+use Rattle.pcfs_store.specs.Entries.{Root, StoreEntry, happened, checkpointed, stopped, state_of_entries}
 use Rattle.session_history.specs.declared.request.TurnRequest.{TurnRequest}
 use Rattle.session_history.specs.declared.request.TurnRequest.TheVariants.{Step, Cite, Login}
 use Rattle.session_history.specs.declared.reply.TurnReply.{TurnReply}
@@ -212,6 +212,7 @@ module _ (ring : List KeyView) (nonce : List ℕ) (heard more : List (List ℕ))
   all_more : (given : List StoreEntry) → AllByRecursion (IsByAccepted ring nonce heard) given → AllByRecursion (IsByAccepted ring nonce (heard ++ more)) given
   all_more [] all = tt
   all_more (happened event ∷ given) all = (event_more event all.0, all_more given all.1)
+  all_more (checkpointed pass ∷ given) all = ((all.0.0, signed_more all.0.0 all.0.1), all_more given all.1)
   all_more (stopped pass ∷ given) all = ((all.0.0, signed_more all.0.0 all.0.1), all_more given all.1)
 
 -- what is kept of who is logged in

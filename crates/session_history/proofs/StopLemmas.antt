@@ -13,7 +13,7 @@ use Rattle.access_history.specs.declared.request.StepRequest.TheVariants as requ
 use Rattle.line_forms.specs.declared.fault.LineFault.{LineFault}
 use Rattle.line_wire.specs.declared.reply.LineReply.{LineReply}
 use Rattle.line_wire.specs.declared.reply.LineReply.TheVariants as replies
-use Rattle.pcfs_store.specs.Entries.{Root, StoreEntry, happened, stopped, events_among, state_of_entries}
+use Rattle.pcfs_store.specs.Entries.{Root, StoreEntry, happened, checkpointed, stopped, events_among, state_of_entries}
 use Rattle.session_history.specs.declared.request.TurnRequest.{TurnRequest}
 use Rattle.session_history.specs.declared.request.TurnRequest.TheVariants.{Step, Login}
 use Rattle.session_history.specs.declared.reply.TurnReply.{TurnReply}
@@ -33,11 +33,13 @@ use Rattle.session_history.specs.Placed as places
 stop_before : (xs ys : List StoreEntry) → has_stop xs ≡ true → has_stop (xs ++ ys) ≡ true
 stop_before [] ys is = absurd cc
 stop_before (happened event ∷ xs) ys is = stop_before xs ys is
+stop_before (checkpointed pass ∷ xs) ys is = stop_before xs ys is
 stop_before (stopped pass ∷ xs) ys is = refl
 
 stop_within : (xs ys : List StoreEntry) (pass : ℕ) → has_stop (xs ++ stopped pass ∷ ys) ≡ true
 stop_within [] ys pass = refl
 stop_within (happened event ∷ xs) ys pass = stop_within xs ys pass
+stop_within (checkpointed other ∷ xs) ys pass = stop_within xs ys pass
 stop_within (stopped other ∷ xs) ys pass = refl
 
 -- ---- turns

@@ -7,7 +7,7 @@ use Rattle.access_history.specs.declared.event.Event.TheVariants.{Registered, Is
 use Rattle.access_history.specs.Lawful.{IsLawful}
 use Rattle.line_wire.specs.declared.reply.LineReply.{LineReply}
 use Rattle.line_wire.specs.declared.reply.LineReply.TheVariants as replies
-use Rattle.pcfs_store.specs.Entries.{StoreEntry, happened, stopped, events_among}
+use Rattle.pcfs_store.specs.Entries.{StoreEntry, happened, checkpointed, stopped, events_among}
 use Rattle.session_history.specs.declared.request.TurnRequest.{TurnRequest}
 use Rattle.session_history.specs.declared.request.TurnRequest.TheVariants.{Login}
 use Rattle.session_history.specs.declared.reply.TurnReply.{TurnReply}
@@ -75,6 +75,7 @@ abbrev pub IsByAccepted : List KeyView → List ℕ → List (List ℕ) → Stor
 IsByAccepted ring nonce heard (happened (Acted pass caller op procaps moment)) = HasSigned ring nonce heard caller
 IsByAccepted ring nonce heard (happened (Registered pass statement signature)) = (who : List ℕ) × HasSigned ring nonce heard who
 IsByAccepted ring nonce heard (happened (Issued pass cited proof grant)) = (who : List ℕ) × HasSigned ring nonce heard who
+IsByAccepted ring nonce heard (checkpointed pass) = (who : List ℕ) × HasSigned ring nonce heard who
 IsByAccepted ring nonce heard (stopped pass) = (who : List ℕ) × HasSigned ring nonce heard who
 
 -- In a session that is given entries somebody logged in over its nonce, by one of its lines; and each operation among them is by who logged in so.

@@ -3,7 +3,7 @@ use Rattle.std.specs.Prelude.{◌≡◌, ℕ, List, [], ◌∷◌, Bool, true, f
 use Rattle.std.specs.List.{AllByRecursion}
 use Rattle.access_history.specs.declared.event.Event.{Event}
 use Rattle.access_history.specs.declared.event.Event.TheVariants.{Registered, Issued, Acted}
-use Rattle.pcfs_store.specs.Entries.{StoreEntry, happened, stopped}
+use Rattle.pcfs_store.specs.Entries.{StoreEntry, happened, checkpointed, stopped}
 
 -- the number of the pass in whose turn the event was kept; it is 0 if the event was read from an area
 abbrev pub event_pass : Event → ℕ
@@ -14,6 +14,7 @@ event_pass (Acted pass caller op procaps moment) = pass
 -- the number of the pass in whose turn the entry was added
 abbrev pub entry_pass : StoreEntry → ℕ
 entry_pass (happened event) = event_pass event
+entry_pass (checkpointed pass) = pass
 entry_pass (stopped pass) = pass
 
 -- each of the entries was added in a turn of this pass
@@ -24,4 +25,5 @@ AllOfPass pass entries = AllByRecursion (λ entry. entry_pass entry ≡ pass) en
 abbrev pub has_stop : List StoreEntry → Bool
 has_stop [] = false
 has_stop (happened event ∷ entries) = has_stop entries
+has_stop (checkpointed pass ∷ entries) = has_stop entries
 has_stop (stopped pass ∷ entries) = true

@@ -1,8 +1,8 @@
 //! A case: an operator's script, what connections say and are told, and what another script finds then.
 
 use crate::board::{Board, Outcome, Step};
+use crate::command::Command;
 use crate::connection::RowListener;
-use bl_syntax::decimal::put_counted;
 use bl_syntax::{Bytes, NoMemory, Numbers};
 use pcfs_ports::{ListNonces, MemoryDisk, MemorySink, MemorySource};
 use pcfs_run::run;
@@ -44,6 +44,7 @@ impl<T: Drop> From<AllocFailed<T>> for RowFault {
 pub struct Case {
     secrets: Bytes,
     script: Bytes,
+    command: Command,
     nonces: Bytes,
     connections: u64,
     second: i64,
@@ -59,7 +60,7 @@ pub struct Case {
 pub struct CaseEnd {
     /// How the connections did.
     pub outcome: Outcome,
-    /// The command ended with status 0, and reported how many it served.
+    /// The command ended as it has to.
     pub is_served: bool,
     /// What the script that came then was told, and what was wanted.
     pub found: Bytes,
@@ -130,40 +131,26 @@ fn set_up<R: Threads + Wait + Sync + AllocGlobal>(
     run_over(rt, &words, secrets, script, &mut output, made.a, made.b)
 }
 
-// The line that tells how many were served.
-fn served_line(alloc: Global, count: u64) -> Result<Bytes, RowFault> {
-    let mut line = Bytes::new(alloc);
-    put_counted(&mut line, "served ", count)?;
-    line.push(b'\n')?;
-    Ok(line)
-}
-
-// The words that serve so many.
-fn serve_words(alloc: Global, count: u64) -> Result<Vec<String>, RowFault> {
-    let number = count.to_string(alloc)?;
-    words_of(alloc, &["serve", "4040", number.as_str()])
-}
-
-// Gives the connections of the board sessions over the disks. Returns the disks, and whether the command ended as wanted.
+// Runs the command, which gives the connections of the board sessions over the disks. Returns the disks, and whether it ended
+// as it has to.
 fn serve<R: Threads + Wait + Sync + AllocGlobal>(
     rt: &R,
     secrets: &Secrets,
     board: &Board,
-    count: u64,
+    command: &Command,
+    connections: u64,
     nonces: Bytes,
     disks: Ended<MemoryDisk>,
 ) -> Result<(Ended<MemoryDisk>, bool), RowFault> {
     let alloc = rt.alloc();
-    let words = serve_words(alloc, count)?;
-    let wanted = served_line(alloc, count)?;
     let mut input = MemorySource::new(alloc, Bytes::new(alloc), Numbers::new(alloc));
     let mut output = MemorySink::new(alloc, Numbers::new(alloc));
     let mut nonces = ListNonces::new(alloc, nonces, Numbers::new(alloc));
-    let mut net = RowListener::new(board, count);
+    let mut net = RowListener::new(board, connections);
     let ended = run(
         rt,
         alloc,
-        &words,
+        command.words(),
         secrets,
         &mut input,
         &mut output,
@@ -173,7 +160,7 @@ fn serve<R: Threads + Wait + Sync + AllocGlobal>(
         &mut net,
         &mut nonces,
     );
-    let is_served = ended.status == 0 && output.held() == wanted.as_slice();
+    let is_served = command.ends_with(ended.status, output.held());
     Ok((ended, is_served))
 }
 
@@ -193,19 +180,20 @@ fn found_by<R: Threads + Wait + Sync + AllocGlobal>(
     Ok(found)
 }
 
-// Runs the operator's script, the connections, and the script that looks at what is kept. Returns whether the connections were
-// served, and what that script is told.
+// Runs the operator's script, the command with the connections, and the script that looks at what is kept. Returns whether the
+// command ended as it has to, and what that script is told.
 fn run_all<R: Threads + Wait + Sync + AllocGlobal>(
     rt: &R,
     secrets: &Secrets,
     board: &Board,
+    command: &Command,
     connections: u64,
     script: Bytes,
     nonces: Bytes,
     checks: Bytes,
 ) -> Result<(bool, Bytes), RowFault> {
     let disks = set_up(rt, secrets, script)?;
-    let (disks, is_served) = serve(rt, secrets, board, connections, nonces, disks)?;
+    let (disks, is_served) = serve(rt, secrets, board, command, connections, nonces, disks)?;
     match found_by(rt, secrets, checks, disks) {
         Ok(found) => Ok((is_served, found)),
         Err(fault) => Err(fault),
@@ -218,6 +206,7 @@ impl Case {
         Case {
             secrets: Bytes::new(alloc),
             script: Bytes::new(alloc),
+            command: Command::new(alloc),
             nonces: Bytes::new(alloc),
             connections: 0,
             second: 0,
@@ -317,6 +306,9 @@ impl Case {
         match kind {
             "secret" => add_line(text, &mut self.secrets),
             ">" => add_line(text, &mut self.script),
+            "words" => self.command.add_words(alloc, text),
+            "status" => self.command.set_status(text),
+            "tells" => self.command.add_told(text),
             "nonce" => self.add_connection(text),
             "at" => self.set_clock(text),
             "+" => self.begin_step(text),
@@ -335,6 +327,7 @@ impl Case {
         let Case {
             secrets,
             script,
+            command,
             nonces,
             connections,
             second: _,
@@ -348,8 +341,19 @@ impl Case {
             Ok(secrets) => secrets,
             Err(_) => return Err(RowFault::BadRow),
         };
+        let mut command = command;
+        command.complete(rt.alloc(), connections)?;
         let board = Board::new(steps);
-        let ran = run_all(rt, &secrets, &board, connections, script, nonces, checks);
+        let ran = run_all(
+            rt,
+            &secrets,
+            &board,
+            &command,
+            connections,
+            script,
+            nonces,
+            checks,
+        );
         let outcome = board.outcome();
         match ran {
             Ok((is_served, found)) => Ok(CaseEnd {

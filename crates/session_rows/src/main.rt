@@ -8,6 +8,7 @@
 
 mod board;
 mod case;
+mod command;
 mod connection;
 mod rows;
 

@@ -44,7 +44,7 @@ fn judge(name: &str, ended: &CaseEnd, report: &mut Bytes) -> Result<bool, NoMemo
         }
     }
     if !ended.is_served {
-        add_report("not served: ", name, report)?;
+        add_report("ends otherwise: ", name, report)?;
         return Ok(false);
     }
     if ended.found.as_slice() != ended.wanted.as_slice() {

@@ -1,4 +1,4 @@
-pub mod CountLemmas
+pub mod ConnectionLemmas
 pub mod AskingLemmas
 pub mod SaidLemmas
 pub mod SpokenLemmas

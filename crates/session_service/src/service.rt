@@ -129,14 +129,16 @@ impl<'a, D: Disk + Send, C: Clock, N: Nonces + 'a, I: Source, O: Sink> Service<I
 
     type Kept = (LinkedList<(u64, LockEntry<D>)>, u64);
 
-    ghost use Rattle.std.specs.Prelude.{◌≡◌, ◌≤◌, ◌-◌, ◌^◌, true, false, length};
+    ghost use Rattle.std.specs.Prelude.{◌≡◌, ◌-◌, ◌^◌, [], true, false};
+    ghost use Rattle.session_service.specs.Connections.{AreOfConnections};
     ghost use Rattle.session_service.specs.declared.session_end.SessionEnd.{SessionEnd};
     ghost use Rattle.session_service.specs.SessionEnds.{SessionEnds, GreetsFirst};
 
-    // Each token that is counted had a pass that was taken in.
-    ghost is_door = { λ service door. (door.door.lock ≡ service.lock.now) × (door.served ≤ length door.door.retired) };
+    // The passes that were taken in are those of the connections that are counted, or have no entries.
+    ghost is_door = { λ service door. (door.door.lock ≡ service.lock.now) × AreOfConnections door.served door.door.retired };
 
-    ghost is_token = { λ service token. token.pass.lock ≡ service.lock.now };
+    // Before the connection is attended, its pass has no entries.
+    ghost is_token = { λ service token. (token.pass.lock ≡ service.lock.now) × (token.attended ≡ false → token.pass.own ≡ []) };
 
     ghost attended = { λ token. token.attended };
 
@@ -174,9 +176,9 @@ impl<'a, D: Disk + Send, C: Clock, N: Nonces + 'a, I: Source, O: Sink> Service<I
         input: &mut I,
         output: &mut O,
     )
-        requires belongs { token.old.pass.lock ≡ self.now.lock.now }
+        requires belongs { (token.old.pass.lock ≡ self.now.lock.now) × (token.old.attended ≡ false → token.old.pass.own ≡ []) }
         requires once { token.old.attended ≡ false }
-        ensures belongs { token.new.pass.lock ≡ self.now.lock.now }
+        ensures belongs { (token.new.pass.lock ≡ self.now.lock.now) × (token.new.attended ≡ false → token.new.pass.own ≡ []) }
         ensures attended { token.new.attended ≡ true }
 
         // The connection had a session, under the token's pass and with its nonce.

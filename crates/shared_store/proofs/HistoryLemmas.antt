@@ -1,5 +1,5 @@
 -- Entries under their numbers, and without them.
-use Rattle.std.proofs.Common.{◌≡◌, ◌∙◌, ℕ, List, [], ◌∷◌, ◌++◌, map, Option, Some, None, refl, sym, ap}
+use Rattle.std.proofs.Common.{◌≡◌, ◌∙◌, ℕ, List, [], ◌∷◌, ◌++◌, map, Option, Some, None, refl, sym, ap, subst}
 use Rattle.std.specs.List.{AllByRecursion}
 use Rattle.std.proofs.lemmas.List.{map-append}
 use mathlib.Core.List.{IsPrefix}
@@ -7,11 +7,12 @@ use Rattle.tree_lock.specs.Entries.{AllOfNumber}
 use Rattle.access_history.specs.declared.event.Event.{Event}
 use Rattle.access_history.specs.declared.event.Event.TheVariants.{Registered, Issued, Acted}
 use Rattle.journal_records.specs.EventSpelling.{erase, IsReadEvent}
-use Rattle.pcfs_store.specs.Entries.{StoreEntry, happened, stopped, stop_entries}
+use Rattle.pcfs_store.specs.Entries.{StoreEntry, happened, checkpointed, stopped, stop_entries, merged}
+use Rattle.pcfs_store.specs.declared.checkpoints.Checkpoint.{Checkpoint}
 use Rattle.pcfs_store.specs.StoreView.{StoreView}
 use Rattle.session_history.specs.Passes.{event_pass, AllOfPass}
 use Rattle.shared_store.specs.declared.entry.LockEntry.{LockEntry}
-use Rattle.shared_store.specs.declared.entry.LockEntry.TheVariants.{Opened, Happened, Stopped}
+use Rattle.shared_store.specs.declared.entry.LockEntry.TheVariants.{Opened, Happened, Checkpointed, Stopped}
 use Rattle.shared_store.specs.LockHistory.{numbered_entry, numbered, lock_history, lock_entries, bare}
 
 -- an event that was read has pass 0
@@ -26,12 +27,14 @@ read_numbers D [] None each running = tt
 read_numbers D [] (Some pass) each running = absurd cc
 read_numbers D (event ∷ events) stop each running = (pass_none event each.0.erased, read_numbers D events stop each.1 running)
 
-pub opened_numbers : {D : Type 0} (s : StoreView D) → AllByRecursion IsReadEvent s.events → s.stop ≡ None → AllOfNumber 0 (lock_entries (record { store = s; opening = s }))
-opened_numbers {D = D} s each running = (refl, read_numbers D s.events s.stop each running)
+pub opened_numbers : {D : Type 0} (s : StoreView D) → AllByRecursion IsReadEvent s.events → s.checkpoints ≡ [] → s.stop ≡ None → AllOfNumber 0 (lock_entries (record { store = s; opening = s }))
+opened_numbers {D = D} s each none running =
+    (refl, subst (λ (checkpoints : List Checkpoint). AllOfNumber 0 (numbered {D = D} (merged 0 s.events checkpoints ++ stop_entries s.stop))) (sym none) (read_numbers D s.events s.stop each running))
 
 bare_all : (D : Type 0) (entries : List StoreEntry) → bare (numbered {D = D} entries) ≡ entries
 bare_all D [] = refl
 bare_all D (happened event ∷ entries) = ap (λ (l : List StoreEntry). happened event ∷ l) (bare_all D entries)
+bare_all D (checkpointed pass ∷ entries) = ap (λ (l : List StoreEntry). checkpointed pass ∷ l) (bare_all D entries)
 bare_all D (stopped pass ∷ entries) = ap (λ (l : List StoreEntry). stopped pass ∷ l) (bare_all D entries)
 
 pub numbered_both : (D : Type 0) (xs ys : List StoreEntry) → numbered {D = D} (xs ++ ys) ≡ numbered {D = D} xs ++ numbered {D = D} ys
@@ -40,12 +43,14 @@ numbered_both D xs ys = map-append (numbered_entry {D = D}) xs ys
 pub all_numbered : (D : Type 0) (pass : ℕ) (entries : List StoreEntry) → AllOfPass pass entries → AllOfNumber pass (numbered {D = D} entries)
 all_numbered D pass [] all = tt
 all_numbered D pass (happened event ∷ entries) all = (all.0, all_numbered D pass entries all.1)
+all_numbered D pass (checkpointed other ∷ entries) all = (all.0, all_numbered D pass entries all.1)
 all_numbered D pass (stopped other ∷ entries) all = (all.0, all_numbered D pass entries all.1)
 
 module _ {D : Type 0} where
   bare_front : (entries : List StoreEntry) (rest : List (ℕ × LockEntry D)) → bare (numbered entries ++ rest) ≡ entries ++ bare rest
   bare_front [] rest = refl
   bare_front (happened event ∷ entries) rest = ap (λ (l : List StoreEntry). happened event ∷ l) (bare_front entries rest)
+  bare_front (checkpointed pass ∷ entries) rest = ap (λ (l : List StoreEntry). checkpointed pass ∷ l) (bare_front entries rest)
   bare_front (stopped pass ∷ entries) rest = ap (λ (l : List StoreEntry). stopped pass ∷ l) (bare_front entries rest)
 
   -- ---- how a history begins
@@ -53,6 +58,7 @@ module _ {D : Type 0} where
   abbrev opened_in : StoreView D → LockEntry D → StoreView D
   opened_in default (Opened opening) = opening
   opened_in default (Happened event) = default
+  opened_in default (Checkpointed pass) = default
   opened_in default (Stopped pass) = default
 
   abbrev opened_of : StoreView D → List (ℕ × LockEntry D) → StoreView D

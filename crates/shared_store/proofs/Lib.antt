@@ -3,3 +3,4 @@ pub mod TurningLemmas
 pub mod HistoryLemmas
 pub mod AskingLemmas
 pub mod MergedLemmas
+pub mod GrowingLemmas

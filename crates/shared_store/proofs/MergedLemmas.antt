@@ -11,11 +11,11 @@ use Rattle.tree_lock.specs.Closing.{IsClosed}
 use Rattle.tree_lock.specs.Merge.{Merges, ends, takes, IsMerge}
 use Rattle.tree_lock.proofs.EntryLemmas.{of_number-here, of_number-else}
 use Rattle.tree_lock.proofs.MergeLemmas.{closed_merges}
-use Rattle.pcfs_store.specs.Entries.{StoreEntry, happened, stopped, entries_of}
+use Rattle.pcfs_store.specs.Entries.{StoreEntry, happened, checkpointed, stopped, entries_of}
 use Rattle.pcfs_store.specs.StoreView.{StoreView}
 use Rattle.session_history.specs.Passes.{event_pass, AllOfPass}
 use Rattle.shared_store.specs.declared.entry.LockEntry.{LockEntry}
-use Rattle.shared_store.specs.declared.entry.LockEntry.TheVariants.{Opened, Happened, Stopped}
+use Rattle.shared_store.specs.declared.entry.LockEntry.TheVariants.{Opened, Happened, Checkpointed, Stopped}
 use Rattle.shared_store.specs.OpenedView.{OpenedView}
 use Rattle.shared_store.specs.LockHistory.{numbered, lock_history, lock_entries, before_others, bare}
 use Rattle.shared_store.specs.Merged.{AreMerged}
@@ -46,6 +46,7 @@ module _ {D : Type 0} where
       Merges (map bare lists) (before_others e rest)
   taken lists k (Opened opening) l rest found merged = subst (λ (ls : List (List StoreEntry)). Merges ls rest) (set_same (map bare lists) k (bare l) found) merged
   taken lists k (Happened event) l rest found merged = takes k found merged
+  taken lists k (Checkpointed pass) l rest found merged = takes k found merged
   taken lists k (Stopped pass) l rest found merged = takes k found merged
 
   merges_bare : (lists : List (List (ℕ × LockEntry D))) (xs : List (ℕ × LockEntry D)) → Merges lists xs → Merges (map bare lists) (bare xs)
@@ -67,6 +68,7 @@ module _ {D : Type 0} where
 own_entries : (D : Type 0) (n : ℕ) (entries : List StoreEntry) → AllOfPass n (bare (of_number n (numbered {D = D} entries)))
 own_entries D n [] = tt
 own_entries D n (happened event ∷ entries) = under n (event_pass event) (Happened event) (numbered {D = D} entries) (λ is. (is, own_entries D n entries)) (own_entries D n entries)
+own_entries D n (checkpointed pass ∷ entries) = under n pass (Checkpointed pass) (numbered {D = D} entries) (λ is. (is, own_entries D n entries)) (own_entries D n entries)
 own_entries D n (stopped pass ∷ entries) = under n pass (Stopped pass) (numbered {D = D} entries) (λ is. (is, own_entries D n entries)) (own_entries D n entries)
 
 module _ {D : Type 0} where

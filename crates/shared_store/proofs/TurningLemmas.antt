@@ -1,5 +1,5 @@
 -- What a store does in a turn, as a turn over its entries.
-use Rattle.std.proofs.Common.{◌≡◌, ◌∙◌, ℕ, List, [], ◌∷◌, ◌++◌, map, Bool, true, false, Option, Some, None, refl, sym, ap, subst, append-nil}
+use Rattle.std.proofs.Common.{◌≡◌, ◌∙◌, ℕ, ◌-◌, List, [], ◌∷◌, ◌++◌, take, drop, map, append_assoc, Bool, true, false, Option, Some, None, refl, sym, ap, subst, append-nil}
 use Rattle.std.specs.Prelude.{ℤ, ◌↔◌, IsTrue, IsSome, is_some}
 use Rattle.std.proofs.lemmas.Bool.{false≢true}
 use Rattle.policy_statement.specs.Messages.{login_message}
@@ -21,12 +21,13 @@ use Rattle.op_gate.specs.declared.cite.Citation.TheVariants as citations
 use Rattle.op_gate.specs.Citations.{GivesCitation}
 use Rattle.op_gate.specs.Decision.{GateView}
 use Rattle.pcfs_store.specs.declared.reply.StoreReply.{StoreReply}
-use Rattle.pcfs_store.specs.Entries.{StoreEntry, happened, stopped, stop_entries, root_of, entries_of, state_of_entries, used_by}
+use Rattle.pcfs_store.specs.Entries.{StoreEntry, happened, checkpointed, stopped, stop_entries, merged, root_of, entries_of, state_of_entries, used_by}
+use Rattle.pcfs_store.specs.declared.checkpoints.Checkpoint.{Checkpoint}
 use Rattle.pcfs_store.specs.StoreView.{StoreView, AnswersIn, IsStore}
 use Rattle.pcfs_store.specs.StoredHistory.{IsFull}
 use Rattle.pcfs_store.specs.Steps.{IsFullFor, Steps}
 use Rattle.pcfs_store.specs.Steps as steps
-use Rattle.pcfs_store.proofs.EntryLemmas.{events-entries, used-entries}
+use Rattle.pcfs_store.proofs.EntryLemmas.{events-entries, used-since, entries-kept, entries-stopped}
 use Rattle.session_history.specs.declared.request.TurnRequest.{TurnRequest}
 use Rattle.session_history.specs.declared.request.TurnRequest.TheVariants as requests
 use Rattle.session_history.specs.declared.reply.TurnReply.{TurnReply}
@@ -41,16 +42,31 @@ use Rattle.shared_store.proofs.GoesOnLemmas.{none_some}
 
 -- ---- entries of a store
 
-stop_among : (events : List Event) (stop : Option ℕ) → has_stop (map happened events ++ stop_entries stop) ≡ is_some stop
-stop_among [] None = refl
-stop_among [] (Some pass) = refl
-stop_among (event ∷ events) stop = stop_among events stop
+stop_after : (events : List Event) (rest : List StoreEntry) → has_stop (map happened events ++ rest) ≡ has_stop rest
+stop_after [] rest = refl
+stop_after (event ∷ events) rest = stop_after events rest
+
+stop_merged : (before : ℕ) (events : List Event) (checkpoints : List Checkpoint) (rest : List StoreEntry) → has_stop (merged before events checkpoints ++ rest) ≡ has_stop rest
+stop_merged before events [] rest = stop_after events rest
+stop_merged before events (checkpoint ∷ checkpoints) rest =
+    let some = take (checkpoint.after - before) events in
+    let others = merged checkpoint.after (drop (checkpoint.after - before) events) checkpoints in
+    ap has_stop (append_assoc (map happened some) (checkpointed checkpoint.pass ∷ others) rest)
+    ∙ stop_after some (checkpointed checkpoint.pass ∷ (others ++ rest))
+    ∙ stop_merged checkpoint.after (drop (checkpoint.after - before) events) checkpoints rest
+
+stop_last : (stop : Option ℕ) → has_stop (stop_entries stop) ≡ is_some stop
+stop_last None = refl
+stop_last (Some pass) = refl
+
+stop_among : {D : Type 0} (s : StoreView D) → has_stop (entries_of s) ≡ is_some s.stop
+stop_among s = stop_merged 0 s.events s.checkpoints (stop_entries s.stop) ∙ stop_last s.stop
 
 pub runs : {D : Type 0} (s : StoreView D) → is_some s.stop ≡ false → has_stop (entries_of s) ≡ false
-runs s running = stop_among s.events s.stop ∙ running
+runs s running = stop_among s ∙ running
 
 pub stands : {D : Type 0} (s : StoreView D) → is_some s.stop ≡ true → has_stop (entries_of s) ≡ true
-stands s stop = stop_among s.events s.stop ∙ stop
+stands s stop = stop_among s ∙ stop
 
 some_stop : (stop : Option ℕ) → is_some stop ≡ true → (pass : ℕ) × (stop ≡ Some pass)
 some_stop None is = absurd (false≢true is)
@@ -58,7 +74,7 @@ some_stop (Some pass) is = (pass, refl)
 
 -- a store is stopped if its entries have a mark
 pub stop_of : {D : Type 0} (s : StoreView D) → has_stop (entries_of s) ≡ true → (pass : ℕ) × (s.stop ≡ Some pass)
-stop_of s mark = some_stop s.stop (sym (stop_among s.events s.stop) ∙ mark)
+stop_of s mark = some_stop s.stop (sym (stop_among s) ∙ mark)
 
 -- what a store says of its stop
 pub is_stopped : (stop : Option ℕ) (found : Bool) → IsTrue found ↔ IsSome stop → found ≡ true → is_some stop ≡ true
@@ -68,23 +84,13 @@ pub is_running : (stop : Option ℕ) (found : Bool) → IsTrue found ↔ IsSome 
 is_running None found says is = refl
 is_running (Some pass) found says is = absurd (false≢true (sym is ∙ says.1 refl))
 
-event_more : (events : List Event) (event : Event) (stop : Option ℕ) → stop ≡ None → map happened (events ++ event ∷ []) ++ stop_entries stop ≡ (map happened events ++ stop_entries stop) ++ happened event ∷ []
-event_more events event (Some pass) none = absurd cc
-event_more [] event None none = refl
-event_more (e ∷ events) event None none = ap (λ (l : List StoreEntry). happened e ∷ l) (event_more events event None none)
-
-stop_more : (events : List Event) (stop : Option ℕ) (pass : ℕ) → stop ≡ None → map happened events ++ stop_entries (Some pass) ≡ (map happened events ++ stop_entries stop) ++ stopped pass ∷ []
-stop_more events (Some other) pass none = absurd cc
-stop_more [] None pass none = refl
-stop_more (e ∷ events) None pass none = ap (λ (l : List StoreEntry). happened e ∷ l) (stop_more events None pass none)
-
 one_pass : (pass stopper : ℕ) → ◌≡◌ {A = Option ℕ} (Some pass) (Some stopper) → stopper ≡ pass
 one_pass pass stopper is = cc
 
 module _ {D : Type 0} (clock : D → ℕ) (left_since : D → ℕ → List ℕ → Type 0) (image : D → Option (List ℕ)) (faults : D → ℕ) (opening now : StoreView D) (g : HasGoneOn clock left_since image faults opening now) where
   -- the state to which the entries lead is the store's
   pub state_is : state_of_entries (root_of opening) (entries_of now) ≡ replay now.base now.events
-  state_is = ap (replay opening.base) (events-entries now.events now.stop) ∙ ap (λ (b : BaseView). replay b now.events) (sym g.base_stays)
+  state_is = ap (replay opening.base) (events-entries now.events now.checkpoints now.stop) ∙ ap (λ (b : BaseView). replay b now.events) (sym g.base_stays)
 
   there : (pass : ℕ) (moment : ℤ) (request : StepRequest) (reply : StepReply) (event : Option Event) → AnswersIn now pass moment request reply event →
       Answers (authority_of_root (root_of opening)) (state_of_entries (root_of opening) (entries_of now)) pass moment request reply event
@@ -93,13 +99,17 @@ module _ {D : Type 0} (clock : D → ℕ) (left_since : D → ℕ → List ℕ �
       (subst (λ (r : List KeyView). Answers (authority_with opening.key r) (replay now.base now.events) pass moment request reply event) g.ring_stays
       (subst (λ (k : List ℕ). Answers (authority_with k now.ring) (replay now.base now.events) pass moment request reply event) g.key_stays answers))
 
+  -- and the bytes that they ask for are those of its area
+  used_is : IsStore now → now.used ≡ used_by (root_of opening) (entries_of now)
+  used_is store = used-since opening now g.base_stays store
+
   full_there : (event : Event) → IsStore now → IsFullFor now event → IsFullAfter (root_of opening) (entries_of now) event
   full_there event store is_full =
-      subst (λ (s : BaseView). IsFull (used_by (root_of opening) (entries_of now)) s.count event) (sym state_is) (subst (λ (n : ℕ). IsFull n (replay now.base now.events).count event) (used-entries now store) is_full)
+      subst (λ (s : BaseView). IsFull (used_by (root_of opening) (entries_of now)) s.count event) (sym state_is) (subst (λ (n : ℕ). IsFull n (replay now.base now.events).count event) (used_is store) is_full)
 
   full_here : (event : Event) → IsStore now → IsFullAfter (root_of opening) (entries_of now) event → IsFullFor now event
   full_here event store is_full =
-      subst (λ (n : ℕ). IsFull n (replay now.base now.events).count event) (sym (used-entries now store)) (subst (λ (s : BaseView). IsFull (used_by (root_of opening) (entries_of now)) s.count event) state_is is_full)
+      subst (λ (n : ℕ). IsFull n (replay now.base now.events).count event) (sym (used_is store)) (subst (λ (s : BaseView). IsFull (used_by (root_of opening) (entries_of now)) s.count event) state_is is_full)
 
   -- a step
   by_step : (new : StoreView D) (pass : ℕ) (moment : ℤ) (request : StepRequest) (reply : StoreReply) → IsStore now → Steps faults now pass moment request reply new →
@@ -114,7 +124,7 @@ module _ {D : Type 0} (clock : D → ℕ) (left_since : D → ℕ → List ℕ �
   by_step _ pass moment request _ store (steps.kept reply event active running answers room) = record {
     given = happened event ∷ [];
     opening_stays = refl;
-    grows = event_more now.events event now.stop running;
+    grows = entries-kept now running event active store;
     turn = turns.kept moment (turn_replies.Step reply) event (runs now (ap is_some running)) refl (turns.steps request reply (Some event) (there pass moment request reply (Some event) answers)) (λ is_full. room (full_here event store is_full));
     stops = λ stopper was is. none_some now.stop stopper was is;
   }
@@ -128,7 +138,7 @@ module _ {D : Type 0} (clock : D → ℕ) (left_since : D → ℕ → List ℕ �
   by_step _ pass moment request _ store (steps.failed reply event active running answers room risen) = record {
     given = stopped pass ∷ [];
     opening_stays = refl;
-    grows = stop_more now.events now.stop pass running;
+    grows = entries-stopped now running active now.other pass;
     turn = turns.failed moment (turn_replies.Step reply) event (runs now (ap is_some running)) refl (turns.steps request reply (Some event) (there pass moment request reply (Some event) answers)) (λ is_full. room (full_here event store is_full));
     stops = λ stopper was is. (one_pass pass stopper is, risen);
   }

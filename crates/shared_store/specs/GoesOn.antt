@@ -35,8 +35,8 @@ pub record HasMet {D : Type 0} (clock : D → ℕ) (left_since : D → ℕ → L
   pub survives : StopsNow clock left_since image s (SurvivesWithOrWithout s.base s.events met)
 
 module _ {D : Type 0} (clock : D → ℕ) (left_since : D → ℕ → List ℕ → Type 0) (image : D → Option (List ℕ)) (faults : D → ℕ) where
-  -- The store was opened as `opening`, and is `now`. Key, ring and base are the same, and the events are those of the opening with others after them; if the former are lawful, so are all. The area that counts has the same generation on the same disk, and the
-  -- other disk is not touched. While no disk has failed, a store that was ready is ready, and what a read gives stands for its history. If one has, a count rose above the one at the opening; and of a store that was ready a
+  -- The store was opened as `opening`, and is `now`. Key, ring and base are the same, and the events are those of the opening with others after them; if the former are lawful, so are all. No checkpoint was made: the area that counts has the same
+  -- generation on the same disk, and the other disk is not touched. While no disk has failed, a store that was ready is ready, and what a read gives stands for its history. If one has, a count rose above the one at the opening; and of a store that was ready a
   -- crash leaves the history, or with it the event that met the fault, which a request of the pass that stopped it asked for.
   pub record HasGoneOn (opening now : StoreView D) : Type 0 where
     pub began : opening.stop ≡ None
@@ -45,6 +45,7 @@ module _ {D : Type 0} (clock : D → ℕ) (left_since : D → ℕ → List ℕ �
     pub base_stays : now.base ≡ opening.base
     pub events_go_on : IsPrefix opening.events now.events
     pub lawful : IsLawful (authority_of_store opening) opening.base opening.events → IsLawful (authority_of_store now) now.base now.events
+    pub checkpoints_stay : now.checkpoints ≡ opening.checkpoints
     pub generation_stays : now.generation ≡ opening.generation
     pub place_stays : now.second_active ≡ opening.second_active
     pub other_stays : now.other ≡ opening.other

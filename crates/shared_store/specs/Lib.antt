@@ -7,3 +7,4 @@ pub mod Turning
 pub mod Asking
 pub mod Merged
 pub mod Laws
+pub mod Growing

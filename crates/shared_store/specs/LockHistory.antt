@@ -1,15 +1,16 @@
 -- The entries of a shared store, as a lock keeps them: each under the number of the pass in whose turn it was added (this project's own).
 use Rattle.std.specs.Prelude.{ℕ, List, [], ◌∷◌, map}
-use Rattle.pcfs_store.specs.Entries.{StoreEntry, happened, stopped, entries_of}
+use Rattle.pcfs_store.specs.Entries.{StoreEntry, happened, checkpointed, stopped, entries_of}
 use Rattle.pcfs_store.specs.StoreView.{StoreView}
 use Rattle.session_history.specs.Passes.{event_pass}
 use Rattle.shared_store.specs.OpenedView.{OpenedView}
 use Rattle.shared_store.specs.declared.entry.LockEntry.{LockEntry}
-use Rattle.shared_store.specs.declared.entry.LockEntry.TheVariants.{Opened, Happened, Stopped}
+use Rattle.shared_store.specs.declared.entry.LockEntry.TheVariants.{Opened, Happened, Checkpointed, Stopped}
 
 module _ {D : Type 0} where
   abbrev pub numbered_entry : StoreEntry → ℕ × LockEntry D
   numbered_entry (happened event) = (event_pass event, Happened event)
+  numbered_entry (checkpointed pass) = (pass, Checkpointed pass)
   numbered_entry (stopped pass) = (pass, Stopped pass)
 
   abbrev pub numbered : List StoreEntry → List (ℕ × LockEntry D)
@@ -26,6 +27,7 @@ module _ {D : Type 0} where
   abbrev pub before_others : LockEntry D → List StoreEntry → List StoreEntry
   before_others (Opened opening) others = others
   before_others (Happened event) others = happened event ∷ others
+  before_others (Checkpointed pass) others = checkpointed pass ∷ others
   before_others (Stopped pass) others = stopped pass ∷ others
 
   -- the entries after the root, without their numbers

@@ -10,6 +10,8 @@ pub enum LockEntry<D: Disk> {
     Opened(Store<D>),
     /// An event was kept.
     Happened(Event),
+    /// A checkpoint was made in a turn of this pass.
+    Checkpointed(u64),
     /// A disk failed in a turn of this pass.
     Stopped(u64),
 }

@@ -1,6 +1,7 @@
 //! Laws of shared stores. The functions do nothing: each contract is a law.
 
 ghost use Rattle.shared_store.specs.Laws.{ClosedAreMerged, TurnsFindWhatWasTold};
+ghost use Rattle.shared_store.specs.Growing.{StepsGrow, CheckpointsGrow};
 
 use pcfs_ports::{Clock, Disk};
 
@@ -17,3 +18,10 @@ pub fn turns_find_what_was_told<D: Disk, C: Clock>(clock: &C)
 {
     let _ = clock;
 }
+
+/// The entries of a store grow at their end: by the event that a step keeps, by the mark of a disk that failed, and by a
+/// checkpoint that was made, each with its pass.
+pub fn entries_grow<D: Disk>()
+    ensures steps { StepsGrow D D.faults }
+    ensures checkpoints { CheckpointsGrow D D.faults }
+{}

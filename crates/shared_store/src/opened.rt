@@ -67,7 +67,7 @@ impl<D: Disk> OpenedStore<D> {
         ensures opened { result ≡ record { store = store; opening = store } }
 
         // Of a store that was read no entry has a pass.
-        ensures numbers { AllByRecursion IsReadEvent store.events → AllOfNumber 0 (lock_entries result) }
+        ensures numbers { AllByRecursion IsReadEvent store.events → store.checkpoints ≡ [] → AllOfNumber 0 (lock_entries result) }
     {
         let opening = Snapshot::of(&store);
         OpenedStore { store, opening }

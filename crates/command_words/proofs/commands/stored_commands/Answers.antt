@@ -8,4 +8,5 @@ pub returns : goal.returns
 returns c =
     let script = c.in_ok-script.ensures _ _ c.in_ok-with_script.ensures ∙ ap (λ (a : App). with_subcommand a script_app.top) c.no_commands.ensures in
     let init = c.in_ok-with_init.ensures.shape c.new.ensures.local ∙ ap₂ (λ (a b : App). with_subcommand a b.top) script c.new.ensures.app in
-    c.in_ok-audit.ensures _ _ c.in_ok-command.ensures ∙ ap (λ (a : App). with_subcommand a audit_app.top) init
+    let audit = c.in_ok-audit.ensures _ _ c.in_ok-with_audit.ensures ∙ ap (λ (a : App). with_subcommand a audit_app.top) init in
+    c.in_ok-command.ensures.shape c.new-2.ensures.local ∙ ap₂ (λ (a b : App). with_subcommand a b.top) audit c.new-2.ensures.app

@@ -1,10 +1,16 @@
 -- A run serves, or another command is run.
-use Rattle.std.proofs.Common.{refl}
+use Rattle.std.proofs.Common.{refl, sym, subst}
+use Rattle.command_words.specs.Tasks.{AsksFor}
+use Rattle.command_words.proofs.TaskLemmas.{fits, fits_asked}
 use Rattle.pcfs_run.specs.Served as serving
+use Rattle.pcfs_run.proofs.WordsLemmas.{asks_other}
 use Rattle.pcfs_run.proofs.commands.run.Goals as goal
 
+pub returns-in-Err : goal.returns-in-Err
+returns-in-Err g c = serving.unread (record { a_stays = refl; b_stays = refl }) (record { waiting_stays = refl; faults_stay = refl; nonce_faults_stay = refl }) refl refl refl
+
 pub returns-in-Some : goal.returns-in-Some
-returns-in-Some g c = serving.serves _ c.in-Some.port c.in-Some.count c.in-Some.ensures refl refl (c.serve.ensures _ _)
+returns-in-Some g c = serving.serves _ c.in-Some.port c.in-Some.count (rw c.in-Some.ensures at c.in-Ok.ensures) refl refl (c.serve.ensures _ _)
 
 pub returns-in-None : goal.returns-in-None
-returns-in-None g c = serving.alone _ c.in-None.ensures c.run_alone.ensures (record { waiting_stays = refl; faults_stay = refl; nonce_faults_stay = refl })
+returns-in-None g c = serving.alone _ (asks_other _ _ c.in-Ok.ensures c.in-None.ensures) (c.run_asked.ensures _ c.in-Ok.ensures) (record { waiting_stays = refl; faults_stay = refl; nonce_faults_stay = refl })

@@ -15,6 +15,9 @@ returns-in-Stored g c words asks = c.run_stored.ensures words (subst (AsksFor wo
 pub returns-in-Init : goal.returns-in-Init
 returns-in-Init g c words asks = c.init.ensures words _ _ (subst (AsksFor words) c.in-Init.is asks)
 
+pub returns-in-Checkpoint : goal.returns-in-Checkpoint
+returns-in-Checkpoint g c words asks = c.checkpoint_stored.ensures words _ _ (subst (AsksFor words) c.in-Checkpoint.is asks)
+
 pub audit_stored-requires-clause-some : goal.audit_stored-requires-clause-some
 audit_stored-requires-clause-some g c _ _ = subst IsFit c.in-Audit.is c.requires.fit
 

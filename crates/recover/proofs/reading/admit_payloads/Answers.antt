@@ -1,5 +1,5 @@
 -- The payloads before it are of events that are kept, and lawful.
-use Rattle.std.proofs.Common.{◌<◌, length, sym, subst, ◌∙◌, arith}
+use Rattle.std.proofs.Common.{◌<◌, length, sym, subst, arith}
 use Rattle.std.specs.Prelude.{Err}
 use Rattle.access_history.specs.History.{authority_with}
 use Rattle.recover.specs.declared.fault.OpenFault.{OpenFault}

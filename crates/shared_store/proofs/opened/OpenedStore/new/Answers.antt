@@ -9,4 +9,4 @@ invariant_of-result g c =
     subst (λ opening. HasGoneOn g.D.Disk.clock g.D.Disk.left_since g.D.Disk.image g.D.Disk.faults opening c.args.store) (sym c.of-opening.ensures) (goes_on_same g.D.Disk.clock g.D.Disk.left_since g.D.Disk.image g.D.Disk.faults c.args.store c.requires.running)
 
 pub returns-clause-numbers : goal.returns-clause-numbers
-returns-clause-numbers g c each = opened_numbers c.args.store each c.requires.running
+returns-clause-numbers g c each none = opened_numbers c.args.store each none c.requires.running

@@ -1,0 +1,91 @@
+//! Images: that of a fresh store, that after the first file, and each fault at its place.
+
+use crate::rows::{bytes_of, is_end, word_and_rest};
+use bl_syntax::{Bytes, CodecFault};
+use checkpoint_image::{image_at, write_image};
+use std::alloc::Global;
+use std::test::Fail;
+
+/// The image of a store before its first event, and that after a statement, an issue and a file; and their lengths. The
+/// signature is the one under the example's key, made by another program.
+const IMAGES: &str =
+    "fffffff1886e0900000000000000000000000000000000020000000000000000000000010000000000000001020561646d696e0000000000000000000000000000 65
+000000000000006400000000000000030000000000000003000000010561646d696e10036d6179030105616c69636502000000000000000103020100000000000000000100000000000000c8000000209efa4c8dc2816d5e04d51d2d69107b0e33f880f6ea5a6c0df5a7440014841a99000000010100000001000000070b1a0000010001470105616c69636500000000000000010202040100000000000000000606040100000000000000c800000000020000000000000001020561646d696e000000000000000000000000000000000000000000020105616c6963650000000000000001056e6f7465730000000000 240";
+
+/// Other bytes, and what comes of reading them.
+const ENDS: &str = "- short
+0000003afff44180 not canonical 0
+0000000000000064000000000000000300000000000000030000000000000000 short
+000000000000006400000000000000030000000000000003000000000000000000000000 ok 36
+00000000000000640000000000000003000000000000000300000000000000000000000000 ok 36
+0000000000000064000000000000000300000000000000030000000000000000000000010000000000000000 not canonical 36
+000000000000006400000000000000030000000000000003000000000000000000000001000000000000000103 bad tag 44
+0000000000000064000000000000000300000000000000030000000000000000000000010000000000000001010141 not canonical 45
+0000000000000064000000000000000300000000000000030000000000000000000000010000000000000001010161000000000000000041 not canonical 55
+00000000000000640000000000000003000000000000000300000000000000000000000100000000000000010101610000000000000000012e not canonical 55
+0000000000000064000000000000000300000000000000030000000000000000000000010000000000000001010161000000000000000000010141 not canonical 57
+0000000000000064000000000000000300000000000000030000000000000000000000010000000000000001010161000000000000000000020161000161 not canonical 60
+0000000000000064000000000000000300000000000000030000000000000000000000010000000000000001010161000000000000000000020162000161 not canonical 60
+0000000000000064000000000000000300000000000000030000000000000000000000010000000000000001010161000000000000000000020161000261610122 not canonical 63
+00000000000000640000000000000003000000000000000300000000000000000000000100000000000000010101610000000000000000000201610001620000000001ff ok 68
+000000000000006400000000000000030000000000000003000000000000000000000002000000000000000101016100000000000000000000000000000000000000000001 not canonical 61
+000000000000006400000000000000030000000000000003000000000000000000000002000000000000000101016100000000000000000000000000000000000000000003020162000000000000000101630000000000 ok 87";
+
+// The number of the bytes of the image at the front of the bytes, or the fault.
+fn end_of(alloc: Global, bytes: &[u8]) -> Result<usize, CodecFault> {
+    match image_at(alloc, bytes.len(), bytes) {
+        Ok((_image, rest)) => Ok(bytes.len() - rest.len()),
+        Err(fault) => Err(fault),
+    }
+}
+
+// Whether the bytes are read as an image, which is written as them.
+fn is_spelled(alloc: Global, bytes: &[u8]) -> bool {
+    let mut out = Bytes::new(alloc);
+    match image_at(alloc, bytes.len(), bytes) {
+        Ok((image, _rest)) => write_image(&image, &mut out).is_ok() && out.as_slice() == bytes,
+        Err(_) => false,
+    }
+}
+
+// Whether each cut of the bytes is short.
+fn are_cuts_short(alloc: Global, bytes: &[u8]) -> bool {
+    for count in 0..bytes.len() {
+        if end_of(alloc, &bytes[..count]) != Err(CodecFault::Short) {
+            return false;
+        }
+    }
+    true
+}
+
+fn is_image_row(alloc: Global, word: &str, len: &str) -> Result<bool, Fail> {
+    let bytes = bytes_of(alloc, word)?;
+    Ok(
+        len.parse::<usize>() == Ok(bytes.len())
+            && is_spelled(alloc, bytes.as_slice())
+            && are_cuts_short(alloc, bytes.as_slice()),
+    )
+}
+
+fn is_end_row(alloc: Global, word: &str, want: &str) -> Result<bool, Fail> {
+    let bytes = bytes_of(alloc, word)?;
+    Ok(is_end(want, end_of(alloc, bytes.as_slice())))
+}
+
+#[test]
+fn images_are_read_and_written_again(rt: HostRuntime) -> Result<(), Fail> {
+    for row in IMAGES.lines() {
+        let (word, len) = word_and_rest(row)?;
+        assert!(rt; is_image_row(rt.alloc(), word, len)?, "{row}");
+    }
+    Ok(())
+}
+
+#[test]
+fn other_bytes_have_a_first_fault(rt: HostRuntime) -> Result<(), Fail> {
+    for row in ENDS.lines() {
+        let (word, want) = word_and_rest(row)?;
+        assert!(rt; is_end_row(rt.alloc(), word, want)?, "{row}");
+    }
+    Ok(())
+}

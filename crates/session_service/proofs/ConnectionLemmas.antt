@@ -1,0 +1,21 @@
+-- Which passes are those of connections, and how many.
+use Rattle.std.proofs.Common.{◌≡◌, ◌+◌, ◌≤◌, ℕ, Bool, true, false, List, [], ◌∷◌, length, refl, sym, subst, arith}
+use Rattle.std.specs.Prelude.{if◌then◌else◌}
+use Rattle.session_service.specs.Connections.{AreOfConnections, no_more, was_attended, was_not_attended}
+
+module _ {E : Type 0} where
+  -- no more connections are counted than passes
+  pub connections-le : (count : ℕ) (passes : List (ℕ × List E)) → AreOfConnections count passes → count ≤ length passes
+  connections-le _ _ no_more = omega arith
+  connections-le _ _ (was_attended count number own passes are) = let fewer = connections-le count passes are in omega (arith, fewer)
+  connections-le _ _ (was_not_attended count number passes are) = let fewer = connections-le count passes are in omega (arith, fewer)
+
+  -- one more pass, of a connection that was attended, or without entries
+  one_more : (is_attended : Bool) (count number : ℕ) (own : List E) (passes : List (ℕ × List E)) → (is_attended ≡ false → own ≡ []) → AreOfConnections count passes → AreOfConnections (if is_attended then count + 1 else count) ((number, own) ∷ passes)
+  one_more true count number own passes idle are = was_attended count number own passes are
+  one_more false count number own passes idle are = subst (λ (l : List E). AreOfConnections count ((number, l) ∷ passes)) (sym (idle refl)) (was_not_attended count number passes are)
+
+  pub AreOfConnections-one_more : (is_attended : Bool) (count after number : ℕ) (own : List E) (passes all : List (ℕ × List E)) → after ≡ (if is_attended then count + 1 else count) → all ≡ (number, own) ∷ passes → (is_attended ≡ false → own ≡ []) → AreOfConnections count passes →
+      AreOfConnections after all
+  AreOfConnections-one_more is_attended count after number own passes all after_is all_is idle are =
+      subst (λ (n : ℕ). AreOfConnections n all) (sym after_is) (subst (AreOfConnections (if is_attended then count + 1 else count)) (sym all_is) (one_more is_attended count number own passes idle are))
