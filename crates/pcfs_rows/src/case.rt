@@ -160,10 +160,15 @@ impl Area {
 
     // The disk in memory.
     fn into_disk(self, alloc: Global) -> Result<MemoryDisk, RowFault> {
-        if let Some(calls) = self.fuse {
-            return Ok(MemoryDisk::fused(alloc, self.bytes, calls));
+        let Area {
+            bytes,
+            failing,
+            fuse,
+        } = self;
+        if let Some(calls) = fuse {
+            return Ok(MemoryDisk::fused(alloc, bytes, calls));
         }
-        match MemoryDisk::new(alloc, self.bytes, self.failing) {
+        match MemoryDisk::new(alloc, bytes, failing) {
             Ok(disk) => Ok(disk),
             Err(_) => Err(RowFault::NoMemory),
         }
@@ -179,16 +184,17 @@ fn set_fuse(word: &str, fuse: &mut Option<u64>) -> Result<(), RowFault> {
 // Sets the crash after the run: a byte, and `kept` or `lost`.
 fn set_stop(text: &str, stop: &mut Option<Stop>) -> Result<(), RowFault> {
     let (byte, word) = parts_at(text, ' ')?;
-    match (byte.parse::<u8>(), word) {
-        (Ok(fill), "kept") => {
-            *stop = Some(Stop { fill, kept: true });
+    let kept = match word {
+        "kept" => true,
+        "lost" => false,
+        _ => return Err(RowFault::BadRow),
+    };
+    match byte.parse::<u8>() {
+        Ok(fill) => {
+            *stop = Some(Stop { fill, kept });
             Ok(())
         }
-        (Ok(fill), "lost") => {
-            *stop = Some(Stop { fill, kept: false });
-            Ok(())
-        }
-        _ => Err(RowFault::BadRow),
+        Err(_) => Err(RowFault::BadRow),
     }
 }
 
