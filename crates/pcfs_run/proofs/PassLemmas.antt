@@ -43,7 +43,7 @@ module _ {D : Type 0} where
   connections_of _ _ (was_not_attended count number passes are) = was_not_attended count number (passes_of passes) (connections_of count passes are)
 
   -- a lock was made over the first store, all its passes were taken in, and the last store came out
-  pub IsGrown-closed : (first last : OpenedView D) (door : DoormanView (LockEntry D)) (was_attended count : ℕ) → door.opening ≡ lock_entries first → IsClosed door (lock_entries last) → AreOfConnections attended door.retired → door.made ≤ count →
+  pub IsGrown-closed : (first last : OpenedView D) (door : DoormanView (LockEntry D)) (attended count : ℕ) → door.opening ≡ lock_entries first → IsClosed door (lock_entries last) → AreOfConnections attended door.retired → door.made ≤ count →
       IsGrown attended count first.store last.store
   IsGrown-closed first last door attended count is closed of_connections few =
       let m = (closed_are_merged first last door is closed).1 in

@@ -1,5 +1,5 @@
 -- The ends of a run.
-use Rattle.std.proofs.Common.{◌≡◌, ◌⊎◌, inl, inr, ℕ, ◌≤◌, ◌<◌, le-ltb, lt-ltb, Bool, true, false, List, [], length, take, drop, ap, sym, subst, ◌∙◌, arith, Option, Some, None, refl}
+use Rattle.std.proofs.Common.{◌≡◌, ◌⊎◌, inl, inr, ℕ, ◌+◌, ◌≤◌, ◌<◌, le-ltb, lt-ltb, Bool, true, false, List, [], length, take, drop, ap, sym, subst, ◌∙◌, arith, Option, Some, None, refl}
 use Rattle.std.specs.Prelude.{String, codes, IfSome, nat_lt, not, ◌==◌, if◌then◌else◌}
 use Rattle.std.specs.Int.{w64, from_be_bytes}
 use Rattle.std.specs.Option.{option_map}
