@@ -239,7 +239,7 @@ class Parts:
         for name in ("first-file", "public"):
             base = self.after(base, "script", "--stored", given=joined(example(name)))
         inquiry = [b"statement admin says may(alice,#1,write) from 0 to 200", b"goal alice #1 write saysR(claim(0,init(1)))"]
-        for words, given in ((["audit"], b""), (["audit", "--pieces", "3"], b""), (["check"], joined(inquiry)), (["load", "20", "1"], b"")):
+        for words, given in ((["audit"], b""), (["audit", "--pieces", "3"], b""), (["check"], joined(inquiry)), (["load", "1", "7"], b"")):
             wanted = self.refusing.run(self.refusing.new_folder(base), 0, *words, given=given)[:2]
             self.each(" ".join(words), lambda number: self.check_report(base, number, words, given, wanted))
 
