@@ -15,6 +15,10 @@ use Rattle.shared_store.proofs.MergedLemmas.{closed_are_merged}
 use Rattle.session_service.specs.Connections.{AreOfConnections, no_more, was_attended, was_not_attended}
 use Rattle.pcfs_run.specs.Passes.{IsGrown}
 
+-- before the first connection no pass was taken in
+pub nobody_yet : {E : Type 0} (served : ℕ) (retired : List (ℕ × List E)) → served ≡ 0 → retired ≡ [] → AreOfConnections served retired
+nobody_yet {E} served retired none_served none = subst (λ (n : ℕ). AreOfConnections n retired) (sym none_served) (subst (λ (l : List (ℕ × List E)). AreOfConnections 0 l) (sym none) no_more)
+
 module _ {D : Type 0} where
   -- the passes that were taken in, each with its own entries without their numbers
   abbrev passes_of : List (Retired (LockEntry D)) → List (ℕ × List StoreEntry)

@@ -5,7 +5,7 @@ use denote.Param.SendFields.{declared_send, as_row_send}
 use Rattle.pcfs_store.specs.contracts.store.Store.TheInside as inside
 use Rattle.shared_store.specs.contracts.opened.OpenedStore.TheInside as opened
 use Rattle.journal_core.proofs.area.Area.TheSendSync as area
-use Rattle.std.proofs.Crossing.{crosses}
+use Rattle.std.proofs.Crossing.{crosses, Vec-send}
 use Rattle.std.proofs.MapsCrossing as maps
 use Rattle.bl_syntax.proofs.formula.Formula.TheLaws.TheKnot.{send-Formula}
 use Rattle.proof_term.proofs.proof.Proof.TheLaws.TheKnot.{send-Proof, hole_send-Proof}
@@ -31,6 +31,7 @@ use Rattle.world_state.specs.contracts.world.World as World
 use Rattle.op_gate.specs.contracts.planned.Pending as Pending
 use Rattle.op_gate.specs.contracts.gate.Gate as Gate
 use Rattle.pcfs_ports.specs.declared.disk.Disk as Disk
+use Rattle.pcfs_store.specs.contracts.checkpoints.Checkpoint as Checkpoint
 use Rattle.pcfs_store.specs.contracts.store.Store as Store
 use Rattle.shared_store.specs.contracts.opened.OpenedStore as Opened
 
@@ -88,8 +89,30 @@ pending_send = search (sendable, crosses, event_field, addition_field) depth 100
 pub gate_send : IsSend Gate.the_row
 gate_send = search (sendable, crosses, history_send, pending_send) depth 100 fits 20000
 
+checkpoint_send : IsSend Checkpoint.the_row
+checkpoint_send = search (sendable, crosses) depth 100 fits 20000
+
+-- each field in the order of the struct: the area, the other disk, which is the second, the generation, the gate, the checkpoints, the stop
 store_inside : (D : RattleType) (g : Disk.Ghosts D.Denot) → IsSend D → IsSend (inside.the_row D g)
-store_inside D g send = search (sendable, as_row_send, declared_send, crosses, area.the_send, gate_send, send) depth 100 fits 20000
+store_inside D g send = declared_send (inside.the_type D g) (
+  search (sendable, as_row_send, crosses, area.the_send, send) depth 100 fits 20000,
+  (
+    search (sendable, crosses, send) depth 100 fits 20000,
+    (
+      search (sendable, as_row_send, crosses) depth 100 fits 20000,
+      (
+        search (sendable, as_row_send, crosses) depth 100 fits 20000,
+        (
+          search (sendable, crosses, gate_send) depth 100 fits 20000,
+          (
+            Vec-send Checkpoint.the_row checkpoint_send,
+            (search (sendable, as_row_send, crosses) depth 100 fits 20000, tt),
+          ),
+        ),
+      ),
+    ),
+  ),
+)
 
 pub store_send : (D : RattleType) (g : Disk.Ghosts D.Denot) → IsSend D → IsSend (Store.the_row D g)
 store_send D g send = view_send (inside.the_row D g) _ _ _ _ (store_inside D g send)

@@ -1,10 +1,12 @@
 -- A run serves, or another command is run.
-use Rattle.std.proofs.Common.{refl, sym, subst}
-use Rattle.command_words.specs.Tasks.{AsksFor}
-use Rattle.command_words.proofs.TaskLemmas.{fits, fits_asked}
+use Rattle.std.proofs.Common.{refl}
+use Rattle.command_words.proofs.TaskLemmas.{fits_asked}
 use Rattle.pcfs_run.specs.Served as serving
 use Rattle.pcfs_run.proofs.WordsLemmas.{asks_other}
 use Rattle.pcfs_run.proofs.commands.run.Goals as goal
+
+pub run_asked-requires-clause-fit : goal.run_asked-requires-clause-fit
+run_asked-requires-clause-fit g c κs within = fits_asked c.args.words.now.items c.in-Ok.asked c.in-Ok.ensures
 
 pub returns-in-Err : goal.returns-in-Err
 returns-in-Err g c = serving.unread (record { a_stays = refl; b_stays = refl }) (record { waiting_stays = refl; faults_stay = refl; nonce_faults_stay = refl }) refl refl refl

@@ -7,6 +7,7 @@ use Rattle.session_service.proofs.service.SessionToken.TheSendSync as token
 use Rattle.session_service.proofs.service.SessionService.TheSendSync as service
 use denote.Param.{param}
 use Rattle.pcfs_run.proofs.SentLemmas.{opened_send}
+use Rattle.pcfs_run.proofs.PassLemmas.{nobody_yet}
 use Rattle.pcfs_run.proofs.serving.attend_all.Goals as goal
 
 pub serve_conns-requires-send-H-Token : goal.serve_conns-requires-send-H-Token
@@ -14,6 +15,9 @@ serve_conns-requires-send-H-Token g c κs lives = param_send 6 _ (arg_send _ no 
 
 pub serve_conns-requires-sync-H : goal.serve_conns-requires-sync-H
 serve_conns-requires-sync-H g c κs lives = param_sync _ _ (arg_sync _ no _ (service.the_sync _ _ _ _ _ _ (opened_send _ _ c.type_bounds.send-D) c.type_bounds.sync-C))
+
+pub serve_conns-requires-clause-belongs : goal.serve_conns-requires-clause-belongs
+serve_conns-requires-clause-belongs g c κs within = (c.requires.lock, nobody_yet c.args.front.now.served c.args.front.now.door.retired c.requires.unserved c.requires.none)
 
 pub returns-clause-same_reference : goal.returns-clause-same_reference
 returns-clause-same_reference g c = ap (λ k. k.1) c.serve_conns.ensures.kept
