@@ -1,0 +1,15 @@
+-- What the threads are given may go to them.
+use denote.Exit.{no}
+use denote.Param.Send.{param_send, arg_send}
+use Rattle.pcfs_ports.proofs.memory_disk.MemoryDisk.TheSendSync as disk
+use Rattle.shared_store.specs.LockHistory.{lock_entries}
+use Rattle.pcfs_run.proofs.SentLemmas.{opened_send}
+use Rattle.session_tests.proofs.clock.Asking.TheSendSync as asking
+use Rattle.session_tests.proofs.clock.Holder.TheSendSync as holder
+use Rattle.session_tests.proofs.clock.ask_while_held.Goals as goal
+
+pub both_at_once-requires-send-A : goal.both_at_once-requires-send-A
+both_at_once-requires-send-A g c κs within = param_send 1 _ (arg_send _ no _ (holder.the_send _ _ _ (record { entries = lock_entries }) (opened_send _ _ disk.the_send)))
+
+pub both_at_once-requires-send-B : goal.both_at_once-requires-send-B
+both_at_once-requires-send-B g c κs within = param_send 2 _ (arg_send _ no _ (asking.the_send _ _ _ (record { entries = lock_entries }) (opened_send _ _ disk.the_send)))
