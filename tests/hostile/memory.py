@@ -239,7 +239,7 @@ class Parts:
         for name in ("first-file", "public"):
             base = self.after(base, "script", "--stored", given=joined(example(name)))
         inquiry = [b"statement admin says may(alice,#1,write) from 0 to 200", b"goal alice #1 write saysR(claim(0,init(1)))"]
-        for words, given in ((["audit"], b""), (["audit", "--pieces", "3"], b""), (["check"], joined(inquiry)), (["load", "20", "1"], b"")):
+        for words, given in ((["audit"], b""), (["audit", "--pieces", "3"], b""), (["check"], joined(inquiry)), (["load", "1", "7"], b"")):
             wanted = self.refusing.run(self.refusing.new_folder(base), 0, *words, given=given)[:2]
             self.each(" ".join(words), lambda number: self.check_report(base, number, words, given, wanted))
 
@@ -318,8 +318,12 @@ def keeper(session):
 
 def alice(session):
     session.ask(login("alice", session.nonce).encode())
-    for line in (root_verify("alice", "write"), root_verify("alice", "read"), "do create #1 notes @1", "do list #1 @2", "procap 1", "do write #2 0 00 @1"):
-        session.ask(line.encode())
+    session.ask(root_verify("alice", "write").encode())
+    session.ask(root_verify("alice", "read").encode())
+    for number, operation in ((1, "create #1 notes"), (2, "list #1")):
+        told = session.ask(f"procap {number}".encode())
+        if told.startswith(b"ok procap "):
+            session.ask(f"do {operation} {told[10:].decode()}".encode())
     session.leave()
 
 
