@@ -6,6 +6,7 @@ FOLDER has refuse.so, which refuses the growth of a number. A part is run for ea
 growths and so is as with ample memory.
 """
 import os
+import re
 import shutil
 import socket
 import subprocess
@@ -29,6 +30,7 @@ MOST = 200_000  # growths of one run
 PATIENCE = 60  # seconds
 NAMES = ("keeper", "alice")
 ENOUGH = 20  # faults that are shown
+SUMMARY = re.compile(rb"lines (\d+) ok (\d+) denied (\d+) refused (\d+) other (\d+) events \d+\n")
 
 
 def example(name):
@@ -244,7 +246,7 @@ class Parts:
             self.each(" ".join(words), lambda number: self.check_report(base, number, words, given, wanted))
 
     def check_report(self, base, number, words, given, wanted):
-        """The whole report, or status 9; the store is as it was."""
+        """The whole report, or status 9, or the summary of a run in which replies were `nomemory`; the store is as it was."""
         folder = self.refusing.new_folder(base)
         written, status, is_refused = self.refusing.run(folder, number, *words, given=given)
         left = areas(folder)
@@ -255,6 +257,8 @@ class Parts:
             return "as with ample memory" if is_refused else None
         if status == OUT_OF_MEMORY and is_refused and wanted[0].startswith(written):
             return "with status 9"
+        if status == 0 and is_refused and tells_other_replies(written):
+            return "with other replies"
         raise Fault(f"it ends with {written[:300]}, {status}")
 
     # ---- sessions ----
@@ -307,6 +311,13 @@ class Parts:
         written, status, _ = self.refusing.run(folder, 0, "audit")
         if status or not written.startswith(b"events %d " % state.count):
             raise Fault(f"an audit of {state.count} events writes {written}, {status}")
+
+
+def tells_other_replies(written):
+    """Whether a summary counts each line once, and some replies as other."""
+    found = SUMMARY.fullmatch(written)
+    lines, *replies = map(int, found.groups()) if found else (0, 0)
+    return found is not None and lines == sum(replies) and replies[-1] > 0
 
 
 def keeper(session):
