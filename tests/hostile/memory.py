@@ -202,6 +202,9 @@ class Parts:
             self.each(f"{name}, over a store", script.check)
             base = self.after(base, "script", "--stored", given=joined(example(name)))
             self.opens(base)
+        events = self.refusing.run(base, 0, "audit")[:2]
+        self.each("checkpoint", lambda number: self.check_checkpoint(base, number, events))
+        self.each("script over a checkpoint", Script(self.refusing, self.after(base, "checkpoint"), example("first-file"), ["script", "--stored"]).check)
 
     def made(self):
         return self.after(self.empty, "init")
@@ -218,6 +221,20 @@ class Parts:
         count = sum(1 for _ in records(areas(folder)[0]))
         if status or not written.startswith(b"events %d " % count):
             self.faults.append(f"an audit of {count} events writes {written}, {status}")
+
+    def check_checkpoint(self, base, number, events):
+        """A checkpoint is made, or none is; an audit finds the same events."""
+        folder = self.refusing.new_folder(base)
+        written, status, is_refused = self.refusing.run(folder, number, "checkpoint")
+        found = self.refusing.run(folder, 0, "audit")[:2]
+        shutil.rmtree(folder)
+        if found != events:
+            raise Fault(f"after {written}, {status} an audit finds {found}, and not {events}")
+        if (written, status) == (b"ok checkpoint\n", 0):
+            return "as with ample memory" if is_refused else None
+        if (written, status) == (b"", OUT_OF_MEMORY) and is_refused:
+            return "with status 9"
+        raise Fault(f"a checkpoint ends with {written}, {status}")
 
     def check_init(self, number):
         """A store is made, or none is; if it is told, then it is made."""
