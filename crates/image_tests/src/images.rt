@@ -34,7 +34,7 @@ const ENDS: &str = "- short
 // The number of the bytes of the image at the front of the bytes, or the fault.
 fn end_of(alloc: Global, bytes: &[u8]) -> Result<usize, CodecFault> {
     match image_at(alloc, bytes.len(), bytes) {
-        Ok((_image, rest)) => Ok(bytes.len() - rest.len()),
+        Ok((_image, rest)) => Ok(bytes.len().saturating_sub(rest.len())),
         Err(fault) => Err(fault),
     }
 }
