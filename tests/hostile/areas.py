@@ -18,6 +18,13 @@ class Damaged(Exception):
         super().__init__(f"damaged {record} {cause}")
 
 
+class Unsaid(Damaged):
+    """An image other than a new store's, of which these tests do not say what is found."""
+
+    def __init__(self):
+        super().__init__(0, 2)
+
+
 def generation(area):
     return int.from_bytes(area[8:16], "big") if len(area) >= 16 else 0
 
@@ -36,7 +43,7 @@ def begin_of(area):
     if end > len(area) or end + 1 > LIMIT:
         raise Damaged(0, 1)
     if area[24:end] != FRESH:
-        raise Damaged(0, 2)
+        raise Unsaid
     return end
 
 
@@ -67,12 +74,14 @@ def opened(area, secrets, reader=None):
 
 
 def opening(first, second, secrets, reader=None):
-    """What an opening finds: its line and its status, or the number of events and 0."""
+    """What an opening finds: its line and its status, or the number of events and 0; none if that is not said here."""
     area = newest(first, second)
     if area is None:
         return "nostore", 4
     try:
         return opened(area, secrets, reader).count, 0
+    except Unsaid:
+        return None
     except Damaged as damaged:
         return str(damaged), 3
 

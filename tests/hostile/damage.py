@@ -142,7 +142,9 @@ def try_damage(store, draw, damages, reader):
         return "init", "init", try_init(store, first, second)
     wanted, found = opening(first, second, store.secrets, reader), store.found()
     fault = None
-    if found != wanted:
+    if wanted is None and not (found[1] == 0 or found[1] == 3 and found[0].startswith("damaged ")):
+        fault = f"{kind}: an opening of another image finds {found}"
+    elif wanted is not None and found != wanted:
         fault = f"{kind}: an opening finds {found}, and not {wanted}"
     elif (store.area(), store.area("pcfs.b")) != (first, second):
         fault = f"{kind}: an opening writes"

@@ -6,6 +6,7 @@ FOLDER has refuse.so, which refuses the growth of a number. A part is run for ea
 growths and so is as with ample memory.
 """
 import os
+import re
 import shutil
 import socket
 import subprocess
@@ -29,6 +30,7 @@ MOST = 200_000  # growths of one run
 PATIENCE = 60  # seconds
 NAMES = ("keeper", "alice")
 ENOUGH = 20  # faults that are shown
+SUMMARY = re.compile(rb"lines (\d+) ok (\d+) denied (\d+) refused (\d+) other (\d+) events \d+\n")
 
 
 def example(name):
@@ -200,6 +202,9 @@ class Parts:
             self.each(f"{name}, over a store", script.check)
             base = self.after(base, "script", "--stored", given=joined(example(name)))
             self.opens(base)
+        events = self.refusing.run(base, 0, "audit")[:2]
+        self.each("checkpoint", lambda number: self.check_checkpoint(base, number, events))
+        self.each("script over a checkpoint", Script(self.refusing, self.after(base, "checkpoint"), example("first-file"), ["script", "--stored"]).check)
 
     def made(self):
         return self.after(self.empty, "init")
@@ -216,6 +221,20 @@ class Parts:
         count = sum(1 for _ in records(areas(folder)[0]))
         if status or not written.startswith(b"events %d " % count):
             self.faults.append(f"an audit of {count} events writes {written}, {status}")
+
+    def check_checkpoint(self, base, number, events):
+        """A checkpoint is made, or none is; an audit finds the same events."""
+        folder = self.refusing.new_folder(base)
+        written, status, is_refused = self.refusing.run(folder, number, "checkpoint")
+        found = self.refusing.run(folder, 0, "audit")[:2]
+        shutil.rmtree(folder)
+        if found != events:
+            raise Fault(f"after {written}, {status} an audit finds {found}, and not {events}")
+        if (written, status) == (b"ok checkpoint\n", 0):
+            return "as with ample memory" if is_refused else None
+        if (written, status) == (b"", OUT_OF_MEMORY) and is_refused:
+            return "with status 9"
+        raise Fault(f"a checkpoint ends with {written}, {status}")
 
     def check_init(self, number):
         """A store is made, or none is; if it is told, then it is made."""
@@ -244,7 +263,7 @@ class Parts:
             self.each(" ".join(words), lambda number: self.check_report(base, number, words, given, wanted))
 
     def check_report(self, base, number, words, given, wanted):
-        """The whole report, or status 9; the store is as it was."""
+        """The whole report, or status 9, or the summary of a run in which replies were `nomemory`; the store is as it was."""
         folder = self.refusing.new_folder(base)
         written, status, is_refused = self.refusing.run(folder, number, *words, given=given)
         left = areas(folder)
@@ -255,6 +274,8 @@ class Parts:
             return "as with ample memory" if is_refused else None
         if status == OUT_OF_MEMORY and is_refused and wanted[0].startswith(written):
             return "with status 9"
+        if status == 0 and is_refused and tells_other_replies(written):
+            return "with other replies"
         raise Fault(f"it ends with {written[:300]}, {status}")
 
     # ---- sessions ----
@@ -307,6 +328,13 @@ class Parts:
         written, status, _ = self.refusing.run(folder, 0, "audit")
         if status or not written.startswith(b"events %d " % state.count):
             raise Fault(f"an audit of {state.count} events writes {written}, {status}")
+
+
+def tells_other_replies(written):
+    """Whether a summary counts each line once, and some replies as other."""
+    found = SUMMARY.fullmatch(written)
+    lines, *replies = map(int, found.groups()) if found else (0, 0)
+    return found is not None and lines == sum(replies) and replies[-1] > 0
 
 
 def keeper(session):
