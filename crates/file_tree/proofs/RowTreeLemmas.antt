@@ -301,7 +301,7 @@ ways_in_tree next first others is =
 
 -- ---- as the code has the rows
 
-pub first_and_others : (rows : List TreeRow) (first : TreeRow) → 1 ≤ length rows → first ≡ get_or rows 0 first → rows ≡ first ∷ take (length rows - 1) (drop 1 rows)
+pub first_and_others : (listed : List TreeRow) (first : TreeRow) → 1 ≤ length listed → first ≡ get_or listed 0 first → listed ≡ first ∷ take (length listed - 1) (drop 1 listed)
 first_and_others [] first some is = absurd (omega (arith, some))
 first_and_others (row ∷ others) first some is =
     let same : length (row ∷ others) - 1 ≡ length others = omega arith in
