@@ -5,8 +5,9 @@ use Rattle.pcfs_ports.specs.MemoryDisk.{MemoryDiskView, image_by}
 use Rattle.pcfs_ports.specs.declared.disk_call.DiskCall.{DiskCall}
 use Rattle.pcfs_ports.specs.declared.disk_call.DiskCall.TheVariants.{Wrote, Synced}
 
--- Below, `fill` is the byte that a crash leaves in each range that was written and not synced, and past the old end. A
--- single byte that was written is there if `kept`, and else it is as if it was never written.
+-- Below, `fill` is the byte that a crash leaves in each range that was written and not synced, and in each gap past the
+-- old end. A single byte that was written is there if `kept`; else what stood in its place stays, and past the old end
+-- only the gap before it is there.
 module _ (fill : ℕ) (kept : Bool) where
   -- what a crash puts in place of a piece that was written and not synced
   abbrev pub stopped_piece : List ℕ → List ℕ
