@@ -5,9 +5,9 @@ use Rattle.pcfs_ports.specs.MemoryDisk.{MemoryDiskView, image_by}
 use Rattle.pcfs_ports.specs.declared.disk_call.DiskCall.{DiskCall}
 use Rattle.pcfs_ports.specs.declared.disk_call.DiskCall.TheVariants.{Wrote, Synced}
 
--- Below, `fill` is the byte that a crash leaves in each range that was written and not synced, and in each gap past the
--- old end. A single byte that was written is there if `kept`; else what stood in its place stays, and past the old end
--- only the gap before it is there.
+-- Below, each piece that was written and not synced is put in its place in order: `fill` for each byte of one of other
+-- than one byte; one of a single byte as it is if `kept`, else nothing. The gap before its place, also of a byte that is
+-- not kept, holds `fill`.
 module _ (fill : ℕ) (kept : Bool) where
   -- what a crash puts in place of a piece that was written and not synced
   abbrev pub stopped_piece : List ℕ → List ℕ

@@ -114,10 +114,11 @@ impl MemoryDisk {
         }
     }
 
-    /// The disk after a crash now, which leaves `fill` in each range of other than one byte that was
-    /// written since the last sync, and in each gap past the old end. A single byte that was written
-    /// is there if `kept`; else what stood in its place stays, and past the old end only the gap
-    /// before it is there. All of it is synced, and no call is to fail.
+    /// The disk after a crash now. The writes since the last sync are done over in order, from what
+    /// that sync left: a piece of other than one byte as that many bytes `fill`, a piece of one byte
+    /// as it is if `kept`, and else not at all. Each time `fill` stands from the end of what is there
+    /// up to the piece's place, also before a byte that is not kept. All of it is synced, and no call
+    /// is to fail.
     pub fn stopped(self, fill: u8, kept: bool) -> Result<MemoryDisk, NoMemory>
         ensures image { IfOk result (λ disk. disk ≡ new_disk (stopped_image fill kept self) (no_calls [])) }
         ensures left { IfOk result (λ disk. LeftNow disk_clock disk_left_since self disk.start) }

@@ -14,8 +14,9 @@ pub fn what_is_placed_stays_placed<C: Clock>(clock: &C)
     let _ = clock;
 }
 
-/// The entries that a session is given are of its own pass. If there are any, one of its lines logged somebody in over its
-/// nonce, by a signature that the ring accepts; and each operation among them is by who logged in so.
+/// The entries that a session is given are of its own pass. If there are any, one of its lines asks that somebody be logged
+/// in over its nonce, by a signature that the ring accepts; and each operation among them is by somebody of whom such a line
+/// says so.
 pub fn given_entries_are_of_the_session<C: Clock>(clock: &C)
     ensures pass { GivenAreOfPass (C.gives clock.now) }
     ensures callers { CallersAreAccepted (C.gives clock.now) }
