@@ -78,7 +78,7 @@ IsByAccepted ring nonce heard (happened (Issued pass cited proof grant)) = (who 
 IsByAccepted ring nonce heard (checkpointed pass) = (who : List ℕ) × HasSigned ring nonce heard who
 IsByAccepted ring nonce heard (stopped pass) = (who : List ℕ) × HasSigned ring nonce heard who
 
--- In a session that is given entries somebody logged in over its nonce, by one of its lines; and each operation among them is by who logged in so.
+-- In a session that is given entries one of its lines asks for a login over its nonce that the ring accepts; and each operation among them is by somebody of whom such a line says so.
 abbrev pub CallersAreAccepted : (ℤ → Type 0) → Type 0
 CallersAreAccepted gives = (p : StorePass) (history : List StoreEntry) (nonce : List ℕ) (from : ℕ) (lines : List (List ℕ)) (answers : List LineReply) (end : SessionState) (to : ℕ) (given : List StoreEntry) →
     LinesPlaced gives p history (guest_with nonce) from lines answers end to given → AllByRecursion (IsByAccepted p.root.ring nonce lines) given
