@@ -1,14 +1,17 @@
 -- What a checkpoint of a store answers and keeps. This project's own.
-use Rattle.std.specs.Prelude.{◌≡◌, ◌≢◌, ◌⊎◌, ℕ, ◌+◌, ◌-◌, ◌^◌, ◌<◌, ◌≤◌, List, [], ◌∷◌, ◌++◌, length, not, is_some, Option, Some, None}
+use Rattle.std.specs.Prelude.{◌≡◌, ◌≢◌, ◌⊎◌, ℕ, zero, suc, Bool, ◌+◌, ◌-◌, ◌^◌, ◌<◌, ◌≤◌, List, [], ◌∷◌, ◌++◌, length, not, is_some, Option, Some, None}
 use Rattle.pcfs_ports.specs.Faults.{HasRisen}
 use Rattle.pcfs_ports.specs.Disk.{IsPinned}
 use Rattle.journal_core.specs.Area.{area_limit, area_bytes, Closed}
+use Rattle.access_history.specs.declared.event.Event.{Event}
+use Rattle.access_history.specs.Base.{BaseView}
 use Rattle.checkpoint_image.specs.ImageSpelling.{image_spelling}
+use Rattle.pcfs_store.specs.Entries.{StoreEntry, happened, checkpointed, stopped as stop_mark}
 use Rattle.pcfs_store.specs.declared.reply.CheckpointReply.{CheckpointReply}
 use Rattle.pcfs_store.specs.declared.reply.CheckpointReply.TheVariants.{Checkpointed, Full, Stopped, NoMemory}
 use Rattle.pcfs_store.specs.Newest.{newest, SurvivesWholeClosed}
 use Rattle.pcfs_store.specs.StoreView.{StoreView, first_disk, second_disk, state_of_store}
-use Rattle.pcfs_store.specs.Ready.{IsReady, IsCurrent, Keeps, StopsLeave, StopsNow}
+use Rattle.pcfs_store.specs.Ready.{SurvivesWithOrWithout, IsReady, IsCurrent, Keeps, StopsLeave, StopsNow}
 
 -- the image of the state does not fit with a closed gate after it, or there is no next generation
 abbrev pub IsFullForCheckpoint : {D : Type 0} → StoreView D → Type 0
@@ -24,6 +27,17 @@ with_checkpoint s pass active = record s {
   used = 24 + length (image_spelling (state_of_store s));
   checkpoints = s.checkpoints ++ record { after = length s.events; pass = pass } ∷ [];
 }
+
+-- whether the second of the disks has the area after so many checkpoints, of which each exchanges them
+abbrev pub place_after : ℕ → Bool → Bool
+place_after zero second = second
+place_after (suc n) second = not (place_after n second)
+
+-- What a crash leaves of a history when a disk failed: with or without the event that was being kept; and whole if it was a checkpoint.
+abbrev pub SurvivesMet : BaseView → List Event → StoreEntry → List ℕ → List ℕ → Type 0
+SurvivesMet base events (happened event) first second = SurvivesWithOrWithout base events event first second
+SurvivesMet base events (checkpointed pass) first second = SurvivesWholeClosed base events first second
+SurvivesMet base events (stop_mark pass) first second = SurvivesWholeClosed base events first second
 
 -- What a checkpoint answers, and the store after it. Nothing else comes.
 pub data MakesCheckpoint {D : Type 0} (faults : D → ℕ) (old : StoreView D) (pass : ℕ) : CheckpointReply → StoreView D → Type 0 where
