@@ -1,0 +1,183 @@
+//! A session whose checker waits until another session has made a file.
+//!
+//! If a proof were checked under the lock, the other session would have no turn, and the checker would wait in vain.
+
+ghost use Rattle.std.specs.Prelude.{◌≡◌, [], None, IfSome};
+ghost use Rattle.std.specs.List.{AllByRecursion};
+ghost use Rattle.journal_records.specs.EventSpelling.{IsReadEvent};
+
+use crate::connection::{Hearer, Speaker, Speech, Speeches};
+use crate::meeting::{FIRST_IS_AT_HAND, Meeting, SECOND_WAS_TOLD};
+use crate::pair::{Errand, both_at_once};
+use crate::setting::{Setting, bytes_of, speeches_of};
+use bl_syntax::Goal;
+use pcfs_ports::MemoryDisk;
+use pcfs_store::Store;
+use pcfs_top::run::Ended;
+use proof_term::ProofTree;
+use proof_verifier::{CheckFault, Checked, Cites, check};
+use recover::open_store;
+use session_lines::Checker;
+use session_service::{SessionEnd, serve_session_with};
+use shared_store::OpenedStore;
+use std::alloc::Global;
+use std::sync::Wait;
+use std::thread::Threads;
+use tree_lock::{Pass, Recorded, TreeLock};
+
+const SET_UP: &str = "at 100
+register - admin says may(alice,#1,write) from -inf to +inf
+register - admin says may(bob,#1,write) from -inf to +inf
+verify bob #1 write 2 saysR(claim(0,init(1)))
+";
+
+// What alice asks: a proof.
+const PROVING: &str = "verify alice #1 write 1 saysR(claim(0,init(1)))\n";
+
+// What bob asks: a file.
+const MAKING: &str =
+    "do create #1 made 470103626f620000000000000001020000423c3d31bd120b85dfff5b6eb6f5ff56e9b219dd5e90b52cd644ea08f9798965\n";
+
+// Checks a proof once the other session was told that its file was made.
+#[derive(Drop)]
+struct WaitingChecker<'a> {
+    meeting: &'a Meeting,
+}
+
+impl<'a> Checker for WaitingChecker<'a> {
+    fn check(
+        &mut self,
+        alloc: Global,
+        cited: &Cites,
+        goal: &Goal,
+        proof: &ProofTree,
+    ) -> Result<Checked, CheckFault> {
+        self.meeting.advance();
+        self.meeting.wait_for(SECOND_WAS_TOLD);
+        check(alloc, cited, goal, proof)
+    }
+}
+
+// A session.
+#[derive(Drop)]
+struct Talk<'a, V: Recorded> {
+    alloc: Global,
+    lock: &'a TreeLock<V>,
+    pass: Pass<V>,
+    meeting: &'a Meeting,
+    speech: &'a Speech,
+}
+
+impl<'a, R: Wait> Errand<R> for Talk<'a, OpenedStore<MemoryDisk>> {
+    ghost use Rattle.std.specs.Prelude.{◌≡◌};
+
+    ghost ready = { λ it. it.pass.lock ≡ it.lock.now };
+
+    fn go(self, rt: &R) -> bool {
+        let Talk {
+            alloc,
+            lock,
+            mut pass,
+            meeting,
+            speech,
+        } = self;
+        let end = serve_session_with(
+            rt,
+            alloc,
+            lock,
+            &mut pass,
+            &mut Speaker::new(meeting, speech),
+            &mut Hearer::new(meeting),
+            meeting,
+            [0; 16],
+            &mut WaitingChecker { meeting },
+        );
+        end == SessionEnd::Done
+    }
+}
+
+// Opens the store on the disks; none if that fails.
+fn open(alloc: Global, setting: &Setting, disks: Ended<MemoryDisk>) -> Option<Store<MemoryDisk>>
+    ensures running { IfSome result (λ store. store.stop ≡ None) }
+    ensures unsettled { IfSome result (λ store. store.checkpoints ≡ []) }
+    ensures each { IfSome result (λ store. AllByRecursion IsReadEvent store.events) }
+{
+    let Ok(ring) = setting.secrets.ring.copy(alloc) else {
+        return None;
+    };
+    let Ended { status: _, a, b } = disks;
+    match open_store(alloc, a, b, setting.secrets.seal_key.as_slice(), ring) {
+        Ok(store) => Some(store),
+        Err(_) => None,
+    }
+}
+
+// Whether both sessions over the store came to their ends, each in a thread of its own.
+fn talk_at_once<R: Threads + Wait + Sync>(
+    rt: &R,
+    alloc: Global,
+    meeting: &Meeting,
+    speeches: &Speeches,
+    store: Store<MemoryDisk>,
+) -> bool
+    requires running { store.stop ≡ None }
+    requires each { AllByRecursion IsReadEvent store.events }
+    requires unsettled { store.checkpoints ≡ [] }
+{
+    let opened = OpenedStore::new(store);
+    match TreeLock::new(alloc, opened) {
+        Ok((lock, mut door)) => {
+            let first = Talk {
+                alloc,
+                lock: &lock,
+                pass: lock.pass(&mut door),
+                meeting,
+                speech: &speeches.first,
+            };
+            let second = Talk {
+                alloc,
+                lock: &lock,
+                pass: lock.pass(&mut door),
+                meeting,
+                speech: &speeches.second,
+            };
+            both_at_once(rt, first, second)
+        }
+        Err(_) => false,
+    }
+}
+
+// Whether both sessions over the disks came to their ends.
+fn talk_over<R: Threads + Wait + Sync>(
+    rt: &R,
+    alloc: Global,
+    setting: &Setting,
+    meeting: &Meeting,
+    speeches: &Speeches,
+    disks: Ended<MemoryDisk>,
+) -> bool {
+    match open(alloc, setting, disks) {
+        Some(store) => talk_at_once(rt, alloc, meeting, speeches, store),
+        None => false,
+    }
+}
+
+// Whether all is as wanted; none if there is no memory.
+fn agrees<R: Threads + Wait + Sync>(rt: &R, alloc: Global, setting: &Setting) -> Option<bool> {
+    let meeting = Meeting::new(alloc, 3, false)?;
+    let alice = bytes_of(alloc, PROVING.as_bytes())?;
+    let bob = bytes_of(alloc, MAKING.as_bytes())?;
+    let speeches = speeches_of(alloc, alice, FIRST_IS_AT_HAND, bob)?;
+    let script = bytes_of(alloc, SET_UP.as_bytes())?;
+    let disks = setting.set_up(rt, alloc, script)?;
+    let ended = talk_over(rt, alloc, setting, &meeting, &speeches, disks);
+    Some(ended && meeting.went_well(4, 1))
+}
+
+/// Whether one session has a turn while the proof of another is checked.
+pub fn proof_is_checked_outside_turns<R: Threads + Wait + Sync + AllocGlobal>(
+    rt: &R,
+    setting: &Setting,
+) -> bool {
+    agrees(rt, rt.alloc(), setting) == Some(true)
+}

@@ -1,0 +1,44 @@
+//! What two sessions do at the same time, each in a thread of its own: one has turns while a proof of the other is checked; the
+//! clock is read in the turn, after the wait for it; and both make a hundred files.
+//!
+//! For each case it prints that it agrees, or that it differs, and it ends with status 1 if any differs. A session waits for
+//! the other for a number of looks, so the program ends even if the other never comes so far.
+#![tactic(auto)]
+
+mod cases;
+mod connection;
+mod held;
+mod meeting;
+mod pair;
+mod setting;
+
+use cases::{clock_is_read_in_the_turn, two_hundred_files_are_made};
+use held::proof_is_checked_outside_turns;
+use setting::Setting;
+use std::process::ExitCode;
+
+// Prints whether the case of this name agrees, and returns whether it does.
+fn tell<R: Print>(rt: &R, name: &str, agrees: bool) -> bool {
+    let word = if agrees { "agrees" } else { "differs" };
+    match println!(rt; "{word}: {name}") {
+        Ok(()) => agrees,
+        Err(_) => false,
+    }
+}
+
+fn main(rt: HostRuntime) -> ExitCode {
+    let Some(setting) = Setting::new(rt.alloc()) else {
+        return ExitCode::from(9);
+    };
+    let is_held = proof_is_checked_outside_turns(&rt, &setting);
+    let is_held = tell(&rt, "a proof is checked while another has turns", is_held);
+    let is_late = clock_is_read_in_the_turn(&rt, &setting);
+    let is_late = tell(&rt, "the clock is read after the wait", is_late);
+    let are_made = two_hundred_files_are_made(&rt, &setting);
+    let are_made = tell(&rt, "two hundred files", are_made);
+    if is_held && is_late && are_made {
+        ExitCode::from(0)
+    } else {
+        ExitCode::from(1)
+    }
+}
