@@ -1,6 +1,6 @@
 -- Laws of runs and lines: what runs keep is lawful, and lines and runs have one answer each.
 use Rattle.std.specs.Prelude.{◌≡◌, ℕ, List, ◌++◌, codes, Option, None}
-use Rattle.access_history.specs.declared.event.Event.{Event}
+use Rattle.pcfs_store.specs.Entries.{StoreEntry}
 use Rattle.access_history.specs.Base.{BaseView}
 use Rattle.access_history.specs.Lawful.{IsLawful}
 use Rattle.line_text.specs.Lines.{lines_of}
@@ -24,17 +24,17 @@ RunsAreLawful = (start end : Standing) (lines : List (List ℕ)) (replies : List
 
 -- over the state of a lawful history a line has one answer at most
 abbrev pub LinesHaveOneAnswer : Type 0
-LinesHaveOneAnswer = (s : Standing) (line : List ℕ) (first second : LineReply) (one other : Option Event) (after later : Asker) → IsLawful (authority_under s.secrets) s.base s.events →
+LinesHaveOneAnswer = (s : Standing) (line : List ℕ) (first second : LineReply) (one other : Option StoreEntry) (after later : Asker) → IsLawful (authority_under s.secrets) s.base s.events →
     AnswersLine s.secrets (state_of_standing s) s.asker line first one after → AnswersLine s.secrets (state_of_standing s) s.asker line second other later → (first ≡ second) × (one ≡ other) × (after ≡ later)
 
 -- and it has one
 abbrev pub LinesHaveAnAnswer : Type 0
 LinesHaveAnAnswer = (s : Standing) (line : List ℕ) → IsLawfulStanding s →
-    (reply : LineReply) × (event : Option Event) × (after : Asker) × AnswersLine s.secrets (state_of_standing s) s.asker line reply event after
+    (reply : LineReply) × (entry : Option StoreEntry) × (after : Asker) × AnswersLine s.secrets (state_of_standing s) s.asker line reply entry after
 
 -- no answer to a line is written as it is if memory runs out
 abbrev pub AnswersAreNotOutOfMemory : Type 0
-AnswersAreNotOutOfMemory = (secrets : Secrets) (state : BaseView) (asker : Asker) (line : List ℕ) (reply : LineReply) (event : Option Event) (after : Asker) → AnswersLine secrets state asker line reply event after → reply_word reply ≡ codes "nomemory" → ⊥
+AnswersAreNotOutOfMemory = (secrets : Secrets) (state : BaseView) (asker : Asker) (line : List ℕ) (reply : LineReply) (entry : Option StoreEntry) (after : Asker) → AnswersLine secrets state asker line reply entry after → reply_word reply ≡ codes "nomemory" → ⊥
 
 -- two runs of the same lines from a lawful start that do not run out of memory and meet no fault of a disk have the same outcome
 abbrev pub RunsHaveOneOutcome : Type 0

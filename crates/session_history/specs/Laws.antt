@@ -1,5 +1,5 @@
 -- Laws of turns, lines and sessions: what is placed stays placed, what is given is the pass's own, places do not go back, and each line and each turn has one outcome.
-use Rattle.std.specs.Prelude.{◌+◌, ◌⊎◌, [], ◌∷◌, false, ◌≡◌, ◌≢◌, ℕ, ℤ, ◌≤◌, List, ◌++◌, length, take, true}
+use Rattle.std.specs.Prelude.{◌+◌, ◌⊎◌, [], ◌∷◌, false, ◌≡◌, ◌≢◌, ℕ, ℤ, ◌≤◌, List, ◌++◌, length, take, true, codes}
 use Rattle.std.specs.List.{AllByRecursion}
 use Rattle.policy_statement.specs.Messages.{login_message}
 use Rattle.policy_statement.specs.Ring.{KeyView, is_accepted}
@@ -70,15 +70,15 @@ pub record HasSigned (ring : List KeyView) (nonce : List ℕ) (heard : List (Lis
   pub asks : IsTaskOf state line (tasks.Turn (Login who nonce signature))
   pub accepted : is_accepted ring who (login_message who nonce) signature ≡ true
 
--- somebody logged in by one of these lines over this nonce, and an operation is by who did
+-- somebody logged in by one of these lines over this nonce; an operation is by who did, and a checkpoint by `admin`
 abbrev pub IsByAccepted : List KeyView → List ℕ → List (List ℕ) → StoreEntry → Type 0
 IsByAccepted ring nonce heard (happened (Acted pass caller op procaps moment)) = HasSigned ring nonce heard caller
 IsByAccepted ring nonce heard (happened (Registered pass statement signature)) = (who : List ℕ) × HasSigned ring nonce heard who
 IsByAccepted ring nonce heard (happened (Issued pass cited proof grant)) = (who : List ℕ) × HasSigned ring nonce heard who
-IsByAccepted ring nonce heard (checkpointed pass) = (who : List ℕ) × HasSigned ring nonce heard who
+IsByAccepted ring nonce heard (checkpointed pass) = HasSigned ring nonce heard (codes "admin")
 IsByAccepted ring nonce heard (stopped pass) = (who : List ℕ) × HasSigned ring nonce heard who
 
--- In a session that is given entries one of its lines asks for a login over its nonce that the ring accepts; and each operation among them is by somebody of whom such a line says so.
+-- In a session that is given entries one of its lines asks for a login over its nonce that the ring accepts; each operation among them is by somebody of whom such a line says so, and each checkpoint by `admin`.
 abbrev pub CallersAreAccepted : (ℤ → Type 0) → Type 0
 CallersAreAccepted gives = (p : StorePass) (history : List StoreEntry) (nonce : List ℕ) (from : ℕ) (lines : List (List ℕ)) (answers : List LineReply) (end : SessionState) (to : ℕ) (given : List StoreEntry) →
     LinesPlaced gives p history (guest_with nonce) from lines answers end to given → AllByRecursion (IsByAccepted p.root.ring nonce lines) given
