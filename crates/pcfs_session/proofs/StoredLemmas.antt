@@ -124,7 +124,7 @@ module _ {D : Type 0} (clock : D → ℕ) (left_since : D → ℕ → List ℕ �
     checkpoints_go_on = ([], append-nil old.checkpoints ∙ sym (stays_in_place faults old new asker.pass asker.clock request result s.answer).checkpoints);
     generation_grows = omega (arith, (stays_in_place faults old new asker.pass asker.clock request result s.answer).generation);
     place_is = (stays_in_place faults old new asker.pass asker.clock request result s.answer).place;
-    other_stays = λ none none_too. (stays_in_place faults old new asker.pass asker.clock request result s.answer).other;
+    other_stays = λ none untried. (stays_in_place faults old new asker.pass asker.clock request result s.answer).other;
     stop_for = running_for new.stop (still_runs faults old new asker.pass asker.clock request result going s.answer);
     ready = λ is none. s.stays_ready is going;
     halts = λ is event same. none_some event same;
@@ -173,7 +173,7 @@ module _ {D : Type 0} (clock : D → ℕ) (left_since : D → ℕ → List ℕ �
       checkpoints_go_on = ([], append-nil old.checkpoints);
       generation_grows = omega arith;
       place_is = refl;
-      other_stays = λ none none_too. refl;
+      other_stays = λ none untried. refl;
       ready = λ is_ready none. none_some (happened event) (sym none);
       halts = λ is_ready e same.
           let m = s.met is_ready refl in
@@ -212,7 +212,7 @@ module _ {D : Type 0} (clock : D → ℕ) (left_since : D → ℕ → List ℕ �
     checkpoints_go_on = ([], append-nil s.checkpoints);
     generation_grows = omega arith;
     place_is = refl;
-    other_stays = λ none none_too. refl;
+    other_stays = λ none untried. refl;
     ready = λ is none. is;
     halts = λ is event same. none_some event same;
     current = λ is none. is;
@@ -264,7 +264,7 @@ module _ {D : Type 0} (clock : D → ℕ) (left_since : D → ℕ → List ℕ �
           checkpoints_go_on = ([], append-nil old.checkpoints);
           generation_grows = omega arith;
           place_is = refl;
-          other_stays = λ none none_too. none_some (checkpointed asker.pass) (sym none_too);
+          other_stays = λ none untried. absurd (untried asker.pass refl);
           ready = λ is_ready none. none_some (checkpointed asker.pass) (sym none);
           halts = λ is_ready e same. subst (λ (x : StoreEntry). StopsNow clock left_since image (record old { other = other; stop = Some asker.pass }) (SurvivesMet old.base old.events x)) (some_same (checkpointed asker.pass) e same) (s.halts is_ready refl);
           current = λ is_current none. none_some (checkpointed asker.pass) (sym none);
@@ -328,7 +328,7 @@ module _ {D : Type 0} (clock : D → ℕ) (left_since : D → ℕ → List ℕ �
     checkpoints_go_on = (one.checkpoints_go_on.0 ++ other.checkpoints_go_on.0, sym (append_assoc old.checkpoints one.checkpoints_go_on.0 other.checkpoints_go_on.0) ∙ ap (λ (cs : List Checkpoint). cs ++ other.checkpoints_go_on.0) one.checkpoints_go_on.1 ∙ other.checkpoints_go_on.1);
     generation_grows = let long = length-append one.checkpoints_go_on.0 other.checkpoints_go_on.0 in omega (arith, long, one.generation_grows, other.generation_grows);
     place_is = other.place_is ∙ ap (place_after (length other.checkpoints_go_on.0)) one.place_is ∙ sym (place_both one.checkpoints_go_on.0 other.checkpoints_go_on.0 old.second_active);
-    other_stays = λ none none_too. let neither = none_of_both one.checkpoints_go_on.0 other.checkpoints_go_on.0 none in other.other_stays neither.1 none_too ∙ one.other_stays neither.0 refl;
+    other_stays = λ none untried. let neither = none_of_both one.checkpoints_go_on.0 other.checkpoints_go_on.0 none in other.other_stays neither.1 untried ∙ one.other_stays neither.0 (λ pass is. none_some (checkpointed pass) is);
     ready = λ is none. other.ready (one.ready is refl) none;
     halts = λ is event same. other.halts (one.ready is refl) event same;
     current = λ is none. other.current (one.current is refl) none;

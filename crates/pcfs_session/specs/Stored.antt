@@ -6,7 +6,7 @@ use Rattle.line_wire.specs.declared.reply.LineReply.{LineReply}
 use Rattle.pcfs_store.specs.StoreView.{StoreView, first_disk, second_disk}
 use Rattle.pcfs_store.specs.Ready.{IsReady, IsCurrent, StopsNow}
 use Rattle.pcfs_store.specs.Checkpoints.{place_after, SurvivesMet}
-use Rattle.pcfs_store.specs.Entries.{StoreEntry}
+use Rattle.pcfs_store.specs.Entries.{StoreEntry, checkpointed}
 use Rattle.pcfs_session.specs.InterpreterView.{InterpreterView, standing_of}
 use Rattle.pcfs_session.specs.ScriptEnds.{ScriptEnds}
 use Rattle.pcfs_session.specs.ScriptRun.{Standing}
@@ -31,7 +31,7 @@ module _ {D : Type 0} (clock : D → ℕ) (left_since : D → ℕ → List ℕ �
     pub checkpoints_go_on : IsPrefix old.checkpoints new.checkpoints
     pub generation_grows : new.generation ≡ old.generation + length checkpoints_go_on.0
     pub place_is : new.second_active ≡ place_after (length checkpoints_go_on.0) old.second_active
-    pub other_stays : checkpoints_go_on.0 ≡ [] → met ≡ None → new.other ≡ old.other
+    pub other_stays : checkpoints_go_on.0 ≡ [] → ((pass : ℕ) → met ≡ Some (checkpointed pass) → ⊥) → new.other ≡ old.other
     pub ready : IsReady clock left_since image old → met ≡ None → IsReady clock left_since image new
     pub halts : IsReady clock left_since image old → (entry : StoreEntry) → met ≡ Some entry → StopsNow clock left_since image new (SurvivesMet new.base new.events entry)
     pub current : IsCurrent clock left_since image old → met ≡ None → IsCurrent clock left_since image new

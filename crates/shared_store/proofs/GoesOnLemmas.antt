@@ -77,7 +77,7 @@ module _ {D : Type 0} (clock : D → ℕ) (left_since : D → ℕ → List ℕ �
     checkpoints_go_on = ([], append-nil s.checkpoints);
     generation_grows = omega arith;
     place_is = refl;
-    other_stays = λ none none_too. refl;
+    other_stays = λ none. inl refl;
     ready = λ is none. is;
     current = λ is none. is;
     halts = λ is pass some. none_some s.stop pass running some;
@@ -120,6 +120,11 @@ module _ {D : Type 0} (clock : D → ℕ) (left_since : D → ℕ → List ℕ �
         survives = m.3;
       })
 
+  -- while no disk has failed the other one is not touched
+  untouched : (opening old : StoreView D) → old.stop ≡ None → (old.other ≡ opening.other) ⊎ ((pass : ℕ) × (old.stop ≡ Some pass) × HasRisen (faults opening.other) (faults old.other)) → old.other ≡ opening.other
+  untouched opening old running (inl same) = same
+  untouched opening old running (inr failed) = none_some old.stop failed.0 running failed.1
+
   module _ (opening : StoreView D) where
     -- the store did not change but in its active disk and its events, and is not stopped
     running_on : (old new : StoreView D) (pass : ℕ) (moment : ℤ) (request : StepRequest) (result : StoreReply) → HasGoneOn clock left_since image faults opening old → Stepped old pass moment request result new → old.stop ≡ None → new.stop ≡ None →
@@ -136,7 +141,7 @@ module _ {D : Type 0} (clock : D → ℕ) (left_since : D → ℕ → List ℕ �
       checkpoints_go_on = (g.checkpoints_go_on.0, g.checkpoints_go_on.1 ∙ sym checkpoints);
       generation_grows = generation ∙ g.generation_grows;
       place_is = place ∙ g.place_is;
-      other_stays = λ none running. other ∙ g.other_stays none was;
+      other_stays = λ none. inl (other ∙ untouched opening old was (g.other_stays none));
       ready = λ first none. s.stays_ready (g.ready first was) going;
       current = λ first none. s.stays_current (g.current first was) going;
       halts = λ first pass some. none_some new.stop pass is some;
@@ -166,7 +171,7 @@ module _ {D : Type 0} (clock : D → ℕ) (left_since : D → ℕ → List ℕ �
       checkpoints_go_on = g.checkpoints_go_on;
       generation_grows = g.generation_grows;
       place_is = g.place_is;
-      other_stays = λ none stop. none_some (Some pass) pass stop refl;
+      other_stays = λ none. inl (untouched opening old running (g.other_stays none));
       ready = λ first none. none_some (Some pass) pass none refl;
       current = λ first none. none_some (Some pass) pass none refl;
       halts = λ first other some. in_a_step (met_in old active pass other moment request at formed (λ many. room (inr many)) (s.met (g.ready first running) refl) some);
@@ -241,7 +246,7 @@ module _ {D : Type 0} (clock : D → ℕ) (left_since : D → ℕ → List ℕ �
     checkpoints_go_on = g.checkpoints_go_on;
     generation_grows = g.generation_grows;
     place_is = g.place_is;
-    other_stays = λ none stop. none_some (Some pass) pass stop refl;
+    other_stays = λ none. inr (pass, refl, subst (λ (d : D). HasRisen (faults d) (faults other)) (untouched opening old running (g.other_stays none)) risen);
     ready = λ first none. none_some (Some pass) pass none refl;
     current = λ first none. none_some (Some pass) pass none refl;
     halts = λ first stopper some. in_a_checkpoint (s.halts (g.ready first running) refl);
