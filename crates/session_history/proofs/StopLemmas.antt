@@ -1,6 +1,7 @@
 -- A turn or a line is told that the store is stopped only where a mark is among the entries up to its place.
-use Rattle.std.proofs.Common.{◌≡◌, ◌∙◌, ◌+◌, ◌⊎◌, inl, inr, ℕ, List, [], ◌∷◌, ◌++◌, true, Option, Some, None, length, take, refl, sym, ap, append_assoc, length-append}
+use Rattle.std.proofs.Common.{◌≡◌, ◌∙◌, ◌+◌, ◌⊎◌, inl, inr, ℕ, List, [], ◌∷◌, ◌++◌, true, false, Option, Some, None, length, take, refl, sym, ap, append_assoc, length-append}
 use Rattle.std.specs.Prelude.{ℤ}
+use Rattle.std.specs.Option.{option_map}
 use Rattle.std.proofs.lemmas.Bool.{false≢true}
 use Rattle.std.proofs.Math.Seq.{take-append_seam}
 use Rattle.access_history.specs.declared.event.Event.{Event}
@@ -45,6 +46,11 @@ stop_within (stopped other ∷ xs) ys pass = refl
 
 -- ---- turns
 
+-- the entry that an answer adds, if there is one
+abbrev pub those_of : Option StoreEntry → List StoreEntry
+those_of None = []
+those_of (Some entry) = entry ∷ []
+
 -- no answer is that the store is stopped
 answer_goes : (root : Root) (state : BaseView) (pass : ℕ) (clock : ℤ) (request : TurnRequest) (reply : TurnReply) (entry : Option StoreEntry) → AnswersTurn root state pass clock request reply entry → reply ≡ turn_replies.Stopped → ⊥
 answer_goes root state pass clock _ _ _ (steps request reply event answers) is = cc
@@ -71,12 +77,25 @@ none_kept gives p before request _ _ (kept clock reply entry running shown answe
 none_kept gives p before request _ _ (failed clock reply entry running shown answers room) is = refl
 none_kept gives p before request _ _ turns.without_memory is = refl
 
+-- no answer adds a mark
+event_no_mark : (event : Option Event) → has_stop (those_of (option_map happened event)) ≡ false
+event_no_mark None = refl
+event_no_mark (Some event) = refl
+
+no_mark : (root : Root) (state : BaseView) (pass : ℕ) (clock : ℤ) (request : TurnRequest) (reply : TurnReply) (entry : Option StoreEntry) → AnswersTurn root state pass clock request reply entry → has_stop (those_of entry) ≡ false
+no_mark root state pass clock _ _ _ (steps request reply event answers) = event_no_mark event
+no_mark root state pass clock _ _ _ makes = refl
+no_mark root state pass clock _ _ _ (cites numbers cited found) = refl
+no_mark root state pass clock _ _ _ (cites_none numbers number absent) = refl
+no_mark root state pass clock _ _ _ (logs_in who nonce signature accepted) = refl
+no_mark root state pass clock _ _ _ (rejects who nonce signature refused) = refl
+
 -- and a turn that adds a mark is told so
 mark_told : (gives : ℤ → Type 0) (p : StorePass) (before : List StoreEntry) (request : TurnRequest) (reply : TurnReply) (given : List StoreEntry) → Turn gives p before request reply given → has_stop given ≡ true → reply ≡ turn_replies.Stopped
 mark_told gives p before request _ _ (was_stopped stop) mark = refl
 mark_told gives p before request _ _ (answered clock reply running shown answers) mark = absurd (false≢true mark)
 mark_told gives p before request _ _ (full clock reply entry running shown answers is_full) mark = absurd (false≢true mark)
-mark_told gives p before request _ _ (kept clock reply entry running shown answers room) mark = absurd (false≢true mark)
+mark_told gives p before request _ _ (kept clock reply entry running shown answers room) mark = absurd (false≢true (sym (no_mark p.root (state_of_entries p.root before) p.number clock request reply (Some entry) answers) ∙ mark))
 mark_told gives p before request _ _ (failed clock reply entry running shown answers room) mark = refl
 mark_told gives p before request _ _ turns.without_memory mark = absurd (false≢true mark)
 

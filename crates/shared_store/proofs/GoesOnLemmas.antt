@@ -1,4 +1,4 @@
--- A store goes on from its opening by steps.
+-- A store goes on from its opening by steps and checkpoints.
 use Rattle.std.proofs.Common.{◌≡◌, ◌∙◌, ◌⊎◌, inl, inr, ⊎_elim, ℕ, suc, ◌≤◌, ◌<◌, ◌+◌, ◌-◌, ◌^◌, length, length-append, Bool, true, false, List, [], ◌∷◌, ◌++◌, Option, Some, None, refl, sym, ap, subst, arith, append_assoc, append-nil}
 use Rattle.std.specs.Prelude.{ℤ, ◌≢◌, not, is_some}
 use Rattle.std.proofs.lemmas.Bool.{cases_lt}
