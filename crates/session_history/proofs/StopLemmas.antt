@@ -14,7 +14,7 @@ use Rattle.access_history.specs.declared.request.StepRequest.TheVariants as requ
 use Rattle.line_forms.specs.declared.fault.LineFault.{LineFault}
 use Rattle.line_wire.specs.declared.reply.LineReply.{LineReply}
 use Rattle.line_wire.specs.declared.reply.LineReply.TheVariants as replies
-use Rattle.pcfs_store.specs.Entries.{Root, StoreEntry, happened, checkpointed, stopped, events_among, state_of_entries}
+use Rattle.pcfs_store.specs.Entries.{Root, StoreEntry, happened, checkpointed, stopped, events_among, checkpoints_among, state_of_entries}
 use Rattle.session_history.specs.declared.request.TurnRequest.{TurnRequest}
 use Rattle.session_history.specs.declared.request.TurnRequest.TheVariants.{Step, Login}
 use Rattle.session_history.specs.declared.request.TurnRequest.TheVariants as turn_requests
@@ -77,6 +77,15 @@ none_kept gives p before request _ _ (kept clock reply entry running shown answe
 none_kept gives p before request _ _ (failed clock reply entry running shown answers room) is = refl
 none_kept gives p before request _ _ turns.without_memory is = refl
 
+-- and makes no checkpoint
+none_made : (gives : ℤ → Type 0) (p : StorePass) (before : List StoreEntry) (request : TurnRequest) (reply : TurnReply) (given : List StoreEntry) → Turn gives p before request reply given → reply ≡ turn_replies.Stopped → checkpoints_among given ≡ 0
+none_made gives p before request _ _ (was_stopped stop) is = refl
+none_made gives p before request _ _ (answered clock reply running shown answers) is = refl
+none_made gives p before request _ _ (full clock reply entry running shown answers is_full) is = refl
+none_made gives p before request _ _ (kept clock reply entry running shown answers room) is = absurd (answer_goes p.root (state_of_entries p.root before) p.number clock request reply (Some entry) answers is)
+none_made gives p before request _ _ (failed clock reply entry running shown answers room) is = refl
+none_made gives p before request _ _ turns.without_memory is = refl
+
 -- no answer adds a mark
 event_no_mark : (event : Option Event) → has_stop (those_of (option_map happened event)) ≡ false
 event_no_mark None = refl
@@ -100,9 +109,9 @@ mark_told gives p before request _ _ (failed clock reply entry running shown ans
 mark_told gives p before request _ _ turns.without_memory mark = absurd (false≢true mark)
 
 pub stops_told : (gives : ℤ → Type 0) (p : StorePass) (before : List StoreEntry) (request : TurnRequest) (reply : TurnReply) (given : List StoreEntry) → Turn gives p before request reply given →
-    (reply ≡ turn_replies.Stopped → (has_stop (before ++ given) ≡ true) × (events_among given ≡ [])) × (has_stop given ≡ true → reply ≡ turn_replies.Stopped)
+    (reply ≡ turn_replies.Stopped → (has_stop (before ++ given) ≡ true) × (events_among given ≡ []) × (checkpoints_among given ≡ 0)) × (has_stop given ≡ true → reply ≡ turn_replies.Stopped)
 stops_told gives p before request reply given turn =
-    (λ is. (stop_there gives p before request reply given turn is, none_kept gives p before request reply given turn is), λ mark. mark_told gives p before request reply given turn mark)
+    (λ is. (stop_there gives p before request reply given turn is, none_kept gives p before request reply given turn is, none_made gives p before request reply given turn is), λ mark. mark_told gives p before request reply given turn mark)
 
 -- the entries up to where a turn came
 front_of : (history before given after : List StoreEntry) (to : ℕ) → history ≡ before ++ (given ++ after) → to ≡ length before + length given → take to history ≡ before ++ given

@@ -50,10 +50,10 @@ abbrev pub PlacesGoOn : (ℤ → Type 0) → Type 0
 PlacesGoOn gives = (p : StorePass) (history : List StoreEntry) (start : SessionState) (from : ℕ) (lines : List (List ℕ)) (answers : List LineReply) (end : SessionState) (to : ℕ) (given : List StoreEntry) →
     from ≤ length history → LinesPlaced gives p history start from lines answers end to given → (from ≤ to) × (to ≤ length history)
 
--- A turn that is told that the store is stopped keeps no event, and there is a mark, which it found or which it adds; and a turn that adds a mark is told so.
+-- A turn that is told that the store is stopped keeps no event and makes no checkpoint, and there is a mark, which it found or which it adds; and a turn that adds a mark is told so.
 abbrev pub StopsAreTold : (ℤ → Type 0) → Type 0
 StopsAreTold gives = (p : StorePass) (before : List StoreEntry) (request : TurnRequest) (reply : TurnReply) (given : List StoreEntry) → Turn gives p before request reply given →
-    (reply ≡ turn_replies.Stopped → (has_stop (before ++ given) ≡ true) × (events_among given ≡ [])) × (has_stop given ≡ true → reply ≡ turn_replies.Stopped)
+    (reply ≡ turn_replies.Stopped → (has_stop (before ++ given) ≡ true) × (events_among given ≡ []) × (checkpoints_among given ≡ 0)) × (has_stop given ≡ true → reply ≡ turn_replies.Stopped)
 
 -- A turn that is told that a checkpoint was made asked for one, and adds it, under the number of its pass, and nothing else; and a turn that adds one is told so.
 abbrev pub CheckpointsAreTold : (ℤ → Type 0) → Type 0

@@ -32,8 +32,8 @@ pub fn places_go_on<C: Clock>(clock: &C)
     let _ = clock;
 }
 
-/// A turn is told that the store is stopped if it adds a mark, and only if there is one; it keeps no event then. So a line is
-/// told so only after a mark, and after one no turn decides anything.
+/// A turn is told that the store is stopped if it adds a mark, and only if there is one; it keeps no event and makes
+/// no checkpoint then. So a line is told so only after a mark, and after one no turn decides anything.
 pub fn a_stop_is_the_end<C: Clock>(clock: &C)
     ensures turns { StopsAreTold (C.gives clock.now) }
     ensures told { StoppedAfterStop (C.gives clock.now) }
