@@ -1,9 +1,9 @@
 -- In which mode a line says what.
 use Rattle.std.proofs.Common.{◌≡◌, ℕ, Bool, true, false, cond, List, [], ◌∷◌, ◌++◌, length, Option, Some, None, Result, Ok, Err, IsTrue, refl, sym, ap, ◌∙◌, subst}
-use Rattle.std.specs.Prelude.{IsSome, codes}
+use Rattle.std.specs.Prelude.{IsSome, codes, not, ◌||◌}
 use Rattle.std.specs.Str.{bytes_eq}
 use Rattle.std.specs.List.{AllByRecursion}
-use Rattle.std.proofs.lemmas.Bool.{false≢true}
+use Rattle.std.proofs.lemmas.Bool.{false≢true, and_parts}
 use Rattle.line_words.specs.Cutting.{first_cut}
 use Rattle.line_words.specs.Kinds.{blank, Sets, kind_in, kinds_in}
 use Rattle.line_words.specs.Reading.{AreWords}
@@ -17,14 +17,14 @@ use Rattle.line_forms.specs.declared.mode.Mode.{Mode}
 use Rattle.line_forms.specs.declared.mode.Mode.TheVariants.{Operator, Guest, User, Inquiry}
 use Rattle.line_forms.specs.declared.mode.Modes.{Modes}
 use Rattle.line_forms.specs.declared.forms.Form.{Form}
-use Rattle.line_forms.specs.declared.forms.Form.TheVariants.{At, As, Login, Register, Procap, Verify, Check, Do, Statement, Goal}
+use Rattle.line_forms.specs.declared.forms.Form.TheVariants.{At, As, Login, Register, Procap, Checkpoint, Verify, Check, Do, Statement, Goal}
 use Rattle.line_forms.specs.declared.forms.Operation.{Operation}
 use Rattle.line_forms.specs.declared.fault.LineFault.{LineFault}
 use Rattle.line_forms.specs.Forms.{form_named, operation_named, kinds_of_operation}
 use Rattle.line_forms.specs.Heads.{Head, by_form, by_operation, do_head, head_in}
 use Rattle.line_forms.specs.Lines.{IsAsked, kinds_said, IsLineIn}
-use Rattle.line_forms.specs.Modes.{modes_of, is_in, known, is_session}
-use Rattle.line_forms.specs.Said.{IsWrittenOut, IsSaidInScript, IsSaidInSession, IsSaidInInquiry, IsSaidIn}
+use Rattle.line_forms.specs.Modes.{modes_of, is_admin, is_in, known, is_session}
+use Rattle.line_forms.specs.Said.{IsWrittenOut, IsSaidInScript, IsSaidInSession, IsSaidByUser, IsSaidInInquiry, IsSaidIn}
 use Rattle.line_forms.proofs.LimitLemmas.{last}
 
 -- ---- the form of a line is known in its mode
@@ -46,7 +46,7 @@ by_form_known : (mode : Mode) (behind : List ℕ) (form : Option Form) → IsKno
 by_form_known mode behind None = tt
 by_form_known mode behind (Some form) = known_form mode behind form (is_in mode (modes_of form)) refl
 
-operation_known : (mode : Mode) (whole : ℕ) (line : List ℕ) (operation : Option Operation) → (IsTrue (is_in mode (record { operator = true; session = true; inquiry = false }))) → IsKnown mode (by_operation whole line operation)
+operation_known : (mode : Mode) (whole : ℕ) (line : List ℕ) (operation : Option Operation) → (IsTrue (is_in mode (record { operator = true; session = true; of_admin_alone = false; inquiry = false }))) → IsKnown mode (by_operation whole line operation)
 operation_known mode whole line None is = tt
 operation_known mode whole line (Some operation) is = is
 
@@ -107,28 +107,29 @@ has_signature behind a rest words =
 -- ---- what is said
 
 by_mode : (mode : Mode) (modes : Modes) (asked : Line) → IsTrue (is_in mode modes) → (IsTrue modes.operator → IsSaidInScript asked) → (IsTrue modes.session → is_session mode ≡ true → IsSaidInSession asked) → (IsTrue modes.inquiry → IsSaidInInquiry asked)
-    → IsSaidIn mode asked
-by_mode Operator modes asked is script session inquiry = script is
-by_mode Guest modes asked is script session inquiry = session is refl
-by_mode (User who) modes asked is script session inquiry = session is refl
-by_mode Inquiry modes asked is script session inquiry = inquiry is
+    → ((who : List ℕ) → IsTrue (not modes.of_admin_alone || is_admin who) → IsSaidInSession asked → IsSaidByUser who asked) → IsSaidIn mode asked
+by_mode Operator modes asked is script session inquiry user = script is
+by_mode Guest modes asked is script session inquiry user = session is refl
+by_mode (User who) modes asked is script session inquiry user = user who (and_parts modes.session (not modes.of_admin_alone || is_admin who) is).1 (session (and_parts modes.session (not modes.of_admin_alone || is_admin who) is).0 refl)
+by_mode Inquiry modes asked is script session inquiry user = inquiry is
 
 said_asked : (mode : Mode) (form : Form) (behind : List ℕ) (a : Arguments) (rest text : List ℕ) (asked : Line) → IsTrue (is_in mode (modes_of form)) → AreWords (kinds_said mode form) behind blank a rest → IsAsked form a text asked → IsSaidIn mode asked
-said_asked mode At behind a rest text asked is words h = by_mode mode (modes_of At) asked is (λ _. subst IsSaidInScript (sym h) tt) (λ no _. absurd (false≢true no)) (λ no. absurd (false≢true no))
-said_asked mode As behind a rest text asked is words h = by_mode mode (modes_of As) asked is (λ _. subst IsSaidInScript (sym h) tt) (λ no _. absurd (false≢true no)) (λ no. absurd (false≢true no))
-said_asked mode Login behind a rest text asked is words h = by_mode mode (modes_of Login) asked is (λ no. absurd (false≢true no)) (λ _ _. subst IsSaidInSession (sym h) tt) (λ no. absurd (false≢true no))
+said_asked mode At behind a rest text asked is words h = by_mode mode (modes_of At) asked is (λ _. subst IsSaidInScript (sym h) tt) (λ no _. absurd (false≢true no)) (λ no. absurd (false≢true no)) (λ who _ no. absurd (subst IsSaidInSession h no))
+said_asked mode As behind a rest text asked is words h = by_mode mode (modes_of As) asked is (λ _. subst IsSaidInScript (sym h) tt) (λ no _. absurd (false≢true no)) (λ no. absurd (false≢true no)) (λ who _ no. absurd (subst IsSaidInSession h no))
+said_asked mode Login behind a rest text asked is words h = by_mode mode (modes_of Login) asked is (λ no. absurd (false≢true no)) (λ _ _. subst IsSaidInSession (sym h) tt) (λ no. absurd (false≢true no)) (λ who _ _. subst (IsSaidByUser who) (sym h) tt)
 said_asked mode Register behind a rest text asked is words h =
     by_mode mode (modes_of Register) asked is (λ _. subst IsSaidInScript (sym h.2) tt)
-    (λ _ session. subst IsSaidInSession (sym h.2) (has_signature behind a rest (subst (λ (out : Bool). AreWords (kinds_in out (kinds.Signature ∷ [])) behind blank a rest) session words))) (λ no. absurd (false≢true no))
-said_asked mode Procap behind a rest text asked is words h = by_mode mode (modes_of Procap) asked is (λ _. subst IsSaidInScript (sym h) tt) (λ _ _. subst IsSaidInSession (sym h) tt) (λ no. absurd (false≢true no))
-said_asked mode Verify behind a rest text asked is words h = by_mode mode (modes_of Verify) asked is (λ _. subst IsSaidInScript (sym h.2) tt) (λ _ _. subst IsSaidInSession (sym h.2) tt) (λ no. absurd (false≢true no))
-said_asked mode Check behind a rest text asked is words h = by_mode mode (modes_of Check) asked is (λ _. subst IsSaidInScript (sym h.2) tt) (λ no _. absurd (false≢true no)) (λ no. absurd (false≢true no))
+    (λ _ session. subst IsSaidInSession (sym h.2) (has_signature behind a rest (subst (λ (out : Bool). AreWords (kinds_in out (kinds.Signature ∷ [])) behind blank a rest) session words))) (λ no. absurd (false≢true no)) (λ who _ said. subst (IsSaidByUser who) (sym h.2) (subst IsSaidInSession h.2 said, tt))
+said_asked mode Procap behind a rest text asked is words h = by_mode mode (modes_of Procap) asked is (λ _. subst IsSaidInScript (sym h) tt) (λ _ _. subst IsSaidInSession (sym h) tt) (λ no. absurd (false≢true no)) (λ who _ _. subst (IsSaidByUser who) (sym h) (tt, tt))
+said_asked mode Checkpoint behind a rest text asked is words h = by_mode mode (modes_of Checkpoint) asked is (λ _. subst IsSaidInScript (sym h) tt) (λ _ _. subst IsSaidInSession (sym h) tt) (λ no. absurd (false≢true no)) (λ who admin _. subst (IsSaidByUser who) (sym h) (tt, admin))
+said_asked mode Verify behind a rest text asked is words h = by_mode mode (modes_of Verify) asked is (λ _. subst IsSaidInScript (sym h.2) tt) (λ _ _. subst IsSaidInSession (sym h.2) tt) (λ no. absurd (false≢true no)) (λ who _ _. subst (IsSaidByUser who) (sym h.2) (tt, tt))
+said_asked mode Check behind a rest text asked is words h = by_mode mode (modes_of Check) asked is (λ _. subst IsSaidInScript (sym h.2) tt) (λ no _. absurd (false≢true no)) (λ no. absurd (false≢true no)) (λ who _ no. absurd (subst IsSaidInSession h.2 no))
 said_asked mode (Do operation) behind a rest text asked is words h =
     by_mode mode (modes_of (Do operation)) asked is (λ _. subst IsSaidInScript (sym h) tt)
     (λ _ session. subst IsSaidInSession (sym h) (all_out (kinds_of_operation operation) behind blank a rest (subst (λ (out : Bool). AreWords (kinds_in out (kinds_of_operation operation)) behind blank a rest) session words) tt))
-    (λ no. absurd (false≢true no))
-said_asked mode Statement behind a rest text asked is words h = by_mode mode (modes_of Statement) asked is (λ no. absurd (false≢true no)) (λ no _. absurd (false≢true no)) (λ _. subst IsSaidInInquiry (sym h.2) tt)
-said_asked mode Goal behind a rest text asked is words h = by_mode mode (modes_of Goal) asked is (λ no. absurd (false≢true no)) (λ no _. absurd (false≢true no)) (λ _. subst IsSaidInInquiry (sym h.2) tt)
+    (λ no. absurd (false≢true no)) (λ who _ said. subst (IsSaidByUser who) (sym h) (subst IsSaidInSession h said, tt))
+said_asked mode Statement behind a rest text asked is words h = by_mode mode (modes_of Statement) asked is (λ no. absurd (false≢true no)) (λ no _. absurd (false≢true no)) (λ _. subst IsSaidInInquiry (sym h.2) tt) (λ who _ no. absurd (subst IsSaidInSession h.2 no))
+said_asked mode Goal behind a rest text asked is words h = by_mode mode (modes_of Goal) asked is (λ no. absurd (false≢true no)) (λ no _. absurd (false≢true no)) (λ _. subst IsSaidInInquiry (sym h.2) tt) (λ who _ no. absurd (subst IsSaidInSession h.2 no))
 
 -- the form of a line is known in its mode
 pub form_in_mode : {mode : Mode} {line : List ℕ} {asked : Line} → (h : IsLineIn mode line asked) → IsTrue (is_in mode (modes_of h.form))

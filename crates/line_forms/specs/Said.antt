@@ -1,5 +1,5 @@
 -- What a line may ask for: what is known of what it brings, and in which modes it is said (this project's own).
-use Rattle.std.specs.Prelude.{◌≡◌, ◌≤◌, List, length, IsSome, IsTrue}
+use Rattle.std.specs.Prelude.{◌≡◌, ◌≤◌, ℕ, List, length, IsSome, IsTrue}
 use Rattle.std.specs.List.{AllByRecursion}
 use Rattle.bl_syntax.specs.Citable.{AreCitable}
 use Rattle.bl_syntax.specs.Names.{is_principal_name}
@@ -12,9 +12,10 @@ use Rattle.proof_term.specs.Limits.{HasTimesInRange}
 use Rattle.line_words.specs.declared.procap_word.ProcapWord.{ProcapWord}
 use Rattle.line_words.specs.declared.procap_word.ProcapWord.TheVariants as words
 use Rattle.line_forms.specs.declared.command.Command.{Command}
-use Rattle.line_forms.specs.declared.command.Command.TheVariants.{At, As, Register, Procap, Verify, Check, Do}
+use Rattle.line_forms.specs.declared.command.Command.TheVariants.{At, As, Register, Procap, Checkpoint, Verify, Check, Do}
 use Rattle.line_forms.specs.declared.asked.Line.{Line}
 use Rattle.line_forms.specs.declared.asked.Line.TheVariants as lines
+use Rattle.line_forms.specs.Modes.{is_admin}
 use Rattle.line_forms.specs.declared.mode.Mode.{Mode}
 use Rattle.line_forms.specs.declared.mode.Mode.TheVariants.{Operator, Guest, User, Inquiry}
 
@@ -30,6 +31,7 @@ IsWithin (At second) = IsMoment second
 IsWithin (As who) = IsTrue (is_principal_name who)
 IsWithin (Register signature statement) = IsStatement statement
 IsWithin (Procap number) = Unit {0}
+IsWithin Checkpoint = Unit {0}
 IsWithin (Verify goal numbers proof) = AreCitable numbers × HasTimesInRange proof
 IsWithin (Check goal numbers proof) = AreCitable numbers × HasTimesInRange proof
 IsWithin (Do op procaps) = IsOperationAsked op procaps
@@ -52,6 +54,7 @@ IsOfSession (At second) = ⊥
 IsOfSession (As who) = ⊥
 IsOfSession (Register signature statement) = IsSome signature
 IsOfSession (Procap number) = Unit {0}
+IsOfSession Checkpoint = Unit {0}
 IsOfSession (Verify goal numbers proof) = Unit {0}
 IsOfSession (Check goal numbers proof) = ⊥
 IsOfSession (Do op procaps) = AllByRecursion IsWrittenOut procaps
@@ -62,6 +65,24 @@ IsSaidInSession (lines.Command command) = IsOfSession command
 IsSaidInSession (lines.Login who signature) = Unit {0}
 IsSaidInSession (lines.Statement statement) = ⊥
 IsSaidInSession (lines.Goal goal proof) = ⊥
+
+-- what a command asks of who is logged in: a checkpoint is for `admin`
+abbrev pub IsOfUser : List ℕ → Command → Type 0
+IsOfUser who (At second) = Unit {0}
+IsOfUser who (As other) = Unit {0}
+IsOfUser who (Register signature statement) = Unit {0}
+IsOfUser who (Procap number) = Unit {0}
+IsOfUser who Checkpoint = IsTrue (is_admin who)
+IsOfUser who (Verify goal numbers proof) = Unit {0}
+IsOfUser who (Check goal numbers proof) = Unit {0}
+IsOfUser who (Do op procaps) = Unit {0}
+
+-- a line of a session in which somebody is logged in
+abbrev pub IsSaidByUser : List ℕ → Line → Type 0
+IsSaidByUser who (lines.Command command) = IsOfSession command × IsOfUser who command
+IsSaidByUser who (lines.Login other signature) = Unit {0}
+IsSaidByUser who (lines.Statement statement) = ⊥
+IsSaidByUser who (lines.Goal goal proof) = ⊥
 
 -- a line of a script: a command
 abbrev pub IsSaidInScript : Line → Type 0
@@ -81,5 +102,5 @@ IsSaidInInquiry (lines.Goal goal proof) = Unit {0}
 abbrev pub IsSaidIn : Mode → Line → Type 0
 IsSaidIn Operator asked = IsSaidInScript asked
 IsSaidIn Guest asked = IsSaidInSession asked
-IsSaidIn (User who) asked = IsSaidInSession asked
+IsSaidIn (User who) asked = IsSaidByUser who asked
 IsSaidIn Inquiry asked = IsSaidInInquiry asked

@@ -17,6 +17,8 @@ pub enum Command {
     Register(Option<Bytes>, Statement),
     /// Shows the procap of the issue of this number.
     Procap(u64),
+    /// Makes a checkpoint: the area that counts is then that of the present state, without records.
+    Checkpoint,
     /// Verifies the proof of the goal from the statements of these numbers.
     Verify(Goal, Numbers, ProofTree),
     /// Checks the proof of the goal from the statements of these numbers, and keeps nothing.

@@ -31,6 +31,7 @@ pub enum Form {
     Login,
     Register,
     Procap,
+    Checkpoint,
     Verify,
     Check,
     Do(Operation),
@@ -52,6 +53,8 @@ pub fn form_named(word: &[u8]) -> Option<Form>
         Some(Form::Register)
     } else if word == b"procap".as_slice() {
         Some(Form::Procap)
+    } else if word == b"checkpoint".as_slice() {
+        Some(Form::Checkpoint)
     } else if word == b"verify".as_slice() {
         Some(Form::Verify)
     } else if word == b"check".as_slice() {
@@ -156,6 +159,7 @@ pub fn kinds_of(form: Form) -> &'static [Kind]
         Form::Login => &[Kind::Who, Kind::SignatureHex],
         Form::Register => &[Kind::Signature],
         Form::Procap => &[Kind::Issue],
+        Form::Checkpoint => &[],
         Form::Verify => &[Kind::Who, Kind::Node, Kind::Permission, Kind::Cited],
         Form::Check => &[Kind::Who, Kind::Node, Kind::Permission, Kind::Cited],
         Form::Do(operation) => kinds_of_operation(operation),
@@ -178,6 +182,7 @@ pub fn has_text(form: Form) -> bool
         Form::As => false,
         Form::Login => false,
         Form::Procap => false,
+        Form::Checkpoint => false,
         Form::Do(_) => false,
     }
 }

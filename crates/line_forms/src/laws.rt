@@ -41,7 +41,7 @@ pub fn request_is_within_its_limits()
 {}
 
 /// A line asks for what is said in its mode: in a script a command; in a session a login, or a command that sets neither
-/// clock nor caller, with its signature and its procaps written out; in an inquiry a statement or the goal.
+/// clock nor caller, with its signature and its procaps written out, and a checkpoint as `admin` alone; in an inquiry a statement or the goal.
 pub fn request_is_said_in_its_mode()
     ensures { (mode : Mode) (line : List ℕ) (asked : Line) → IsLineIn mode line asked → IsSaidIn mode asked }
 {}

@@ -97,6 +97,7 @@ fn line_of(alloc: Global, form: Form, arguments: Arguments, text: &[u8]) -> Resu
         Form::As => Ok(Line::Command(Command::As(arguments.who))),
         Form::Register => register(alloc, arguments, text),
         Form::Procap => Ok(Line::Command(Command::Procap(arguments.issue))),
+        Form::Checkpoint => Ok(Line::Command(Command::Checkpoint)),
         Form::Verify => verify(alloc, arguments, text),
         Form::Check => check(alloc, arguments, text),
         Form::Do(operation) => Ok(Line::Command(do_command(operation, arguments))),

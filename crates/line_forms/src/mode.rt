@@ -1,7 +1,7 @@
 //! In which mode a line is said.
 
 ghost use Rattle.std.specs.Prelude.{◌≡◌};
-ghost use Rattle.line_forms.specs.Modes.{modes_of, is_in, is_session};
+ghost use Rattle.line_forms.specs.Modes.{modes_of, is_admin, is_in, is_session};
 
 use crate::forms::Form;
 use bl_syntax::Principal;
@@ -26,6 +26,8 @@ pub struct Modes {
     pub operator: bool,
     /// In sessions, before a login and after it.
     pub session: bool,
+    /// Of those who are logged in, `admin` alone.
+    pub of_admin_alone: bool,
     /// In inquiries.
     pub inquiry: bool,
 }
@@ -33,24 +35,35 @@ pub struct Modes {
 const OPERATOR: Modes = Modes {
     operator: true,
     session: false,
+    of_admin_alone: false,
     inquiry: false,
 };
 
 const SESSION: Modes = Modes {
     operator: false,
     session: true,
+    of_admin_alone: false,
     inquiry: false,
 };
 
 const BOTH: Modes = Modes {
     operator: true,
     session: true,
+    of_admin_alone: false,
+    inquiry: false,
+};
+
+const OF_ADMIN: Modes = Modes {
+    operator: true,
+    session: true,
+    of_admin_alone: true,
     inquiry: false,
 };
 
 const INQUIRY: Modes = Modes {
     operator: false,
     session: false,
+    of_admin_alone: false,
     inquiry: true,
 };
 
@@ -64,12 +77,20 @@ pub fn modes_of(form: Form) -> Modes
         Form::Login => SESSION,
         Form::Register => BOTH,
         Form::Procap => BOTH,
+        Form::Checkpoint => OF_ADMIN,
         Form::Verify => BOTH,
         Form::Check => OPERATOR,
         Form::Do(_) => BOTH,
         Form::Statement => INQUIRY,
         Form::Goal => INQUIRY,
     }
+}
+
+// Whether the principal is `admin`.
+fn is_admin(who: &Principal) -> bool
+    ensures { result ≡ is_admin who.now }
+{
+    who.bytes() == b"admin".as_slice()
 }
 
 /// Whether the mode is one of these.
@@ -79,7 +100,7 @@ pub fn is_in(mode: &Mode, modes: Modes) -> bool
     match mode {
         Mode::Operator => modes.operator,
         Mode::Guest => modes.session,
-        Mode::User(_) => modes.session,
+        Mode::User(who) => modes.session && (!modes.of_admin_alone || is_admin(who)),
         Mode::Inquiry => modes.inquiry,
     }
 }

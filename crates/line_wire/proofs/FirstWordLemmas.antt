@@ -87,6 +87,7 @@ reply_first (replies.Unproved fault) = unproved_first fault
 reply_first (replies.Faulty fault) = fault_first fault
 reply_first replies.TooLong = refl
 reply_first replies.NotLoggedIn = refl
+reply_first replies.Checkpointed = refl
 reply_first replies.Full = refl
 reply_first replies.Stopped = refl
 reply_first replies.NoMemory = refl

@@ -254,6 +254,7 @@ reply_unbroken (replies.Unproved fault) h = unproved_unbroken fault
 reply_unbroken (replies.Faulty fault) h = fault_unbroken fault
 reply_unbroken replies.TooLong h = refl
 reply_unbroken replies.NotLoggedIn h = refl
+reply_unbroken replies.Checkpointed h = refl
 reply_unbroken replies.Full h = refl
 reply_unbroken replies.Stopped h = refl
 reply_unbroken replies.NoMemory h = refl

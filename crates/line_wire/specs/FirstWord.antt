@@ -54,6 +54,7 @@ reply_word (replies.Unproved fault) = unproved_word fault
 reply_word (replies.Faulty fault) = fault_word fault
 reply_word replies.TooLong = codes "bad"
 reply_word replies.NotLoggedIn = codes "rejected"
+reply_word replies.Checkpointed = codes "ok"
 reply_word replies.Full = codes "full"
 reply_word replies.Stopped = codes "stopped"
 reply_word replies.NoMemory = codes "nomemory"

@@ -35,6 +35,7 @@ reply_text (replies.Unproved fault) = unproved_text fault
 reply_text (replies.Faulty fault) = fault_text fault
 reply_text replies.TooLong = codes "bad 3"
 reply_text replies.NotLoggedIn = codes "rejected 4"
+reply_text replies.Checkpointed = codes "ok checkpoint"
 reply_text replies.Full = codes "full"
 reply_text replies.Stopped = codes "stopped"
 reply_text replies.NoMemory = codes "nomemory"

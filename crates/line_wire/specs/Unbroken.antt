@@ -90,6 +90,7 @@ IsUnbrokenReply (replies.Unproved fault) = Unit {0}
 IsUnbrokenReply (replies.Faulty fault) = Unit {0}
 IsUnbrokenReply replies.TooLong = Unit {0}
 IsUnbrokenReply replies.NotLoggedIn = Unit {0}
+IsUnbrokenReply replies.Checkpointed = Unit {0}
 IsUnbrokenReply replies.Full = Unit {0}
 IsUnbrokenReply replies.Stopped = Unit {0}
 IsUnbrokenReply replies.NoMemory = Unit {0}

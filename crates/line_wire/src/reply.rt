@@ -10,6 +10,8 @@ use proof_verifier::CheckFault;
 pub enum LineReply {
     /// It was done, and there is nothing to say.
     Done,
+    /// A checkpoint was made.
+    Checkpointed,
     /// What the step returned.
     Step(StepReply),
     /// What the proof grants, which is not issued.

@@ -49,6 +49,7 @@ fn write_text(alloc: Global, out: &mut Bytes, reply: &LineReply) -> Result<(), N
         LineReply::Faulty(fault) => write_fault(out, *fault),
         LineReply::TooLong => put_text(out, "bad 3"),
         LineReply::NotLoggedIn => put_text(out, "rejected 4"),
+        LineReply::Checkpointed => put_text(out, "ok checkpoint"),
         LineReply::Full => put_text(out, "full"),
         LineReply::Stopped => put_text(out, "stopped"),
         LineReply::NoMemory => put_text(out, "nomemory"),

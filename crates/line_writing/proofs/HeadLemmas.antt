@@ -1,10 +1,10 @@
 -- The first words of a line that is written name its form.
-use Rattle.std.proofs.Common.{◌≡◌, ℕ, Bool, true, false, cond, List, ◌∷◌, ◌++◌, length, codes, Some, None, Ok, IsTrue, refl}
+use Rattle.std.proofs.Common.{◌≡◌, ℕ, Bool, true, false, cond, List, [], ◌∷◌, ◌++◌, length, codes, Some, None, Ok, IsTrue, refl}
 use Rattle.std.proofs.lemmas.Bool.{false≢true}
 use Rattle.line_forms.specs.declared.mode.Mode.{Mode}
 use Rattle.line_forms.specs.declared.mode.Mode.TheVariants.{Operator, Guest, User, Inquiry}
 use Rattle.line_forms.specs.declared.forms.Form.{Form}
-use Rattle.line_forms.specs.declared.forms.Form.TheVariants.{At, As, Login, Register, Procap, Verify, Check, Do, Statement, Goal}
+use Rattle.line_forms.specs.declared.forms.Form.TheVariants.{At, As, Login, Register, Procap, Checkpoint, Verify, Check, Do, Statement, Goal}
 use Rattle.line_forms.specs.declared.forms.Operation.{Operation}
 use Rattle.line_forms.specs.declared.forms.Operation.TheVariants.{Read, Write, Truncate, List as ListOf, Lookup, Create, Mkdir, Unlink, Rename, Getattr, Setattr, Delattr, Chown}
 use Rattle.line_forms.specs.Heads.{by_form, operation_head, do_head, head_in}
@@ -31,6 +31,7 @@ name_of As = codes "as"
 name_of Login = codes "login"
 name_of Register = codes "register"
 name_of Procap = codes "procap"
+name_of Checkpoint = codes "checkpoint"
 name_of Verify = codes "verify"
 name_of Check = codes "check"
 name_of (Do operation) = codes "do " ++ name_of_operation operation
@@ -69,8 +70,13 @@ head_said mode As x is = form_is As (32 ∷ x) (is_in mode (modes_of As)) is
 head_said mode Login x is = form_is Login (32 ∷ x) (is_in mode (modes_of Login)) is
 head_said mode Register x is = form_is Register (32 ∷ x) (is_in mode (modes_of Register)) is
 head_said mode Procap x is = form_is Procap (32 ∷ x) (is_in mode (modes_of Procap)) is
+head_said mode Checkpoint x is = form_is Checkpoint (32 ∷ x) (is_in mode (modes_of Checkpoint)) is
 head_said mode Verify x is = form_is Verify (32 ∷ x) (is_in mode (modes_of Verify)) is
 head_said mode Check x is = form_is Check (32 ∷ x) (is_in mode (modes_of Check)) is
 head_said mode (Do operation) x is = operation_is mode operation (length (name_of (Do operation) ++ 32 ∷ x)) x is
 head_said mode Statement x is = form_is Statement (32 ∷ x) (is_in mode (modes_of Statement)) is
 head_said mode Goal x is = form_is Goal (32 ∷ x) (is_in mode (modes_of Goal)) is
+
+-- the line of a checkpoint has nothing after the name
+pub head_ends : (mode : Mode) → IsTrue (is_in mode (modes_of Checkpoint)) → head_in mode (name_of Checkpoint ++ []) ≡ Ok (Checkpoint, [])
+head_ends mode is = form_is Checkpoint [] (is_in mode (modes_of Checkpoint)) is

@@ -6,7 +6,7 @@ use Rattle.line_words.specs.declared.arguments.Arguments.{Arguments}
 use Rattle.line_forms.specs.declared.asked.Line.{Line}
 use Rattle.line_forms.specs.declared.mode.Mode.{Mode}
 use Rattle.line_forms.specs.declared.forms.Form.{Form}
-use Rattle.line_forms.specs.declared.forms.Form.TheVariants.{At, As, Login, Register, Procap, Verify, Check, Do, Statement, Goal}
+use Rattle.line_forms.specs.declared.forms.Form.TheVariants.{At, As, Login, Register, Procap, Checkpoint, Verify, Check, Do, Statement, Goal}
 use Rattle.line_forms.specs.declared.forms.Operation.{Operation}
 use Rattle.line_forms.specs.declared.forms.Operation.TheVariants.{Read, Write, Truncate, List as ListOf, Lookup, Create, Mkdir, Unlink, Rename, Getattr, Setattr, Delattr, Chown}
 use Rattle.line_forms.specs.Forms.{kinds_of, has_text}
@@ -15,7 +15,7 @@ use Rattle.line_forms.specs.Lines.{IsAsked, kinds_said, IsLineIn}
 use Rattle.line_forms.specs.Modes.{modes_of, is_in, is_session}
 use Rattle.line_forms.proofs.SaidLemmas.{form_in_mode}
 use Rattle.line_writing.specs.LineTexts.{asked_text}
-use Rattle.line_writing.proofs.HeadLemmas.{name_of, head_said}
+use Rattle.line_writing.proofs.HeadLemmas.{name_of, head_said, head_ends}
 use Rattle.line_writing.proofs.RowLemmas.{tail_of, tail_ends, retold, row}
 use Rattle.line_writing.proofs.Values.{Values, puts, AllWrite, words_text}
 use Rattle.line_writing.proofs.WordLemmas.{read_values, written_words, after_read}
@@ -43,20 +43,48 @@ spaced_operation out Setattr vs rest = refl
 spaced_operation out Delattr vs rest = refl
 spaced_operation out Chown vs rest = refl
 
-spaced : (out : Bool) (form : Form) (vs : Values (kinds_in out (kinds_of form))) (a : Arguments) (text : List ℕ) (asked : Line) → IsAsked form a text asked → IsSpaced (words_text (kinds_in out (kinds_of form)) vs (tail_of asked))
+-- after the name of a form stands a space; the line of a checkpoint ends there
+abbrev IsBehindName : Form → List ℕ → Type 0
+IsBehindName At behind = IsSpaced behind
+IsBehindName As behind = IsSpaced behind
+IsBehindName Login behind = IsSpaced behind
+IsBehindName Register behind = IsSpaced behind
+IsBehindName Procap behind = IsSpaced behind
+IsBehindName Checkpoint behind = behind ≡ []
+IsBehindName Verify behind = IsSpaced behind
+IsBehindName Check behind = IsSpaced behind
+IsBehindName (Do operation) behind = IsSpaced behind
+IsBehindName Statement behind = IsSpaced behind
+IsBehindName Goal behind = IsSpaced behind
+
+spaced : (out : Bool) (form : Form) (vs : Values (kinds_in out (kinds_of form))) (a : Arguments) (text : List ℕ) (asked : Line) → IsAsked form a text asked → IsBehindName form (words_text (kinds_in out (kinds_of form)) vs (tail_of asked))
 spaced out At vs a text asked h = refl
 spaced out As vs a text asked h = refl
 spaced out Login vs a text asked h = refl
 spaced out Register vs a text asked h = refl
 spaced out Procap vs a text asked h = refl
+spaced out Checkpoint vs a text asked h = ap tail_of h
 spaced out Verify vs a text asked h = refl
 spaced out Check vs a text asked h = refl
 spaced out (Do operation) vs a text asked h = spaced_operation out operation vs (tail_of asked)
 spaced out Statement vs a text asked h = subst (λ (l : Line). IsSpaced (tail_of l)) (sym h.2) refl
 spaced out Goal vs a text asked h = refl
 
-head_is : (mode : Mode) (form : Form) (behind : List ℕ) → IsSpaced behind → IsTrue (is_in mode (modes_of form)) → head_in mode (name_of form ++ behind) ≡ Ok (form, behind)
-head_is mode form behind at is = subst (λ (b : List ℕ). head_in mode (name_of form ++ b) ≡ Ok (form, b)) (sym at) (head_said mode form (after_first behind) is)
+spaced_head : (mode : Mode) (form : Form) (behind : List ℕ) → IsSpaced behind → IsTrue (is_in mode (modes_of form)) → head_in mode (name_of form ++ behind) ≡ Ok (form, behind)
+spaced_head mode form behind at is = subst (λ (b : List ℕ). head_in mode (name_of form ++ b) ≡ Ok (form, b)) (sym at) (head_said mode form (after_first behind) is)
+
+head_is : (mode : Mode) (form : Form) (behind : List ℕ) → IsBehindName form behind → IsTrue (is_in mode (modes_of form)) → head_in mode (name_of form ++ behind) ≡ Ok (form, behind)
+head_is mode At behind at is = spaced_head mode At behind at is
+head_is mode As behind at is = spaced_head mode As behind at is
+head_is mode Login behind at is = spaced_head mode Login behind at is
+head_is mode Register behind at is = spaced_head mode Register behind at is
+head_is mode Procap behind at is = spaced_head mode Procap behind at is
+head_is mode Checkpoint behind at is = subst (λ (b : List ℕ). head_in mode (name_of Checkpoint ++ b) ≡ Ok (Checkpoint, b)) (sym at) (head_ends mode is)
+head_is mode Verify behind at is = spaced_head mode Verify behind at is
+head_is mode Check behind at is = spaced_head mode Check behind at is
+head_is mode (Do operation) behind at is = spaced_head mode (Do operation) behind at is
+head_is mode Statement behind at is = spaced_head mode Statement behind at is
+head_is mode Goal behind at is = spaced_head mode Goal behind at is
 
 -- with these values in its words
 again : (mode : Mode) (form : Form) (vs : Values (kinds_said mode form)) (text : List ℕ) (asked : Line) → AllWrite (kinds_said mode form) vs → IsTrue (is_in mode (modes_of form)) → IsAsked form (puts (kinds_said mode form) vs blank) text asked

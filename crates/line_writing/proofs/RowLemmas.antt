@@ -20,7 +20,7 @@ use Rattle.line_forms.specs.declared.command.Command.TheVariants as commands
 use Rattle.line_forms.specs.declared.asked.Line.{Line}
 use Rattle.line_forms.specs.declared.asked.Line.TheVariants as lines
 use Rattle.line_forms.specs.declared.forms.Form.{Form}
-use Rattle.line_forms.specs.declared.forms.Form.TheVariants.{At, As, Login, Register, Procap, Verify, Check, Do, Statement, Goal}
+use Rattle.line_forms.specs.declared.forms.Form.TheVariants.{At, As, Login, Register, Procap, Checkpoint, Verify, Check, Do, Statement, Goal}
 use Rattle.line_forms.specs.declared.forms.Operation.{Operation}
 use Rattle.line_forms.specs.declared.forms.Operation.TheVariants.{Read, Write, Truncate, List as ListOf, Lookup, Create, Mkdir, Unlink, Rename, Getattr, Setattr, Delattr, Chown}
 use Rattle.line_forms.specs.Forms.{kinds_of, has_text}
@@ -38,6 +38,7 @@ command_tail (commands.At second) = []
 command_tail (commands.As who) = []
 command_tail (commands.Register signature statement) = codes " " ++ statement_text statement
 command_tail (commands.Procap number) = []
+command_tail commands.Checkpoint = []
 command_tail (commands.Verify goal numbers proof) = codes " " ++ proof_text proof
 command_tail (commands.Check goal numbers proof) = codes " " ++ proof_text proof
 command_tail (commands.Do op procaps) = []
@@ -53,6 +54,7 @@ command_ends (commands.At second) = refl
 command_ends (commands.As who) = refl
 command_ends (commands.Register signature statement) = refl
 command_ends (commands.Procap number) = refl
+command_ends commands.Checkpoint = refl
 command_ends (commands.Verify goal numbers proof) = refl
 command_ends (commands.Check goal numbers proof) = refl
 command_ends (commands.Do op procaps) = refl
@@ -75,6 +77,7 @@ retold Login a text asked h = subst (IsRetold Login a) (sym h) (record { asks = 
 retold Register a text asked h =
     subst (IsRetold Register a) (sym h.2) (record { asks = (h.0, printed_statement h.0 (statement_spellable h.1), refl); counted = refl })
 retold Procap a text asked h = subst (IsRetold Procap a) (sym h) (record { asks = refl; counted = refl })
+retold Checkpoint a text asked h = subst (IsRetold Checkpoint a) (sym h) (record { asks = refl; counted = refl })
 retold Verify a text asked h =
     subst (IsRetold Verify a) (sym h.2) (record { asks = (h.0, text_is_read h.0 (proof_printable h.1), refl); counted = refl })
 retold Check a text asked h =
@@ -141,6 +144,7 @@ row out As vs text asked h = subst (IsText out As vs) (sym h) (last_word (codes 
 row out Login vs text asked h = subst (IsText out Login vs) (sym h) (ap (λ (w : List ℕ). codes "login " ++ (vs.0 ++ (codes " " ++ w))) (sym (append-nil (hex_word vs.1.0))))
 row out Register vs text asked h = subst (IsText out Register vs) (sym h.2) (register_row out vs h.0)
 row out Procap vs text asked h = subst (IsText out Procap vs) (sym h) (last_word (codes "procap ") (decimal vs.0))
+row out Checkpoint vs text asked h = subst (IsText out Checkpoint vs) (sym h) refl
 row out Verify vs text asked h = subst (IsText out Verify vs) (sym h.2) refl
 row out Check vs text asked h = subst (IsText out Check vs) (sym h.2) refl
 row out (Do operation) vs text asked h = subst (IsText out (Do operation) vs) (sym h) (do_row out operation vs)

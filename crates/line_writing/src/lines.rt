@@ -47,6 +47,7 @@ fn put_command(alloc: Global, out: &mut Bytes, command: &Command) -> Result<(), 
             print_statement(statement, out)
         }
         Command::Procap(number) => put_counted(out, "procap ", *number),
+        Command::Checkpoint => put_text(out, "checkpoint"),
         Command::Verify(goal, numbers, proof) => {
             put_cited_goal(out, "verify ", goal, numbers.as_slice(), proof)
         }

@@ -1,5 +1,5 @@
 -- How a run ends that serves.
-use Rattle.std.proofs.Common.{◌≡◌, ◌∙◌, ◌⊎◌, inl, inr, ℕ, ◌+◌, ◌≤◌, List, [], ◌∷◌, ◌++◌, ◌-◌, length, take, drop, append_assoc, map, Bool, Option, Some, None, codes, decimal, refl, sym, ap, subst, arith, add-zero}
+use Rattle.std.proofs.Common.{◌≡◌, ◌∙◌, ◌⊎◌, inl, inr, ℕ, ◌+◌, ◌≤◌, List, [], ◌∷◌, ◌++◌, ◌-◌, length, take, drop, append_assoc, append-nil, map, Bool, Option, Some, None, codes, decimal, refl, sym, ap, subst, arith, add-zero}
 use Rattle.pcfs_ports.specs.Accepted.{FallsBy}
 use Rattle.pcfs_ports.specs.Faults.{HasRisen}
 use Rattle.access_history.specs.Answer.{Answers}
@@ -19,19 +19,20 @@ use Rattle.pcfs_session.specs.Streams.{Streams}
 use Rattle.pcfs_session.proofs.StoredLemmas.{HasRisen-earlier}
 use Rattle.pcfs_store.specs.Entries.{StoreEntry, happened, checkpointed, stopped, stop_entries, merged, entries_of, checkpoints_among, events_among}
 use Rattle.pcfs_store.specs.declared.checkpoints.Checkpoint.{Checkpoint}
-use Rattle.pcfs_store.specs.Newest.{one_of}
-use Rattle.pcfs_store.specs.Ready.{IsReady, SurvivesWithOrWithout}
-use Rattle.pcfs_store.specs.StoreView.{StoreView, IsStore, first_disk, second_disk}
+use Rattle.pcfs_store.specs.Newest.{SurvivesWholeClosed, one_of}
+use Rattle.pcfs_store.specs.Ready.{SurvivesWithOrWithout}
+use Rattle.pcfs_store.specs.StoredHistory.{state_after}
+use Rattle.pcfs_store.specs.StoreView.{StoreView, IsStore, first_disk, second_disk, head_of, last_after, records_of}
 use Rattle.pcfs_store.proofs.EntryLemmas.{events-entries, generation-entries}
 use Rattle.recover.specs.declared.fault.OpenFault.{OpenFault}
 use Rattle.recover.specs.declared.fault.OpenFault.TheVariants as opens
 use Rattle.recover.specs.Opening.{IsNotOpened, IsNewestClosed}
 use Rattle.recover.specs.Opening as opening
-use Rattle.shared_store.specs.GoesOn.{HasGoneOn}
+use Rattle.shared_store.specs.GoesOn.{HasGoneOn, HasMet, in_a_step, in_a_checkpoint}
 use Rattle.pcfs_tools.specs.LastLine.{IsTold}
 use Rattle.pcfs_top.specs.Ports.{Rests, IfTold, AreBytesKept}
 use Rattle.pcfs_top.specs.Run.{IsNewestOf, TellsUnopened, damaged_text}
-use Rattle.pcfs_top.proofs.EndsWithLemmas.{disks_of, rests_of, newest_of, counts_now, closed_of, pinned_at, other_same, has_no_area}
+use Rattle.pcfs_top.proofs.EndsWithLemmas.{disks_of, rests_of, newest_of, counts_now, closed_of, pinned_at, other_is, added_all, place_kept, has_no_area}
 use Rattle.pcfs_run.specs.Passes.{IsGrown, stop_among}
 use Rattle.pcfs_run.specs.Served.{Net, ServePorts, IsNetKept, AreAttended, IsMet, IsServed, TellsServed, ServeWrites, EndsServing, all_served, net_failed}
 use Rattle.pcfs_run.specs.Served as serving
@@ -50,12 +51,10 @@ checkpoints-append (happened event ∷ xs) ys = checkpoints-append xs ys
 checkpoints-append (checkpointed pass ∷ xs) ys = let rest = checkpoints-append xs ys in omega (arith, rest)
 checkpoints-append (stopped pass ∷ xs) ys = checkpoints-append xs ys
 
--- among the entries of a store without checkpoints there are none
-no_checkpoints_among : {D : Type 0} (s : StoreView D) → IsStore s → s.checkpoints ≡ [] → checkpoints_among (entries_of s) ≡ 0
-no_checkpoints_among s store none =
-    let generation_is = generation-entries s store in
-    let are_none : length s.checkpoints ≡ 0 = ap length none in
-    omega (arith, generation_is, are_none)
+-- the entries of a store without checkpoints that runs are its events
+entries_opened : {D : Type 0} (s : StoreView D) → s.checkpoints ≡ [] → s.stop ≡ None → entries_of s ≡ map happened s.events
+entries_opened s none running =
+    ap (λ (cs : List Checkpoint). merged 0 s.events cs ++ stop_entries s.stop) none ∙ ap (λ (o : Option ℕ). map happened s.events ++ stop_entries o) running ∙ append-nil (map happened s.events)
 
 -- the mark among a store's entries is its stop
 stop-happened : (events : List Event) (rest : List StoreEntry) → stop_among (map happened events ++ rest) ≡ stop_among rest
@@ -108,6 +107,12 @@ module _ {D : Type 0} (clock : D → ℕ) (left_since : D → ℕ → List ℕ �
   risen_since s s' opened (inl risen) = inl (HasRisen-earlier (faults a) (faults (first_disk s)) (faults (first_disk s')) opened.first_read.handled.never_falls risen)
   risen_since s s' opened (inr risen) = inr (HasRisen-earlier (faults b) (faults (second_disk s)) (faults (second_disk s')) opened.second_read.handled.never_falls risen)
 
+  -- the count of the disk that does not count rose since the start
+  other_risen : (second : Bool) (active other active' other' : D) → faults a ≤ faults (one_of active other second) → faults b ≤ faults (one_of other active second) → HasRisen (faults other) (faults other') →
+      HasRisen (one_of (faults b) (faults a) second) (one_of (faults (one_of other' active' second)) (faults (one_of active' other' second)) second)
+  other_risen false active other active' other' first second risen = HasRisen-earlier (faults b) (faults other) (faults other') second risen
+  other_risen true active other active' other' first second risen = HasRisen-earlier (faults a) (faults other) (faults other') first risen
+
   -- ---- a store that was opened and served
 
   module _ (may_stay : (d : D) (bytes : List ℕ) → image d ≡ Some bytes → left_since d (clock d) bytes) (s s' : StoreView D) (store : IsStore s) (store' : IsStore s') (opened : Opened s) (goes : HasGoneOn clock left_since image faults s s') where
@@ -129,35 +134,62 @@ module _ {D : Type 0} (clock : D → ℕ) (left_since : D → ℕ → List ℕ �
     lawful_now : IsLawful (authority_under secrets) s.base s'.events
     lawful_now = under (λ key ring base. IsLawful (authority_with key ring) base s'.events) lawful_then
 
-    no_checkpoints : s'.checkpoints ≡ []
-    no_checkpoints = goes.checkpoints_stay ∙ opened.unsettled
+    -- the checkpoints at the end were all added
+    added_to : goes.checkpoints_go_on.0 ≡ s'.checkpoints
+    added_to = added_all s.checkpoints goes.checkpoints_go_on.0 s'.checkpoints opened.unsettled goes.checkpoints_go_on.1
 
-    other_is : one_of (image (second_disk s')) (image (first_disk s')) s.second_active ≡ one_of (image b) (image a) s.second_active
-    other_is =
-        ap (λ (o : D). one_of (image (one_of o s'.active s'.second_active)) (image (one_of s'.active o s'.second_active)) s.second_active) goes.other_stays
-        ∙ ap (λ (w : Bool). one_of (image (one_of s.other s'.active w)) (image (one_of s'.active s.other w)) s.second_active) goes.place_stays
-        ∙ other_same clock left_since image faults s.second_active s.active s'.active s.other (image a) (image b) opened.first_read.same opened.second_read.same
+    generation_is : s'.generation ≡ s.generation + length s'.checkpoints
+    generation_is = goes.generation_grows ∙ ap (λ (cs : List Checkpoint). s.generation + length cs) added_to
+
+    place_by : s'.checkpoints ≡ [] → s'.second_active ≡ s.second_active
+    place_by none = place_kept goes.checkpoints_go_on.0 s.second_active s'.second_active (added_to ∙ none) goes.place_is
+
+    -- the disk that does not count is as it was, or it failed at a checkpoint
+    abbrev OtherAt : Option ℕ → Bool → Type 0
+    OtherAt stop w =
+        (one_of (image (second_disk s')) (image (first_disk s')) w ≡ one_of (image b) (image a) w) ⊎
+        ((pass : ℕ) × (stop ≡ Some pass) × HasRisen (one_of (faults b) (faults a) w) (one_of (faults (second_disk s')) (faults (first_disk s')) w))
+
+    other_by : (stop : Option ℕ) → s'.stop ≡ stop → s'.checkpoints ≡ [] → (s'.other ≡ s.other) ⊎ ((pass : ℕ) × (s'.stop ≡ Some pass) × HasRisen (faults s.other) (faults s'.other)) → OtherAt stop s.second_active
+    other_by stop is none (inl same) = inl (other_is clock left_since image faults secrets a b s s' opened same (place_by none))
+    other_by stop is none (inr failed) = inr (
+      failed.0,
+      sym is ∙ failed.1,
+      subst (λ (w : Bool). HasRisen (one_of (faults b) (faults a) s.second_active) (one_of (faults (one_of s'.other s'.active w)) (faults (one_of s'.active s'.other w)) s.second_active)) (sym (place_by none))
+          (other_risen s.second_active s.active s.other s'.active s'.other opened.first_read.handled.never_falls opened.second_read.handled.never_falls failed.2),
+    )
 
     -- the mark is none of the opening
     added_stop : (attended count : ℕ) (grown : IsGrown attended count s s') → stop_among grown.added ≡ s'.stop
     added_stop attended count grown =
         sym (stop-append (entries_of s) grown.added (stop-entries s.events s.checkpoints s.stop ∙ opened.running)) ∙ ap stop_among (sym grown.parts) ∙ stop-entries s'.events s'.checkpoints s'.stop
 
-    added_checkpoints : (attended count : ℕ) (grown : IsGrown attended count s s') → checkpoints_among grown.added ≡ 0
+    added_checkpoints : (attended count : ℕ) (grown : IsGrown attended count s s') → checkpoints_among grown.added ≡ length s'.checkpoints
     added_checkpoints attended count grown =
-        let all : checkpoints_among (entries_of s ++ grown.added) ≡ 0 = ap checkpoints_among (sym grown.parts) ∙ no_checkpoints_among s' store' no_checkpoints in
-        let parts = checkpoints-append (entries_of s) grown.added in
-        omega (arith, all, parts)
+        let before = generation-entries s store in
+        let after = generation-entries s' store' in
+        let none : length s.checkpoints ≡ 0 = ap length opened.unsettled in
+        let parts : checkpoints_among (entries_of s') ≡ checkpoints_among (entries_of s) + checkpoints_among grown.added = ap checkpoints_among grown.parts ∙ checkpoints-append (entries_of s) grown.added in
+        omega (arith, before, after, none, parts, store'.counted)
+
+    -- the entries at the end are the events of the opening, and those that were added
+    added_entries : (attended count : ℕ) (grown : IsGrown attended count s s') → entries_of s' ≡ map happened s.events ++ grown.added
+    added_entries attended count grown = grown.parts ∙ ap (λ (l : List StoreEntry). l ++ grown.added) (entries_opened s opened.unsettled opened.running)
 
     added_events : (attended count : ℕ) (grown : IsGrown attended count s s') → s'.events ≡ s.events ++ events_among grown.added
     added_events attended count grown =
         sym (events-entries s'.events s'.checkpoints s'.stop) ∙ ap events_among grown.parts ∙ events-append (entries_of s) grown.added ∙ ap (λ (l : List Event). l ++ events_among grown.added) (events-entries s.events s.checkpoints s.stop)
 
-    -- the event that met the fault
-    is_met : IsReady clock left_since image s → (pass : ℕ) → s'.stop ≡ Some pass → (met : Event) × IsMet secrets s.base s'.events pass met × IfTold (disks_of clock left_since image faults (first_disk s') (second_disk s')) (SurvivesWithOrWithout s.base s'.events met)
-    is_met ready pass is =
-        let halts = goes.halts ready pass is in
-        let asked = halts.asked in (
+    -- what is left by what met the fault
+    abbrev IsLeft : ℕ → Type 0
+    IsLeft pass =
+        IfTold (disks_of clock left_since image faults (first_disk s') (second_disk s')) (SurvivesWholeClosed s.base s'.events) ⊎
+        ((met : Event) × IsMet secrets s.base s'.events pass met × IfTold (disks_of clock left_since image faults (first_disk s') (second_disk s')) (SurvivesWithOrWithout s.base s'.events met))
+
+    left_by : (pass : ℕ) → HasMet clock left_since image s' pass → IsLeft pass
+    left_by pass (in_a_checkpoint survives) = inl (λ x y is_x is_y. under (λ key ring base. SurvivesWholeClosed base s'.events x y) (survives x y (may_stay (first_disk s') x is_x) (may_stay (second_disk s') y is_y)))
+    left_by pass (in_a_step halts) =
+        let asked = halts.asked in inr (
           halts.met,
           record {
             moment = asked.moment;
@@ -181,27 +213,30 @@ module _ {D : Type 0} (clock : D → ℕ) (left_since : D → ℕ → List ℕ �
       events = s'.events;
       found = opened.newest_history;
       of_passes = grown.of_passes;
-      no_checkpoints = added_checkpoints attended count grown;
+      checkpoints = s'.checkpoints;
+      counted = added_checkpoints attended count grown;
+      in_order = store'.in_order;
+      entries_are = ap (λ (o : Option ℕ). merged 0 s'.events s'.checkpoints ++ stop_entries o) (sym is) ∙ added_entries attended count grown;
       stop_is = added_stop attended count grown ∙ is;
       events_are = added_events attended count grown;
       lawful = lawful_now;
       headline = Headline-lawful (authority_under secrets) s.base s'.events lawful_now;
       whole = λ runs x y is_x is_y x' y' is_x' is_y'.
-          under (λ key ring base. IsNewestOf s.generation base s'.events x' y')
-          (subst (λ (n : ℕ). IsNewestOf n s'.base s'.events x' y') goes.generation_stays
-          (newest_of clock left_since image faults s' store' (goes.current (opened.current x y is_x is_y) (is ∙ runs)) no_checkpoints x' y' is_x' is_y'));
+          under (λ key ring base. IsNewestOf (s.generation + length s'.checkpoints) (state_after base s'.events (last_after 0 s'.checkpoints)) (records_of s') x' y')
+          (subst (λ (n : ℕ). IsNewestOf n (head_of s') (records_of s') x' y') generation_is
+          (newest_of clock left_since image faults s' store' (goes.current (opened.current x y is_x is_y) (is ∙ runs)) x' y' is_x' is_y'));
       closed = λ runs x y is_x is_y gate.
           let ready = goes.ready (opened.ready x y is_x is_y gate) (is ∙ runs) in (
             pinned_at clock left_since image faults s' (first_disk s') (second_disk s') refl refl ready,
             λ x' y' is_x' is_y'.
-                under (λ key ring base. IsNewestClosed s.generation base s'.events x' y')
-                (subst (λ (n : ℕ). IsNewestClosed n s'.base s'.events x' y') goes.generation_stays (closed_of clock left_since image faults s' store' ready no_checkpoints x' y' is_x' is_y')),
+                under (λ key ring base. IsNewestClosed (s.generation + length s'.checkpoints) (state_after base s'.events (last_after 0 s'.checkpoints)) (records_of s') x' y')
+                (subst (λ (n : ℕ). IsNewestClosed n (head_of s') (records_of s') x' y') generation_is (closed_of clock left_since image faults s' store' ready x' y' is_x' is_y')),
           );
       risen = λ pass stops. risen_since s s' opened (goes.failed pass (is ∙ stops));
-      survives = λ pass stops x y is_x is_y gate. is_met (opened.ready x y is_x is_y gate) pass (is ∙ stops);
-      other_stays = λ x y is_x is_y second counts.
+      survives = λ pass stops x y is_x is_y gate. left_by pass (goes.halts (opened.ready x y is_x is_y gate) pass (is ∙ stops));
+      other_stays = λ none x y is_x is_y second counts.
           let now = counts_now clock left_since image faults s store (opened.current x y is_x is_y) x y (opened.first_read.same ∙ is_x) (opened.second_read.same ∙ is_y) in
-          subst (λ (w : Bool). one_of (image (second_disk s')) (image (first_disk s')) w ≡ one_of (image b) (image a) w) (same_place s.second_active second (sym now ∙ counts)) other_is;
+          subst (OtherAt stop) (same_place s.second_active second (sym now ∙ counts)) (other_by stop is none (goes.other_stays (added_to ∙ none)));
     }
 
     -- ---- its last line

@@ -1,5 +1,5 @@
 -- How a run ends that gives connections sessions over the store in the areas. If a port does not tell what it has, nothing is said of that (this project's own).
-use Rattle.std.specs.Prelude.{◌≡◌, ◌⊎◌, ℕ, ℤ, List, [], ◌∷◌, ◌++◌, String, codes, Bool, Option, Some, None}
+use Rattle.std.specs.Prelude.{◌≡◌, ◌⊎◌, ℕ, ℤ, ◌+◌, List, [], ◌∷◌, ◌++◌, String, codes, length, drop, map, Bool, Option, Some, None}
 use Rattle.std.specs.Fmt.{decimal}
 use Rattle.std.specs.declared.alloc.Global.{Global}
 use Rattle.bl_syntax.specs.TimeOrder.{IsMoment}
@@ -22,8 +22,12 @@ use Rattle.pcfs_server.specs.declared.end.ServeEnd.TheVariants as serve_ends
 use Rattle.pcfs_server.specs.Ends.{number_of, HasTaken, HasCause, IsNetFault}
 use Rattle.pcfs_session.specs.LineAnswer.{authority_under}
 use Rattle.pcfs_session.specs.ScriptEnds.{with_line_end}
-use Rattle.pcfs_store.specs.Entries.{StoreEntry, checkpoints_among, events_among}
-use Rattle.pcfs_store.specs.Newest.{newer, one_of}
+use Rattle.pcfs_store.specs.declared.checkpoints.Checkpoint.{Checkpoint}
+use Rattle.pcfs_store.specs.Entries.{StoreEntry, happened, stop_entries, merged, checkpoints_among, events_among}
+use Rattle.pcfs_store.specs.Checkpoints.{place_after}
+use Rattle.pcfs_store.specs.StoredHistory.{state_after}
+use Rattle.pcfs_store.specs.StoreView.{AreInOrder, last_after}
+use Rattle.pcfs_store.specs.Newest.{SurvivesWholeClosed, newer, one_of}
 use Rattle.pcfs_store.specs.Ready.{SurvivesWithOrWithout}
 use Rattle.recover.specs.Opening.{IsNewestHistory, IsNewestDamaged, IsNewestClosed}
 use Rattle.pcfs_tools.specs.LastLine.{IsTold, IsUntold}
@@ -66,9 +70,10 @@ pub record IsMet (secrets : Secrets) (base : BaseView) (events : List Event) (pa
   pub answers : Answers (authority_under secrets) (replay base events) pass moment request reply (Some met)
   pub lawful : IsLawful (authority_under secrets) base (events ++ met ∷ [])
 
--- The store on the disks was opened, and connections had sessions over it. The history that was found is that of the newest area, from its image. Its events at the end are those, and then the ones that the sessions' passes added, who make no checkpoint; they are lawful, so the headline
--- holds of them. Unless a disk failed, the newest area has the generation of the opened one, and stands for all these events; and if the opened one had its closed gate, it has too, and nothing is pending. If one failed in a turn of some pass, its count
--- rose; and if the opened area had its closed gate, the newest one stands for these events, or for them with the one that met the fault. The other area is as it was.
+-- The store on the disks was opened, and connections had sessions over it. The history that was found is that of the newest area, from its image. Its events at the end are those, and then the ones that the sessions' passes added, and the checkpoints are those
+-- that these passes made, each after its number of events; the events are lawful, so the headline holds of them. Unless a disk failed, the newest area has the generation of the opened one, and one more for each checkpoint, and stands for the state at the
+-- last of these, or for the opened base if there is none, and the events since; it is on the other disk after each of them; and if the opened one had its closed gate, it has too, and nothing is pending. If one failed in a turn of some pass, its count rose; and if the opened area had its closed gate,
+-- the newest one stands for these events, or, in a step, for them with the one that met the fault. The area that did not count is as it was, if no checkpoint was made; only if one was tried, its disk may have failed.
 pub record IsServed (secrets : Secrets) (rests : Rests) (before after : Disks) (attended count : ℕ) (stop : Option ℕ) : Type 0 where
   pub generation : ℕ
   pub base : BaseView
@@ -77,16 +82,21 @@ pub record IsServed (secrets : Secrets) (rests : Rests) (before after : Disks) (
   pub events : List Event
   pub found : IfTold before (IsNewestHistory (authority_under secrets) generation base opened)
   pub of_passes : AreOfPasses attended count added
-  pub no_checkpoints : checkpoints_among added ≡ 0
+  pub checkpoints : List Checkpoint
+  pub counted : checkpoints_among added ≡ length checkpoints
+  pub in_order : AreInOrder 0 (length events) checkpoints
+  pub entries_are : merged 0 events checkpoints ++ stop_entries stop ≡ map happened opened ++ added
   pub stop_is : stop_among added ≡ stop
   pub events_are : events ≡ opened ++ events_among added
   pub lawful : IsLawful (authority_under secrets) base events
   pub headline : Headline (authority_under secrets) base events (replay base events).world
-  pub whole : stop ≡ None → IfTold before (λ x y. IfTold after (IsNewestOf generation base events))
-  pub closed : stop ≡ None → IfTold before (λ x y. IsNewestClosed generation base opened x y → rests.after × IfTold after (IsNewestClosed generation base events))
+  pub whole : stop ≡ None → IfTold before (λ x y. IfTold after (IsNewestOf (generation + length checkpoints) (state_after base events (last_after 0 checkpoints)) (drop (last_after 0 checkpoints) events)))
+  pub closed : stop ≡ None → IfTold before (λ x y. IsNewestClosed generation base opened x y → rests.after × IfTold after (IsNewestClosed (generation + length checkpoints) (state_after base events (last_after 0 checkpoints)) (drop (last_after 0 checkpoints) events)))
+  pub place : stop ≡ None → IfTold before (λ x y. (second : Bool) → newer (generation_of x) (generation_of y) ≡ Some second → IfTold after (λ u v. newer (generation_of u) (generation_of v) ≡ Some (place_after (length checkpoints) second)))
   pub risen : (pass : ℕ) → stop ≡ Some pass → HasDiskFailed before after
-  pub survives : (pass : ℕ) → stop ≡ Some pass → IfTold before (λ x y. IsNewestClosed generation base opened x y → (met : Event) × IsMet secrets base events pass met × IfTold after (SurvivesWithOrWithout base events met))
-  pub other_stays : IfTold before (λ x y. (second : Bool) → newer (generation_of x) (generation_of y) ≡ Some second → one_of after.b after.a second ≡ one_of before.b before.a second)
+  pub survives : (pass : ℕ) → stop ≡ Some pass → IfTold before (λ x y. IsNewestClosed generation base opened x y → IfTold after (SurvivesWholeClosed base events) ⊎ ((met : Event) × IsMet secrets base events pass met × IfTold after (SurvivesWithOrWithout base events met)))
+  pub other_stays : checkpoints ≡ [] → IfTold before (λ x y. (second : Bool) → newer (generation_of x) (generation_of y) ≡ Some second →
+      (one_of after.b after.a second ≡ one_of before.b before.a second) ⊎ ((pass : ℕ) × (stop ≡ Some pass) × HasRisen (one_of before.b_faults before.a_faults second) (one_of after.b_faults after.a_faults second)))
 
 -- what is written at an end at which no disk has failed, and the status: a line; or memory ran out, and nothing is
 abbrev pub TellsServed : ServeEnd → Option (List ℕ) → ℕ → ℕ → Option (List ℕ) → ℕ → Type 0

@@ -1,7 +1,7 @@
 -- What a line asks for is allowed.
 use Rattle.std.proofs.Common.{ℕ, List}
 use Rattle.line_forms.specs.declared.command.Command.{Command}
-use Rattle.line_forms.specs.declared.command.Command.TheVariants.{At, As, Register, Procap, Verify, Check, Do}
+use Rattle.line_forms.specs.declared.command.Command.TheVariants.{At, As, Register, Procap, Checkpoint, Verify, Check, Do}
 use Rattle.line_forms.specs.Lines.{IsLine}
 use Rattle.line_forms.specs.Said.{IsWithin}
 use Rattle.line_forms.proofs.LimitLemmas.{line_within}
@@ -15,6 +15,7 @@ IsAllowed-within (Register signature statement) within = within
 IsAllowed-within (Verify goal numbers proof) within = within.0
 IsAllowed-within (Check goal numbers proof) within = within.0
 IsAllowed-within (Procap number) within = tt
+IsAllowed-within Checkpoint within = tt
 IsAllowed-within (Do op words) within = (within.operation, within.one_each, within.few_bytes)
 
 -- what a line of a script asks for is allowed

@@ -4,9 +4,9 @@ use Rattle.std.specs.Prelude.{IsTrue, IsSome}
 use Rattle.pcfs_ports.specs.Told.{with_back, HoldsSome}
 use Rattle.line_text.specs.Words.{HasNo}
 use Rattle.line_framer.specs.Framing.{FramerState, IsFirst}
-use Rattle.access_history.specs.declared.event.Event.{Event}
 use Rattle.line_wire.specs.declared.reply.LineReply.{LineReply}
 use Rattle.line_wire.specs.ReplyText.{reply_text, output_of}
+use Rattle.pcfs_store.specs.Entries.{StoreEntry}
 use Rattle.pcfs_session.specs.Answered.{IsOutAt, WasRun, AreAnswered, HaltsAt, AnswersHeld, HaltsWithin}
 use Rattle.pcfs_session.specs.InterpreterView.{InterpreterView, standing_of}
 use Rattle.pcfs_session.specs.Outbox.{GoesOut}
@@ -24,13 +24,13 @@ use Rattle.pcfs_session.proofs.StoredLemmas.{StoreGoesOn-on, StoreGoesOn-same, r
 use Rattle.pcfs_session.proofs.TakenLemmas.{AreFirst-none, AreFirst-more}
 
 -- a store that did not stop met nothing
-met_nothing : (stop : Option ℕ) (met : Option Event) → IsStopFor stop met → stop ≡ None → met ≡ None
+met_nothing : (stop : Option ℕ) (met : Option StoreEntry) → IsStopFor stop met → stop ≡ None → met ≡ None
 met_nothing None None is running = refl
 met_nothing None (Some event) is running = absurd is
 met_nothing (Some pass) met is running = absurd cc
 
 -- a store that stopped met an event
-met_some : (stop : Option ℕ) (met : Option Event) → IsStopFor stop met → IsSome stop → (event : Event) × (met ≡ Some event)
+met_some : (stop : Option ℕ) (met : Option StoreEntry) → IsStopFor stop met → IsSome stop → (entry : StoreEntry) × (met ≡ Some entry)
 met_some None None is some = absurd cc
 met_some None (Some event) is some = absurd is
 met_some (Some pass) None is some = absurd is
@@ -48,7 +48,7 @@ out_at-then (Unsent fault) held between held_after collected told kept more firs
 out_at-then Stopped held between held_after collected told kept more first all = out_then held between held_after collected told kept more first all
 
 module _ {D : Type 0} (clock : D → ℕ) (left_since : D → ℕ → List ℕ → Type 0) (image : D → Option (List ℕ)) (faults : D → ℕ) where
-  abbrev Was : List (List ℕ) → InterpreterView D → InterpreterView D → Option Event → List LineReply → Type 0
+  abbrev Was : List (List ℕ) → InterpreterView D → InterpreterView D → Option StoreEntry → List LineReply → Type 0
   Was lines old new met told = WasRun clock left_since image faults lines old new met told
 
   abbrev Answered : List (List ℕ) → InterpreterView D → InterpreterView D → Option (List ℕ) → List ℕ → Option (List ℕ) → List ℕ → Type 0
@@ -62,7 +62,7 @@ module _ {D : Type 0} (clock : D → ℕ) (left_since : D → ℕ → List ℕ �
 
   -- ---- where lines lead
 
-  pub WasRun-then : (lines others : List (List ℕ)) (old mid new : InterpreterView D) (met : Option Event) (told after : List LineReply) → Was lines old mid None told → Was others mid new met after → Was (lines ++ others) old new met (told ++ after)
+  pub WasRun-then : (lines others : List (List ℕ)) (old mid new : InterpreterView D) (met : Option StoreEntry) (told after : List LineReply) → Was lines old mid None told → Was others mid new met after → Was (lines ++ others) old new met (told ++ after)
   WasRun-then lines others old mid new met told after one other = record {
     run = ScriptRun-then (standing_of old None) (standing_of mid None) (standing_of new met) lines others told after one.run other.run;
     goes_on = StoreGoesOn-on clock left_since image faults old.store mid.store new.store met one.goes_on other.goes_on;
@@ -129,7 +129,7 @@ module _ {D : Type 0} (clock : D → ℕ) (left_since : D → ℕ → List ℕ �
       GoesOut held (collected ++ (reply_text reply ++ 10 ∷ [])) held_after after → Answered (line ∷ []) old new held collected held_after after
   AreAnswered-line line old new reply held held_after collected after l tells out = record {
     told = reply ∷ [];
-    was = subst (λ (m : Option Event). Was (line ∷ []) old new m (reply ∷ [])) (met_nothing new.store.stop l.met l.goes_on.stop_for (not_some new.store.stop tells)) (one_line line old new reply l);
+    was = subst (λ (m : Option StoreEntry). Was (line ∷ []) old new m (reply ∷ [])) (met_nothing new.store.stop l.met l.goes_on.stop_for (not_some new.store.stop tells)) (one_line line old new reply l);
     out = one_out held held_after collected after reply out;
   }
 

@@ -33,6 +33,8 @@ use Rattle.line_forms.specs.declared.fault.LineFault.TheVariants as line_faults
 use Rattle.line_forms.specs.Lines.{IsLine, IsLineFault, IsUnread}
 use Rattle.line_wire.specs.declared.reply.LineReply.{LineReply}
 use Rattle.line_wire.specs.declared.reply.LineReply.TheVariants as replies
+use Rattle.std.specs.Option.{option_map}
+use Rattle.pcfs_store.specs.Entries.{StoreEntry, happened}
 use Rattle.pcfs_session.specs.Asker.{Asker, asker_after}
 use Rattle.pcfs_session.specs.Brought.{AreProcapsAdded}
 use Rattle.pcfs_session.specs.Procaps.{AreBrought, IsFirstUnissued}
@@ -49,16 +51,16 @@ use Rattle.pcfs_session.proofs.BroughtLemmas.{unissued_seated, brought_seated}
 -- a command that is answered at once leaves all as it was
 followed_at_once : (s : Standing) (command : Command) (reply : LineReply) → asker_after s.asker command ≡ s.asker → ComesTo s.secrets (state_of_standing s) s.asker command (replied reply) → IsFollowed command s reply s
 followed_at_once s command reply stays look =
-    record { told = reply; event = None; answer = at_once reply look; becomes = subst (λ (k : Asker). Becomes s reply k None reply s) (sym stays) (kept None tt) }
+    record { told = reply; entry = None; answer = at_once reply look; becomes = subst (λ (k : Asker). Becomes s reply k None reply s) (sym stays) (kept None tt) }
 
 -- a command that leads to a request gets its answer
 followed_by : (before after : Standing) (command : Command) (request : StepRequest) (reply : LineReply) → asker_after before.asker command ≡ before.asker → ComesTo before.secrets (state_of_standing before) before.asker command (requested request) → IsDecidedAs request before reply after →
     IsFollowed command before reply after
 followed_by before after command request reply stays look asked = record {
   told = replies.Step asked.told;
-  event = asked.event;
+  entry = option_map happened asked.event;
   answer = decided request asked.told asked.event look asked.answer;
-  becomes = subst (λ (k : Asker). Becomes before (replies.Step asked.told) k asked.event reply after) (sym stays) asked.becomes;
+  becomes = subst (λ (k : Asker). Becomes before (replies.Step asked.told) k (option_map happened asked.event) reply after) (sym stays) asked.becomes;
 }
 
 pub IsFollowed-same : (before after : Standing) (command other : Command) (reply : LineReply) → command ≡ other → IsFollowed other before reply after → IsFollowed command before reply after
@@ -74,7 +76,7 @@ IsFollowed-at {D} seated store pass clock caller sees command second shown is as
     subst (λ (v : InterpreterView D). IsFollowed command (standing_of v None) replies.Done (standing_of (viewed store pass shown caller sees) None)) (sym is)
     (subst (λ (c : Command). IsFollowed c (standing_of (viewed store pass clock caller sees) None) replies.Done (standing_of (viewed store pass shown caller sees) None)) (sym asked)
     (subst (λ (z : ℤ). IsFollowed (commands.At second) (standing_of (viewed store pass clock caller sees) None) replies.Done (standing_of (viewed store pass z caller sees) None)) (sym same)
-    (record { told = replies.Done; event = None; answer = at_once replies.Done (line_answer.sets_clock second); becomes = kept None tt })))
+    (record { told = replies.Done; entry = None; answer = at_once replies.Done (line_answer.sets_clock second); becomes = kept None tt })))
 
 -- the caller is set
 pub IsFollowed-as : {D : Type 0} (seated : InterpreterView D) (store : StoreView D) (pass : ℕ) (clock : ℤ) (caller : List ℕ) (sees : Option (List ℕ)) (command : Command) (who : List ℕ) → seated ≡ viewed store pass clock caller sees → command ≡ commands.As who →
@@ -82,7 +84,7 @@ pub IsFollowed-as : {D : Type 0} (seated : InterpreterView D) (store : StoreView
 IsFollowed-as {D} seated store pass clock caller sees command who is asked =
     subst (λ (v : InterpreterView D). IsFollowed command (standing_of v None) replies.Done (standing_of (viewed store pass clock who sees) None)) (sym is)
     (subst (λ (c : Command). IsFollowed c (standing_of (viewed store pass clock caller sees) None) replies.Done (standing_of (viewed store pass clock who sees) None)) (sym asked)
-    (record { told = replies.Done; event = None; answer = at_once replies.Done (line_answer.sets_caller who); becomes = kept None tt }))
+    (record { told = replies.Done; entry = None; answer = at_once replies.Done (line_answer.sets_caller who); becomes = kept None tt }))
 
 pub IsFollowed-register : (before after : Standing) (signature : Option (List ℕ)) (statement : StatementView) (given : List ℕ) (reply : LineReply) → given ≡ signature_under before.secrets.ring statement signature →
     IsDecidedAs (requests.Register statement given) before reply after → IsFollowed (commands.Register signature statement) before reply after
@@ -186,7 +188,7 @@ IsFollowed-do before after op words procaps caller reply caller_is brought asked
 -- what a line asks for was done
 pub IsReplied-followed : (before after : Standing) (line : List ℕ) (command : Command) (reply : LineReply) → IsLine line command → IsFollowed command before reply after → IsReplied line before reply after
 IsReplied-followed before after line command reply is followed =
-    answered followed.told followed.event (asker_after before.asker command) reply after (asks command followed.told followed.event is followed.answer) followed.becomes
+    answered followed.told followed.entry (asker_after before.asker command) reply after (asks command followed.told followed.entry is followed.answer) followed.becomes
 
 -- memory ran out, and nothing changed
 pub IsReplied-without_memory : (before after : Standing) (line : List ℕ) → after ≡ before → IsReplied line before replies.NoMemory after

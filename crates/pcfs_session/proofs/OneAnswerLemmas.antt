@@ -31,6 +31,8 @@ use Rattle.line_forms.specs.declared.command.Command.{Command}
 use Rattle.line_forms.proofs.LineLemmas.{IsLine-unique, command_or_fault, one_fault}
 use Rattle.line_wire.specs.declared.reply.LineReply.{LineReply}
 use Rattle.line_wire.specs.declared.reply.LineReply.TheVariants as replies
+use Rattle.pcfs_store.specs.Entries.{StoreEntry, happened}
+use Rattle.std.specs.Option.{option_map}
 use Rattle.pcfs_session.specs.Asker.{Asker, asker_after}
 use Rattle.pcfs_session.specs.Procaps.{BringsProcap, held, issued, NamesIssue, AreBrought, IsFirstUnissued}
 use Rattle.pcfs_session.specs.Proved.{IsUnproved, cites_none, proves_none, IsProved}
@@ -132,6 +134,7 @@ module _ (secrets : Secrets) (state : BaseView) (asker : Asker) where
   one_look _ _ _ (line_answer.sets_caller who) (line_answer.sets_caller _) = refl
   one_look _ _ _ (line_answer.registers signature statement) (line_answer.registers _ _) = refl
   one_look _ _ _ (line_answer.shows number) (line_answer.shows _) = refl
+  one_look _ _ _ line_answer.makes_checkpoint line_answer.makes_checkpoint = refl
   one_look _ _ _ (line_answer.verifies_nothing goal numbers proof first refused) (line_answer.verifies_nothing _ _ _ second refused') =
       ap replied (one_refusal (sayings state.statements) goal numbers proof first second refused refused')
   one_look _ _ _ (line_answer.verifies_nothing goal numbers proof first refused) (line_answer.verifies _ _ _ cites g proved) =
@@ -160,19 +163,26 @@ module _ (secrets : Secrets) (state : BaseView) (asker : Asker) where
   reply_or_request : (command : Command) (reply : LineReply) (request : StepRequest) → ComesTo secrets state asker command (replied reply) → ComesTo secrets state asker command (requested request) → ⊥
   reply_or_request command reply request one other = let same = one_look command (replied reply) (requested request) one other in cc
 
--- the same reply, and the same event to keep
-abbrev AreSame : LineReply → LineReply → Option Event → Option Event → Type 0
+  -- nor either and a checkpoint
+  reply_or_checkpoint : (command : Command) (reply : LineReply) → ComesTo secrets state asker command (replied reply) → ComesTo secrets state asker command line_answer.checkpoint → ⊥
+  reply_or_checkpoint command reply one other = let same = one_look command (replied reply) line_answer.checkpoint one other in cc
+
+  request_or_checkpoint : (command : Command) (request : StepRequest) → ComesTo secrets state asker command (requested request) → ComesTo secrets state asker command line_answer.checkpoint → ⊥
+  request_or_checkpoint command request one other = let same = one_look command (requested request) line_answer.checkpoint one other in cc
+
+-- the same reply, and the same entry to add
+abbrev AreSame : LineReply → LineReply → Option StoreEntry → Option StoreEntry → Type 0
 AreSame first second one other = (first ≡ second) × (one ≡ other)
 
 module _ (s : Standing) (lawful : IsLawful (authority_under s.secrets) s.base s.events) where
   told_once : (request : StepRequest) (first second : StepReply) (one other : Option Event) → Answers (authority_under s.secrets) (state_of_standing s) s.asker.pass s.asker.clock request first one
-      → Answers (authority_under s.secrets) (state_of_standing s) s.asker.pass s.asker.clock request second other → AreSame (replies.Step first) (replies.Step second) one other
+      → Answers (authority_under s.secrets) (state_of_standing s) s.asker.pass s.asker.clock request second other → AreSame (replies.Step first) (replies.Step second) (option_map happened one) (option_map happened other)
   told_once request first second one other told told' =
       let same = one_answer (authority_under s.secrets) s.base s.events s.asker.pass s.asker.clock request first second one other lawful told told' in
-      (ap replies.Step same.0, same.1)
+      (ap replies.Step same.0, ap (option_map happened) same.1)
 
   -- a command has one answer
-  answer_once : (command : Command) (first second : LineReply) (one other : Option Event) → AnswersCommand s.secrets (state_of_standing s) s.asker command first one → AnswersCommand s.secrets (state_of_standing s) s.asker command second other → AreSame first second one other
+  answer_once : (command : Command) (first second : LineReply) (one other : Option StoreEntry) → AnswersCommand s.secrets (state_of_standing s) s.asker command first one → AnswersCommand s.secrets (state_of_standing s) s.asker command second other → AreSame first second one other
   answer_once command _ _ _ _ (at_once first look) (at_once second look') =
       let same = one_look s.secrets (state_of_standing s) s.asker command (replied first) (replied second) look look' in
       let told : first ≡ second = cc in
@@ -183,9 +193,14 @@ module _ (s : Standing) (lawful : IsLawful (authority_under s.secrets) s.base s.
       let same = one_look s.secrets (state_of_standing s) s.asker command (requested request) (requested request') look look' in
       let request_is : request ≡ request' = cc in
       told_once request' first second one other (subst (λ (r : StepRequest). Answers (authority_under s.secrets) (state_of_standing s) s.asker.pass s.asker.clock r first one) request_is told) told'
+  answer_once command _ _ _ _ (line_answer.made look) (line_answer.made look') = (refl, refl)
+  answer_once command _ _ _ _ (at_once first look) (line_answer.made look') = absurd (reply_or_checkpoint s.secrets (state_of_standing s) s.asker command first look look')
+  answer_once command _ _ _ _ (line_answer.made look) (at_once second look') = absurd (reply_or_checkpoint s.secrets (state_of_standing s) s.asker command second look' look)
+  answer_once command _ _ _ _ (decided request first event look told) (line_answer.made look') = absurd (request_or_checkpoint s.secrets (state_of_standing s) s.asker command request look look')
+  answer_once command _ _ _ _ (line_answer.made look) (decided request second event look' told) = absurd (request_or_checkpoint s.secrets (state_of_standing s) s.asker command request look' look)
 
   -- and so has a line
-  pub line_once : (line : List ℕ) (first second : LineReply) (one other : Option Event) (after later : Asker) → AnswersLine s.secrets (state_of_standing s) s.asker line first one after → AnswersLine s.secrets (state_of_standing s) s.asker line second other later
+  pub line_once : (line : List ℕ) (first second : LineReply) (one other : Option StoreEntry) (after later : Asker) → AnswersLine s.secrets (state_of_standing s) s.asker line first one after → AnswersLine s.secrets (state_of_standing s) s.asker line second other later
       → (first ≡ second) × (one ≡ other) × (after ≡ later)
   line_once line _ _ _ _ _ _ (faulty fault bad) (faulty other bad') = (ap replies.Faulty (one_fault bad other bad'), refl, refl)
   line_once line _ _ _ _ _ _ (faulty fault bad) (asks command reply event is answer) = absurd (command_or_fault is bad)

@@ -1,10 +1,10 @@
 -- The lines of a script have one outcome at most, unless memory runs out or a disk fails.
 use Rattle.std.proofs.Common.{◌≡◌, ℕ, List, ◌∷◌, Option, refl, sym, ap, subst, ◌∙◌}
 use Rattle.std.specs.Prelude.{◌≢◌}
-use Rattle.access_history.specs.declared.event.Event.{Event}
 use Rattle.access_history.specs.Lawful.{IsLawful}
 use Rattle.line_wire.specs.declared.reply.LineReply.{LineReply}
 use Rattle.line_wire.specs.declared.reply.LineReply.TheVariants as replies
+use Rattle.pcfs_store.specs.Entries.{StoreEntry}
 use Rattle.pcfs_session.specs.Asker.{Asker}
 use Rattle.pcfs_session.specs.LineAnswer.{authority_under}
 use Rattle.pcfs_session.specs.ScriptRun.{Standing, IsLawfulStanding, HasRoom, Becomes, kept, full, stopped, IsReplied, answered, without_memory, IsUndisturbed, AreUndisturbed, ScriptRun, ended}
@@ -18,12 +18,12 @@ record AreOne (first second : LineReply) (after later : Standing) : Type 0 where
   after_is : after ≡ later
 
 -- one thing becomes of an answer
-becomes_once : (s : Standing) (told : LineReply) (asker : Asker) (event other : Option Event) (first second : LineReply) (after later : Standing) → event ≡ other → Becomes s told asker event first after → first ≢ replies.Stopped → Becomes s told asker other second later → second ≢ replies.Stopped →
+becomes_once : (s : Standing) (told : LineReply) (asker : Asker) (event other : Option StoreEntry) (first second : LineReply) (after later : Standing) → event ≡ other → Becomes s told asker event first after → first ≢ replies.Stopped → Becomes s told asker other second later → second ≢ replies.Stopped →
     AreOne first second after later
 becomes_once s told asker _ _ _ _ _ _ same (stopped event room) going becomes going' = absurd (going refl)
 becomes_once s told asker _ _ _ _ _ _ same (kept event room) going (stopped other room') going' = absurd (going' refl)
 becomes_once s told asker _ _ _ _ _ _ same (full event is_full) going (stopped other room') going' = absurd (going' refl)
-becomes_once s told asker _ _ _ _ _ _ same (kept event room) going (kept other room') going' = record { reply = refl; after_is = ap (λ (e : Option Event). script.standing_after s e asker) same }
+becomes_once s told asker _ _ _ _ _ _ same (kept event room) going (kept other room') going' = record { reply = refl; after_is = ap (λ (e : Option StoreEntry). script.standing_after s e asker) same }
 becomes_once s told asker _ _ _ _ _ _ same (kept event room) going (full other is_full) going' = absurd (subst (HasRoom s) same room is_full)
 becomes_once s told asker _ _ _ _ _ _ same (full event is_full) going (kept other room) going' = absurd (subst (HasRoom s) (sym same) room is_full)
 becomes_once s told asker _ _ _ _ _ _ same (full event is_full) going (full other is_full') going' = record { reply = refl; after_is = refl }

@@ -12,9 +12,9 @@ use Rattle.line_framer.specs.Feeding.{AreShort, IsFed, IsTooLong, already, with_
 use Rattle.line_framer.specs.declared.framer.FeedFault.{FeedFault}
 use Rattle.line_framer.specs.declared.framer.FeedFault.TheVariants.{TooLong}
 use Rattle.line_framer.proofs.FramingLemmas.{last_line, lines_of-whole}
-use Rattle.access_history.specs.declared.event.Event.{Event}
 use Rattle.line_wire.specs.declared.reply.LineReply.{LineReply}
 use Rattle.line_wire.specs.ReplyText.{output_of}
+use Rattle.pcfs_store.specs.Entries.{StoreEntry}
 use Rattle.pcfs_session.specs.Answered.{IsFinished, WasRun, AreAnswered, HaltsAt, AnswersHeld, HaltsWithin, AnswersPiece, LongEnds, long_told, long_untold, long_halted, PieceEnds, at_long_line, piece_halted, LastEnds, all_answered, last_halted}
 use Rattle.pcfs_session.specs.Ends.{unsent_end, halted_end}
 use Rattle.pcfs_session.specs.InterpreterView.{InterpreterView, standing_of}
@@ -57,7 +57,7 @@ ScriptEnds-unbegun start before after stands left held =
     (record { count = 0; within = omega arith; held = held ∙ with_back-nil before.held })
 
 module _ {D : Type 0} (clock : D → ℕ) (left_since : D → ℕ → List ℕ → Type 0) (image : D → Option (List ℕ)) (faults : D → ℕ) where
-  abbrev Was : List (List ℕ) → InterpreterView D → InterpreterView D → Option Event → List LineReply → Type 0
+  abbrev Was : List (List ℕ) → InterpreterView D → InterpreterView D → Option StoreEntry → List LineReply → Type 0
   Was lines old new met told = WasRun clock left_since image faults lines old new met told
 
   abbrev Answered : List (List ℕ) → InterpreterView D → InterpreterView D → Option (List ℕ) → List ℕ → Option (List ℕ) → List ℕ → Type 0
@@ -227,7 +227,7 @@ module _ {D : Type 0} (clock : D → ℕ) (left_since : D → ℕ → List ℕ �
         }
 
     module _ (stands : IsLawfulStanding (standing_of start None)) (after : Streams) where
-      runs_over : (lines : List (List ℕ)) (new : InterpreterView D) (met : Option Event) (told : List LineReply) → Was lines start new met told → RunsOver (standing_of start None) lines (standing_of new met) (output_of told)
+      runs_over : (lines : List (List ℕ)) (new : InterpreterView D) (met : Option StoreEntry) (told : List LineReply) → Was lines start new met told → RunsOver (standing_of start None) lines (standing_of new met) (output_of told)
       runs_over lines new met told was = RunsOver-ran (standing_of start None) (standing_of new met) lines told stands was.run
 
       -- all lines that came with their ends
@@ -356,7 +356,7 @@ module _ {D : Type 0} (clock : D → ℕ) (left_since : D → ℕ → List ℕ �
         lines_are : lines_of (ended r.lines ++ open_line) ≡ r.lines ++ lines_of open_line
         lines_are = lines_of-whole r.lines open_line r.whole
 
-        over_all : (met : Option Event) (told : List LineReply) → Was (r.lines ++ lines_of open_line) start new met told → RunsOver (standing_of start None) (lines_of (ended r.lines ++ open_line)) (standing_of new met) (output_of told)
+        over_all : (met : Option StoreEntry) (told : List LineReply) → Was (r.lines ++ lines_of open_line) start new met told → RunsOver (standing_of start None) (lines_of (ended r.lines ++ open_line)) (standing_of new met) (output_of told)
         over_all met told was = subst (λ (ls : List (List ℕ)). RunsOver (standing_of start None) ls (standing_of new met) (output_of told)) (sym lines_are) (runs_over (r.lines ++ lines_of open_line) new met told was)
 
         pub AnswersScript-last : (how : ScriptEnd) → left ≡ after.left → IsAtEnd after.left → (how ≡ script_ends.WriteFault → HasRisen before.write_faults after.write_faults) → LastEnds clock left_since image faults open_line now new held after.held how →

@@ -1,6 +1,6 @@
 -- A store while a script goes on.
-use Rattle.std.proofs.Common.{◌≡◌, ◌⊎◌, inl, inr, ℕ, ℤ, ◌≤◌, Bool, true, false, List, Option, Some, None, refl, sym, ap, subst, ◌∙◌, arith}
-use Rattle.std.specs.Prelude.{◌≢◌}
+use Rattle.std.proofs.Common.{◌≡◌, ◌⊎◌, inl, inr, ℕ, zero, suc, ℤ, ◌+◌, ◌≤◌, Bool, true, false, List, [], ◌∷◌, ◌++◌, length, length-append, append_assoc, append-nil, Option, Some, None, refl, sym, ap, subst, ◌∙◌, arith}
+use Rattle.std.specs.Prelude.{◌≢◌, not}
 use Rattle.pcfs_ports.specs.Faults.{HasRisen}
 use Rattle.access_history.specs.declared.event.Event.{Event}
 use Rattle.access_history.specs.declared.request.StepRequest.{StepRequest}
@@ -16,6 +16,15 @@ use Rattle.pcfs_store.specs.StoreView.{StoreView, first_disk, second_disk, autho
 use Rattle.pcfs_store.specs.Ready.{IsReady, IsCurrent, StopsNow, SurvivesWithOrWithout}
 use Rattle.pcfs_store.specs.Steps.{Steps}
 use Rattle.pcfs_store.specs.Steps as steps
+use Rattle.line_forms.specs.declared.command.Command.TheVariants as commands
+use Rattle.pcfs_store.specs.declared.checkpoints.Checkpoint.{Checkpoint}
+use Rattle.pcfs_store.specs.declared.reply.CheckpointReply.{CheckpointReply}
+use Rattle.pcfs_store.specs.declared.reply.CheckpointReply.TheVariants as checkpoint_replies
+use Rattle.pcfs_store.specs.Checkpoints.{IsFullForCheckpoint, with_checkpoint, place_after, SurvivesMet, MakesCheckpoint, Checkpoints}
+use Rattle.pcfs_store.specs.Checkpoints as makes
+use Rattle.pcfs_store.specs.Entries.{StoreEntry, happened, checkpointed}
+use Rattle.pcfs_session.specs.Interpreter.{IsFollowed, IsToldOfCheckpoint}
+use Rattle.pcfs_session.specs.LineAnswer as line_answer
 use Rattle.pcfs_session.specs.Asker.{Asker}
 use Rattle.pcfs_session.specs.Interpreter.{IsDecidedAs, IsToldAs}
 use Rattle.pcfs_session.specs.InterpreterView.{InterpreterView, standing_of}
@@ -46,6 +55,12 @@ risen_at : {D : Type 0} (faults : D → ℕ) (old active other : D) (second_acti
 risen_at faults old active other false risen = inl risen
 risen_at faults old active other true risen = inr risen
 
+-- the count of the other disk in its place
+risen_other : {D : Type 0} (faults : D → ℕ) (active old other : D) (second_active : Bool) → HasRisen (faults old) (faults other) →
+    HasRisen (faults (one_of active old second_active)) (faults (one_of active other second_active)) ⊎ HasRisen (faults (one_of old active second_active)) (faults (one_of other active second_active))
+risen_other faults active old other false risen = inr risen
+risen_other faults active old other true risen = inl risen
+
 -- no disk failed in a step that is answered otherwise
 still_runs : {D : Type 0} (faults : D → ℕ) (old new : StoreView D) (pass : ℕ) (clock : ℤ) (request : StepRequest) (reply : StoreReply) → reply ≢ stores.Stopped → Steps faults old pass clock request reply new → new.stop ≡ None
 still_runs faults old _ pass clock request _ going (steps.answered reply is answer) = is
@@ -73,6 +88,20 @@ stays_in_place faults old _ pass clock request _ (steps.without_memory is) = rec
 abbrev seen : {D : Type 0} → StoreView D → Asker → InterpreterView D
 seen store asker = record { store = store; asker = asker }
 
+-- ---- checkpoints one after another
+
+place_both : (one other : List Checkpoint) (second : Bool) → place_after (length (one ++ other)) second ≡ place_after (length other) (place_after (length one) second)
+place_both [] other second = refl
+place_both (made ∷ one) other second = ap not (place_both one other second) ∙ place_shift (length other) (place_after (length one) second)
+  where
+    place_shift : (n : ℕ) (b : Bool) → not (place_after n b) ≡ place_after n (not b)
+    place_shift zero b = refl
+    place_shift (suc n) b = ap not (place_shift n b)
+
+none_of_both : (one other : List Checkpoint) → one ++ other ≡ [] → (one ≡ []) × (other ≡ [])
+none_of_both [] other none = (refl, none)
+none_of_both (made ∷ one) other none = absurd cc
+
 module _ {D : Type 0} (clock : D → ℕ) (left_since : D → ℕ → List ℕ → Type 0) (image : D → Option (List ℕ)) (faults : D → ℕ) where
   -- what a step of a store says
   pub record Stepped (old : StoreView D) (asker : Asker) (request : StepRequest) (result : StoreReply) (new : StoreView D) : Type 0 where
@@ -92,10 +121,10 @@ module _ {D : Type 0} (clock : D → ℕ) (left_since : D → ℕ → List ℕ �
 
   goes_running : (old new : StoreView D) (asker : Asker) (request : StepRequest) (result : StoreReply) → result ≢ stores.Stopped → Stepped old asker request result new → StoreGoesOn clock left_since image faults old new None
   goes_running old new asker request result going s = record {
-    generation_stays = (stays_in_place faults old new asker.pass asker.clock request result s.answer).generation;
-    place_stays = (stays_in_place faults old new asker.pass asker.clock request result s.answer).place;
-    other_stays = (stays_in_place faults old new asker.pass asker.clock request result s.answer).other;
-    checkpoints_stay = (stays_in_place faults old new asker.pass asker.clock request result s.answer).checkpoints;
+    checkpoints_go_on = ([], append-nil old.checkpoints ∙ sym (stays_in_place faults old new asker.pass asker.clock request result s.answer).checkpoints);
+    generation_grows = omega (arith, (stays_in_place faults old new asker.pass asker.clock request result s.answer).generation);
+    place_is = (stays_in_place faults old new asker.pass asker.clock request result s.answer).place;
+    other_stays = λ none untried. (stays_in_place faults old new asker.pass asker.clock request result s.answer).other;
     stop_for = running_for new.stop (still_runs faults old new asker.pass asker.clock request result going s.answer);
     ready = λ is none. s.stays_ready is going;
     halts = λ is event same. none_some event same;
@@ -108,7 +137,7 @@ module _ {D : Type 0} (clock : D → ℕ) (left_since : D → ℕ → List ℕ �
   -- a step is answered
   decided_step : (old new : StoreView D) (asker : Asker) (request : StepRequest) (reply : StepReply) → Steps faults old asker.pass asker.clock request (stores.Step reply) new → IsDecidedAs request (standing_of (seen old asker) None) (replies.Step reply) (standing_of (seen new asker) None)
   decided_step old _ asker request _ (steps.answered reply running answer) = record { told = reply; event = None; answer = answer; becomes = kept None tt }
-  decided_step old _ asker request _ (steps.kept reply event active running answer room) = record { told = reply; event = Some event; answer = answer; becomes = kept (Some event) room }
+  decided_step old _ asker request _ (steps.kept reply event active running answer room) = record { told = reply; event = Some event; answer = answer; becomes = kept (Some (happened event)) room }
 
   pub LeadsTo-step : (old new : StoreView D) (asker : Asker) (request : StepRequest) (reply : StepReply) → Stepped old asker request (stores.Step reply) new → LeadsTo clock left_since image faults (IsDecidedAs request) (seen old asker) (replies.Step reply) (seen new asker)
   LeadsTo-step old new asker request reply s = record {
@@ -119,7 +148,7 @@ module _ {D : Type 0} (clock : D → ℕ) (left_since : D → ℕ → List ℕ �
 
   -- there is no room
   decided_full : (old new : StoreView D) (asker : Asker) (request : StepRequest) → Steps faults old asker.pass asker.clock request stores.Full new → IsDecidedAs request (standing_of (seen old asker) None) replies.Full (standing_of (seen new asker) None)
-  decided_full old _ asker request (steps.full reply event running answer is_full) = record { told = reply; event = Some event; answer = answer; becomes = full event is_full }
+  decided_full old _ asker request (steps.full reply event running answer is_full) = record { told = reply; event = Some event; answer = answer; becomes = full (happened event) is_full }
 
   pub LeadsTo-full : (old new : StoreView D) (asker : Asker) (request : StepRequest) → Stepped old asker request stores.Full new → LeadsTo clock left_since image faults (IsDecidedAs request) (seen old asker) replies.Full (seen new asker)
   LeadsTo-full old new asker request s = record {
@@ -137,20 +166,20 @@ module _ {D : Type 0} (clock : D → ℕ) (left_since : D → ℕ → List ℕ �
   by_fault : (old new : StoreView D) (asker : Asker) (request : StepRequest) → IsLawful (authority_of_store old) old.base old.events → old.stop ≡ None → Stepped old asker request stores.Stopped new → Steps faults old asker.pass asker.clock request stores.Stopped new →
       LeadsTo clock left_since image faults (IsDecidedAs request) (seen old asker) replies.Stopped (seen new asker)
   by_fault old _ asker request lawful running s (steps.failed reply event active is answer room risen) = record {
-    met = Some event;
-    holds = record { told = reply; event = Some event; answer = answer; becomes = stopped event room };
+    met = Some (happened event);
+    holds = record { told = reply; event = Some event; answer = answer; becomes = stopped (happened event) room };
     goes_on = record {
       stop_for = tt;
-      generation_stays = refl;
-      place_stays = refl;
-      other_stays = refl;
-      checkpoints_stay = refl;
-      ready = λ is_ready none. none_some event (sym none);
+      checkpoints_go_on = ([], append-nil old.checkpoints);
+      generation_grows = omega arith;
+      place_is = refl;
+      other_stays = λ none untried. refl;
+      ready = λ is_ready none. none_some (happened event) (sym none);
       halts = λ is_ready e same.
           let m = s.met is_ready refl in
-          let it : m.1 ≡ e = same_event old asker request lawful reply m.0 event m.1 answer m.2 ∙ some_same event e same in
-          subst (λ (x : Event). StopsNow clock left_since image (record old { active = active; stop = Some asker.pass }) (SurvivesWithOrWithout old.base old.events x)) it m.3;
-      current = λ is_current none. none_some event (sym none);
+          let it : happened m.1 ≡ e = ap happened (same_event old asker request lawful reply m.0 event m.1 answer m.2) ∙ some_same (happened event) e same in
+          subst (λ (x : StoreEntry). StopsNow clock left_since image (record old { active = active; stop = Some asker.pass }) (SurvivesMet old.base old.events x)) it m.3;
+      current = λ is_current none. none_some (happened event) (sym none);
       first_never_falls = s.first_never_falls;
       second_never_falls = s.second_never_falls;
       failed = λ e same. risen_at faults old.active active old.other old.second_active risen;
@@ -176,22 +205,14 @@ module _ {D : Type 0} (clock : D → ℕ) (left_since : D → ℕ → List ℕ �
       subst (λ (i : InterpreterView D). LeadsTo clock left_since image faults (IsDecidedAs request) i told (seen new inside.asker)) same
       (by_told inside.store new inside.asker request reply told (subst (λ (i : InterpreterView D). IsLawfulStanding (standing_of i None)) (sym same) stands).lawful (ap (λ (i : InterpreterView D). i.store.stop) same ∙ running) is s)
 
-  -- memory ran out in a step
-  no_memory : (old new : StoreView D) (asker : Asker) (request : StepRequest) → Steps faults old asker.pass asker.clock request stores.NoMemory new → new ≡ old
-  no_memory old _ asker request (steps.without_memory running) = refl
-
-  pub same-without_memory : (inside seated : InterpreterView D) (new : StoreView D) (request : StepRequest) (reply : StoreReply) → inside ≡ seated → reply ≡ stores.NoMemory → Stepped inside.store inside.asker request reply new → seen new inside.asker ≡ seated
-  same-without_memory inside seated new request reply same is s =
-      ap (λ (n : StoreView D). seen n inside.asker) (no_memory inside.store new inside.asker request (subst (λ (r : StoreReply). Steps faults inside.store inside.asker.pass inside.asker.clock request r new) is s.answer)) ∙ same
-
   -- nothing happened
   pub StoreGoesOn-same : (s : StoreView D) → s.stop ≡ None → StoreGoesOn clock left_since image faults s s None
   StoreGoesOn-same s running = record {
     stop_for = running_for s.stop running;
-    generation_stays = refl;
-    place_stays = refl;
-    other_stays = refl;
-    checkpoints_stay = refl;
+    checkpoints_go_on = ([], append-nil s.checkpoints);
+    generation_grows = omega arith;
+    place_is = refl;
+    other_stays = λ none untried. refl;
     ready = λ is none. is;
     halts = λ is event same. none_some event same;
     current = λ is none. is;
@@ -199,6 +220,83 @@ module _ {D : Type 0} (clock : D → ℕ) (left_since : D → ℕ → List ℕ �
     second_never_falls = omega arith;
     failed = λ event same. none_some event same;
   }
+
+  -- a checkpoint
+  checkpoint_goes : (old : StoreView D) (asker : Asker) (active : D) (fits : IsFullForCheckpoint old → ⊥) → old.stop ≡ None → Checkpoints clock left_since image faults old asker.pass checkpoint_replies.Checkpointed (with_checkpoint old asker.pass active) →
+      StoreGoesOn clock left_since image faults old (with_checkpoint old asker.pass active) None
+  checkpoint_goes old asker active fits running s = record {
+    stop_for = running_for old.stop running;
+    checkpoints_go_on = (record { after = length old.events; pass = asker.pass } ∷ [], refl);
+    generation_grows = refl;
+    place_is = refl;
+    other_stays = λ none untried. absurd cc;
+    ready = λ is none. s.stays_ready is (λ same. absurd cc);
+    halts = λ is entry same. none_some entry same;
+    current = λ is none. s.stays_current is (λ same. absurd cc);
+    first_never_falls = s.first_never_falls;
+    second_never_falls = s.second_never_falls;
+    failed = λ entry same. none_some entry same;
+  }
+
+  by_checkpoint : (old new : StoreView D) (asker : Asker) (reply : CheckpointReply) (told : LineReply) → old.stop ≡ None → IsToldOfCheckpoint reply told → Checkpoints clock left_since image faults old asker.pass reply new → MakesCheckpoint faults old asker.pass reply new →
+      LeadsTo clock left_since image faults (IsFollowed commands.Checkpoint) (seen old asker) told (seen new asker)
+  by_checkpoint old _ asker _ told running is s (makes.made active goes fits) =
+      subst (λ (t : LineReply). LeadsTo clock left_since image faults (IsFollowed commands.Checkpoint) (seen old asker) t (seen (with_checkpoint old asker.pass active) asker)) (sym is)
+      (record {
+        met = None;
+        holds = record { told = replies.Checkpointed; entry = Some (checkpointed asker.pass); answer = line_answer.made line_answer.makes_checkpoint; becomes = kept (Some (checkpointed asker.pass)) fits };
+        goes_on = checkpoint_goes old asker active fits running s;
+      })
+  by_checkpoint old _ asker _ told running is s (makes.full goes over) =
+      subst (λ (t : LineReply). LeadsTo clock left_since image faults (IsFollowed commands.Checkpoint) (seen old asker) t (seen old asker)) (sym is)
+      (record {
+        met = None;
+        holds = record { told = replies.Checkpointed; entry = Some (checkpointed asker.pass); answer = line_answer.made line_answer.makes_checkpoint; becomes = full (checkpointed asker.pass) over };
+        goes_on = StoreGoesOn-same old running;
+      })
+  by_checkpoint old _ asker _ told running is s (makes.failed other goes fits risen) =
+      subst (λ (t : LineReply). LeadsTo clock left_since image faults (IsFollowed commands.Checkpoint) (seen old asker) t (seen (record old { other = other; stop = Some asker.pass }) asker)) (sym is)
+      (record {
+        met = Some (checkpointed asker.pass);
+        holds = record { told = replies.Checkpointed; entry = Some (checkpointed asker.pass); answer = line_answer.made line_answer.makes_checkpoint; becomes = stopped (checkpointed asker.pass) fits };
+        goes_on = record {
+          stop_for = tt;
+          checkpoints_go_on = ([], append-nil old.checkpoints);
+          generation_grows = omega arith;
+          place_is = refl;
+          other_stays = λ none untried. absurd (untried asker.pass refl);
+          ready = λ is_ready none. none_some (checkpointed asker.pass) (sym none);
+          halts = λ is_ready e same. subst (λ (x : StoreEntry). StopsNow clock left_since image (record old { other = other; stop = Some asker.pass }) (SurvivesMet old.base old.events x)) (some_same (checkpointed asker.pass) e same) (s.halts is_ready refl);
+          current = λ is_current none. none_some (checkpointed asker.pass) (sym none);
+          first_never_falls = s.first_never_falls;
+          second_never_falls = s.second_never_falls;
+          failed = λ e same. risen_other faults old.active old.other other old.second_active risen;
+        };
+      })
+  by_checkpoint old _ asker _ told running is s (makes.stopped earlier stop) = none_some earlier (sym running ∙ stop)
+  by_checkpoint old _ asker _ told running is s (makes.without_memory goes) = absurd is
+
+  pub LeadsTo-checkpoint : (inside seated : InterpreterView D) (new : StoreView D) (reply : CheckpointReply) (told : LineReply) → inside ≡ seated → seated.store.stop ≡ None → IsToldOfCheckpoint reply told →
+      Checkpoints clock left_since image faults inside.store inside.asker.pass reply new → LeadsTo clock left_since image faults (IsFollowed commands.Checkpoint) seated told (seen new inside.asker)
+  LeadsTo-checkpoint inside seated new reply told same running is s =
+      subst (λ (i : InterpreterView D). LeadsTo clock left_since image faults (IsFollowed commands.Checkpoint) i told (seen new inside.asker)) same
+      (by_checkpoint inside.store new inside.asker reply told (ap (λ (i : InterpreterView D). i.store.stop) same ∙ running) is s s.answer)
+
+  -- memory ran out in a step
+  no_memory : (old new : StoreView D) (asker : Asker) (request : StepRequest) → Steps faults old asker.pass asker.clock request stores.NoMemory new → new ≡ old
+  no_memory old _ asker request (steps.without_memory running) = refl
+
+  -- memory ran out in a checkpoint
+  pub same-checkpoint : (inside seated : InterpreterView D) (new : StoreView D) (reply : CheckpointReply) → inside ≡ seated → reply ≡ checkpoint_replies.NoMemory → MakesCheckpoint faults inside.store inside.asker.pass reply new → seen new inside.asker ≡ seated
+  same-checkpoint inside seated new reply same is makes =
+      ap (λ (n : StoreView D). seen n inside.asker) (unmade inside.store new inside.asker.pass (subst (λ (r : CheckpointReply). MakesCheckpoint faults inside.store inside.asker.pass r new) is makes)) ∙ same
+    where
+      unmade : (old after : StoreView D) (pass : ℕ) → MakesCheckpoint faults old pass checkpoint_replies.NoMemory after → after ≡ old
+      unmade old _ pass (makes.without_memory goes) = refl
+
+  pub same-without_memory : (inside seated : InterpreterView D) (new : StoreView D) (request : StepRequest) (reply : StoreReply) → inside ≡ seated → reply ≡ stores.NoMemory → Stepped inside.store inside.asker request reply new → seen new inside.asker ≡ seated
+  same-without_memory inside seated new request reply same is s =
+      ap (λ (n : StoreView D). seen n inside.asker) (no_memory inside.store new inside.asker request (subst (λ (r : StoreReply). Steps faults inside.store inside.asker.pass inside.asker.clock request r new) is s.answer)) ∙ same
 
   pub LeadsTo-same : (R : Standing → LineReply → Standing → Type 0) (i : InterpreterView D) (reply : LineReply) → i.store.stop ≡ None → R (standing_of i None) reply (standing_of i None) → LeadsTo clock left_since image faults R i reply i
   LeadsTo-same R i reply running holds = record { met = None; holds = holds; goes_on = StoreGoesOn-same i.store running }
@@ -219,18 +317,18 @@ module _ {D : Type 0} (clock : D → ℕ) (left_since : D → ℕ → List ℕ �
   LeadsTo-seated R inside seated new reply same l = subst (λ (i : InterpreterView D). LeadsTo clock left_since image faults R i reply new) same l
 
   -- a call that says more of where it leads
-  pub LeadsTo-also : (R Q : Standing → LineReply → Standing → Type 0) (old new : InterpreterView D) (reply : LineReply) → ((met : Option Event) → R (standing_of old None) reply (standing_of new met) → Q (standing_of old None) reply (standing_of new met)) →
+  pub LeadsTo-also : (R Q : Standing → LineReply → Standing → Type 0) (old new : InterpreterView D) (reply : LineReply) → ((met : Option StoreEntry) → R (standing_of old None) reply (standing_of new met) → Q (standing_of old None) reply (standing_of new met)) →
       LeadsTo clock left_since image faults R old reply new → LeadsTo clock left_since image faults Q old reply new
   LeadsTo-also R Q old new reply says l = record { met = l.met; holds = says l.met l.holds; goes_on = l.goes_on }
 
   -- from one moment to a later one, and to a later one still, while no disk fails before it
-  pub StoreGoesOn-on : (old mid new : StoreView D) (met : Option Event) → StoreGoesOn clock left_since image faults old mid None → StoreGoesOn clock left_since image faults mid new met → StoreGoesOn clock left_since image faults old new met
+  pub StoreGoesOn-on : (old mid new : StoreView D) (met : Option StoreEntry) → StoreGoesOn clock left_since image faults old mid None → StoreGoesOn clock left_since image faults mid new met → StoreGoesOn clock left_since image faults old new met
   StoreGoesOn-on old mid new met one other = record {
     stop_for = other.stop_for;
-    generation_stays = other.generation_stays ∙ one.generation_stays;
-    place_stays = other.place_stays ∙ one.place_stays;
-    other_stays = other.other_stays ∙ one.other_stays;
-    checkpoints_stay = other.checkpoints_stay ∙ one.checkpoints_stay;
+    checkpoints_go_on = (one.checkpoints_go_on.0 ++ other.checkpoints_go_on.0, sym (append_assoc old.checkpoints one.checkpoints_go_on.0 other.checkpoints_go_on.0) ∙ ap (λ (cs : List Checkpoint). cs ++ other.checkpoints_go_on.0) one.checkpoints_go_on.1 ∙ other.checkpoints_go_on.1);
+    generation_grows = let long = length-append one.checkpoints_go_on.0 other.checkpoints_go_on.0 in omega (arith, long, one.generation_grows, other.generation_grows);
+    place_is = other.place_is ∙ ap (place_after (length other.checkpoints_go_on.0)) one.place_is ∙ sym (place_both one.checkpoints_go_on.0 other.checkpoints_go_on.0 old.second_active);
+    other_stays = λ none untried. let neither = none_of_both one.checkpoints_go_on.0 other.checkpoints_go_on.0 none in other.other_stays neither.1 untried ∙ one.other_stays neither.0 (λ pass is. none_some (checkpointed pass) is);
     ready = λ is none. other.ready (one.ready is refl) none;
     halts = λ is event same. other.halts (one.ready is refl) event same;
     current = λ is none. other.current (one.current is refl) none;

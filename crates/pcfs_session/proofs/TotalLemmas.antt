@@ -16,7 +16,6 @@ use Rattle.proof_verifier.specs.CheckedView.{checked_view}
 use Rattle.proof_verifier.specs.Verdict.{verdict}
 use Rattle.pcfs_secrets.specs.declared.secrets.Secrets.{Secrets}
 use Rattle.file_world.specs.declared.operation.Op.{Op}
-use Rattle.access_history.specs.declared.event.Event.{Event}
 use Rattle.access_history.specs.declared.event.Issue.{Issue}
 use Rattle.access_history.specs.declared.request.StepRequest.TheVariants as requests
 use Rattle.access_history.specs.declared.reply.StepReply.TheVariants.{Absent}
@@ -31,12 +30,15 @@ use Rattle.access_history.proofs.NumberedLemmas.{HasNumber-item}
 use Rattle.line_words.specs.declared.procap_word.ProcapWord.{ProcapWord}
 use Rattle.line_words.specs.declared.procap_word.ProcapWord.TheVariants as words
 use Rattle.line_forms.specs.declared.command.Command.{Command}
-use Rattle.line_forms.specs.declared.command.Command.TheVariants.{At, As, Register, Procap, Verify, Check, Do}
+use Rattle.line_forms.specs.declared.command.Command.TheVariants.{At, As, Register, Procap, Checkpoint, Verify, Check, Do}
 use Rattle.line_forms.specs.declared.fault.LineFault.{LineFault}
 use Rattle.line_forms.specs.Lines.{IsLine, IsLineFault}
 use Rattle.line_forms.proofs.TotalLemmas.{command_or_a_fault}
 use Rattle.line_wire.specs.declared.reply.LineReply.{LineReply}
 use Rattle.line_wire.specs.declared.reply.LineReply.TheVariants as replies
+use Rattle.std.specs.Option.{option_map}
+use Rattle.pcfs_store.specs.Entries.{StoreEntry, happened, checkpointed, stopped as stop_mark}
+use Rattle.checkpoint_image.specs.ImageSpelling.{image_spelling}
 use Rattle.pcfs_session.specs.Asker.{Asker, IsAsker, asker_after}
 use Rattle.pcfs_session.specs.Procaps.{BringsProcap, held, issued, NamesIssue, AreBrought, IsFirstUnissued}
 use Rattle.pcfs_session.specs.Proved.{IsUnproved, cites_none, proves_none, IsProved}
@@ -44,7 +46,7 @@ use Rattle.pcfs_session.specs.LineAnswer.{authority_under, signature_under, Look
 use Rattle.pcfs_session.specs.LineAnswer as line_answer
 use Rattle.pcfs_store.specs.StoredHistory.{IsFull}
 use Rattle.journal_records.specs.EventSpelling.{event_spelling}
-use Rattle.pcfs_session.specs.ScriptRun.{Standing, state_of_standing, standing_after, IsLawfulStanding, HasRoom, Becomes, kept, full, IsReplied, answered, ScriptRun, ended, one_more, IsUndisturbed, AreUndisturbed}
+use Rattle.pcfs_session.specs.ScriptRun.{Standing, state_of_standing, standing_after, IsLawfulStanding, HasRoom, IsFullIn, Becomes, kept, full, IsReplied, answered, ScriptRun, ended, one_more, IsUndisturbed, AreUndisturbed}
 use Rattle.pcfs_session.proofs.FormedLemmas.{IsWellFormed-line}
 use Rattle.pcfs_session.proofs.LawfulRunLemmas.{IsLawfulStanding-replied}
 
@@ -154,16 +156,18 @@ module _ (secrets : Secrets) (state : BaseView) (asker : Asker) where
   look_at (Verify goal numbers proof) = verified goal numbers proof (told_of_proof (sayings state.statements) goal numbers proof)
   look_at (Check goal numbers proof) = checked goal numbers proof (told_of_proof (sayings state.statements) goal numbers proof)
   look_at (Procap number) = (requested (requests.ShowProcap number asker.sees), line_answer.shows number)
+  look_at Checkpoint = (line_answer.checkpoint, line_answer.makes_checkpoint)
   look_at (Do op given) = done op given (told_of_words secrets.seal_key state.issues given)
 
   module _ (is_asker : IsAsker asker) (are : AllByRecursion IsStatement (sayings state.statements)) (line : List ℕ) where
-    answer_after : (command : Command) → IsLine line command → (look : Look) → ComesTo secrets state asker command look → (reply : LineReply) × (event : Option Event) × AnswersCommand secrets state asker command reply event
+    answer_after : (command : Command) → IsLine line command → (look : Look) → ComesTo secrets state asker command look → (reply : LineReply) × (entry : Option StoreEntry) × AnswersCommand secrets state asker command reply entry
     answer_after command is (replied reply) comes = (reply, None, at_once reply comes)
+    answer_after command is line_answer.checkpoint comes = (replies.Checkpointed, Some (checkpointed asker.pass), line_answer.made comes)
     answer_after command is (requested request) comes =
         let answer = has_answer (authority_under secrets) state asker.pass asker.clock request (IsWellFormed-line secrets state asker line command request is_asker are is comes) in
-        (replies.Step answer.0, answer.1, decided request answer.0 answer.1 comes answer.2)
+        (replies.Step answer.0, option_map happened answer.1, decided request answer.0 answer.1 comes answer.2)
 
-    line_answered : ((command : Command) × IsLine line command) ⊎ ((fault : LineFault) × IsLineFault line fault) → (reply : LineReply) × (event : Option Event) × (after : Asker) × AnswersLine secrets state asker line reply event after
+    line_answered : ((command : Command) × IsLine line command) ⊎ ((fault : LineFault) × IsLineFault line fault) → (reply : LineReply) × (entry : Option StoreEntry) × (after : Asker) × AnswersLine secrets state asker line reply entry after
     line_answered (inl one) =
         let look = look_at one.0 in
         let answer = answer_after one.0 one.1 look.0 look.1 in
@@ -171,11 +175,11 @@ module _ (secrets : Secrets) (state : BaseView) (asker : Asker) where
     line_answered (inr bad) = (replies.Faulty bad.0, None, asker, faulty bad.0 bad.1)
 
     -- each line has an answer
-    answer_of_line : (reply : LineReply) × (event : Option Event) × (after : Asker) × AnswersLine secrets state asker line reply event after
+    answer_of_line : (reply : LineReply) × (entry : Option StoreEntry) × (after : Asker) × AnswersLine secrets state asker line reply entry after
     answer_of_line = line_answered (command_or_a_fault line)
 
 -- over the state of a lawful history each line has an answer
-pub line_has_answer : (s : Standing) (line : List ℕ) → IsLawfulStanding s → (reply : LineReply) × (event : Option Event) × (after : Asker) × AnswersLine s.secrets (state_of_standing s) s.asker line reply event after
+pub line_has_answer : (s : Standing) (line : List ℕ) → IsLawfulStanding s → (reply : LineReply) × (entry : Option StoreEntry) × (after : Asker) × AnswersLine s.secrets (state_of_standing s) s.asker line reply entry after
 line_has_answer s line stands = answer_of_line s.secrets (state_of_standing s) s.asker stands.asker (IsLawfulBase-lawful (authority_under s.secrets) s.base s.events stands.lawful).statements_formed line
 
 -- ---- a run
@@ -184,6 +188,7 @@ line_has_answer s line stands = answer_of_line s.secrets (state_of_standing s) s
 abbrev IsCalm : Look → Type 0
 IsCalm (replied reply) = IsUndisturbed reply
 IsCalm (requested request) = Unit {0}
+IsCalm line_answer.checkpoint = Unit {0}
 
 unproved_calm : (statements : List StatementView) (goal : Goal) (numbers : List ℕ) (proof : ProofView) (reply : LineReply) → IsUnproved statements goal numbers proof reply → IsUndisturbed reply
 unproved_calm statements goal numbers proof _ (cites_none number absent) = record { had_memory = λ is. absurd cc; not_stopped = λ is. absurd cc }
@@ -194,6 +199,7 @@ looked_calm secrets state asker _ _ (line_answer.sets_clock second) = record { h
 looked_calm secrets state asker _ _ (line_answer.sets_caller who) = record { had_memory = λ is. absurd cc; not_stopped = λ is. absurd cc }
 looked_calm secrets state asker _ _ (line_answer.registers signature statement) = tt
 looked_calm secrets state asker _ _ (line_answer.shows number) = tt
+looked_calm secrets state asker _ _ line_answer.makes_checkpoint = tt
 looked_calm secrets state asker _ _ (line_answer.verifies_nothing goal numbers proof reply refused) = unproved_calm (sayings state.statements) goal numbers proof reply refused
 looked_calm secrets state asker _ _ (line_answer.verifies goal numbers proof cites g proved) = tt
 looked_calm secrets state asker _ _ (line_answer.checks_nothing goal numbers proof reply refused) = unproved_calm (sayings state.statements) goal numbers proof reply refused
@@ -205,41 +211,57 @@ at_once_calm : (secrets : Secrets) (state : BaseView) (asker : Asker) (command :
 at_once_calm secrets state asker command reply comes = looked_calm secrets state asker command (replied reply) comes
 
 -- no answer is that memory ran out, or that a disk failed
-calm_reply : (s : Standing) (line : List ℕ) (reply : LineReply) (event : Option Event) (after : Asker) → AnswersLine s.secrets (state_of_standing s) s.asker line reply event after → IsUndisturbed reply
+calm_reply : (s : Standing) (line : List ℕ) (reply : LineReply) (entry : Option StoreEntry) (after : Asker) → AnswersLine s.secrets (state_of_standing s) s.asker line reply entry after → IsUndisturbed reply
 calm_reply s line _ _ _ (faulty fault bad) = record { had_memory = λ is. absurd cc; not_stopped = λ is. absurd cc }
 calm_reply s line _ _ _ (asks command _ _ is_line (decided request reply event look answer)) = record { had_memory = λ is. absurd cc; not_stopped = λ is. absurd cc }
+calm_reply s line _ _ _ (asks command _ _ is_line (line_answer.made look)) = record { had_memory = λ is. absurd cc; not_stopped = λ is. absurd cc }
 calm_reply s line _ _ _ (asks command _ _ is_line (at_once reply look)) = at_once_calm s.secrets (state_of_standing s) s.asker command reply look
 
 -- ---- what becomes of it
 
 -- something becomes of an answer, and no disk fails
-record GoesWell (s : Standing) (told : LineReply) (asker : Asker) (event : Option Event) : Type 0 where
+record GoesWell (s : Standing) (told : LineReply) (asker : Asker) (entry : Option StoreEntry) : Type 0 where
   reply : LineReply
   after : Standing
-  becomes : Becomes s told asker event reply after
+  becomes : Becomes s told asker entry reply after
   calm : IsUndisturbed reply
   going : after.met ≡ None
 
-within : (s : Standing) (event : Event) → (area_limit < s.used + length (event_spelling event) + 6 → ⊥) → (2 ^ 48 - 1 ≤ (state_of_standing s).count → ⊥) → IsFull s.used (state_of_standing s).count event → ⊥
-within s event fits numbered (inl long) = fits long
-within s event fits numbered (inr many) = numbered many
+-- one of two bounds is passed, or neither
+bounds : (used most number last : ℕ) → ((most < used) ⊎ (used ≤ most)) → ((number < last) ⊎ (last ≤ number)) → ((most < used) ⊎ (last ≤ number)) ⊎ ((most < used) ⊎ (last ≤ number) → ⊥)
+bounds used most number last (inl long) numbers = inl (inl long)
+bounds used most number last (inr short) (inr many) = inl (inr many)
+bounds used most number last (inr short) (inl few) = inr both
+  where
+    both : (most < used) ⊎ (last ≤ number) → ⊥
+    both (inl long) = absurd (omega (arith, long, short))
+    both (inr many) = absurd (omega (arith, few, many))
 
-full_or_not : (s : Standing) (event : Event) → (area_limit < s.used + length (event_spelling event) + 6) ⊎ (s.used + length (event_spelling event) + 6 ≤ area_limit) → ((state_of_standing s).count < 2 ^ 48 - 1) ⊎ (2 ^ 48 - 1 ≤ (state_of_standing s).count) →
-    IsFull s.used (state_of_standing s).count event ⊎ HasRoom s (Some event)
-full_or_not s event (inl long) numbers = inl (inl long)
-full_or_not s event (inr short) (inr many) = inl (inr many)
-full_or_not s event (inr short) (inl few) = inr (within s event (λ long. absurd (omega (arith, long, short))) (λ many. absurd (omega (arith, few, many))))
+full_or_not : (s : Standing) (entry : StoreEntry) → IsFullIn s entry ⊎ HasRoom s (Some entry)
+full_or_not s (happened event) =
+    bounds (s.used + length (event_spelling event) + 6) area_limit (state_of_standing s).count (2 ^ 48 - 1)
+    (cases_lt area_limit (s.used + length (event_spelling event) + 6)) (cases_lt (state_of_standing s).count (2 ^ 48 - 1))
+full_or_not s (checkpointed pass) =
+    bounds (length (image_spelling (state_of_standing s)) + 25) area_limit s.generation (2 ^ 48 - 1)
+    (cases_lt area_limit (length (image_spelling (state_of_standing s)) + 25)) (cases_lt s.generation (2 ^ 48 - 1))
+full_or_not s (stop_mark pass) = inr (λ no. no)
 
 full_calm : IsUndisturbed replies.Full
 full_calm = record { had_memory = λ is. absurd cc; not_stopped = λ is. absurd cc }
 
-event_goes : (s : Standing) (told : LineReply) (asker : Asker) (event : Event) → s.met ≡ None → IsUndisturbed told → IsFull s.used (state_of_standing s).count event ⊎ HasRoom s (Some event) → GoesWell s told asker (Some event)
-event_goes s told asker event going calm (inl is_full) = record { reply = replies.Full; after = s; becomes = full event is_full; calm = full_calm; going = going }
-event_goes s told asker event going calm (inr room) = record { reply = told; after = standing_after s (Some event) asker; becomes = kept (Some event) room; calm = calm; going = going }
+-- what an entry leaves met no fault
+no_fault : (s : Standing) (entry : StoreEntry) (asker : Asker) → s.met ≡ None → (standing_after s (Some entry) asker).met ≡ None
+no_fault s (happened event) asker going = going
+no_fault s (checkpointed pass) asker going = going
+no_fault s (stop_mark pass) asker going = going
 
-goes_well : (s : Standing) (told : LineReply) (asker : Asker) (event : Option Event) → s.met ≡ None → IsUndisturbed told → GoesWell s told asker event
+entry_goes : (s : Standing) (told : LineReply) (asker : Asker) (entry : StoreEntry) → s.met ≡ None → IsUndisturbed told → IsFullIn s entry ⊎ HasRoom s (Some entry) → GoesWell s told asker (Some entry)
+entry_goes s told asker entry going calm (inl is_full) = record { reply = replies.Full; after = s; becomes = full entry is_full; calm = full_calm; going = going }
+entry_goes s told asker entry going calm (inr room) = record { reply = told; after = standing_after s (Some entry) asker; becomes = kept (Some entry) room; calm = calm; going = no_fault s entry asker going }
+
+goes_well : (s : Standing) (told : LineReply) (asker : Asker) (entry : Option StoreEntry) → s.met ≡ None → IsUndisturbed told → GoesWell s told asker entry
 goes_well s told asker None going calm = record { reply = told; after = standing_after s None asker; becomes = kept None tt; calm = calm; going = going }
-goes_well s told asker (Some event) going calm = event_goes s told asker event going calm (full_or_not s event (cases_lt area_limit (s.used + length (event_spelling event) + 6)) (cases_lt (state_of_standing s).count (2 ^ 48 - 1)))
+goes_well s told asker (Some entry) going calm = entry_goes s told asker entry going calm (full_or_not s entry)
 
 -- a run that does not run out of memory, and meets no fault of a disk
 pub has_outcome : (start : Standing) (lines : List (List ℕ)) → IsLawfulStanding start → start.met ≡ None → (told : List LineReply) × (end : Standing) × ScriptRun start lines told end × AreUndisturbed told

@@ -6,9 +6,9 @@ use Rattle.line_text.specs.Words.{HasNo}
 use Rattle.line_framer.specs.Framing.{ended}
 use Rattle.line_framer.specs.Scanning.{HasLong}
 use Rattle.line_framer.specs.Feeding.{AreShort}
-use Rattle.access_history.specs.declared.event.Event.{Event}
 use Rattle.line_wire.specs.declared.reply.LineReply.{LineReply}
 use Rattle.line_wire.specs.ReplyText.{output_of}
+use Rattle.pcfs_store.specs.Entries.{StoreEntry}
 use Rattle.pcfs_session.specs.Ends.{unsent_end, halted_end}
 use Rattle.pcfs_session.specs.InterpreterView.{InterpreterView, standing_of}
 use Rattle.pcfs_session.specs.Outbox.{GoesOut}
@@ -27,10 +27,10 @@ abbrev pub IsOutAt : Halt → Option (List ℕ) → Option (List ℕ) → List �
 IsOutAt (Unsent fault) held held_after bytes = HoldsSome held held_after bytes
 IsOutAt Stopped held held_after bytes = held_after ≡ with_back held bytes
 
--- after a fault of a disk there is the event that met it
-abbrev pub IsMetAt : Halt → Option Event → Type 0
+-- after a fault of a disk there is the event or the checkpoint that met it
+abbrev pub IsMetAt : Halt → Option StoreEntry → Type 0
 IsMetAt (Unsent fault) met = Unit {0}
-IsMetAt Stopped met = (event : Event) × (met ≡ Some event)
+IsMetAt Stopped met = (entry : StoreEntry) × (met ≡ Some entry)
 
 -- what was collected was written, and all lines were answered; or the output failed
 abbrev pub IsFinished : List ℕ → Option (List ℕ) → ScriptEnd → Option (List ℕ) → Type 0
@@ -38,8 +38,8 @@ IsFinished collected held how held_after = ((how ≡ script_ends.Done) × (held_
 
 -- Below `clock`, `left_since`, `image` and `faults` tell of a disk what they do in `Stored`.
 module _ {D : Type 0} (clock : D → ℕ) (left_since : D → ℕ → List ℕ → Type 0) (image : D → Option (List ℕ)) (faults : D → ℕ) where
-  -- lines are answered by an interpreter with these replies, and its store goes on; the last one met the fault of a disk, if there is an event
-  pub record WasRun (lines : List (List ℕ)) (old new : InterpreterView D) (met : Option Event) (told : List LineReply) : Type 0 where
+  -- lines are answered by an interpreter with these replies, and its store goes on; the last one met the fault of a disk, if there is an entry
+  pub record WasRun (lines : List (List ℕ)) (old new : InterpreterView D) (met : Option StoreEntry) (told : List LineReply) : Type 0 where
     pub run : ScriptRun (standing_of old None) lines told (standing_of new met)
     pub goes_on : StoreGoesOn clock left_since image faults old.store new.store met
 
@@ -52,7 +52,7 @@ module _ {D : Type 0} (clock : D → ℕ) (left_since : D → ℕ → List ℕ �
   -- lines are answered, and no further one is
   pub record HaltsAt (lines : List (List ℕ)) (old new : InterpreterView D) (held : Option (List ℕ)) (collected : List ℕ) (halt : Halt) (held_after : Option (List ℕ)) : Type 0 where
     pub told : List LineReply
-    pub met : Option Event
+    pub met : Option StoreEntry
     pub was : WasRun lines old new met told
     pub is_met : IsMetAt halt met
     pub out : IsOutAt halt held held_after (collected ++ output_of told)

@@ -11,13 +11,17 @@ use Rattle.access_history.specs.declared.reply.StepReply.{StepReply}
 use Rattle.access_history.specs.Answer.{Answers}
 use Rattle.bl_syntax.specs.Citable.{AreCitable}
 use Rattle.line_forms.specs.declared.command.Command.{Command}
-use Rattle.line_forms.specs.declared.command.Command.TheVariants.{At, As, Register, Procap, Verify, Check, Do}
+use Rattle.line_forms.specs.declared.command.Command.TheVariants.{At, As, Register, Procap, Checkpoint, Verify, Check, Do}
 use Rattle.line_forms.specs.declared.fault.LineFault.{LineFault}
 use Rattle.line_forms.specs.declared.fault.LineFault.TheVariants as line_faults
 use Rattle.line_wire.specs.declared.reply.LineReply.{LineReply}
 use Rattle.line_wire.specs.declared.reply.LineReply.TheVariants as replies
 use Rattle.pcfs_store.specs.declared.reply.StoreReply.{StoreReply}
 use Rattle.pcfs_store.specs.declared.reply.StoreReply.TheVariants as stores
+use Rattle.std.specs.Option.{option_map}
+use Rattle.pcfs_store.specs.declared.reply.CheckpointReply.{CheckpointReply}
+use Rattle.pcfs_store.specs.declared.reply.CheckpointReply.TheVariants as checkpoints
+use Rattle.pcfs_store.specs.Entries.{StoreEntry, happened}
 use Rattle.pcfs_session.specs.Asker.{asker_after}
 use Rattle.pcfs_session.specs.LineAnswer.{authority_under, AnswersCommand}
 use Rattle.pcfs_session.specs.ScriptRun.{Standing, state_of_standing, Becomes}
@@ -27,14 +31,21 @@ pub record IsDecidedAs (request : StepRequest) (before : Standing) (reply : Line
   pub told : StepReply
   pub event : Option Event
   pub answer : Answers (authority_under before.secrets) (state_of_standing before) before.asker.pass before.asker.clock request told event
-  pub becomes : Becomes before (replies.Step told) before.asker event reply after
+  pub becomes : Becomes before (replies.Step told) before.asker (option_map happened event) reply after
 
 -- the command is answered, and this becomes of the answer
 pub record IsFollowed (command : Command) (before : Standing) (reply : LineReply) (after : Standing) : Type 0 where
   pub told : LineReply
-  pub event : Option Event
-  pub answer : AnswersCommand before.secrets (state_of_standing before) before.asker command told event
-  pub becomes : Becomes before told (asker_after before.asker command) event reply after
+  pub entry : Option StoreEntry
+  pub answer : AnswersCommand before.secrets (state_of_standing before) before.asker command told entry
+  pub becomes : Becomes before told (asker_after before.asker command) entry reply after
+
+-- what is returned to a line for which a checkpoint of the store says this; nothing is, if memory ran out
+abbrev pub IsToldOfCheckpoint : CheckpointReply → LineReply → Type 0
+IsToldOfCheckpoint checkpoints.Checkpointed told = told ≡ replies.Checkpointed
+IsToldOfCheckpoint checkpoints.Full told = told ≡ replies.Full
+IsToldOfCheckpoint checkpoints.Stopped told = told ≡ replies.Stopped
+IsToldOfCheckpoint checkpoints.NoMemory told = ⊥
 
 -- what is returned to a line for which the store says this; nothing is, if memory ran out
 abbrev pub IsToldAs : StoreReply → LineReply → Type 0
@@ -59,4 +70,5 @@ IsAllowed (Register signature statement) = IsStatement statement
 IsAllowed (Verify goal numbers proof) = AreCitable numbers
 IsAllowed (Check goal numbers proof) = AreCitable numbers
 IsAllowed (Procap number) = Unit {0}
+IsAllowed Checkpoint = Unit {0}
 IsAllowed (Do op words) = IsOperation op × (length words ≡ slots op) × (bytes_to_write op ≤ 65536)

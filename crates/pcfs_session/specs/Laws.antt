@@ -1,5 +1,5 @@
 -- Laws of runs and lines: what runs keep is lawful, and lines and runs have one answer each.
-use Rattle.std.specs.Prelude.{◌≡◌, ℕ, List, ◌++◌, codes, Option, None}
+use Rattle.std.specs.Prelude.{◌≡◌, ℕ, ◌+◌, List, ◌++◌, length, codes, Option, None}
 use Rattle.access_history.specs.declared.event.Event.{Event}
 use Rattle.access_history.specs.Base.{BaseView}
 use Rattle.access_history.specs.Lawful.{IsLawful}
@@ -7,16 +7,21 @@ use Rattle.line_text.specs.Lines.{lines_of}
 use Rattle.line_wire.specs.declared.reply.LineReply.{LineReply}
 use Rattle.line_wire.specs.FirstWord.{reply_word}
 use Rattle.pcfs_secrets.specs.declared.secrets.Secrets.{Secrets}
+use Rattle.pcfs_store.specs.declared.checkpoints.Checkpoint.{Checkpoint}
+use Rattle.pcfs_store.specs.Entries.{StoreEntry}
 use Rattle.pcfs_session.specs.Asker.{Asker}
 use Rattle.pcfs_session.specs.LineAnswer.{authority_under, AnswersLine}
 use Rattle.pcfs_session.specs.ScriptRun.{Standing, state_of_standing, IsLawfulStanding, ScriptRun, AreUndisturbed, fresh_start}
 
--- a run from a lawful start ends under the same secrets and over the same base, with the events of its start and others after them, and its history is lawful
+-- a run from a lawful start ends under the same secrets and over the same base, with the events of its start and others after them, and its history is lawful; checkpoints were added too, and with each the generation grew by one
 pub record GoesLawfullyTo (start end : Standing) : Type 0 where
   pub added : List Event
+  pub made : List Checkpoint
   pub secrets_stay : end.secrets ≡ start.secrets
   pub base_stays : end.base ≡ start.base
   pub events_are : end.events ≡ start.events ++ added
+  pub checkpoints_are : end.checkpoints ≡ start.checkpoints ++ made
+  pub generation_is : end.generation ≡ start.generation + length made
   pub stands : IsLawfulStanding end
 
 abbrev pub RunsAreLawful : Type 0
@@ -24,17 +29,17 @@ RunsAreLawful = (start end : Standing) (lines : List (List ℕ)) (replies : List
 
 -- over the state of a lawful history a line has one answer at most
 abbrev pub LinesHaveOneAnswer : Type 0
-LinesHaveOneAnswer = (s : Standing) (line : List ℕ) (first second : LineReply) (one other : Option Event) (after later : Asker) → IsLawful (authority_under s.secrets) s.base s.events →
+LinesHaveOneAnswer = (s : Standing) (line : List ℕ) (first second : LineReply) (one other : Option StoreEntry) (after later : Asker) → IsLawful (authority_under s.secrets) s.base s.events →
     AnswersLine s.secrets (state_of_standing s) s.asker line first one after → AnswersLine s.secrets (state_of_standing s) s.asker line second other later → (first ≡ second) × (one ≡ other) × (after ≡ later)
 
 -- and it has one
 abbrev pub LinesHaveAnAnswer : Type 0
 LinesHaveAnAnswer = (s : Standing) (line : List ℕ) → IsLawfulStanding s →
-    (reply : LineReply) × (event : Option Event) × (after : Asker) × AnswersLine s.secrets (state_of_standing s) s.asker line reply event after
+    (reply : LineReply) × (entry : Option StoreEntry) × (after : Asker) × AnswersLine s.secrets (state_of_standing s) s.asker line reply entry after
 
 -- no answer to a line is written as it is if memory runs out
 abbrev pub AnswersAreNotOutOfMemory : Type 0
-AnswersAreNotOutOfMemory = (secrets : Secrets) (state : BaseView) (asker : Asker) (line : List ℕ) (reply : LineReply) (event : Option Event) (after : Asker) → AnswersLine secrets state asker line reply event after → reply_word reply ≡ codes "nomemory" → ⊥
+AnswersAreNotOutOfMemory = (secrets : Secrets) (state : BaseView) (asker : Asker) (line : List ℕ) (reply : LineReply) (entry : Option StoreEntry) (after : Asker) → AnswersLine secrets state asker line reply entry after → reply_word reply ≡ codes "nomemory" → ⊥
 
 -- two runs of the same lines from a lawful start that do not run out of memory and meet no fault of a disk have the same outcome
 abbrev pub RunsHaveOneOutcome : Type 0

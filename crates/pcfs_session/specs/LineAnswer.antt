@@ -23,11 +23,13 @@ use Rattle.access_history.specs.Authority.{Authority, sayings}
 use Rattle.access_history.specs.History.{authority_with}
 use Rattle.line_words.specs.declared.procap_word.ProcapWord.{ProcapWord}
 use Rattle.line_forms.specs.declared.command.Command.{Command}
-use Rattle.line_forms.specs.declared.command.Command.TheVariants.{At, As, Register, Procap, Verify, Check, Do}
+use Rattle.line_forms.specs.declared.command.Command.TheVariants.{At, As, Register, Procap, Checkpoint, Verify, Check, Do}
 use Rattle.line_forms.specs.declared.fault.LineFault.{LineFault}
 use Rattle.line_forms.specs.Lines.{IsLine, IsLineFault}
 use Rattle.line_wire.specs.declared.reply.LineReply.{LineReply}
 use Rattle.line_wire.specs.declared.reply.LineReply.TheVariants as replies
+use Rattle.std.specs.Option.{option_map}
+use Rattle.pcfs_store.specs.Entries.{StoreEntry, happened, checkpointed}
 use Rattle.pcfs_session.specs.Asker.{Asker, asker_after}
 use Rattle.pcfs_session.specs.Procaps.{AreBrought, IsFirstUnissued}
 use Rattle.pcfs_session.specs.Proved.{IsUnproved, IsProved}
@@ -42,10 +44,11 @@ abbrev pub signature_under : List KeyView → StatementView → Option (List ℕ
 signature_under ring statement (Some signature) = signature
 signature_under ring statement None = unwrap_or (tag_of ring statement.who (statement_message statement)) []
 
--- what a look at the state makes of a command: a reply, or a request that is to be decided
+-- what a look at the state makes of a command: a reply, a request that is to be decided, or a checkpoint that is to be made
 pub data Look : Type 0 where
   replied : LineReply → Look
   requested : StepRequest → Look
+  checkpoint : Look
 
 -- what a look at the state makes of the command
 pub data ComesTo (secrets : Secrets) (state : BaseView) (asker : Asker) : Command → Look → Type 0 where
@@ -54,6 +57,7 @@ pub data ComesTo (secrets : Secrets) (state : BaseView) (asker : Asker) : Comman
   registers : (signature : Option (List ℕ)) (statement : StatementView) →
       ComesTo secrets state asker (Register signature statement) (requested (requests.Register statement (signature_under secrets.ring statement signature)))
   shows : (number : ℕ) → ComesTo secrets state asker (Procap number) (requested (requests.ShowProcap number asker.sees))
+  makes_checkpoint : ComesTo secrets state asker Checkpoint checkpoint
   verifies_nothing : (goal : Goal) (numbers : List ℕ) (proof : ProofView) (reply : LineReply) → IsUnproved (sayings state.statements) goal numbers proof reply →
       ComesTo secrets state asker (Verify goal numbers proof) (replied reply)
   verifies : (goal : Goal) (numbers : List ℕ) (proof : ProofView) (cites : List Cite) (g : GrantView) → IsProved (sayings state.statements) goal numbers proof cites g →
@@ -67,14 +71,15 @@ pub data ComesTo (secrets : Secrets) (state : BaseView) (asker : Asker) : Comman
   acts : (op : Op) (words : List ProcapWord) (procaps : List Sealed) → AreBrought secrets.seal_key state.issues words procaps →
       ComesTo secrets state asker (Do op words) (requested (requests.Act asker.caller op procaps))
 
--- the answer to a command over a state, and the event to keep if there is one
-pub data AnswersCommand (secrets : Secrets) (state : BaseView) (asker : Asker) (command : Command) : LineReply → Option Event → Type 0 where
+-- the answer to a command over a state, and the entry to add if there is one: an event, or a checkpoint
+pub data AnswersCommand (secrets : Secrets) (state : BaseView) (asker : Asker) (command : Command) : LineReply → Option StoreEntry → Type 0 where
   at_once : (reply : LineReply) → ComesTo secrets state asker command (replied reply) → AnswersCommand secrets state asker command reply None
   decided : (request : StepRequest) (reply : StepReply) (event : Option Event) → ComesTo secrets state asker command (requested request) →
-      Answers (authority_under secrets) state asker.pass asker.clock request reply event → AnswersCommand secrets state asker command (replies.Step reply) event
+      Answers (authority_under secrets) state asker.pass asker.clock request reply event → AnswersCommand secrets state asker command (replies.Step reply) (option_map happened event)
+  made : ComesTo secrets state asker command checkpoint → AnswersCommand secrets state asker command replies.Checkpointed (Some (checkpointed asker.pass))
 
--- how the bytes of a line are answered, the event to keep if there is one, and who asks then: the line has a fault, or asks for a command
-pub data AnswersLine (secrets : Secrets) (state : BaseView) (asker : Asker) (line : List ℕ) : LineReply → Option Event → Asker → Type 0 where
+-- how the bytes of a line are answered, the entry to add if there is one, and who asks then: the line has a fault, or asks for a command
+pub data AnswersLine (secrets : Secrets) (state : BaseView) (asker : Asker) (line : List ℕ) : LineReply → Option StoreEntry → Asker → Type 0 where
   faulty : (fault : LineFault) → IsLineFault line fault → AnswersLine secrets state asker line (replies.Faulty fault) None asker
-  asks : (command : Command) (reply : LineReply) (event : Option Event) → IsLine line command → AnswersCommand secrets state asker command reply event →
-      AnswersLine secrets state asker line reply event (asker_after asker command)
+  asks : (command : Command) (reply : LineReply) (entry : Option StoreEntry) → IsLine line command → AnswersCommand secrets state asker command reply entry →
+      AnswersLine secrets state asker line reply entry (asker_after asker command)

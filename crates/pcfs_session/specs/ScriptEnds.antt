@@ -10,6 +10,7 @@ use Rattle.access_history.specs.Headline.{Headline}
 use Rattle.line_wire.specs.declared.reply.LineReply.{LineReply}
 use Rattle.line_wire.specs.declared.reply.LineReply.TheVariants as replies
 use Rattle.line_wire.specs.ReplyText.{reply_text, output_of}
+use Rattle.pcfs_store.specs.Entries.{StoreEntry}
 use Rattle.pcfs_session.specs.LineAnswer.{authority_under}
 use Rattle.pcfs_session.specs.ScriptRun.{Standing, state_of_standing, ScriptRun}
 use Rattle.pcfs_session.specs.Streams.{Streams}
@@ -50,7 +51,7 @@ pub data ScriptWrites (start end : Standing) (before after : Streams) : ScriptEn
       ScriptWrites start end before after ReadFault written
   input_too_long : (lines : List (List ℕ)) (written : List ℕ) → TakesFirst 1073741824 before.left after.left → AreAllTaken before.left after.left lines → RunsOver start lines end written → end.met ≡ None →
       ScriptWrites start end before after InputTooLong written
-  stopped : (written : List ℕ) (met : Event) → IsUnderWay start end before after written → end.met ≡ Some met → ScriptWrites start end before after Stopped written
+  stopped : (written : List ℕ) (met : StoreEntry) → IsUnderWay start end before after written → end.met ≡ Some met → ScriptWrites start end before after Stopped written
 
 -- How a script ends: all of that was written. Or the output failed or memory ran out, and some first part was written of the replies to the first lines, or of what is written at a line that is too long.
 pub data ScriptEnds (start end : Standing) (before after : Streams) : ScriptEnd → Type 0 where

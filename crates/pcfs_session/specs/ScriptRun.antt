@@ -1,5 +1,5 @@
 -- The run of a script: its lines in order, each answered over the state that the lines before it left (this project's own).
-use Rattle.std.specs.Prelude.{◌≡◌, ◌≢◌, ℕ, List, [], ◌∷◌, ◌++◌, Option, Some, None}
+use Rattle.std.specs.Prelude.{◌≡◌, ◌≢◌, ◌⊎◌, ◌+◌, ◌-◌, ◌^◌, ◌<◌, ◌≤◌, length, ℕ, List, [], ◌∷◌, ◌++◌, Option, Some, None}
 use Rattle.std.specs.List.{AllByRecursion}
 use Rattle.access_history.specs.declared.event.Event.{Event}
 use Rattle.access_history.specs.Base.{BaseView}
@@ -10,16 +10,23 @@ use Rattle.line_wire.specs.declared.reply.LineReply.TheVariants as replies
 use Rattle.pcfs_secrets.specs.declared.secrets.Secrets.{Secrets}
 use Rattle.pcfs_session.specs.Asker.{Asker, IsAsker, first_asker}
 use Rattle.pcfs_session.specs.LineAnswer.{authority_under, AnswersLine}
+use Rattle.journal_core.specs.Area.{area_limit}
+use Rattle.checkpoint_image.specs.ImageSpelling.{image_spelling}
+use Rattle.pcfs_store.specs.declared.checkpoints.Checkpoint.{Checkpoint}
+use Rattle.pcfs_store.specs.Entries.{StoreEntry, happened, checkpointed, stopped as stop_mark}
 use Rattle.pcfs_store.specs.StoredHistory.{IsFull}
 use Rattle.pcfs_session.specs.Room.{used_with}
 
--- where a line is answered: under which secrets, over which base and the events since, and for whom. The area has so many bytes before its closed gate. Once a disk failed for an event, nothing more is kept
+-- where a line is answered: under which secrets, over which base and the events since, with the checkpoints that were made of them, and for whom. The area has this generation, and so many bytes before its closed gate. Once a disk failed
+-- for an event or a checkpoint, nothing more is kept
 pub record Standing : Type 0 where
   pub secrets : Secrets
   pub base : BaseView
   pub events : List Event
+  pub checkpoints : List Checkpoint
+  pub generation : ℕ
   pub used : ℕ
-  pub met : Option Event
+  pub met : Option StoreEntry
   pub asker : Asker
 
 -- the state to which the events lead
@@ -35,26 +42,39 @@ pub record IsLawfulStanding (s : Standing) : Type 0 where
   pub lawful : IsLawfulUnder s.secrets s
   pub asker : IsAsker s.asker
 
--- the event has room and a number here, if there is one
-abbrev pub HasRoom : Standing → Option Event → Type 0
+-- an event does not fit here, or has no number; the image of the state does not fit, or there is no next generation
+abbrev pub IsFullIn : Standing → StoreEntry → Type 0
+IsFullIn s (happened event) = IsFull s.used (state_of_standing s).count event
+IsFullIn s (checkpointed pass) = (area_limit < length (image_spelling (state_of_standing s)) + 25) ⊎ (2 ^ 48 - 1 ≤ s.generation)
+IsFullIn s (stop_mark pass) = ⊥
+
+-- what is to be added has room here, if there is something
+abbrev pub HasRoom : Standing → Option StoreEntry → Type 0
 HasRoom s None = Unit {0}
-HasRoom s (Some event) = IsFull s.used (state_of_standing s).count event → ⊥
+HasRoom s (Some entry) = IsFullIn s entry → ⊥
 
--- after an answer: its event is kept
-abbrev pub standing_after : Standing → Option Event → Asker → Standing
+-- with an entry: an event is kept; with a checkpoint the area has the next generation, the image of the state, and no records
+abbrev pub standing_with : Standing → StoreEntry → Standing
+standing_with s (happened event) = record s { events = s.events ++ event ∷ []; used = used_with s.used event }
+standing_with s (checkpointed pass) =
+    record s { checkpoints = s.checkpoints ++ record { after = length s.events; pass = pass } ∷ []; generation = s.generation + 1; used = 24 + length (image_spelling (state_of_standing s)) }
+standing_with s (stop_mark pass) = s
+
+-- after an answer: what it adds is there
+abbrev pub standing_after : Standing → Option StoreEntry → Asker → Standing
 standing_after s None asker = record s { asker = asker }
-standing_after s (Some event) asker = record s { events = s.events ++ event ∷ []; used = used_with s.used event; asker = asker }
+standing_after s (Some entry) asker = record (standing_with s entry) { asker = asker }
 
--- what becomes of an answer: it is reported, and its event kept; or its event has no room, and nothing changes; or a disk fails for it
-pub data Becomes (before : Standing) (told : LineReply) (asker : Asker) : Option Event → LineReply → Standing → Type 0 where
-  kept : (event : Option Event) → HasRoom before event → Becomes before told asker event told (standing_after before event asker)
-  full : (event : Event) → IsFull before.used (state_of_standing before).count event → Becomes before told asker (Some event) replies.Full before
-  stopped : (event : Event) → HasRoom before (Some event) → Becomes before told asker (Some event) replies.Stopped (record before { met = Some event })
+-- what becomes of an answer: it is reported, and what it adds is kept; or this has no room, and nothing changes; or a disk fails for it
+pub data Becomes (before : Standing) (told : LineReply) (asker : Asker) : Option StoreEntry → LineReply → Standing → Type 0 where
+  kept : (entry : Option StoreEntry) → HasRoom before entry → Becomes before told asker entry told (standing_after before entry asker)
+  full : (entry : StoreEntry) → IsFullIn before entry → Becomes before told asker (Some entry) replies.Full before
+  stopped : (entry : StoreEntry) → HasRoom before (Some entry) → Becomes before told asker (Some entry) replies.Stopped (record before { met = Some entry })
 
 -- a line is answered; or memory runs out instead of its reply, and nothing changes
 pub data IsReplied (line : List ℕ) (before : Standing) : LineReply → Standing → Type 0 where
-  answered : (told : LineReply) (event : Option Event) (asker : Asker) (reply : LineReply) (after : Standing) → AnswersLine before.secrets (state_of_standing before) before.asker line told event asker →
-      Becomes before told asker event reply after → IsReplied line before reply after
+  answered : (told : LineReply) (entry : Option StoreEntry) (asker : Asker) (reply : LineReply) (after : Standing) → AnswersLine before.secrets (state_of_standing before) before.asker line told entry asker →
+      Becomes before told asker entry reply after → IsReplied line before reply after
   without_memory : IsReplied line before replies.NoMemory before
 
 -- a run of these lines from a start: a reply for each, and where it ends. After a disk failed no line is answered
@@ -82,4 +102,4 @@ fresh_used = 89
 
 -- where a script over a store before its first event begins, under these secrets
 abbrev pub fresh_start : Secrets → Standing
-fresh_start secrets = record { secrets = secrets; base = fresh; events = []; used = fresh_used; met = None; asker = first_asker script_pass }
+fresh_start secrets = record { secrets = secrets; base = fresh; events = []; checkpoints = []; generation = 1; used = fresh_used; met = None; asker = first_asker script_pass }

@@ -4,7 +4,7 @@ ghost use Rattle.std.specs.Prelude.{◌≡◌, ◌≤◌, ◌↔◌, None, lengt
 
 use crate::brought::add_procaps;
 use crate::signing::signature_of;
-use crate::telling::{told_as, unproved, unread};
+use crate::telling::{told_as, told_of_checkpoint, unproved, unread};
 use access_history::{Procaps, StepReply, StepRequest};
 use bl_syntax::{Bytes, Goal, NoMemory, Numbers, Principal, Statement};
 use file_world::Op;
@@ -55,7 +55,7 @@ impl<D: Disk> Interpreter<D> {
     ghost use Rattle.bl_syntax.specs.Statement.{IsStatement};
     ghost use Rattle.file_world.specs.Effect.{IsOperation};
     ghost use Rattle.file_world.specs.Needs.{slots, bytes_to_write};
-    ghost use Rattle.line_forms.specs.declared.command.Command.TheVariants.{Register, Procap as ShowProcap, Verify, Check, Do};
+    ghost use Rattle.line_forms.specs.declared.command.Command.TheVariants.{Register, Procap as ShowProcap, Checkpoint, Verify, Check, Do};
     ghost use Rattle.pcfs_session.specs.Asker.{first_asker};
     ghost use Rattle.pcfs_session.specs.ScriptRun.{IsLawfulStanding, IsReplied, script_pass};
     ghost use Rattle.pcfs_session.specs.InterpreterView.{standing_of};
@@ -193,6 +193,16 @@ impl<D: Disk> Interpreter<D> {
         self.ask(alloc, StepRequest::Act(self.caller, op, procaps))
     }
 
+    // Makes a checkpoint.
+    fn checkpoint(&mut self, alloc: Global) -> Result<LineReply, NoMemory>
+        requires running { self.old.store.stop ≡ None }
+        ensures ok { IfOk result (λ reply. LeadsTo D.clock D.left_since D.image D.faults (IsFollowed Checkpoint) self.old reply self.new) }
+        ensures err { OnErr result (self.new ≡ self.old) }
+    {
+        let reply = self.store.checkpoint(alloc, self.pass);
+        told_of_checkpoint(reply)
+    }
+
     // Does what a line of a script asks for.
     fn follow(&mut self, alloc: Global, command: Command) -> Result<LineReply, NoMemory>
         requires running { self.old.store.stop ≡ None }
@@ -216,6 +226,7 @@ impl<D: Disk> Interpreter<D> {
             Command::Verify(goal, numbers, proof) => self.verify(alloc, goal, &numbers, proof),
             Command::Check(goal, numbers, proof) => self.check(alloc, &goal, &numbers, &proof),
             Command::Procap(number) => self.show(alloc, number),
+            Command::Checkpoint => self.checkpoint(alloc),
             Command::Do(op, words) => self.act(alloc, op, &words),
         }
     }

@@ -1,12 +1,12 @@
 //! What is returned to a line for which a proof is refused, the store says something, or the reader finds a fault.
 
 ghost use Rattle.std.specs.Prelude.{◌≡◌, ◌≢◌, IfOk, OnErr};
-ghost use Rattle.pcfs_session.specs.Interpreter.{IsToldAs, unread_reply};
+ghost use Rattle.pcfs_session.specs.Interpreter.{IsToldAs, IsToldOfCheckpoint, unread_reply};
 
 use bl_syntax::NoMemory;
 use line_forms::LineFault;
 use line_wire::LineReply;
-use pcfs_store::StoreReply;
+use pcfs_store::{CheckpointReply, StoreReply};
 use proof_verifier::CheckFault;
 
 /// What is returned if a proof is refused. An error exactly if memory ran out, which is no fault of the proof.
@@ -29,6 +29,19 @@ pub fn told_as(reply: StoreReply) -> Result<LineReply, NoMemory>
         StoreReply::Full => Ok(LineReply::Full),
         StoreReply::Stopped => Ok(LineReply::Stopped),
         StoreReply::NoMemory => Err(NoMemory),
+    }
+}
+
+/// What is returned to a line for which a checkpoint of the store says this.
+pub fn told_of_checkpoint(reply: CheckpointReply) -> Result<LineReply, NoMemory>
+    ensures ok { IfOk result (λ told. IsToldOfCheckpoint reply told) }
+    ensures err { OnErr result (reply ≡ CheckpointReply.NoMemory) }
+{
+    match reply {
+        CheckpointReply::Checkpointed => Ok(LineReply::Checkpointed),
+        CheckpointReply::Full => Ok(LineReply::Full),
+        CheckpointReply::Stopped => Ok(LineReply::Stopped),
+        CheckpointReply::NoMemory => Err(NoMemory),
     }
 }
 

@@ -1,5 +1,5 @@
 -- The ends of a run.
-use Rattle.std.proofs.Common.{◌≡◌, ◌⊎◌, inl, inr, ℕ, ◌+◌, ◌≤◌, ◌<◌, le-ltb, lt-ltb, Bool, true, false, List, [], length, take, drop, ap, sym, subst, ◌∙◌, arith, Option, Some, None, refl}
+use Rattle.std.proofs.Common.{◌≡◌, ◌⊎◌, inl, inr, ℕ, ◌+◌, ◌≤◌, ◌<◌, le-ltb, lt-ltb, Bool, true, false, List, [], ◌++◌, length, take, drop, ap, sym, subst, ◌∙◌, arith, Option, Some, None, refl}
 use Rattle.std.specs.Prelude.{String, codes, IfSome, nat_lt, not, ◌==◌, if◌then◌else◌}
 use Rattle.std.specs.Int.{w64, from_be_bytes}
 use Rattle.std.specs.Option.{option_map}
@@ -17,7 +17,8 @@ use Rattle.policy_statement.specs.Ring.{KeyView}
 use Rattle.pcfs_secrets.specs.declared.secrets.Secrets.{Secrets}
 use Rattle.pcfs_store.specs.Formats.{IsNewStore, IsNoneOrFresh, PairsLeft}
 use Rattle.pcfs_store.specs.Image.{fresh_image}
-use Rattle.pcfs_store.specs.StoredHistory.{StandsFor, area_since, payloads_of, state_after}
+use Rattle.pcfs_store.specs.StoredHistory.{area_since, payloads_of}
+use Rattle.pcfs_store.specs.Entries.{StoreEntry}
 use Rattle.pcfs_store.specs.Newest.{newer, newest, one_of}
 use Rattle.pcfs_store.specs.StoreView.{StoreView, first_disk, second_disk, IsStore, body_of, head_of, last_after, records_of, settled_of, state_of_store}
 use Rattle.pcfs_store.specs.Ready.{IsReady, IsCurrent, IsBehind}
@@ -26,7 +27,7 @@ use Rattle.pcfs_store.specs.declared.format.FormatFault.TheVariants as formats
 use Rattle.pcfs_store.specs.declared.checkpoints.Checkpoint.{Checkpoint}
 use Rattle.pcfs_store.specs.declared.reply.CheckpointReply.{CheckpointReply}
 use Rattle.pcfs_store.specs.declared.reply.CheckpointReply.TheVariants as checkpoints
-use Rattle.pcfs_store.specs.Checkpoints.{Checkpoints, IsFullForCheckpoint, IsNewestCheckpoint, MakesCheckpoint}
+use Rattle.pcfs_store.specs.Checkpoints.{Checkpoints, IsFullForCheckpoint, IsNewestCheckpoint, MakesCheckpoint, place_after}
 use Rattle.pcfs_store.specs.Checkpoints as makes
 use Rattle.checkpoint_image.specs.ImageSpelling.{image_spelling}
 use Rattle.pcfs_store.proofs.ImageLemmas.{fresh_spelling}
@@ -102,16 +103,19 @@ has_no_area x y none = let both = none_of (generation_of x) (generation_of y) x 
 told_some : (o : Option (List ℕ)) (P : List ℕ → Type 0) (bytes : List ℕ) → o ≡ Some bytes → P bytes → IfSome o P
 told_some o P bytes is holds = subst (λ (p : Option (List ℕ)). IfSome p P) (sym is) holds
 
--- ---- a store without checkpoints
+-- ---- checkpoints that were added
 
--- its area has the image of its base, and the records of all its events
-pub body_unsettled : {D : Type 0} (s : StoreView D) → s.checkpoints ≡ [] → body_of s ≡ area_bytes s.generation (image_spelling s.base) (payloads_of s.events)
+-- if there was none before, they are all
+pub added_all : (first added all : List Checkpoint) → first ≡ [] → first ++ added ≡ all → added ≡ all
+added_all first added all none both = ap (λ (cs : List Checkpoint). cs ++ added) (sym none) ∙ both
+
+-- if none was added, the disks are in their places
+pub place_kept : (added : List Checkpoint) (old new : Bool) → added ≡ [] → new ≡ place_after (length added) old → new ≡ old
+place_kept added old new none is = is ∙ ap (λ (cs : List Checkpoint). place_after (length cs) old) none
+
+-- the area of a store without checkpoints has the image of its base, and the records of all its events
+body_unsettled : {D : Type 0} (s : StoreView D) → s.checkpoints ≡ [] → body_of s ≡ area_bytes s.generation (image_spelling s.base) (payloads_of s.events)
 body_unsettled s unsettled = ap (λ (cs : List Checkpoint). area_since s.generation s.base s.events (last_after 0 cs)) unsettled
-
--- bytes that stand for the state of its last checkpoint and the events since stand for its history
-stands_unsettled : {D : Type 0} (s : StoreView D) (bytes : List ℕ) → s.checkpoints ≡ [] → StandsFor bytes s.generation (head_of s) (records_of s) → StandsFor bytes s.generation s.base s.events
-stands_unsettled s bytes unsettled stands =
-    subst (λ (cs : List Checkpoint). StandsFor bytes s.generation (state_after s.base s.events (last_after 0 cs)) (drop (last_after 0 cs) s.events)) unsettled stands
 
 -- ---- disks
 
@@ -166,10 +170,11 @@ module _ {D : Type 0} (clock : D → ℕ) (left_since : D → ℕ → List ℕ �
     generation_at : (active : List ℕ) → image s.active ≡ Some active → generation_of active ≡ Some s.generation
     generation_at active told = generation_since s.generation s.base s.events (settled_of s) active (tellable_store s store) (body_at active told)
 
-    pub newest_of : s.checkpoints ≡ [] → (x y : List ℕ) → image (first_disk s) ≡ Some x → image (second_disk s) ≡ Some y → IsNewestOf s.generation s.base s.events x y
-    newest_of unsettled x y is_x is_y =
+    -- the newest one stands for the state at the last checkpoint, and the events since
+    pub newest_of : (x y : List ℕ) → image (first_disk s) ≡ Some x → image (second_disk s) ≡ Some y → IsNewestOf s.generation (head_of s) (records_of s) x y
+    newest_of x y is_x is_y =
         let found = current_stands clock left_since image s store current x y is_x is_y in
-        record { bytes = found.0; counts = found.1; stands = stands_unsettled s found.0 unsettled found.2 }
+        record { bytes = found.0; counts = found.1; stands = found.2 }
 
     pub counts_now : (x y : List ℕ) → image (first_disk s) ≡ Some x → image (second_disk s) ≡ Some y → newer (generation_of x) (generation_of y) ≡ Some s.second_active
     counts_now = told_pairs image s.second_active s.active s.other (λ x y. newer (generation_of x) (generation_of y) ≡ Some s.second_active)
@@ -178,20 +183,21 @@ module _ {D : Type 0} (clock : D → ℕ) (left_since : D → ℕ → List ℕ �
   same_some : (x y : List ℕ) → Some x ≡ Some y → x ≡ y
   same_some x y is = cc
 
-  pub closed_of : (s : StoreView D) → IsStore s → IsReady clock left_since image s → s.checkpoints ≡ [] → (x y : List ℕ) → image (first_disk s) ≡ Some x → image (second_disk s) ≡ Some y → IsNewestClosed s.generation s.base s.events x y
-  closed_of s store ready unsettled = told_pairs image s.second_active s.active s.other (IsNewestClosed s.generation s.base s.events) (λ a o is_a is_o.
+  -- of a ready store it has its closed gate
+  pub closed_of : (s : StoreView D) → IsStore s → IsReady clock left_since image s → (x y : List ℕ) → image (first_disk s) ≡ Some x → image (second_disk s) ≡ Some y → IsNewestClosed s.generation (head_of s) (records_of s) x y
+  closed_of s store ready = told_pairs image s.second_active s.active s.other (IsNewestClosed s.generation (head_of s) (records_of s)) (λ a o is_a is_o.
       let current = ready_current clock left_since image s ready in
       record {
         bytes = a;
         counts = newest_active s.second_active a o s.generation (generation_at s store current a is_a) (behind_at s store current o is_o);
-        gate = subst (λ (body : List ℕ). length body < length a) (body_unsettled s unsettled) (subst (λ (bytes : List ℕ). length (body_of s) < length bytes) (same_some ready.rests.bytes a (sym ready.rests.told ∙ is_a)) ready.rests.closed.gate);
+        gate = subst (λ (bytes : List ℕ). length (body_of s) < length bytes) (same_some ready.rests.bytes a (sym ready.rests.told ∙ is_a)) ready.rests.closed.gate;
       })
 
   same_place : (x y : Bool) → Some x ≡ Some y → x ≡ y
   same_place x y is = cc
 
   -- the disk that does not count
-  pub other_same : (second : Bool) (active active' other : D) (x y : Option (List ℕ)) → image (one_of active other second) ≡ x → image (one_of other active second) ≡ y →
+  other_same : (second : Bool) (active active' other : D) (x y : Option (List ℕ)) → image (one_of active other second) ≡ x → image (one_of other active second) ≡ y →
       one_of (image (one_of other active' second)) (image (one_of active' other second)) second ≡ one_of y x second
   other_same false active active' other x y is_x is_y = is_y
   other_same true active active' other x y is_x is_y = is_x
@@ -268,6 +274,14 @@ module _ {D : Type 0} (clock : D → ℕ) (left_since : D → ℕ → List ℕ �
   risen_since secrets a b s s' opened (inl risen) = inl (HasRisen-earlier (faults a) (faults (first_disk s)) (faults (first_disk s')) opened.first_read.handled.never_falls risen)
   risen_since secrets a b s s' opened (inr risen) = inr (HasRisen-earlier (faults b) (faults (second_disk s)) (faults (second_disk s')) opened.second_read.handled.never_falls risen)
 
+  -- the disk that does not count is the same while no checkpoint exchanges the two
+  pub other_is : (secrets : Secrets) (a b : D) (s s' : StoreView D) → opening.IsOpened clock left_since image faults a b secrets.seal_key secrets.ring s → s'.other ≡ s.other → s'.second_active ≡ s.second_active →
+      one_of (image (second_disk s')) (image (first_disk s')) s.second_active ≡ one_of (image b) (image a) s.second_active
+  other_is secrets a b s s' opened other place =
+      ap (λ (o : D). one_of (image (one_of o s'.active s'.second_active)) (image (one_of s'.active o s'.second_active)) s.second_active) other
+      ∙ ap (λ (w : Bool). one_of (image (one_of s.other s'.active w)) (image (one_of s'.active s.other w)) s.second_active) place
+      ∙ other_same s.second_active s.active s'.active s.other (image a) (image b) opened.first_read.same opened.second_read.same
+
   -- where the script begins
   pub opened_start : (secrets : Secrets) (a b : D) (s : StoreView D) → opening.IsOpened clock left_since image faults a b secrets.seal_key secrets.ring s → IsLawfulStanding (standing_over s None (first_asker script_pass))
   opened_start secrets a b s opened =
@@ -304,6 +318,8 @@ module _ {D : Type 0} (clock : D → ℕ) (left_since : D → ℕ → List ℕ �
       asker_is = refl;
       running = refl;
       lawful = opened_start secrets a b s opened;
+      unsettled = opened.unsettled;
+      generation_is = refl;
       used_is = store.used_is ∙ ap (λ (body : List ℕ). length body) (body_unsettled s opened.unsettled);
       found = opened.newest_history;
     }
@@ -439,30 +455,25 @@ module _ {D : Type 0} (clock : D → ℕ) (left_since : D → ℕ → List ℕ �
   -- ---- a script over a store that is opened
 
   module _ (words : List (String Global)) (secrets : Secrets) (a b : D) (is : AsksFor words Stored) where
-    other_is : (s s' : StoreView D) (met : Option Event) → opening.IsOpened clock left_since image faults a b secrets.seal_key secrets.ring s → StoreGoesOn clock left_since image faults s s' met →
-        one_of (image (second_disk s')) (image (first_disk s')) s.second_active ≡ one_of (image b) (image a) s.second_active
-    other_is s s' met opened goes =
-        ap (λ (o : D). one_of (image (one_of o s'.active s'.second_active)) (image (one_of s'.active o s'.second_active)) s.second_active) goes.other_stays
-        ∙ ap (λ (w : Bool). one_of (image (one_of s.other s'.active w)) (image (one_of s'.active s.other w)) s.second_active) goes.place_stays
-        ∙ other_same s.second_active s.active s'.active s.other (image a) (image b) opened.first_read.same opened.second_read.same
-
-    returns_of : (may_stay : (d : D) (bytes : List ℕ) → image d ≡ Some bytes → left_since d (clock d) bytes) (s s' : StoreView D) (met : Option Event) (asker : Asker) → IsStore s → IsStore s' → opening.IsOpened clock left_since image faults a b secrets.seal_key secrets.ring s →
+    returns_of : (may_stay : (d : D) (bytes : List ℕ) → image d ≡ Some bytes → left_since d (clock d) bytes) (s s' : StoreView D) (met : Option StoreEntry) (asker : Asker) → IsStore s → IsStore s' → opening.IsOpened clock left_since image faults a b secrets.seal_key secrets.ring s →
         StoreGoesOn clock left_since image faults s s' met → Returns (rests_of a b (first_disk s') (second_disk s')) s.generation (disks_of a b) (disks_of (first_disk s') (second_disk s')) (standing_over s None (first_asker script_pass)) (standing_over s' met asker)
-    returns_of may_stay s s' met asker store store' opened goes = record {
-      whole = λ x y is_x is_y none x' y' is_x' is_y'.
-          subst (λ (n : ℕ). IsNewestOf n s'.base s'.events x' y') goes.generation_stays (newest_of s' store' (goes.current (opened.current x y is_x is_y) none) (goes.checkpoints_stay ∙ opened.unsettled) x' y' is_x' is_y');
-      closed = λ x y is_x is_y closed none.
-          let ready = goes.ready (opened.ready x y is_x is_y closed) none in (
-            pinned_at s' (first_disk s') (second_disk s') refl refl ready,
-            λ x' y' is_x' is_y'. subst (λ (n : ℕ). IsNewestClosed n s'.base s'.events x' y') goes.generation_stays (closed_of s' store' ready (goes.checkpoints_stay ∙ opened.unsettled) x' y' is_x' is_y'),
-          );
-      failed = λ event same. risen_since secrets a b s s' opened (goes.failed event same);
-      survives = λ x y is_x is_y closed event same x' y' is_x' is_y'.
-          goes.halts (opened.ready x y is_x is_y closed) event same x' y' (may_stay (first_disk s') x' is_x') (may_stay (second_disk s') y' is_y');
-      other_stays = λ x y is_x is_y second counts.
-          let now = counts_now s store (opened.current x y is_x is_y) x y (opened.first_read.same ∙ is_x) (opened.second_read.same ∙ is_y) in
-          subst (λ (w : Bool). one_of (image (second_disk s')) (image (first_disk s')) w ≡ one_of (image b) (image a) w) (same_place s.second_active second (sym now ∙ counts)) (other_is s s' met opened goes);
-    }
+    returns_of may_stay s s' met asker store store' opened goes =
+        let added : List Checkpoint = goes.checkpoints_go_on.0 in
+        let all : added ≡ s'.checkpoints = added_all s.checkpoints added s'.checkpoints opened.unsettled goes.checkpoints_go_on.1 in
+        record {
+          grown = goes.generation_grows ∙ ap (λ (cs : List Checkpoint). s.generation + length cs) all;
+          whole = λ x y is_x is_y none. newest_of s' store' (goes.current (opened.current x y is_x is_y) none);
+          closed = λ x y is_x is_y closed none.
+              let ready = goes.ready (opened.ready x y is_x is_y closed) none in
+              (pinned_at s' (first_disk s') (second_disk s') refl refl ready, closed_of s' store' ready);
+          failed = λ entry same. risen_since secrets a b s s' opened (goes.failed entry same);
+          survives = λ x y is_x is_y closed entry same x' y' is_x' is_y'.
+              goes.halts (opened.ready x y is_x is_y closed) entry same x' y' (may_stay (first_disk s') x' is_x') (may_stay (second_disk s') y' is_y');
+          other_stays = λ none untried x y is_x is_y second counts.
+              let now = counts_now s store (opened.current x y is_x is_y) x y (opened.first_read.same ∙ is_x) (opened.second_read.same ∙ is_y) in
+              subst (λ (w : Bool). one_of (image (second_disk s')) (image (first_disk s')) w ≡ one_of (image b) (image a) w) (same_place s.second_active second (sym now ∙ counts))
+              (other_is secrets a b s s' opened (goes.other_stays (all ∙ none) untried) (place_kept added s.second_active s'.second_active (all ∙ none) goes.place_is));
+        }
 
     pub EndsWith-stored : (may_stay : (d : D) (bytes : List ℕ) → image d ≡ Some bytes → left_since d (clock d) bytes) (before after : Streams) (result : ℕ) (s s' : StoreView D) (asker : Asker) (a' b' : D) → IsStore s → IsStore s' →
         opening.IsOpened clock left_since image faults a b secrets.seal_key secrets.ring s → AnswersInput clock left_since image faults (record { store = s; asker = first_asker script_pass }) before result (record { store = s'; asker = asker }) after →

@@ -1,5 +1,5 @@
 -- How a run of the program ends: its status, what it took, what it wrote, and what it leaves on its disks. If a port does not tell its bytes, nothing is said of them (this project's own).
-use Rattle.std.specs.Prelude.{◌≡◌, ◌⊎◌, ◌<◌, ◌≤◌, ◌+◌, ◌-◌, ◌^◌, ℕ, List, [], ◌++◌, String, codes, length, Bool, Option, Some, None, IfSome}
+use Rattle.std.specs.Prelude.{◌≡◌, ◌⊎◌, ◌<◌, ◌≤◌, ◌+◌, ◌-◌, ◌^◌, ℕ, List, [], ◌++◌, String, codes, length, drop, Bool, Option, Some, None, IfSome}
 use Rattle.std.specs.Fmt.{decimal}
 use Rattle.std.specs.declared.alloc.Global.{Global}
 use Rattle.pcfs_ports.specs.Faults.{HasRisen}
@@ -12,10 +12,12 @@ use Rattle.op_gate.specs.declared.damage.Damage.{Damage}
 use Rattle.op_gate.specs.declared.damage.Damage.TheVariants.{Header, Shape, Unsigned, Unproved, NotAdmitted, MomentFalls, Duplicate}
 use Rattle.checkpoint_image.specs.ImageSpelling.{image_spelling}
 use Rattle.pcfs_store.specs.Image.{fresh_image}
-use Rattle.pcfs_store.specs.StoredHistory.{payloads_of, StandsFor}
+use Rattle.pcfs_store.specs.StoredHistory.{payloads_of, state_after, StandsFor}
 use Rattle.pcfs_store.specs.Formats.{IsNoneOrFresh}
 use Rattle.pcfs_store.specs.Newest.{SurvivesWholeClosed, newer, newest, one_of}
-use Rattle.pcfs_store.specs.Ready.{SurvivesWithOrWithout}
+use Rattle.pcfs_store.specs.Checkpoints.{place_after, SurvivesMet}
+use Rattle.pcfs_store.specs.Entries.{StoreEntry, checkpointed as checkpoint_mark}
+use Rattle.pcfs_store.specs.StoreView.{last_after}
 use Rattle.pcfs_store.specs.declared.format.FormatFault.{FormatFault}
 use Rattle.pcfs_store.specs.declared.format.FormatFault.TheVariants as formats
 use Rattle.pcfs_store.specs.declared.reply.CheckpointReply.{CheckpointReply}
@@ -71,6 +73,8 @@ pub record IsOpened (secrets : Secrets) (generation : ℕ) (before : Disks) (sta
   pub asker_is : start.asker ≡ first_asker script_pass
   pub running : start.met ≡ None
   pub lawful : IsLawfulStanding start
+  pub unsettled : start.checkpoints ≡ []
+  pub generation_is : start.generation ≡ generation
   pub used_is : start.used ≡ length (area_bytes generation (image_spelling start.base) (payloads_of start.events))
   pub found : IfTold before (IsNewestHistory (authority_under secrets) generation start.base start.events)
 
@@ -80,15 +84,27 @@ pub record IsNewestOf (generation : ℕ) (base : BaseView) (events : List Event)
   pub counts : newest x y ≡ Some bytes
   pub stands : StandsFor bytes generation base events
 
--- What comes back of the disks of a store that was opened, where a script ended. Unless a disk failed, the newest area has the generation of the opened one, and stands for the history at the end; and if the opened one
--- had its closed gate, it has too, and nothing is pending. If one failed, its count rose; and if the opened area had its closed gate, the newest one that comes back stands for the history at the end, or for it with
--- the one event that met the fault. The area that did not count is as it was.
+-- of how many events the last checkpoint has the state, that state, and the events since
+abbrev pub settled_in : Standing → ℕ
+settled_in s = last_after 0 s.checkpoints
+
+abbrev pub head_in : Standing → BaseView
+head_in s = state_after s.base s.events (settled_in s)
+
+abbrev pub records_in : Standing → List Event
+records_in s = drop (settled_in s) s.events
+
+-- What comes back of the disks of a store that was opened, where a script ended. Its generation is that of the opened area, and one more for each checkpoint. Unless a disk failed, the newest area has this generation, and stands for the state at
+-- the last checkpoint, or for the opened base if there was none, and the events since; it is on the other disk after each checkpoint; and if the opened one had its closed gate, it has too, and nothing is pending. If one failed, its count rose; and if the opened area had its closed gate, the
+-- newest one that comes back stands for the history at the end, or, if an event met the fault, for it with this event. The area that did not count is as it was, if no checkpoint was made, and none met the fault.
 pub record Returns (rests : Rests) (generation : ℕ) (before after : Disks) (start end : Standing) : Type 0 where
-  pub whole : IfTold before (λ x y. end.met ≡ None → IfTold after (IsNewestOf generation end.base end.events))
-  pub closed : IfTold before (λ x y. IsNewestClosed generation start.base start.events x y → end.met ≡ None → rests.after × IfTold after (IsNewestClosed generation end.base end.events))
-  pub failed : (met : Event) → end.met ≡ Some met → HasDiskFailed before after
-  pub survives : IfTold before (λ x y. IsNewestClosed generation start.base start.events x y → (met : Event) → end.met ≡ Some met → IfTold after (SurvivesWithOrWithout end.base end.events met))
-  pub other_stays : IfTold before (λ x y. (second : Bool) → newer (generation_of x) (generation_of y) ≡ Some second → one_of after.b after.a second ≡ one_of before.b before.a second)
+  pub grown : end.generation ≡ generation + length end.checkpoints
+  pub whole : IfTold before (λ x y. end.met ≡ None → IfTold after (IsNewestOf end.generation (head_in end) (records_in end)))
+  pub closed : IfTold before (λ x y. IsNewestClosed generation start.base start.events x y → end.met ≡ None → rests.after × IfTold after (IsNewestClosed end.generation (head_in end) (records_in end)))
+  pub place : end.met ≡ None → IfTold before (λ x y. (second : Bool) → newer (generation_of x) (generation_of y) ≡ Some second → IfTold after (λ u v. newer (generation_of u) (generation_of v) ≡ Some (place_after (length end.checkpoints) second)))
+  pub failed : (met : StoreEntry) → end.met ≡ Some met → HasDiskFailed before after
+  pub survives : IfTold before (λ x y. IsNewestClosed generation start.base start.events x y → (met : StoreEntry) → end.met ≡ Some met → IfTold after (SurvivesMet end.base end.events met))
+  pub other_stays : end.checkpoints ≡ [] → ((pass : ℕ) → end.met ≡ Some (checkpoint_mark pass) → ⊥) → IfTold before (λ x y. (second : Bool) → newer (generation_of x) (generation_of y) ≡ Some second → one_of after.b after.a second ≡ one_of before.b before.a second)
 
 -- the state of a store that was opened
 abbrev pub state_of_start : Standing → BaseView

@@ -14,14 +14,18 @@ use Rattle.line_words.specs.declared.procap_word.ProcapWord.TheVariants as words
 use Rattle.line_forms.specs.declared.asked.Line.{Line}
 use Rattle.line_forms.specs.declared.asked.Line.TheVariants as lines
 use Rattle.line_forms.specs.declared.command.Command.{Command}
-use Rattle.line_forms.specs.declared.command.Command.TheVariants.{At, As, Register, Procap, Verify, Check, Do}
+use Rattle.line_forms.specs.declared.command.Command.TheVariants.{At, As, Register, Procap, Checkpoint, Verify, Check, Do}
 use Rattle.line_forms.specs.declared.fault.LineFault.{LineFault}
 use Rattle.line_forms.specs.Lines.{IsLineIn, IsLineFaultIn}
-use Rattle.line_forms.specs.Said.{IsOperationAsked, IsWithin, IsLineWithin, IsWrittenOut, IsOfSession, IsSaidInSession, IsSaidIn}
+use Rattle.line_forms.specs.Said.{IsOperationAsked, IsWithin, IsLineWithin, IsWrittenOut, IsOfSession, IsOfUser, IsSaidIn}
 use Rattle.line_forms.proofs.LimitLemmas.{line_within}
 use Rattle.line_forms.proofs.LineLemmas.{one_line, line_or_fault, one_fault}
 use Rattle.line_forms.proofs.SaidLemmas.{said_in_mode}
 use Rattle.line_forms.proofs.TotalLemmas.{line_or_a_fault}
+use Rattle.bl_syntax.specs.Statement.{StatementView}
+use Rattle.bl_syntax.specs.declared.grant.Goal.{Goal}
+use Rattle.proof_term.specs.Proof.{ProofView}
+use Rattle.session_history.specs.declared.request.TurnRequest.TheVariants as turn_requests
 use Rattle.line_wire.specs.declared.reply.LineReply.TheVariants as replies
 use Rattle.session_history.specs.declared.request.TurnRequest.TheVariants.{Step, Login}
 use Rattle.session_history.specs.SessionState.{SessionState, mode_for, mode_of}
@@ -46,6 +50,7 @@ user_once who (As person) a b one other = absurd one
 user_once who (Register None statement) a b one other = absurd one
 user_once who (Register (Some signature) statement) a b one other = one ∙ sym other
 user_once who (Procap number) a b one other = one ∙ sym other
+user_once who Checkpoint a b one other = one.1 ∙ sym other.1
 user_once who (Verify goal numbers proof) a b one other = one ∙ sym other
 user_once who (Check goal numbers proof) a b one other = absurd one
 user_once who (Do op procap_words) a b one other =
@@ -77,33 +82,38 @@ held_of [] all = ([], refl)
 held_of (words.Procap p ∷ given) all = let others = held_of given all.1 in (p ∷ others.0, ap (λ (ws : List ProcapWord). words.Procap p ∷ ws) others.1)
 held_of (words.Issue number ∷ given) all = absurd all.0
 
-user_asks : (who : List ℕ) (command : Command) → IsOfSession command → (task : LineTask) × IsUserTask who command task
-user_asks who (At second) said = absurd said
-user_asks who (As other) said = absurd said
-user_asks who (Register None statement) said = absurd (false≢true said)
-user_asks who (Register (Some signature) statement) said = (tasks.Turn (Step (requests.Register statement signature)), refl)
-user_asks who (Procap number) said = (tasks.Turn (Step (requests.ShowProcap number (Some who))), refl)
-user_asks who (Verify goal numbers proof) said = (tasks.Proof goal numbers proof, refl)
-user_asks who (Check goal numbers proof) said = absurd said
-user_asks who (Do op given) said = let held = held_of given said in (tasks.Turn (Step (requests.Act who op held.0)), (held.0, held.1, refl))
+user_asks : (who : List ℕ) (command : Command) → IsOfSession command → IsOfUser who command → (task : LineTask) × IsUserTask who command task
+user_asks who (At second) said mine = absurd said
+user_asks who (As other) said mine = absurd said
+user_asks who (Register None statement) said mine = absurd (false≢true said)
+user_asks who (Register (Some signature) statement) said mine = (tasks.Turn (Step (requests.Register statement signature)), refl)
+user_asks who (Procap number) said mine = (tasks.Turn (Step (requests.ShowProcap number (Some who))), refl)
+user_asks who Checkpoint said mine = (tasks.Turn turn_requests.Checkpoint, (mine, refl))
+user_asks who (Verify goal numbers proof) said mine = (tasks.Proof goal numbers proof, refl)
+user_asks who (Check goal numbers proof) said mine = absurd said
+user_asks who (Do op given) said mine = let held = held_of given said in (tasks.Turn (Step (requests.Act who op held.0)), (held.0, held.1, refl))
 
-command_asks : (caller : Option (List ℕ)) (command : Command) → IsOfSession command → (task : LineTask) × IsCommandTask caller command task
+command_asks : (caller : Option (List ℕ)) (command : Command) → IsSaidIn (mode_for caller) (lines.Command command) → (task : LineTask) × IsCommandTask caller command task
 command_asks None command said = (tasks.Reply replies.NotLoggedIn, refl)
-command_asks (Some who) command said = user_asks who command said
+command_asks (Some who) command said = user_asks who command said.0 said.1
 
-read_asks : (s : SessionState) (line : Line) → IsSaidInSession line → (task : LineTask) × IsReadTask s line task
+no_statement : (caller : Option (List ℕ)) (statement : StatementView) → IsSaidIn (mode_for caller) (lines.Statement statement) → ⊥
+no_statement None statement said = said
+no_statement (Some who) statement said = said
+
+no_goal : (caller : Option (List ℕ)) (goal : Goal) (proof : ProofView) → IsSaidIn (mode_for caller) (lines.Goal goal proof) → ⊥
+no_goal None goal proof said = said
+no_goal (Some who) goal proof said = said
+
+read_asks : (s : SessionState) (line : Line) → IsSaidIn (mode_of s) line → (task : LineTask) × IsReadTask s line task
 read_asks s (lines.Command command) said = command_asks s.caller command said
 read_asks s (lines.Login who signature) said = (tasks.Turn (Login who s.nonce signature), refl)
-read_asks s (lines.Statement statement) said = absurd said
-read_asks s (lines.Goal goal proof) said = absurd said
-
-said_in_session : (caller : Option (List ℕ)) (line : Line) → IsSaidIn (mode_for caller) line → IsSaidInSession line
-said_in_session None line said = said
-said_in_session (Some who) line said = said
+read_asks s (lines.Statement statement) said = absurd (no_statement s.caller statement said)
+read_asks s (lines.Goal goal proof) said = absurd (no_goal s.caller goal proof said)
 
 by_reading : (s : SessionState) (line : List ℕ) → ((said : Line) × IsLineIn (mode_of s) line said) ⊎ ((fault : LineFault) × IsLineFaultIn (mode_of s) line fault) → (task : LineTask) × IsTaskOf s line task
 by_reading s line (inl one) =
-    let task = read_asks s one.0 (said_in_session s.caller one.0 (said_in_mode one.1)) in (task.0, read one.0 task.0 one.1 task.1)
+    let task = read_asks s one.0 (said_in_mode one.1) in (task.0, read one.0 task.0 one.1 task.1)
 by_reading s line (inr bad) = (tasks.Reply (replies.Faulty bad.0), faulty bad.0 bad.1)
 
 pub asks_something : (s : SessionState) (line : List ℕ) → (task : LineTask) × IsTaskOf s line task
@@ -126,6 +136,7 @@ user_formed who (As other) task named within is = absurd is
 user_formed who (Register None statement) task named within is = absurd is
 user_formed who (Register (Some signature) statement) task named within is = subst IsTaskFormed (sym is) (within, tt)
 user_formed who (Procap number) task named within is = subst IsTaskFormed (sym is) (tt, tt)
+user_formed who Checkpoint task named within is = subst IsTaskFormed (sym is.1) (tt, tt)
 user_formed who (Verify goal numbers proof) task named within is = subst IsTaskFormed (sym is) within
 user_formed who (Check goal numbers proof) task named within is = absurd is
 user_formed who (Do op given) task named within is = subst IsTaskFormed (sym is.2) (formed_act who op given is.0 named within is.1, tt)

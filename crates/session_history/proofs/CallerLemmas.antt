@@ -1,7 +1,9 @@
--- In a session that is given entries somebody logged in over its nonce by one of its lines, and each operation among them is by who did.
-use Rattle.std.proofs.Common.{◌≡◌, ◌∙◌, ℕ, List, [], ◌∷◌, ◌++◌, Bool, true, false, Option, Some, None, refl, sym, ap, subst, append_assoc}
+-- In a session that is given entries somebody logged in over its nonce by one of its lines, each operation among them is by who did, and each checkpoint by `admin`.
+use Rattle.std.proofs.Common.{◌≡◌, ◌∙◌, ℕ, List, [], ◌∷◌, ◌++◌, Bool, true, false, Option, Some, None, codes, refl, sym, ap, subst, append_assoc}
 use Rattle.std.specs.Prelude.{ℤ}
 use Rattle.std.specs.List.{AllByRecursion}
+use Rattle.std.specs.Option.{option_map}
+use Rattle.std.proofs.lemmas.Slice.Eq.{bytes_eq-Decides}
 use Rattle.policy_statement.specs.Messages.{login_message}
 use Rattle.policy_statement.specs.Ring.{KeyView, is_accepted}
 use Rattle.proof_verifier.specs.CheckedView.{checked_view}
@@ -16,11 +18,12 @@ use Rattle.access_history.specs.Answer.{Answers, registered, issued, acted}
 use Rattle.line_forms.specs.declared.asked.Line.{Line}
 use Rattle.line_forms.specs.declared.asked.Line.TheVariants as lines
 use Rattle.line_forms.specs.declared.command.Command.{Command}
-use Rattle.line_forms.specs.declared.command.Command.TheVariants.{At, As, Register, Procap, Verify, Check, Do}
+use Rattle.line_forms.specs.declared.command.Command.TheVariants.{At, As, Register, Procap, Checkpoint, Verify, Check, Do}
 use Rattle.line_wire.specs.declared.reply.LineReply.{LineReply}
 use Rattle.pcfs_store.specs.Entries.{Root, StoreEntry, happened, checkpointed, stopped, state_of_entries}
 use Rattle.session_history.specs.declared.request.TurnRequest.{TurnRequest}
 use Rattle.session_history.specs.declared.request.TurnRequest.TheVariants.{Step, Cite, Login}
+use Rattle.session_history.specs.declared.request.TurnRequest.TheVariants as turn_requests
 use Rattle.session_history.specs.declared.reply.TurnReply.{TurnReply}
 use Rattle.session_history.specs.declared.reply.TurnReply.TheVariants as turn_replies
 use Rattle.session_history.specs.declared.task.LineTask.{LineTask}
@@ -45,6 +48,7 @@ ActsAs P (Step (steps.Issue checked)) = (who : List ℕ) × P who
 ActsAs P (Step (steps.Act who op procaps)) = P who
 ActsAs P (Step (steps.ShowProcap number who)) = Unit {0}
 ActsAs P (Cite numbers) = Unit {0}
+ActsAs P turn_requests.Checkpoint = P (codes "admin")
 ActsAs P (Login who nonce signature) = Unit {0}
 
 abbrev IsActedAs : (List ℕ → Type 0) → LineTask → Type 0
@@ -60,36 +64,39 @@ event_by ring nonce heard authority state pass clock request reply event acts (r
 event_by ring nonce heard authority state pass clock request reply event acts (issued checked rising granted stand) = acts
 event_by ring nonce heard authority state pass clock request reply event acts (acted caller op procaps admitted free) = acts
 
-abbrev IsEventBy : List KeyView → List ℕ → List (List ℕ) → Option Event → Type 0
-IsEventBy ring nonce heard None = Unit {0}
-IsEventBy ring nonce heard (Some event) = IsByAccepted ring nonce heard (happened event)
+abbrev IsEntryBy : List KeyView → List ℕ → List (List ℕ) → Option StoreEntry → Type 0
+IsEntryBy ring nonce heard None = Unit {0}
+IsEntryBy ring nonce heard (Some entry) = IsByAccepted ring nonce heard entry
 
 of_answer : (ring : List KeyView) (nonce : List ℕ) (heard : List (List ℕ)) (authority : Authority) (state : BaseView) (pass : ℕ) (clock : ℤ) (request : StepRequest) (reply : StepReply) (event : Option Event) → ActsAs (HasSigned ring nonce heard) (Step request) →
-    Answers authority state pass clock request reply event → IsEventBy ring nonce heard event
+    Answers authority state pass clock request reply event → IsEntryBy ring nonce heard (option_map happened event)
 of_answer ring nonce heard authority state pass clock request reply None acts answers = tt
 of_answer ring nonce heard authority state pass clock request reply (Some event) acts answers = event_by ring nonce heard authority state pass clock request reply event acts answers
 
-of_turn_answer : (ring : List KeyView) (nonce : List ℕ) (heard : List (List ℕ)) (root : Root) (state : BaseView) (pass : ℕ) (clock : ℤ) (request : TurnRequest) (answer : TurnReply) (event : Option Event) → ActsAs (HasSigned ring nonce heard) request →
-    AnswersTurn root state pass clock request answer event → IsEventBy ring nonce heard event
+of_turn_answer : (ring : List KeyView) (nonce : List ℕ) (heard : List (List ℕ)) (root : Root) (state : BaseView) (pass : ℕ) (clock : ℤ) (request : TurnRequest) (answer : TurnReply) (entry : Option StoreEntry) → ActsAs (HasSigned ring nonce heard) request →
+    AnswersTurn root state pass clock request answer entry → IsEntryBy ring nonce heard entry
 of_turn_answer ring nonce heard root state pass clock _ _ _ acts (turns.steps request reply event answers) = of_answer ring nonce heard (authority_of_root root) state pass clock request reply event acts answers
+of_turn_answer ring nonce heard root state pass clock _ _ _ acts turns.makes = acts
 of_turn_answer ring nonce heard root state pass clock _ _ _ acts (turns.cites numbers cited found) = tt
 of_turn_answer ring nonce heard root state pass clock _ _ _ acts (turns.cites_none numbers number absent) = tt
 of_turn_answer ring nonce heard root state pass clock _ _ _ acts (turns.logs_in who nonce' signature is) = tt
 of_turn_answer ring nonce heard root state pass clock _ _ _ acts (turns.rejects who nonce' signature is) = tt
 
 -- where there is an event, somebody logged in
-somebody : (ring : List KeyView) (nonce : List ℕ) (heard : List (List ℕ)) (event : Event) → IsByAccepted ring nonce heard (happened event) → (who : List ℕ) × HasSigned ring nonce heard who
-somebody ring nonce heard (Registered pass statement signature) by_some = by_some
-somebody ring nonce heard (Issued pass cited proof grant) by_some = by_some
-somebody ring nonce heard (Acted pass caller op procaps moment) by_some = (caller, by_some)
+somebody : (ring : List KeyView) (nonce : List ℕ) (heard : List (List ℕ)) (entry : StoreEntry) → IsByAccepted ring nonce heard entry → (who : List ℕ) × HasSigned ring nonce heard who
+somebody ring nonce heard (happened (Registered pass statement signature)) by_some = by_some
+somebody ring nonce heard (happened (Issued pass cited proof grant)) by_some = by_some
+somebody ring nonce heard (happened (Acted pass caller op procaps moment)) by_some = (caller, by_some)
+somebody ring nonce heard (checkpointed pass) by_some = (codes "admin", by_some)
+somebody ring nonce heard (stopped pass) by_some = by_some
 
 turn_by : (ring : List KeyView) (nonce : List ℕ) (heard : List (List ℕ)) (gives : ℤ → Type 0) (p : StorePass) (before : List StoreEntry) (request : TurnRequest) (reply : TurnReply) (given : List StoreEntry) → ActsAs (HasSigned ring nonce heard) request →
     Turn gives p before request reply given → AllByRecursion (IsByAccepted ring nonce heard) given
 turn_by ring nonce heard gives p before request _ _ acts (turns.was_stopped is) = tt
 turn_by ring nonce heard gives p before request _ _ acts (turns.answered clock answer running shown answers) = tt
-turn_by ring nonce heard gives p before request _ _ acts (turns.full clock answer event running shown answers is_full) = tt
-turn_by ring nonce heard gives p before request _ _ acts (turns.kept clock answer event running shown answers room) = (of_turn_answer ring nonce heard p.root (state_of_entries p.root before) p.number clock request answer (Some event) acts answers, tt)
-turn_by ring nonce heard gives p before request _ _ acts (turns.failed clock answer event running shown answers room) = (somebody ring nonce heard event (of_turn_answer ring nonce heard p.root (state_of_entries p.root before) p.number clock request answer (Some event) acts answers), tt)
+turn_by ring nonce heard gives p before request _ _ acts (turns.full clock answer entry running shown answers is_full) = tt
+turn_by ring nonce heard gives p before request _ _ acts (turns.kept clock answer entry running shown answers room) = (of_turn_answer ring nonce heard p.root (state_of_entries p.root before) p.number clock request answer (Some entry) acts answers, tt)
+turn_by ring nonce heard gives p before request _ _ acts (turns.failed clock answer entry running shown answers room) = (somebody ring nonce heard entry (of_turn_answer ring nonce heard p.root (state_of_entries p.root before) p.number clock request answer (Some entry) acts answers), tt)
 turn_by ring nonce heard gives p before request _ _ acts turns.without_memory = tt
 
 line_by : (ring : List KeyView) (nonce : List ℕ) (heard : List (List ℕ)) (gives : ℤ → Type 0) (p : StorePass) (history : List StoreEntry) (from : ℕ) (task : LineTask) (reply : LineReply) (to : ℕ) (given : List StoreEntry) → IsActedAs (HasSigned ring nonce heard) task →
@@ -109,6 +116,8 @@ user_acts ring nonce heard who (As other) task signed is = absurd is
 user_acts ring nonce heard who (Register None statement) task signed is = absurd is
 user_acts ring nonce heard who (Register (Some signature) statement) task signed is = subst (IsActedAs (HasSigned ring nonce heard)) (sym is) (who, signed)
 user_acts ring nonce heard who (Procap number) task signed is = subst (IsActedAs (HasSigned ring nonce heard)) (sym is) tt
+user_acts ring nonce heard who Checkpoint task signed is =
+    subst (IsActedAs (HasSigned ring nonce heard)) (sym is.1) (subst (HasSigned ring nonce heard) ((bytes_eq-Decides who (codes "admin")).0 is.0) signed)
 user_acts ring nonce heard who (Verify goal numbers proof) task signed is = subst (IsActedAs (HasSigned ring nonce heard)) (sym is) (who, signed)
 user_acts ring nonce heard who (Check goal numbers proof) task signed is = absurd is
 user_acts ring nonce heard who (Do op given) task signed is = subst (IsActedAs (HasSigned ring nonce heard)) (sym is.2) signed
@@ -134,6 +143,7 @@ abbrev LogsInOver : List ℕ → LineTask → Type 0
 LogsInOver nonce (tasks.Reply reply) = Unit {0}
 LogsInOver nonce (tasks.Turn (Step request)) = Unit {0}
 LogsInOver nonce (tasks.Turn (Cite numbers)) = Unit {0}
+LogsInOver nonce (tasks.Turn turn_requests.Checkpoint) = Unit {0}
 LogsInOver nonce (tasks.Turn (Login who over signature)) = over ≡ nonce
 LogsInOver nonce (tasks.Proof goal numbers proof) = Unit {0}
 
@@ -143,6 +153,7 @@ user_over nonce who (As other) task is = absurd is
 user_over nonce who (Register None statement) task is = absurd is
 user_over nonce who (Register (Some signature) statement) task is = subst (LogsInOver nonce) (sym is) tt
 user_over nonce who (Procap number) task is = subst (LogsInOver nonce) (sym is) tt
+user_over nonce who Checkpoint task is = subst (LogsInOver nonce) (sym is.1) tt
 user_over nonce who (Verify goal numbers proof) task is = subst (LogsInOver nonce) (sym is) tt
 user_over nonce who (Check goal numbers proof) task is = absurd is
 user_over nonce who (Do op given) task is = subst (LogsInOver nonce) (sym is.2) tt
@@ -162,7 +173,7 @@ task_over s line _ (faulty fault bad) = tt
 task_over s line _ (read said task is reads) = read_over s said task reads
 
 -- a turn that logs in is accepted
-answer_signed : (root : Root) (state : BaseView) (pass : ℕ) (clock : ℤ) (who over signature : List ℕ) (answer : TurnReply) (event : Option Event) → AnswersTurn root state pass clock (Login who over signature) answer event → answer ≡ turn_replies.LoggedIn →
+answer_signed : (root : Root) (state : BaseView) (pass : ℕ) (clock : ℤ) (who over signature : List ℕ) (answer : TurnReply) (entry : Option StoreEntry) → AnswersTurn root state pass clock (Login who over signature) answer entry → answer ≡ turn_replies.LoggedIn →
     is_accepted root.ring who (login_message who over) signature ≡ true
 answer_signed root state pass clock _ _ _ _ _ (turns.logs_in who over signature is) same = is
 answer_signed root state pass clock _ _ _ _ _ (turns.rejects who over signature is) same = absurd cc
@@ -171,9 +182,9 @@ turn_signed : (gives : ℤ → Type 0) (p : StorePass) (before : List StoreEntry
     is_accepted p.root.ring who (login_message who over) signature ≡ true
 turn_signed gives p before who over signature _ _ (turns.was_stopped is) same = absurd cc
 turn_signed gives p before who over signature _ _ (turns.answered clock answer running shown answers) same = answer_signed p.root (state_of_entries p.root before) p.number clock who over signature answer None answers same
-turn_signed gives p before who over signature _ _ (turns.full clock answer event running shown answers is_full) same = absurd cc
-turn_signed gives p before who over signature _ _ (turns.kept clock answer event running shown answers room) same = answer_signed p.root (state_of_entries p.root before) p.number clock who over signature answer (Some event) answers same
-turn_signed gives p before who over signature _ _ (turns.failed clock answer event running shown answers room) same = absurd cc
+turn_signed gives p before who over signature _ _ (turns.full clock answer entry running shown answers is_full) same = absurd cc
+turn_signed gives p before who over signature _ _ (turns.kept clock answer entry running shown answers room) same = answer_signed p.root (state_of_entries p.root before) p.number clock who over signature answer (Some entry) answers same
+turn_signed gives p before who over signature _ _ (turns.failed clock answer entry running shown answers room) same = absurd cc
 turn_signed gives p before who over signature _ _ turns.without_memory same = absurd cc
 
 -- a line is done that logs in
@@ -181,6 +192,7 @@ done_turn : (replied : TurnReply) (reply : LineReply) → IsTold replied reply �
 done_turn (turn_replies.Step answer) reply is done = let no : false ≡ true = sym (ap is_done is) ∙ done in absurd cc
 done_turn (turn_replies.Cited cites) reply is done = absurd is
 done_turn turn_replies.LoggedIn reply is done = refl
+done_turn turn_replies.Checkpointed reply is done = let no : false ≡ true = sym (ap is_done is) ∙ done in absurd cc
 done_turn turn_replies.Full reply is done = let no : false ≡ true = sym (ap is_done is) ∙ done in absurd cc
 done_turn turn_replies.Stopped reply is done = let no : false ≡ true = sym (ap is_done is) ∙ done in absurd cc
 done_turn turn_replies.NoMemory reply is done = let no : false ≡ true = sym (ap is_done is) ∙ done in absurd cc
@@ -212,7 +224,7 @@ module _ (ring : List KeyView) (nonce : List ℕ) (heard more : List (List ℕ))
   all_more : (given : List StoreEntry) → AllByRecursion (IsByAccepted ring nonce heard) given → AllByRecursion (IsByAccepted ring nonce (heard ++ more)) given
   all_more [] all = tt
   all_more (happened event ∷ given) all = (event_more event all.0, all_more given all.1)
-  all_more (checkpointed pass ∷ given) all = ((all.0.0, signed_more all.0.0 all.0.1), all_more given all.1)
+  all_more (checkpointed pass ∷ given) all = (signed_more (codes "admin") all.0, all_more given all.1)
   all_more (stopped pass ∷ given) all = ((all.0.0, signed_more all.0.0 all.0.1), all_more given all.1)
 
 -- what is kept of who is logged in
@@ -251,6 +263,7 @@ module _ (gives : ℤ → Type 0) (p : StorePass) (history : List StoreEntry) (n
   after_line _ _ _ _ asks over (at_once reply) = same_state
   after_line _ _ _ _ asks over (in_a_turn (Step request) replied reply to given turn is) = same_state
   after_line _ _ _ _ asks over (in_a_turn (Cite numbers) replied reply to given turn is) = same_state
+  after_line _ _ _ _ asks over (in_a_turn turn_requests.Checkpoint replied reply to given turn is) = same_state
   after_line _ _ _ _ asks over (in_a_turn (Login who n signature) replied reply to given turn is) =
       login_state p.root.ring nonce heard line s who n signature reply (is_done reply) refl over asks signed (λ done. turn_signed gives p turn.before who n signature replied given turn.turn (done_turn replied reply is done))
   after_line _ _ _ _ asks over (places.cites_none goal numbers proof replied reply to given turn is) = same_state
@@ -259,6 +272,7 @@ module _ (gives : ℤ → Type 0) (p : StorePass) (history : List StoreEntry) (n
   after_line _ _ _ _ asks over (places.without_memory (tasks.Reply reply)) = same_state
   after_line _ _ _ _ asks over (places.without_memory (tasks.Turn (Step request))) = same_state
   after_line _ _ _ _ asks over (places.without_memory (tasks.Turn (Cite numbers))) = same_state
+  after_line _ _ _ _ asks over (places.without_memory (tasks.Turn turn_requests.Checkpoint)) = same_state
   after_line _ _ _ _ asks over (places.without_memory (tasks.Turn (Login who n signature))) = same_state
   after_line _ _ _ _ asks over (places.without_memory (tasks.Proof goal numbers proof)) = same_state
 

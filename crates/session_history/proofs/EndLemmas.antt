@@ -45,8 +45,9 @@ use Rattle.session_history.proofs.TurnLemmas.{turn_ends}
 
 -- ---- what a turn replies can be told, if it asks for no statements
 
-answer_single : (root : Root) (state : BaseView) (pass : ℕ) (clock : ℤ) (request : TurnRequest) (answer : TurnReply) (event : Option Event) → IsSingle request → AnswersTurn root state pass clock request answer event → (cites : List CiteOf) → answer ≡ turn_replies.Cited cites → ⊥
+answer_single : (root : Root) (state : BaseView) (pass : ℕ) (clock : ℤ) (request : TurnRequest) (answer : TurnReply) (entry : Option StoreEntry) → IsSingle request → AnswersTurn root state pass clock request answer entry → (cites : List CiteOf) → answer ≡ turn_replies.Cited cites → ⊥
 answer_single root state pass clock _ _ _ single (turns.steps request reply event answers) cites same = cc
+answer_single root state pass clock _ _ _ single turns.makes cites same = cc
 answer_single root state pass clock _ _ _ single (turns.cites numbers cited found) cites same = single
 answer_single root state pass clock _ _ _ single (turns.cites_none numbers number absent) cites same = single
 answer_single root state pass clock _ _ _ single (turns.logs_in who nonce signature is) cites same = cc
@@ -56,9 +57,9 @@ pub single_not_cited : (gives : ℤ → Type 0) (p : StorePass) (before : List S
     reply ≡ turn_replies.Cited cites → ⊥
 single_not_cited gives p before request _ _ single (turns.was_stopped is) cites same = cc
 single_not_cited gives p before request _ _ single (turns.answered clock answer running shown answers) cites same = answer_single p.root (state_of_entries p.root before) p.number clock request answer None single answers cites same
-single_not_cited gives p before request _ _ single (turns.full clock answer event running shown answers is_full) cites same = cc
-single_not_cited gives p before request _ _ single (turns.kept clock answer event running shown answers room) cites same = answer_single p.root (state_of_entries p.root before) p.number clock request answer (Some event) single answers cites same
-single_not_cited gives p before request _ _ single (turns.failed clock answer event running shown answers room) cites same = cc
+single_not_cited gives p before request _ _ single (turns.full clock answer entry running shown answers is_full) cites same = cc
+single_not_cited gives p before request _ _ single (turns.kept clock answer entry running shown answers room) cites same = answer_single p.root (state_of_entries p.root before) p.number clock request answer (Some entry) single answers cites same
+single_not_cited gives p before request _ _ single (turns.failed clock answer entry running shown answers room) cites same = cc
 single_not_cited gives p before request _ _ single turns.without_memory cites same = cc
 
 -- what is told of an undisturbed turn
@@ -72,6 +73,7 @@ told_calmly : (replied : TurnReply) → ((cites : List CiteOf) → replied ≡ t
 told_calmly (turn_replies.Step reply) other calm = record { reply = replies.Step reply; told = refl; had_memory = λ is. cc; not_stopped = λ is. cc }
 told_calmly (turn_replies.Cited cites) other calm = absurd (other cites refl)
 told_calmly turn_replies.LoggedIn other calm = record { reply = replies.Done; told = refl; had_memory = λ is. cc; not_stopped = λ is. cc }
+told_calmly turn_replies.Checkpointed other calm = record { reply = replies.Checkpointed; told = refl; had_memory = λ is. cc; not_stopped = λ is. cc }
 told_calmly turn_replies.Full other calm = record { reply = replies.Full; told = refl; had_memory = λ is. cc; not_stopped = λ is. cc }
 told_calmly turn_replies.Stopped other calm = absurd (calm.not_stopped refl)
 told_calmly turn_replies.NoMemory other calm = absurd (calm.had_memory refl)

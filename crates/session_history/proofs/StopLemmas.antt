@@ -1,6 +1,7 @@
 -- A turn or a line is told that the store is stopped only where a mark is among the entries up to its place.
-use Rattle.std.proofs.Common.{◌≡◌, ◌∙◌, ◌+◌, ◌⊎◌, inl, inr, ℕ, List, [], ◌∷◌, ◌++◌, true, Option, Some, None, length, take, refl, sym, ap, append_assoc, length-append}
+use Rattle.std.proofs.Common.{◌≡◌, ◌∙◌, ◌+◌, ◌⊎◌, inl, inr, ℕ, List, [], ◌∷◌, ◌++◌, true, false, Option, Some, None, length, take, refl, sym, ap, append_assoc, length-append}
 use Rattle.std.specs.Prelude.{ℤ}
+use Rattle.std.specs.Option.{option_map}
 use Rattle.std.proofs.lemmas.Bool.{false≢true}
 use Rattle.std.proofs.Math.Seq.{take-append_seam}
 use Rattle.access_history.specs.declared.event.Event.{Event}
@@ -8,18 +9,19 @@ use Rattle.access_history.specs.Base.{BaseView}
 use Rattle.line_forms.specs.declared.asked.Line.{Line}
 use Rattle.line_forms.specs.declared.asked.Line.TheVariants as lines
 use Rattle.line_forms.specs.declared.command.Command.{Command}
-use Rattle.line_forms.specs.declared.command.Command.TheVariants.{At, As, Register, Procap, Verify, Check, Do}
+use Rattle.line_forms.specs.declared.command.Command.TheVariants.{At, As, Register, Procap, Checkpoint, Verify, Check, Do}
 use Rattle.access_history.specs.declared.request.StepRequest.TheVariants as requests
 use Rattle.line_forms.specs.declared.fault.LineFault.{LineFault}
 use Rattle.line_wire.specs.declared.reply.LineReply.{LineReply}
 use Rattle.line_wire.specs.declared.reply.LineReply.TheVariants as replies
-use Rattle.pcfs_store.specs.Entries.{Root, StoreEntry, happened, checkpointed, stopped, events_among, state_of_entries}
+use Rattle.pcfs_store.specs.Entries.{Root, StoreEntry, happened, checkpointed, stopped, events_among, checkpoints_among, state_of_entries}
 use Rattle.session_history.specs.declared.request.TurnRequest.{TurnRequest}
 use Rattle.session_history.specs.declared.request.TurnRequest.TheVariants.{Step, Login}
+use Rattle.session_history.specs.declared.request.TurnRequest.TheVariants as turn_requests
 use Rattle.session_history.specs.declared.reply.TurnReply.{TurnReply}
 use Rattle.session_history.specs.declared.reply.TurnReply.TheVariants as turn_replies
 use Rattle.session_history.specs.Passes.{has_stop}
-use Rattle.session_history.specs.Turn.{StorePass, AnswersTurn, steps, cites, cites_none, logs_in, rejects, Turn, was_stopped, answered, full, kept, failed, TurnPlaced}
+use Rattle.session_history.specs.Turn.{StorePass, AnswersTurn, steps, makes, cites, cites_none, logs_in, rejects, Turn, was_stopped, answered, full, kept, failed, TurnPlaced}
 use Rattle.session_history.specs.Turn as turns
 use Rattle.session_history.specs.SessionState.{SessionState}
 use Rattle.session_history.specs.declared.task.LineTask.{LineTask}
@@ -44,9 +46,15 @@ stop_within (stopped other ∷ xs) ys pass = refl
 
 -- ---- turns
 
+-- the entry that an answer adds, if there is one
+abbrev pub those_of : Option StoreEntry → List StoreEntry
+those_of None = []
+those_of (Some entry) = entry ∷ []
+
 -- no answer is that the store is stopped
-answer_goes : (root : Root) (state : BaseView) (pass : ℕ) (clock : ℤ) (request : TurnRequest) (reply : TurnReply) (event : Option Event) → AnswersTurn root state pass clock request reply event → reply ≡ turn_replies.Stopped → ⊥
+answer_goes : (root : Root) (state : BaseView) (pass : ℕ) (clock : ℤ) (request : TurnRequest) (reply : TurnReply) (entry : Option StoreEntry) → AnswersTurn root state pass clock request reply entry → reply ≡ turn_replies.Stopped → ⊥
 answer_goes root state pass clock _ _ _ (steps request reply event answers) is = cc
+answer_goes root state pass clock _ _ _ makes is = cc
 answer_goes root state pass clock _ _ _ (cites numbers cited found) is = cc
 answer_goes root state pass clock _ _ _ (cites_none numbers number absent) is = cc
 answer_goes root state pass clock _ _ _ (logs_in who nonce signature accepted) is = cc
@@ -55,33 +63,55 @@ answer_goes root state pass clock _ _ _ (rejects who nonce signature refused) is
 pub stop_there : (gives : ℤ → Type 0) (p : StorePass) (before : List StoreEntry) (request : TurnRequest) (reply : TurnReply) (given : List StoreEntry) → Turn gives p before request reply given → reply ≡ turn_replies.Stopped → has_stop (before ++ given) ≡ true
 stop_there gives p before request _ _ (was_stopped stop) is = stop_before before [] stop
 stop_there gives p before request _ _ (answered clock reply running shown answers) is = absurd (answer_goes p.root (state_of_entries p.root before) p.number clock request reply None answers is)
-stop_there gives p before request _ _ (full clock reply event running shown answers is_full) is = absurd cc
-stop_there gives p before request _ _ (kept clock reply event running shown answers room) is = absurd (answer_goes p.root (state_of_entries p.root before) p.number clock request reply (Some event) answers is)
-stop_there gives p before request _ _ (failed clock reply event running shown answers room) is = stop_within before [] p.number
+stop_there gives p before request _ _ (full clock reply entry running shown answers is_full) is = absurd cc
+stop_there gives p before request _ _ (kept clock reply entry running shown answers room) is = absurd (answer_goes p.root (state_of_entries p.root before) p.number clock request reply (Some entry) answers is)
+stop_there gives p before request _ _ (failed clock reply entry running shown answers room) is = stop_within before [] p.number
 stop_there gives p before request _ _ turns.without_memory is = absurd cc
 
 -- it keeps no event then
 none_kept : (gives : ℤ → Type 0) (p : StorePass) (before : List StoreEntry) (request : TurnRequest) (reply : TurnReply) (given : List StoreEntry) → Turn gives p before request reply given → reply ≡ turn_replies.Stopped → events_among given ≡ []
 none_kept gives p before request _ _ (was_stopped stop) is = refl
 none_kept gives p before request _ _ (answered clock reply running shown answers) is = refl
-none_kept gives p before request _ _ (full clock reply event running shown answers is_full) is = refl
-none_kept gives p before request _ _ (kept clock reply event running shown answers room) is = absurd (answer_goes p.root (state_of_entries p.root before) p.number clock request reply (Some event) answers is)
-none_kept gives p before request _ _ (failed clock reply event running shown answers room) is = refl
+none_kept gives p before request _ _ (full clock reply entry running shown answers is_full) is = refl
+none_kept gives p before request _ _ (kept clock reply entry running shown answers room) is = absurd (answer_goes p.root (state_of_entries p.root before) p.number clock request reply (Some entry) answers is)
+none_kept gives p before request _ _ (failed clock reply entry running shown answers room) is = refl
 none_kept gives p before request _ _ turns.without_memory is = refl
+
+-- and makes no checkpoint
+none_made : (gives : ℤ → Type 0) (p : StorePass) (before : List StoreEntry) (request : TurnRequest) (reply : TurnReply) (given : List StoreEntry) → Turn gives p before request reply given → reply ≡ turn_replies.Stopped → checkpoints_among given ≡ 0
+none_made gives p before request _ _ (was_stopped stop) is = refl
+none_made gives p before request _ _ (answered clock reply running shown answers) is = refl
+none_made gives p before request _ _ (full clock reply entry running shown answers is_full) is = refl
+none_made gives p before request _ _ (kept clock reply entry running shown answers room) is = absurd (answer_goes p.root (state_of_entries p.root before) p.number clock request reply (Some entry) answers is)
+none_made gives p before request _ _ (failed clock reply entry running shown answers room) is = refl
+none_made gives p before request _ _ turns.without_memory is = refl
+
+-- no answer adds a mark
+event_no_mark : (event : Option Event) → has_stop (those_of (option_map happened event)) ≡ false
+event_no_mark None = refl
+event_no_mark (Some event) = refl
+
+no_mark : (root : Root) (state : BaseView) (pass : ℕ) (clock : ℤ) (request : TurnRequest) (reply : TurnReply) (entry : Option StoreEntry) → AnswersTurn root state pass clock request reply entry → has_stop (those_of entry) ≡ false
+no_mark root state pass clock _ _ _ (steps request reply event answers) = event_no_mark event
+no_mark root state pass clock _ _ _ makes = refl
+no_mark root state pass clock _ _ _ (cites numbers cited found) = refl
+no_mark root state pass clock _ _ _ (cites_none numbers number absent) = refl
+no_mark root state pass clock _ _ _ (logs_in who nonce signature accepted) = refl
+no_mark root state pass clock _ _ _ (rejects who nonce signature refused) = refl
 
 -- and a turn that adds a mark is told so
 mark_told : (gives : ℤ → Type 0) (p : StorePass) (before : List StoreEntry) (request : TurnRequest) (reply : TurnReply) (given : List StoreEntry) → Turn gives p before request reply given → has_stop given ≡ true → reply ≡ turn_replies.Stopped
 mark_told gives p before request _ _ (was_stopped stop) mark = refl
 mark_told gives p before request _ _ (answered clock reply running shown answers) mark = absurd (false≢true mark)
-mark_told gives p before request _ _ (full clock reply event running shown answers is_full) mark = absurd (false≢true mark)
-mark_told gives p before request _ _ (kept clock reply event running shown answers room) mark = absurd (false≢true mark)
-mark_told gives p before request _ _ (failed clock reply event running shown answers room) mark = refl
+mark_told gives p before request _ _ (full clock reply entry running shown answers is_full) mark = absurd (false≢true mark)
+mark_told gives p before request _ _ (kept clock reply entry running shown answers room) mark = absurd (false≢true (sym (no_mark p.root (state_of_entries p.root before) p.number clock request reply (Some entry) answers) ∙ mark))
+mark_told gives p before request _ _ (failed clock reply entry running shown answers room) mark = refl
 mark_told gives p before request _ _ turns.without_memory mark = absurd (false≢true mark)
 
 pub stops_told : (gives : ℤ → Type 0) (p : StorePass) (before : List StoreEntry) (request : TurnRequest) (reply : TurnReply) (given : List StoreEntry) → Turn gives p before request reply given →
-    (reply ≡ turn_replies.Stopped → (has_stop (before ++ given) ≡ true) × (events_among given ≡ [])) × (has_stop given ≡ true → reply ≡ turn_replies.Stopped)
+    (reply ≡ turn_replies.Stopped → (has_stop (before ++ given) ≡ true) × (events_among given ≡ []) × (checkpoints_among given ≡ 0)) × (has_stop given ≡ true → reply ≡ turn_replies.Stopped)
 stops_told gives p before request reply given turn =
-    (λ is. (stop_there gives p before request reply given turn is, none_kept gives p before request reply given turn is), λ mark. mark_told gives p before request reply given turn mark)
+    (λ is. (stop_there gives p before request reply given turn is, none_kept gives p before request reply given turn is, none_made gives p before request reply given turn is), λ mark. mark_told gives p before request reply given turn mark)
 
 -- the entries up to where a turn came
 front_of : (history before given after : List StoreEntry) (to : ℕ) → history ≡ before ++ (given ++ after) → to ≡ length before + length given → take to history ≡ before ++ given
@@ -98,6 +128,7 @@ pub stopped_turn : (found : TurnReply) (reply : LineReply) → IsTold found repl
 stopped_turn (turn_replies.Step answer) reply is same = let both : replies.Step answer ≡ replies.Stopped = sym is ∙ same in absurd cc
 stopped_turn (turn_replies.Cited cited) reply is same = absurd is
 stopped_turn turn_replies.LoggedIn reply is same = let both : replies.Done ≡ replies.Stopped = sym is ∙ same in absurd cc
+stopped_turn turn_replies.Checkpointed reply is same = let both : replies.Checkpointed ≡ replies.Stopped = sym is ∙ same in absurd cc
 stopped_turn turn_replies.Full reply is same = let both : replies.Full ≡ replies.Stopped = sym is ∙ same in absurd cc
 stopped_turn turn_replies.Stopped reply is same = refl
 stopped_turn turn_replies.NoMemory reply is same = let both : replies.NoMemory ≡ replies.Stopped = sym is ∙ same in absurd cc
@@ -112,6 +143,7 @@ user_said who (As other) task reply is same = absurd is
 user_said who (Register None statement) task reply is same = absurd is
 user_said who (Register (Some signature) statement) task reply is same = let both : tasks.Turn (Step (requests.Register statement signature)) ≡ tasks.Reply reply = sym is ∙ same in absurd cc
 user_said who (Procap number) task reply is same = let both : tasks.Turn (Step (requests.ShowProcap number (Some who))) ≡ tasks.Reply reply = sym is ∙ same in absurd cc
+user_said who Checkpoint task reply is same = let both : tasks.Turn turn_requests.Checkpoint ≡ tasks.Reply reply = sym is.1 ∙ same in absurd cc
 user_said who (Verify goal numbers proof) task reply is same = let both : tasks.Proof goal numbers proof ≡ tasks.Reply reply = sym is ∙ same in absurd cc
 user_said who (Check goal numbers proof) task reply is same = absurd is
 user_said who (Do op words) task reply is same = let both : tasks.Turn (Step (requests.Act who op is.0)) ≡ tasks.Reply reply = sym is.2 ∙ same in absurd cc

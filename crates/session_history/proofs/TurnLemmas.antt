@@ -17,13 +17,15 @@ use Rattle.access_history.specs.Lawful.{IsLawful}
 use Rattle.access_history.specs.Replay.{replay}
 use Rattle.access_history.proofs.AnswerableLemmas.{has_answer}
 use Rattle.access_history.proofs.AnswerLemmas.{one_answer}
-use Rattle.pcfs_store.specs.Entries.{Root, StoreEntry, happened, events_among, state_of_entries, used_by}
+use Rattle.pcfs_store.specs.Entries.{Root, StoreEntry, happened, checkpointed, stopped, events_among, checkpoints_among, state_of_entries, used_by}
+use Rattle.checkpoint_image.specs.ImageSpelling.{image_spelling}
+use Rattle.std.specs.Option.{option_map}
 use Rattle.session_history.specs.declared.request.TurnRequest.{TurnRequest}
 use Rattle.session_history.specs.declared.request.TurnRequest.TheVariants as requests
 use Rattle.session_history.specs.declared.reply.TurnReply.{TurnReply}
 use Rattle.session_history.specs.declared.reply.TurnReply.TheVariants as turn_replies
 use Rattle.session_history.specs.Passes.{has_stop}
-use Rattle.session_history.specs.Turn.{StorePass, authority_of_root, AnswersTurn, steps, cites, cites_none, logs_in, rejects, IsFullAfter, Turn, was_stopped, answered, full, kept, failed, without_memory, IsTurnFormed}
+use Rattle.session_history.specs.Turn.{StorePass, authority_of_root, AnswersTurn, steps, makes, cites, cites_none, logs_in, rejects, IsFullAfter, Turn, was_stopped, answered, full, kept, failed, without_memory, IsTurnFormed}
 use Rattle.session_history.specs.Laws.{IsUndisturbed}
 use Rattle.session_history.proofs.CitationLemmas.{found_or_absent, found_once, absent_once, absent_not_found}
 
@@ -32,42 +34,48 @@ use Rattle.session_history.proofs.CitationLemmas.{found_or_absent, found_once, a
 -- what a turn asks has an answer, which is neither that memory ran out nor that the store is stopped
 record HasTurnAnswer (root : Root) (state : BaseView) (pass : ℕ) (clock : ℤ) (request : TurnRequest) : Type 0 where
   answer : TurnReply
-  event : Option Event
-  answers : AnswersTurn root state pass clock request answer event
+  entry : Option StoreEntry
+  answers : AnswersTurn root state pass clock request answer entry
   calm : IsUndisturbed answer
 
 module _ (root : Root) (state : BaseView) (pass : ℕ) (clock : ℤ) where
   cite_answer : (numbers : List ℕ) → ((cited : List Cite) × AreFound (sayings state.statements) numbers cited) ⊎ ((number : ℕ) × IsAbsent (sayings state.statements) numbers number) → HasTurnAnswer root state pass clock (requests.Cite numbers)
-  cite_answer numbers (inl found) = record { answer = turn_replies.Cited found.0; event = None; answers = cites numbers found.0 found.1; calm = record { had_memory = λ is. cc; not_stopped = λ is. cc } }
-  cite_answer numbers (inr absent) = record { answer = turn_replies.Step (Absent absent.0); event = None; answers = cites_none numbers absent.0 absent.1; calm = record { had_memory = λ is. cc; not_stopped = λ is. cc } }
+  cite_answer numbers (inl found) = record { answer = turn_replies.Cited found.0; entry = None; answers = cites numbers found.0 found.1; calm = record { had_memory = λ is. cc; not_stopped = λ is. cc } }
+  cite_answer numbers (inr absent) = record { answer = turn_replies.Step (Absent absent.0); entry = None; answers = cites_none numbers absent.0 absent.1; calm = record { had_memory = λ is. cc; not_stopped = λ is. cc } }
 
   login_answer : (who nonce signature : List ℕ) (accepted : Bool) → is_accepted root.ring who (login_message who nonce) signature ≡ accepted → HasTurnAnswer root state pass clock (requests.Login who nonce signature)
-  login_answer who nonce signature true is = record { answer = turn_replies.LoggedIn; event = None; answers = logs_in who nonce signature is; calm = record { had_memory = λ same. cc; not_stopped = λ same. cc } }
+  login_answer who nonce signature true is = record { answer = turn_replies.LoggedIn; entry = None; answers = logs_in who nonce signature is; calm = record { had_memory = λ same. cc; not_stopped = λ same. cc } }
   login_answer who nonce signature false is =
-      record { answer = turn_replies.Step (Rejected BadSignature); event = None; answers = rejects who nonce signature is; calm = record { had_memory = λ same. cc; not_stopped = λ same. cc } }
+      record { answer = turn_replies.Step (Rejected BadSignature); entry = None; answers = rejects who nonce signature is; calm = record { had_memory = λ same. cc; not_stopped = λ same. cc } }
 
   turn_answer : (request : TurnRequest) → IsTurnFormed request → HasTurnAnswer root state pass clock request
   turn_answer (requests.Step request) formed =
       let some = has_answer (authority_of_root root) state pass clock request formed in
-      record { answer = turn_replies.Step some.0; event = some.1; answers = steps request some.0 some.1 some.2; calm = record { had_memory = λ is. cc; not_stopped = λ is. cc } }
+      record { answer = turn_replies.Step some.0; entry = option_map happened some.1; answers = steps request some.0 some.1 some.2; calm = record { had_memory = λ is. cc; not_stopped = λ is. cc } }
+  turn_answer requests.Checkpoint formed = record { answer = turn_replies.Checkpointed; entry = Some (checkpointed pass); answers = makes; calm = record { had_memory = λ is. cc; not_stopped = λ is. cc } }
   turn_answer (requests.Cite numbers) formed = cite_answer numbers (found_or_absent (sayings state.statements) numbers)
   turn_answer (requests.Login who nonce signature) formed = login_answer who nonce signature (is_accepted root.ring who (login_message who nonce) signature) refl
 
--- ---- room for an event, or none
+-- ---- room for another entry, or none
 
-no_room : (root : Root) (before : List StoreEntry) (event : Event) → (area_limit < used_by root before + length (event_spelling event) + 6 → ⊥) → (2 ^ 48 - 1 ≤ (state_of_entries root before).count → ⊥) → IsFullAfter root before event → ⊥
-no_room root before event short few (inl long) = short long
-no_room root before event short few (inr many) = few many
+-- one of two bounds is passed, or neither
+bounds : (used most number last : ℕ) → ((most < used) ⊎ (used ≤ most)) → ((number < last) ⊎ (last ≤ number)) → ((most < used) ⊎ (last ≤ number)) ⊎ ((most < used) ⊎ (last ≤ number) → ⊥)
+bounds used most number last (inl long) numbers = inl (inl long)
+bounds used most number last (inr short) (inr many) = inl (inr many)
+bounds used most number last (inr short) (inl few) = inr both
+  where
+    both : (most < used) ⊎ (last ≤ number) → ⊥
+    both (inl long) = absurd (omega (arith, long, short))
+    both (inr many) = absurd (omega (arith, few, many))
 
-full_or_room : (root : Root) (before : List StoreEntry) (event : Event) → (area_limit < used_by root before + length (event_spelling event) + 6) ⊎ (used_by root before + length (event_spelling event) + 6 ≤ area_limit) →
-    ((state_of_entries root before).count < 2 ^ 48 - 1) ⊎ (2 ^ 48 - 1 ≤ (state_of_entries root before).count) → IsFullAfter root before event ⊎ (IsFullAfter root before event → ⊥)
-full_or_room root before event (inl long) numbers = inl (inl long)
-full_or_room root before event (inr short) (inr many) = inl (inr many)
-full_or_room root before event (inr short) (inl few) = inr (no_room root before event (λ long. absurd (omega (arith, long, short))) (λ many. absurd (omega (arith, few, many))))
-
-is_full_or_not : (root : Root) (before : List StoreEntry) (event : Event) → IsFullAfter root before event ⊎ (IsFullAfter root before event → ⊥)
-is_full_or_not root before event =
-    full_or_room root before event (cases_lt area_limit (used_by root before + length (event_spelling event) + 6)) (cases_lt (state_of_entries root before).count (2 ^ 48 - 1))
+is_full_or_not : (root : Root) (before : List StoreEntry) (entry : StoreEntry) → IsFullAfter root before entry ⊎ (IsFullAfter root before entry → ⊥)
+is_full_or_not root before (happened event) =
+    bounds (used_by root before + length (event_spelling event) + 6) area_limit (state_of_entries root before).count (2 ^ 48 - 1)
+    (cases_lt area_limit (used_by root before + length (event_spelling event) + 6)) (cases_lt (state_of_entries root before).count (2 ^ 48 - 1))
+is_full_or_not root before (checkpointed pass) =
+    bounds (length (image_spelling (state_of_entries root before)) + 25) area_limit (root.generation + checkpoints_among before) (2 ^ 48 - 1)
+    (cases_lt area_limit (length (image_spelling (state_of_entries root before)) + 25)) (cases_lt (root.generation + checkpoints_among before) (2 ^ 48 - 1))
+is_full_or_not root before (stopped pass) = inr (λ no. no)
 
 -- ---- some end
 
@@ -75,17 +83,17 @@ module _ (gives : ℤ → Type 0) (p : StorePass) (before : List StoreEntry) (re
   abbrev HasEnd : Type 0
   HasEnd = (reply : TurnReply) × (given : List StoreEntry) × Turn gives p before request reply given × IsUndisturbed reply
 
-  event_ends : (answer : TurnReply) (event : Event) → IsUndisturbed answer → AnswersTurn p.root (state_of_entries p.root before) p.number clock request answer (Some event) →
-      IsFullAfter p.root before event ⊎ (IsFullAfter p.root before event → ⊥) → HasEnd
-  event_ends answer event calm answers (inl is_full) = (turn_replies.Full, [], full clock answer event running shown answers is_full, record { had_memory = λ is. cc; not_stopped = λ is. cc })
-  event_ends answer event calm answers (inr room) = (answer, happened event ∷ [], kept clock answer event running shown answers room, calm)
+  entry_ends : (answer : TurnReply) (entry : StoreEntry) → IsUndisturbed answer → AnswersTurn p.root (state_of_entries p.root before) p.number clock request answer (Some entry) →
+      IsFullAfter p.root before entry ⊎ (IsFullAfter p.root before entry → ⊥) → HasEnd
+  entry_ends answer entry calm answers (inl is_full) = (turn_replies.Full, [], full clock answer entry running shown answers is_full, record { had_memory = λ is. cc; not_stopped = λ is. cc })
+  entry_ends answer entry calm answers (inr room) = (answer, entry ∷ [], kept clock answer entry running shown answers room, calm)
 
-  answer_ends : (answer : TurnReply) (event : Option Event) → IsUndisturbed answer → AnswersTurn p.root (state_of_entries p.root before) p.number clock request answer event → HasEnd
+  answer_ends : (answer : TurnReply) (entry : Option StoreEntry) → IsUndisturbed answer → AnswersTurn p.root (state_of_entries p.root before) p.number clock request answer entry → HasEnd
   answer_ends answer None calm answers = (answer, [], answered clock answer running shown answers, calm)
-  answer_ends answer (Some event) calm answers = event_ends answer event calm answers (is_full_or_not p.root before event)
+  answer_ends answer (Some entry) calm answers = entry_ends answer entry calm answers (is_full_or_not p.root before entry)
 
   some_end : IsTurnFormed request → HasEnd
-  some_end formed = let some = turn_answer p.root (state_of_entries p.root before) p.number clock request formed in answer_ends some.answer some.event some.calm some.answers
+  some_end formed = let some = turn_answer p.root (state_of_entries p.root before) p.number clock request formed in answer_ends some.answer some.entry some.calm some.answers
 
 pub turn_ends : (gives : ℤ → Type 0) (p : StorePass) (before : List StoreEntry) (request : TurnRequest) (clock : ℤ) → gives clock → IsTurnFormed request → has_stop before ≡ false →
     (reply : TurnReply) × (given : List StoreEntry) × Turn gives p before request reply given × IsUndisturbed reply
@@ -97,17 +105,18 @@ pub nothing_after_stop : (gives : ℤ → Type 0) (p : StorePass) (before : List
     (given ≡ []) × ((reply ≡ turn_replies.Stopped) ⊎ (reply ≡ turn_replies.NoMemory))
 nothing_after_stop gives p before request _ _ stop (was_stopped is) = (refl, inl refl)
 nothing_after_stop gives p before request _ _ stop (answered clock answer running shown answers) = absurd (true≢false (sym stop ∙ running))
-nothing_after_stop gives p before request _ _ stop (full clock answer event running shown answers is_full) = absurd (true≢false (sym stop ∙ running))
-nothing_after_stop gives p before request _ _ stop (kept clock answer event running shown answers room) = absurd (true≢false (sym stop ∙ running))
-nothing_after_stop gives p before request _ _ stop (failed clock answer event running shown answers room) = absurd (true≢false (sym stop ∙ running))
+nothing_after_stop gives p before request _ _ stop (full clock answer entry running shown answers is_full) = absurd (true≢false (sym stop ∙ running))
+nothing_after_stop gives p before request _ _ stop (kept clock answer entry running shown answers room) = absurd (true≢false (sym stop ∙ running))
+nothing_after_stop gives p before request _ _ stop (failed clock answer entry running shown answers room) = absurd (true≢false (sym stop ∙ running))
 nothing_after_stop gives p before request _ _ stop without_memory = (refl, inr refl)
 
 -- ---- one answer
 
-one_turn_answer : (root : Root) (base : BaseView) (events : List Event) (pass : ℕ) (clock : ℤ) (request : TurnRequest) (first second : TurnReply) (event other : Option Event) → IsLawful (authority_of_root root) base events →
-    AnswersTurn root (replay base events) pass clock request first event → AnswersTurn root (replay base events) pass clock request second other → (first ≡ second) × (event ≡ other)
+one_turn_answer : (root : Root) (base : BaseView) (events : List Event) (pass : ℕ) (clock : ℤ) (request : TurnRequest) (first second : TurnReply) (entry other : Option StoreEntry) → IsLawful (authority_of_root root) base events →
+    AnswersTurn root (replay base events) pass clock request first entry → AnswersTurn root (replay base events) pass clock request second other → (first ≡ second) × (entry ≡ other)
 one_turn_answer root base events pass clock _ _ _ _ _ lawful (steps request reply event answers) (steps _ reply' event' answers') =
-    let same = one_answer (authority_of_root root) base events pass clock request reply reply' event event' lawful answers answers' in (ap turn_replies.Step same.0, same.1)
+    let same = one_answer (authority_of_root root) base events pass clock request reply reply' event event' lawful answers answers' in (ap turn_replies.Step same.0, ap (option_map happened) same.1)
+one_turn_answer root base events pass clock _ _ _ _ _ lawful makes makes = (refl, refl)
 one_turn_answer root base events pass clock _ _ _ _ _ lawful (cites numbers cited found) (cites _ others found') =
     (ap turn_replies.Cited (found_once (sayings (replay base events).statements) numbers cited others found found'), refl)
 one_turn_answer root base events pass clock _ _ _ _ _ lawful (cites numbers cited found) (cites_none _ number absent) = absurd (absent_not_found (sayings (replay base events).statements) numbers number cited absent found)
@@ -121,41 +130,41 @@ one_turn_answer root base events pass clock _ _ _ _ _ lawful (rejects who nonce 
 
 -- ---- one end
 
--- what becomes of an answer, with its event if it has one, in a turn that is not disturbed
-abbrev Comes : Root → List StoreEntry → TurnReply → Option Event → TurnReply → List StoreEntry → Type 0
+-- what becomes of an answer, with its entry if it has one, in a turn that is not disturbed
+abbrev Comes : Root → List StoreEntry → TurnReply → Option StoreEntry → TurnReply → List StoreEntry → Type 0
 Comes root before answer None reply given = (reply ≡ answer) × (given ≡ [])
-Comes root before answer (Some event) reply given =
-    (IsFullAfter root before event × (reply ≡ turn_replies.Full) × (given ≡ [])) ⊎ ((IsFullAfter root before event → ⊥) × (reply ≡ answer) × (given ≡ happened event ∷ []))
+Comes root before answer (Some entry) reply given =
+    (IsFullAfter root before entry × (reply ≡ turn_replies.Full) × (given ≡ [])) ⊎ ((IsFullAfter root before entry → ⊥) × (reply ≡ answer) × (given ≡ entry ∷ []))
 
 record ComesOf (p : StorePass) (before : List StoreEntry) (request : TurnRequest) (clock : ℤ) (reply : TurnReply) (given : List StoreEntry) : Type 0 where
   answer : TurnReply
-  event : Option Event
-  answers : AnswersTurn p.root (state_of_entries p.root before) p.number clock request answer event
-  comes : Comes p.root before answer event reply given
+  entry : Option StoreEntry
+  answers : AnswersTurn p.root (state_of_entries p.root before) p.number clock request answer entry
+  comes : Comes p.root before answer entry reply given
 
 module _ (p : StorePass) (before : List StoreEntry) (request : TurnRequest) (clock : ℤ) where
   abbrev At : ℤ → Type 0
   At moment = moment ≡ clock
 
   -- the answer at that moment
-  moved : (at : ℤ) (answer : TurnReply) (event : Option Event) → at ≡ clock → AnswersTurn p.root (state_of_entries p.root before) p.number at request answer event → AnswersTurn p.root (state_of_entries p.root before) p.number clock request answer event
-  moved at answer event same answers = subst (λ (moment : ℤ). AnswersTurn p.root (state_of_entries p.root before) p.number moment request answer event) same answers
+  moved : (at : ℤ) (answer : TurnReply) (entry : Option StoreEntry) → at ≡ clock → AnswersTurn p.root (state_of_entries p.root before) p.number at request answer entry → AnswersTurn p.root (state_of_entries p.root before) p.number clock request answer entry
+  moved at answer entry same answers = subst (λ (moment : ℤ). AnswersTurn p.root (state_of_entries p.root before) p.number moment request answer entry) same answers
 
   comes_of : (reply : TurnReply) (given : List StoreEntry) → Turn (λ moment. moment ≡ clock) p before request reply given → IsUndisturbed reply → ComesOf p before request clock reply given
   comes_of _ _ (was_stopped is) calm = absurd (calm.not_stopped refl)
-  comes_of _ _ (answered at reply running same answers) calm = record { answer = reply; event = None; answers = moved at reply None same answers; comes = (refl, refl) }
-  comes_of _ _ (full at reply event running same answers is_full) calm = record { answer = reply; event = Some event; answers = moved at reply (Some event) same answers; comes = inl (is_full, refl, refl) }
-  comes_of _ _ (kept at reply event running same answers room) calm = record { answer = reply; event = Some event; answers = moved at reply (Some event) same answers; comes = inr (room, refl, refl) }
-  comes_of _ _ (failed at reply event running same answers room) calm = absurd (calm.not_stopped refl)
+  comes_of _ _ (answered at reply running same answers) calm = record { answer = reply; entry = None; answers = moved at reply None same answers; comes = (refl, refl) }
+  comes_of _ _ (full at reply entry running same answers is_full) calm = record { answer = reply; entry = Some entry; answers = moved at reply (Some entry) same answers; comes = inl (is_full, refl, refl) }
+  comes_of _ _ (kept at reply entry running same answers room) calm = record { answer = reply; entry = Some entry; answers = moved at reply (Some entry) same answers; comes = inr (room, refl, refl) }
+  comes_of _ _ (failed at reply entry running same answers room) calm = absurd (calm.not_stopped refl)
   comes_of _ _ without_memory calm = absurd (calm.had_memory refl)
 
-comes_once : (root : Root) (before : List StoreEntry) (answer : TurnReply) (event : Option Event) (first second : TurnReply) (given other : List StoreEntry) →
-    Comes root before answer event first given → Comes root before answer event second other → (first ≡ second) × (given ≡ other)
+comes_once : (root : Root) (before : List StoreEntry) (answer : TurnReply) (entry : Option StoreEntry) (first second : TurnReply) (given other : List StoreEntry) →
+    Comes root before answer entry first given → Comes root before answer entry second other → (first ≡ second) × (given ≡ other)
 comes_once root before answer None first second given other one two = (one.0 ∙ sym two.0, one.1 ∙ sym two.1)
-comes_once root before answer (Some event) first second given other (inl one) (inl two) = (one.1 ∙ sym two.1, one.2 ∙ sym two.2)
-comes_once root before answer (Some event) first second given other (inl one) (inr two) = absurd (two.0 one.0)
-comes_once root before answer (Some event) first second given other (inr one) (inl two) = absurd (one.0 two.0)
-comes_once root before answer (Some event) first second given other (inr one) (inr two) = (one.1 ∙ sym two.1, one.2 ∙ sym two.2)
+comes_once root before answer (Some entry) first second given other (inl one) (inl two) = (one.1 ∙ sym two.1, one.2 ∙ sym two.2)
+comes_once root before answer (Some entry) first second given other (inl one) (inr two) = absurd (two.0 one.0)
+comes_once root before answer (Some entry) first second given other (inr one) (inl two) = absurd (one.0 two.0)
+comes_once root before answer (Some entry) first second given other (inr one) (inr two) = (one.1 ∙ sym two.1, one.2 ∙ sym two.2)
 
 pub turn_ends_once : (p : StorePass) (before : List StoreEntry) (request : TurnRequest) (clock : ℤ) (first second : TurnReply) (given other : List StoreEntry) →
     IsLawful (authority_of_root p.root) p.root.base (events_among before) → Turn (λ moment. moment ≡ clock) p before request first given → IsUndisturbed first →
@@ -163,6 +172,6 @@ pub turn_ends_once : (p : StorePass) (before : List StoreEntry) (request : TurnR
 turn_ends_once p before request clock first second given other lawful one calm two calm' =
     let a = comes_of p before request clock first given one calm in
     let b = comes_of p before request clock second other two calm' in
-    let same = one_turn_answer p.root p.root.base (events_among before) p.number clock request a.answer b.answer a.event b.event lawful a.answers b.answers in
-    comes_once p.root before b.answer b.event first second given other
-    (subst (λ (r : TurnReply). Comes p.root before r b.event first given) same.0 (subst (λ (e : Option Event). Comes p.root before a.answer e first given) same.1 a.comes)) b.comes
+    let same = one_turn_answer p.root p.root.base (events_among before) p.number clock request a.answer b.answer a.entry b.entry lawful a.answers b.answers in
+    comes_once p.root before b.answer b.entry first second given other
+    (subst (λ (r : TurnReply). Comes p.root before r b.entry first given) same.0 (subst (λ (e : Option StoreEntry). Comes p.root before a.answer e first given) same.1 a.comes)) b.comes

@@ -1,5 +1,5 @@
 -- Laws of turns, lines and sessions: what is placed stays placed, what is given is the pass's own, places do not go back, and each line and each turn has one outcome.
-use Rattle.std.specs.Prelude.{◌+◌, ◌⊎◌, [], ◌∷◌, false, ◌≡◌, ◌≢◌, ℕ, ℤ, ◌≤◌, List, ◌++◌, length, take, true}
+use Rattle.std.specs.Prelude.{◌+◌, ◌⊎◌, [], ◌∷◌, false, ◌≡◌, ◌≢◌, ℕ, ℤ, ◌≤◌, List, ◌++◌, length, take, true, codes}
 use Rattle.std.specs.List.{AllByRecursion}
 use Rattle.policy_statement.specs.Messages.{login_message}
 use Rattle.policy_statement.specs.Ring.{KeyView, is_accepted}
@@ -7,9 +7,10 @@ use Rattle.access_history.specs.declared.event.Event.TheVariants.{Registered, Is
 use Rattle.access_history.specs.Lawful.{IsLawful}
 use Rattle.line_wire.specs.declared.reply.LineReply.{LineReply}
 use Rattle.line_wire.specs.declared.reply.LineReply.TheVariants as replies
-use Rattle.pcfs_store.specs.Entries.{StoreEntry, happened, checkpointed, stopped, events_among}
+use Rattle.pcfs_store.specs.Entries.{StoreEntry, happened, checkpointed, stopped, events_among, checkpoints_among}
 use Rattle.session_history.specs.declared.request.TurnRequest.{TurnRequest}
 use Rattle.session_history.specs.declared.request.TurnRequest.TheVariants.{Login}
+use Rattle.session_history.specs.declared.request.TurnRequest.TheVariants as requests
 use Rattle.session_history.specs.declared.reply.TurnReply.{TurnReply}
 use Rattle.session_history.specs.declared.reply.TurnReply.TheVariants as turn_replies
 use Rattle.session_history.specs.Passes.{AllOfPass, has_stop}
@@ -49,10 +50,15 @@ abbrev pub PlacesGoOn : (ℤ → Type 0) → Type 0
 PlacesGoOn gives = (p : StorePass) (history : List StoreEntry) (start : SessionState) (from : ℕ) (lines : List (List ℕ)) (answers : List LineReply) (end : SessionState) (to : ℕ) (given : List StoreEntry) →
     from ≤ length history → LinesPlaced gives p history start from lines answers end to given → (from ≤ to) × (to ≤ length history)
 
--- A turn that is told that the store is stopped keeps no event, and there is a mark, which it found or which it adds; and a turn that adds a mark is told so.
+-- A turn that is told that the store is stopped keeps no event and makes no checkpoint, and there is a mark, which it found or which it adds; and a turn that adds a mark is told so.
 abbrev pub StopsAreTold : (ℤ → Type 0) → Type 0
 StopsAreTold gives = (p : StorePass) (before : List StoreEntry) (request : TurnRequest) (reply : TurnReply) (given : List StoreEntry) → Turn gives p before request reply given →
-    (reply ≡ turn_replies.Stopped → (has_stop (before ++ given) ≡ true) × (events_among given ≡ [])) × (has_stop given ≡ true → reply ≡ turn_replies.Stopped)
+    (reply ≡ turn_replies.Stopped → (has_stop (before ++ given) ≡ true) × (events_among given ≡ []) × (checkpoints_among given ≡ 0)) × (has_stop given ≡ true → reply ≡ turn_replies.Stopped)
+
+-- A turn that is told that a checkpoint was made asked for one, and adds it, under the number of its pass, and nothing else; and a turn that adds one is told so.
+abbrev pub CheckpointsAreTold : (ℤ → Type 0) → Type 0
+CheckpointsAreTold gives = (p : StorePass) (before : List StoreEntry) (request : TurnRequest) (reply : TurnReply) (given : List StoreEntry) → Turn gives p before request reply given →
+    (reply ≡ turn_replies.Checkpointed → (request ≡ requests.Checkpoint) × (given ≡ checkpointed p.number ∷ [])) × (checkpoints_among given ≢ 0 → reply ≡ turn_replies.Checkpointed)
 
 -- a line is told that the store is stopped only where a mark is among the entries up to its place
 abbrev pub StoppedAfterStop : (ℤ → Type 0) → Type 0
@@ -70,15 +76,15 @@ pub record HasSigned (ring : List KeyView) (nonce : List ℕ) (heard : List (Lis
   pub asks : IsTaskOf state line (tasks.Turn (Login who nonce signature))
   pub accepted : is_accepted ring who (login_message who nonce) signature ≡ true
 
--- somebody logged in by one of these lines over this nonce, and an operation is by who did
+-- somebody logged in by one of these lines over this nonce; an operation is by who did, and a checkpoint by `admin`
 abbrev pub IsByAccepted : List KeyView → List ℕ → List (List ℕ) → StoreEntry → Type 0
 IsByAccepted ring nonce heard (happened (Acted pass caller op procaps moment)) = HasSigned ring nonce heard caller
 IsByAccepted ring nonce heard (happened (Registered pass statement signature)) = (who : List ℕ) × HasSigned ring nonce heard who
 IsByAccepted ring nonce heard (happened (Issued pass cited proof grant)) = (who : List ℕ) × HasSigned ring nonce heard who
-IsByAccepted ring nonce heard (checkpointed pass) = (who : List ℕ) × HasSigned ring nonce heard who
+IsByAccepted ring nonce heard (checkpointed pass) = HasSigned ring nonce heard (codes "admin")
 IsByAccepted ring nonce heard (stopped pass) = (who : List ℕ) × HasSigned ring nonce heard who
 
--- In a session that is given entries one of its lines asks for a login over its nonce that the ring accepts; and each operation among them is by somebody of whom such a line says so.
+-- In a session that is given entries one of its lines asks for a login over its nonce that the ring accepts; each operation among them is by somebody of whom such a line says so, and each checkpoint by `admin`.
 abbrev pub CallersAreAccepted : (ℤ → Type 0) → Type 0
 CallersAreAccepted gives = (p : StorePass) (history : List StoreEntry) (nonce : List ℕ) (from : ℕ) (lines : List (List ℕ)) (answers : List LineReply) (end : SessionState) (to : ℕ) (given : List StoreEntry) →
     LinesPlaced gives p history (guest_with nonce) from lines answers end to given → AllByRecursion (IsByAccepted p.root.ring nonce lines) given

@@ -14,6 +14,7 @@ use Rattle.line_wire.specs.declared.reply.LineReply.TheVariants as replies
 use Rattle.pcfs_store.specs.Entries.{StoreEntry}
 use Rattle.session_history.specs.declared.request.TurnRequest.{TurnRequest}
 use Rattle.session_history.specs.declared.request.TurnRequest.TheVariants.{Step, Cite as CiteOf, Login}
+use Rattle.session_history.specs.declared.request.TurnRequest.TheVariants as requests
 use Rattle.session_history.specs.declared.reply.TurnReply.{TurnReply}
 use Rattle.session_history.specs.declared.reply.TurnReply.TheVariants as turn_replies
 use Rattle.session_history.specs.Turn.{StorePass, TurnPlaced}
@@ -27,6 +28,7 @@ abbrev pub IsTold : TurnReply → LineReply → Type 0
 IsTold (turn_replies.Step reply) line = line ≡ replies.Step reply
 IsTold (turn_replies.Cited cites) line = ⊥
 IsTold turn_replies.LoggedIn line = line ≡ replies.Done
+IsTold turn_replies.Checkpointed line = line ≡ replies.Checkpointed
 IsTold turn_replies.Full line = line ≡ replies.Full
 IsTold turn_replies.Stopped line = line ≡ replies.Stopped
 IsTold turn_replies.NoMemory line = line ≡ replies.NoMemory
@@ -62,6 +64,7 @@ is_done (replies.Unproved fault) = false
 is_done (replies.Faulty fault) = false
 is_done replies.TooLong = false
 is_done replies.NotLoggedIn = false
+is_done replies.Checkpointed = false
 is_done replies.Full = false
 is_done replies.Stopped = false
 is_done replies.NoMemory = false
@@ -74,6 +77,7 @@ after_login s who false = s
 abbrev pub after_turn : SessionState → TurnRequest → LineReply → SessionState
 after_turn s (Step request) reply = s
 after_turn s (CiteOf numbers) reply = s
+after_turn s requests.Checkpoint reply = s
 after_turn s (Login who nonce signature) reply = after_login s who (is_done reply)
 
 -- who is logged in after a reply: a login that was accepted changes it, and nothing else does

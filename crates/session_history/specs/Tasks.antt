@@ -9,18 +9,20 @@ use Rattle.line_words.specs.declared.procap_word.ProcapWord.TheVariants as words
 use Rattle.line_forms.specs.declared.asked.Line.{Line}
 use Rattle.line_forms.specs.declared.asked.Line.TheVariants as lines
 use Rattle.line_forms.specs.declared.command.Command.{Command}
-use Rattle.line_forms.specs.declared.command.Command.TheVariants.{At, As, Register, Procap, Verify, Check, Do}
+use Rattle.line_forms.specs.declared.command.Command.TheVariants.{At, As, Register, Procap, Checkpoint, Verify, Check, Do}
 use Rattle.line_forms.specs.declared.fault.LineFault.{LineFault}
 use Rattle.line_forms.specs.Lines.{IsLineIn, IsLineFaultIn}
+use Rattle.line_forms.specs.Modes.{is_admin}
 use Rattle.line_wire.specs.declared.reply.LineReply.TheVariants as replies
 use Rattle.session_history.specs.declared.request.TurnRequest.{TurnRequest}
 use Rattle.session_history.specs.declared.request.TurnRequest.TheVariants.{Step, Cite, Login}
+use Rattle.session_history.specs.declared.request.TurnRequest.TheVariants as requests
 use Rattle.session_history.specs.declared.task.LineTask.{LineTask}
 use Rattle.session_history.specs.declared.task.LineTask.TheVariants as tasks
 use Rattle.session_history.specs.Turn.{IsTurnFormed}
 use Rattle.session_history.specs.SessionState.{SessionState, mode_of}
 
--- How a command of a user is to be answered: in one turn, or as a proof. A procap is shown to whom it names. A line of a session brings its signature and its procaps themselves, and sets neither clock nor caller, so other commands are
+-- How a command of a user is to be answered: in one turn, or as a proof. A checkpoint is for `admin`. A procap is shown to whom it names. A line of a session brings its signature and its procaps themselves, and sets neither clock nor caller, so other commands are
 -- none of a session.
 abbrev pub IsUserTask : List ℕ → Command → LineTask → Type 0
 IsUserTask who (At second) task = ⊥
@@ -28,6 +30,7 @@ IsUserTask who (As other) task = ⊥
 IsUserTask who (Register None statement) task = ⊥
 IsUserTask who (Register (Some signature) statement) task = task ≡ tasks.Turn (Step (steps.Register statement signature))
 IsUserTask who (Procap number) task = task ≡ tasks.Turn (Step (steps.ShowProcap number (Some who)))
+IsUserTask who Checkpoint task = IsTrue (is_admin who) × (task ≡ tasks.Turn requests.Checkpoint)
 IsUserTask who (Verify goal numbers proof) task = task ≡ tasks.Proof goal numbers proof
 IsUserTask who (Check goal numbers proof) task = ⊥
 IsUserTask who (Do op procap_words) task = (procaps : List Sealed) × (procap_words ≡ map words.Procap procaps) × (task ≡ tasks.Turn (Step (steps.Act who op procaps)))
@@ -53,6 +56,7 @@ pub data IsTaskOf (s : SessionState) (line : List ℕ) : LineTask → Type 0 whe
 abbrev pub IsSingle : TurnRequest → Type 0
 IsSingle (Step request) = Unit {0}
 IsSingle (Cite numbers) = ⊥
+IsSingle requests.Checkpoint = Unit {0}
 IsSingle (Login who nonce signature) = Unit {0}
 
 -- what a task asks may be asked

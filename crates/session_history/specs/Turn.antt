@@ -1,5 +1,5 @@
 -- One turn at a store: what it replies that finds these entries, and which entries it adds at their end (this project's own).
-use Rattle.std.specs.Prelude.{◌≡◌, ℕ, ℤ, ◌+◌, ◌≤◌, List, [], ◌∷◌, ◌++◌, length, true, false, Option, Some, None}
+use Rattle.std.specs.Prelude.{◌≡◌, ◌⊎◌, ℕ, ℤ, ◌+◌, ◌-◌, ◌^◌, ◌<◌, ◌≤◌, List, [], ◌∷◌, ◌++◌, length, true, false, Option, Some, None}
 use Rattle.bl_syntax.specs.Citable.{AreCitable}
 use Rattle.policy_statement.specs.Messages.{login_message}
 use Rattle.policy_statement.specs.Ring.{is_accepted}
@@ -16,7 +16,10 @@ use Rattle.access_history.specs.Citing.{AreFound, IsAbsent}
 use Rattle.access_history.specs.Answer.{Answers}
 use Rattle.access_history.specs.WellFormed.{IsWellFormed}
 use Rattle.pcfs_store.specs.StoredHistory.{IsFull}
-use Rattle.pcfs_store.specs.Entries.{Root, StoreEntry, happened, stopped, state_of_entries, used_by}
+use Rattle.pcfs_store.specs.Entries.{Root, StoreEntry, happened, checkpointed, stopped, state_of_entries, checkpoints_among, used_by}
+use Rattle.checkpoint_image.specs.ImageSpelling.{image_spelling}
+use Rattle.journal_core.specs.Area.{area_limit}
+use Rattle.std.specs.Option.{option_map}
 use Rattle.session_history.specs.Passes.{has_stop}
 use Rattle.session_history.specs.declared.request.TurnRequest.{TurnRequest}
 use Rattle.session_history.specs.declared.request.TurnRequest.TheVariants as requests
@@ -32,11 +35,12 @@ pub record StorePass : Type 0 where
 abbrev pub authority_of_root : Root → Authority
 authority_of_root root = authority_with root.key root.ring
 
--- The answer to what a turn asks, over a state, and the event to keep if there is one. Only a step keeps an event. The statements of numbers are given, or the first number that has none. A login is accepted exactly if
+-- The answer to what a turn asks, over a state, and the entry to add if there is one: the event of a step, or a checkpoint. The statements of numbers are given, or the first number that has none. A login is accepted exactly if
 -- the ring accepts the signature over the login message, which has the nonce in it.
-pub data AnswersTurn (root : Root) (state : BaseView) (pass : ℕ) (clock : ℤ) : TurnRequest → TurnReply → Option Event → Type 0 where
+pub data AnswersTurn (root : Root) (state : BaseView) (pass : ℕ) (clock : ℤ) : TurnRequest → TurnReply → Option StoreEntry → Type 0 where
   steps : (request : StepRequest) (reply : StepReply) (event : Option Event) → Answers (authority_of_root root) state pass clock request reply event →
-      AnswersTurn root state pass clock (requests.Step request) (turn_replies.Step reply) event
+      AnswersTurn root state pass clock (requests.Step request) (turn_replies.Step reply) (option_map happened event)
+  makes : AnswersTurn root state pass clock requests.Checkpoint turn_replies.Checkpointed (Some (checkpointed pass))
   cites : (numbers : List ℕ) (cited : List Cite) → AreFound (sayings state.statements) numbers cited →
       AnswersTurn root state pass clock (requests.Cite numbers) (turn_replies.Cited cited) None
   cites_none : (numbers : List ℕ) (number : ℕ) → IsAbsent (sayings state.statements) numbers number →
@@ -46,9 +50,11 @@ pub data AnswersTurn (root : Root) (state : BaseView) (pass : ℕ) (clock : ℤ)
   rejects : (who nonce signature : List ℕ) → is_accepted root.ring who (login_message who nonce) signature ≡ false →
       AnswersTurn root state pass clock (requests.Login who nonce signature) (turn_replies.Step (Rejected BadSignature)) None
 
--- after these entries there is no room in the area for the record of the event, or no number for it
-abbrev pub IsFullAfter : Root → List StoreEntry → Event → Type 0
-IsFullAfter root before event = IsFull (used_by root before) (state_of_entries root before).count event
+-- After these entries there is no room for another: in the area for the record of an event, or no number for it; in an area for the image of the state, or no next generation for a checkpoint. No turn asks for a mark.
+abbrev pub IsFullAfter : Root → List StoreEntry → StoreEntry → Type 0
+IsFullAfter root before (happened event) = IsFull (used_by root before) (state_of_entries root before).count event
+IsFullAfter root before (checkpointed pass) = (area_limit < length (image_spelling (state_of_entries root before)) + 25) ⊎ (2 ^ 48 - 1 ≤ root.generation + checkpoints_among before)
+IsFullAfter root before (stopped pass) = ⊥
 
 -- What becomes of a turn of the pass that finds these entries, and asks this: its reply, and the entries that it adds. The first case that applies is the one; out of memory may be replied in each. `gives` says which moments the
 -- clock gives, of which the turn reads one.
@@ -58,15 +64,15 @@ pub data Turn (gives : ℤ → Type 0) (p : StorePass) (before : List StoreEntry
   -- the answer keeps nothing
   answered : (clock : ℤ) (answer : TurnReply) → has_stop before ≡ false → gives clock → AnswersTurn p.root (state_of_entries p.root before) p.number clock request answer None →
       Turn gives p before request answer []
-  -- the answer's event does not fit
-  full : (clock : ℤ) (answer : TurnReply) (event : Event) → has_stop before ≡ false → gives clock → AnswersTurn p.root (state_of_entries p.root before) p.number clock request answer (Some event) →
-      IsFullAfter p.root before event → Turn gives p before request turn_replies.Full []
-  -- the answer's event is kept
-  kept : (clock : ℤ) (answer : TurnReply) (event : Event) → has_stop before ≡ false → gives clock → AnswersTurn p.root (state_of_entries p.root before) p.number clock request answer (Some event) →
-      (IsFullAfter p.root before event → ⊥) → Turn gives p before request answer (happened event ∷ [])
-  -- a disk fails under the answer's event
-  failed : (clock : ℤ) (answer : TurnReply) (event : Event) → has_stop before ≡ false → gives clock → AnswersTurn p.root (state_of_entries p.root before) p.number clock request answer (Some event) →
-      (IsFullAfter p.root before event → ⊥) → Turn gives p before request turn_replies.Stopped (stopped p.number ∷ [])
+  -- what the answer adds does not fit
+  full : (clock : ℤ) (answer : TurnReply) (entry : StoreEntry) → has_stop before ≡ false → gives clock → AnswersTurn p.root (state_of_entries p.root before) p.number clock request answer (Some entry) →
+      IsFullAfter p.root before entry → Turn gives p before request turn_replies.Full []
+  -- what the answer adds is kept
+  kept : (clock : ℤ) (answer : TurnReply) (entry : StoreEntry) → has_stop before ≡ false → gives clock → AnswersTurn p.root (state_of_entries p.root before) p.number clock request answer (Some entry) →
+      (IsFullAfter p.root before entry → ⊥) → Turn gives p before request answer (entry ∷ [])
+  -- a disk fails under what the answer adds
+  failed : (clock : ℤ) (answer : TurnReply) (entry : StoreEntry) → has_stop before ≡ false → gives clock → AnswersTurn p.root (state_of_entries p.root before) p.number clock request answer (Some entry) →
+      (IsFullAfter p.root before entry → ⊥) → Turn gives p before request turn_replies.Stopped (stopped p.number ∷ [])
   -- memory ran out
   without_memory : Turn gives p before request turn_replies.NoMemory []
 
@@ -83,4 +89,5 @@ pub record TurnPlaced (gives : ℤ → Type 0) (p : StorePass) (history : List S
 abbrev pub IsTurnFormed : TurnRequest → Type 0
 IsTurnFormed (requests.Step request) = IsWellFormed request
 IsTurnFormed (requests.Cite numbers) = AreCitable numbers
+IsTurnFormed requests.Checkpoint = Unit {0}
 IsTurnFormed (requests.Login who nonce signature) = Unit {0}

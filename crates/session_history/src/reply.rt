@@ -12,7 +12,9 @@ pub enum TurnReply {
     Cited(Cites),
     /// The principal is logged in.
     LoggedIn,
-    /// The answer would keep an event that does not fit, and nothing was kept.
+    /// A checkpoint was made.
+    Checkpointed,
+    /// The answer would keep an event, or make a checkpoint, that does not fit, and nothing was kept.
     Full,
     /// A disk failed, in this turn or in an earlier one, and nothing was kept.
     Stopped,

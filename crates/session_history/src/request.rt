@@ -10,6 +10,8 @@ pub enum TurnRequest {
     Step(StepRequest),
     /// The statements of these numbers.
     Cite(Numbers),
+    /// That a checkpoint is made.
+    Checkpoint,
     /// Whether this principal may log in, to whom the server gave this nonce, by this signature over the login message.
     Login(Principal, [u8; 16], Bytes),
 }

@@ -10,7 +10,7 @@ use Rattle.access_history.specs.declared.event.Event.{Event}
 use Rattle.access_history.specs.Base.{BaseView}
 use Rattle.pcfs_store.specs.Entries.{Root, StoreEntry, state_of_entries}
 use Rattle.session_history.specs.declared.request.TurnRequest.{TurnRequest}
-use Rattle.session_history.specs.declared.request.TurnRequest.TheVariants.{Step, Cite, Login}
+use Rattle.session_history.specs.declared.request.TurnRequest.TheVariants.{Step, Cite, Checkpoint, Login}
 use Rattle.session_history.specs.declared.reply.TurnReply.{TurnReply}
 use Rattle.session_history.specs.declared.reply.TurnReply.TheVariants as turn_replies
 use Rattle.session_history.specs.declared.task.LineTask.{LineTask}
@@ -30,6 +30,7 @@ pub tellable_else : (reply : TurnReply) → ((cites : List CiteOf) → reply ≡
 tellable_else (turn_replies.Step reply) other = tt
 tellable_else (turn_replies.Cited cites) other = other cites refl
 tellable_else turn_replies.LoggedIn other = tt
+tellable_else turn_replies.Checkpointed other = tt
 tellable_else turn_replies.Full other = tt
 tellable_else turn_replies.Stopped other = tt
 tellable_else turn_replies.NoMemory other = tt
@@ -38,21 +39,21 @@ tellable_else turn_replies.NoMemory other = tt
 pub tellable : (gives : ℤ → Type 0) (p : StorePass) (before : List StoreEntry) (request : TurnRequest) (reply : TurnReply) (given : List StoreEntry) → IsSingle request → Turn gives p before request reply given → IsTellable reply
 tellable gives p before request reply given single turn = tellable_else reply (single_not_cited gives p before request reply given single turn)
 
--- only a step keeps an event
-keeps_none : (root : Root) (state : BaseView) (pass : ℕ) (clock : ℤ) (numbers : List ℕ) (reply : TurnReply) (event : Option Event) → AnswersTurn root state pass clock (Cite numbers) reply event → event ≡ None
+-- statements are given without an entry
+keeps_none : (root : Root) (state : BaseView) (pass : ℕ) (clock : ℤ) (numbers : List ℕ) (reply : TurnReply) (entry : Option StoreEntry) → AnswersTurn root state pass clock (Cite numbers) reply entry → entry ≡ None
 keeps_none root state pass clock _ _ _ (turns.cites numbers cited found) = refl
 keeps_none root state pass clock _ _ _ (turns.cites_none numbers number absent) = refl
 
-keeps_no_event : (root : Root) (state : BaseView) (pass : ℕ) (clock : ℤ) (numbers : List ℕ) (reply : TurnReply) (event : Event) → AnswersTurn root state pass clock (Cite numbers) reply (Some event) → ⊥
-keeps_no_event root state pass clock numbers reply event answers = let none : ◌≡◌ {A = Option Event} (Some event) None = keeps_none root state pass clock numbers reply (Some event) answers in cc
+keeps_no_event : (root : Root) (state : BaseView) (pass : ℕ) (clock : ℤ) (numbers : List ℕ) (reply : TurnReply) (entry : StoreEntry) → AnswersTurn root state pass clock (Cite numbers) reply (Some entry) → ⊥
+keeps_no_event root state pass clock numbers reply entry answers = let none : ◌≡◌ {A = Option StoreEntry} (Some entry) None = keeps_none root state pass clock numbers reply (Some entry) answers in cc
 
 -- a turn for statements adds nothing
 pub cites_nothing_more : (gives : ℤ → Type 0) (p : StorePass) (before : List StoreEntry) (numbers : List ℕ) (reply : TurnReply) (given : List StoreEntry) → Turn gives p before (Cite numbers) reply given → given ≡ []
 cites_nothing_more gives p before numbers _ _ (turns.was_stopped is) = refl
 cites_nothing_more gives p before numbers _ _ (turns.answered clock reply running shown answers) = refl
-cites_nothing_more gives p before numbers _ _ (turns.full clock reply event running shown answers is_full) = refl
-cites_nothing_more gives p before numbers _ _ (turns.kept clock reply event running shown answers room) = absurd (keeps_no_event p.root (state_of_entries p.root before) p.number clock numbers reply event answers)
-cites_nothing_more gives p before numbers _ _ (turns.failed clock reply event running shown answers room) = absurd (keeps_no_event p.root (state_of_entries p.root before) p.number clock numbers reply event answers)
+cites_nothing_more gives p before numbers _ _ (turns.full clock reply entry running shown answers is_full) = refl
+cites_nothing_more gives p before numbers _ _ (turns.kept clock reply entry running shown answers room) = absurd (keeps_no_event p.root (state_of_entries p.root before) p.number clock numbers reply entry answers)
+cites_nothing_more gives p before numbers _ _ (turns.failed clock reply entry running shown answers room) = absurd (keeps_no_event p.root (state_of_entries p.root before) p.number clock numbers reply entry answers)
 cites_nothing_more gives p before numbers _ _ turns.without_memory = refl
 
 -- what is told of a proof that was refused is not that the store is stopped
@@ -76,6 +77,7 @@ with_login s who false = refl
 pub state_turn : (s : SessionState) (request : TurnRequest) (reply : LineReply) → named s.nonce (caller_after s.caller request reply) ≡ after_turn s request reply
 state_turn s (Step request) reply = no_login s (is_done reply)
 state_turn s (Cite numbers) reply = no_login s (is_done reply)
+state_turn s Checkpoint reply = no_login s (is_done reply)
 state_turn s (Login who nonce signature) reply = with_login s who (is_done reply)
 
 -- if memory runs out, nobody else is logged in
@@ -83,5 +85,6 @@ pub state_without_memory : (s : SessionState) (task : LineTask) → s ≡ state_
 state_without_memory s (tasks.Reply reply) = refl
 state_without_memory s (tasks.Turn (Step request)) = refl
 state_without_memory s (tasks.Turn (Cite numbers)) = refl
+state_without_memory s (tasks.Turn Checkpoint) = refl
 state_without_memory s (tasks.Turn (Login who nonce signature)) = refl
 state_without_memory s (tasks.Proof goal numbers proof) = refl

@@ -2,7 +2,7 @@
 use Rattle.std.specs.Prelude.{ℕ, List, Option, Some, None, if◌then◌else◌}
 use Rattle.line_wire.specs.declared.reply.LineReply.{LineReply}
 use Rattle.session_history.specs.declared.request.TurnRequest.{TurnRequest}
-use Rattle.session_history.specs.declared.request.TurnRequest.TheVariants.{Step, Cite, Login}
+use Rattle.session_history.specs.declared.request.TurnRequest.TheVariants.{Step, Cite, Checkpoint, Login}
 use Rattle.session_history.specs.declared.reply.TurnReply.{TurnReply}
 use Rattle.session_history.specs.declared.reply.TurnReply.TheVariants as turn_replies
 use Rattle.session_history.specs.Placed.{is_done}
@@ -12,6 +12,7 @@ abbrev pub IsTellable : TurnReply → Type 0
 IsTellable (turn_replies.Step reply) = Unit {0}
 IsTellable (turn_replies.Cited cites) = ⊥
 IsTellable turn_replies.LoggedIn = Unit {0}
+IsTellable turn_replies.Checkpointed = Unit {0}
 IsTellable turn_replies.Full = Unit {0}
 IsTellable turn_replies.Stopped = Unit {0}
 IsTellable turn_replies.NoMemory = Unit {0}
@@ -20,6 +21,7 @@ IsTellable turn_replies.NoMemory = Unit {0}
 abbrev pub login_name : TurnRequest → Option (List ℕ)
 login_name (Step request) = None
 login_name (Cite numbers) = None
+login_name Checkpoint = None
 login_name (Login who nonce signature) = Some who
 
 abbrev pub name_or : Option (List ℕ) → Option (List ℕ) → Option (List ℕ)

@@ -5,7 +5,7 @@ ghost use Rattle.bl_syntax.specs.Names.{is_principal_name};
 ghost use Rattle.bl_syntax.specs.Statement.{IsStatement};
 ghost use Rattle.std.specs.List.{AllByRecursion};
 ghost use Rattle.line_words.specs.declared.procap_word.ProcapWord.TheVariants as words;
-ghost use Rattle.line_forms.specs.Said.{IsWrittenOut, IsOfSession, IsWithin, IsOperationAsked, IsSaidInSession, IsLineWithin};
+ghost use Rattle.line_forms.specs.Said.{IsWrittenOut, IsOfSession, IsOfUser, IsWithin, IsOperationAsked, IsSaidByUser, IsLineWithin};
 ghost use Rattle.session_history.specs.Tasks.{IsUserTask, IsReadTask, IsTaskOf, IsTaskFormed};
 
 use access_history::{Procaps, StepRequest};
@@ -69,6 +69,7 @@ fn acting(alloc: Global, who: Principal, op: Op, given: ProcapWords) -> Result<L
 // How a command of this principal is to be answered.
 fn user_task(alloc: Global, who: Principal, command: Command) -> Result<LineTask, NoMemory>
     requires said { IsOfSession command }
+    requires mine { IsOfUser who command }
     requires within { IsWithin command }
     ensures ok { IfOk result (λ task. IsUserTask who command task) }
     ensures formed { IfOk result IsTaskFormed }
@@ -79,6 +80,7 @@ fn user_task(alloc: Global, who: Principal, command: Command) -> Result<LineTask
             number,
             Some(who),
         )))),
+        Command::Checkpoint => Ok(LineTask::Turn(TurnRequest::Checkpoint)),
         Command::Verify(goal, numbers, proof) => Ok(LineTask::Proof(goal, numbers, proof)),
         Command::Do(op, given) => acting(alloc, who, op, given),
         Command::At(_) => unreachable!(),
@@ -112,7 +114,7 @@ fn said_task(
     who: Principal,
     said: Line,
 ) -> Result<LineTask, NoMemory>
-    requires said { IsSaidInSession said }
+    requires said { IsSaidByUser who said }
     requires within { IsLineWithin said }
     ensures ok { IfOk result (λ task. IsReadTask (record { nonce = nonce.now; caller = Some who }) said task) }
     ensures formed { IfOk result IsTaskFormed }

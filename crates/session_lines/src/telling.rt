@@ -26,6 +26,7 @@ pub fn told(found: TurnReply) -> LineReply
     match found {
         TurnReply::Step(reply) => LineReply::Step(reply),
         TurnReply::LoggedIn => LineReply::Done,
+        TurnReply::Checkpointed => LineReply::Checkpointed,
         TurnReply::Full => LineReply::Full,
         TurnReply::Stopped => LineReply::Stopped,
         TurnReply::NoMemory => LineReply::NoMemory,
@@ -70,6 +71,7 @@ pub fn login_name(request: &TurnRequest) -> Option<Principal>
         TurnRequest::Login(who, _, _) => Some(*who),
         TurnRequest::Step(_) => None,
         TurnRequest::Cite(_) => None,
+        TurnRequest::Checkpoint => None,
     }
 }
 
@@ -85,6 +87,7 @@ pub fn is_done(reply: &LineReply) -> bool
         LineReply::Faulty(_) => false,
         LineReply::TooLong => false,
         LineReply::NotLoggedIn => false,
+        LineReply::Checkpointed => false,
         LineReply::Full => false,
         LineReply::Stopped => false,
         LineReply::NoMemory => false,

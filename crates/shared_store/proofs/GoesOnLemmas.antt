@@ -1,6 +1,6 @@
--- A store goes on from its opening by steps.
-use Rattle.std.proofs.Common.{◌≡◌, ◌∙◌, ◌⊎◌, inl, inr, ⊎_elim, ℕ, ◌≤◌, ◌<◌, ◌+◌, ◌-◌, ◌^◌, length, length-append, Bool, true, false, List, [], ◌∷◌, ◌++◌, Option, Some, None, refl, sym, subst, arith, append_assoc, append-nil}
-use Rattle.std.specs.Prelude.{ℤ, ◌≢◌, is_some}
+-- A store goes on from its opening by steps and checkpoints.
+use Rattle.std.proofs.Common.{◌≡◌, ◌∙◌, ◌⊎◌, inl, inr, ⊎_elim, ℕ, suc, ◌≤◌, ◌<◌, ◌+◌, ◌-◌, ◌^◌, length, length-append, Bool, true, false, List, [], ◌∷◌, ◌++◌, Option, Some, None, refl, sym, ap, subst, arith, append_assoc, append-nil}
+use Rattle.std.specs.Prelude.{ℤ, ◌≢◌, not, is_some}
 use Rattle.std.proofs.lemmas.Bool.{cases_lt}
 use mathlib.Core.List.{IsPrefix}
 use Rattle.pcfs_ports.specs.Faults.{HasRisen}
@@ -22,9 +22,13 @@ use Rattle.pcfs_store.specs.declared.reply.StoreReply.TheVariants as stores
 use Rattle.pcfs_store.specs.Newest.{one_of}
 use Rattle.pcfs_store.specs.StoreView.{StoreView, authority_of_store, AnswersIn, first_disk, second_disk}
 use Rattle.pcfs_store.specs.Ready.{IsReady, IsCurrent, StopsNow, SurvivesWithOrWithout}
+use Rattle.pcfs_store.specs.declared.checkpoints.Checkpoint.{Checkpoint}
+use Rattle.pcfs_store.specs.declared.reply.CheckpointReply.{CheckpointReply}
+use Rattle.pcfs_store.specs.Checkpoints.{place_after, MakesCheckpoint, Checkpoints}
+use Rattle.pcfs_store.specs.Checkpoints as makes
 use Rattle.pcfs_store.specs.Steps.{Steps}
 use Rattle.pcfs_store.specs.Steps as steps
-use Rattle.shared_store.specs.GoesOn.{HasMet, HasGoneOn}
+use Rattle.shared_store.specs.GoesOn.{HasMetEvent, HasMet, in_a_step, in_a_checkpoint, HasGoneOn}
 
 pub none_some : {P : Type 0} (stop : Option ℕ) (pass : ℕ) → stop ≡ None → stop ≡ Some pass → P
 none_some stop pass none some = let both : ◌≡◌ {A = Option ℕ} None (Some pass) = sym none ∙ some in absurd cc
@@ -70,10 +74,10 @@ module _ {D : Type 0} (clock : D → ℕ) (left_since : D → ℕ → List ℕ �
     base_stays = refl;
     events_go_on = ([], append-nil s.events);
     lawful = λ lawful. lawful;
-    checkpoints_stay = refl;
-    generation_stays = refl;
-    place_stays = refl;
-    other_stays = refl;
+    checkpoints_go_on = ([], append-nil s.checkpoints);
+    generation_grows = omega arith;
+    place_is = refl;
+    other_stays = λ none. inl refl;
     ready = λ is none. is;
     current = λ is none. is;
     halts = λ is pass some. none_some s.stop pass running some;
@@ -105,16 +109,21 @@ module _ {D : Type 0} (clock : D → ℕ) (left_since : D → ℕ → List ℕ �
 
   met_in : (old : StoreView D) (active : D) (pass other : ℕ) (moment : ℤ) (request : StepRequest) → IsMoment moment → IsWellFormed request → (2 ^ 48 - 1 ≤ (replay old.base old.events).count → ⊥) →
       (reply : StepReply) × (event : Event) × AnswersIn old pass moment request reply (Some event) × StopsNow clock left_since image (stopped_at old active pass) (SurvivesWithOrWithout old.base old.events event) → ◌≡◌ {A = Option ℕ} (Some pass) (Some other) →
-      HasMet clock left_since image (stopped_at old active pass) other
+      HasMetEvent clock left_since image (stopped_at old active pass) other
   met_in old active pass other moment request at formed below m some =
       let same : pass ≡ other = cc in
-      subst (HasMet clock left_since image (stopped_at old active pass)) same
+      subst (HasMetEvent clock left_since image (stopped_at old active pass)) same
       (record {
         met = m.1;
         asked = record { moment = moment; request = request; reply = m.0; in_range = at; well_formed = formed; answers = m.2 };
         follows = λ lawful. lawful_more (authority_of_store old) old.base old.events pass moment request m.0 m.1 at formed below m.2 lawful;
         survives = m.3;
       })
+
+  -- while no disk has failed the other one is not touched
+  untouched : (opening old : StoreView D) → old.stop ≡ None → (old.other ≡ opening.other) ⊎ ((pass : ℕ) × (old.stop ≡ Some pass) × HasRisen (faults opening.other) (faults old.other)) → old.other ≡ opening.other
+  untouched opening old running (inl same) = same
+  untouched opening old running (inr failed) = none_some old.stop failed.0 running failed.1
 
   module _ (opening : StoreView D) where
     -- the store did not change but in its active disk and its events, and is not stopped
@@ -129,10 +138,10 @@ module _ {D : Type 0} (clock : D → ℕ) (left_since : D → ℕ → List ℕ �
       base_stays = base ∙ g.base_stays;
       events_go_on = events;
       lawful = lawful;
-      checkpoints_stay = checkpoints ∙ g.checkpoints_stay;
-      generation_stays = generation ∙ g.generation_stays;
-      place_stays = place ∙ g.place_stays;
-      other_stays = other ∙ g.other_stays;
+      checkpoints_go_on = (g.checkpoints_go_on.0, g.checkpoints_go_on.1 ∙ sym checkpoints);
+      generation_grows = generation ∙ g.generation_grows;
+      place_is = place ∙ g.place_is;
+      other_stays = λ none. inl (other ∙ untouched opening old was (g.other_stays none));
       ready = λ first none. s.stays_ready (g.ready first was) going;
       current = λ first none. s.stays_current (g.current first was) going;
       halts = λ first pass some. none_some new.stop pass is some;
@@ -159,13 +168,13 @@ module _ {D : Type 0} (clock : D → ℕ) (left_since : D → ℕ → List ℕ �
       base_stays = g.base_stays;
       events_go_on = g.events_go_on;
       lawful = g.lawful;
-      checkpoints_stay = g.checkpoints_stay;
-      generation_stays = g.generation_stays;
-      place_stays = g.place_stays;
-      other_stays = g.other_stays;
+      checkpoints_go_on = g.checkpoints_go_on;
+      generation_grows = g.generation_grows;
+      place_is = g.place_is;
+      other_stays = λ none. inl (untouched opening old running (g.other_stays none));
       ready = λ first none. none_some (Some pass) pass none refl;
       current = λ first none. none_some (Some pass) pass none refl;
-      halts = λ first other some. met_in old active pass other moment request at formed (λ many. room (inr many)) (s.met (g.ready first running) refl) some;
+      halts = λ first other some. in_a_step (met_in old active pass other moment request at formed (λ many. room (inr many)) (s.met (g.ready first running) refl) some);
       failed = λ other some. ⊎_elim
           (λ (r : HasRisen (faults (first_disk old)) (faults (one_of active old.other old.second_active))). inl (risen_since (faults (first_disk opening)) (faults (first_disk old)) (faults (one_of active old.other old.second_active)) g.first_never_falls r))
           (λ (r : HasRisen (faults (second_disk old)) (faults (one_of old.other active old.second_active))). inr (risen_since (faults (second_disk opening)) (faults (second_disk old)) (faults (one_of old.other active old.second_active)) g.second_never_falls r))
@@ -181,3 +190,78 @@ module _ {D : Type 0} (clock : D → ℕ) (left_since : D → ℕ → List ℕ �
   pub goes_on_step : (opening old new : StoreView D) (pass : ℕ) (moment : ℤ) (request : StepRequest) (result : StoreReply) → IsMoment moment → IsWellFormed request → HasGoneOn clock left_since image faults opening old → Stepped old pass moment request result new →
       HasGoneOn clock left_since image faults opening new
   goes_on_step opening old new pass moment request result at formed g s = by_step opening old new pass moment request result at formed g s.answer s
+
+  -- ---- checkpoints
+
+  -- the store that a checkpoint leaves in which the other disk failed
+  abbrev stopped_other : StoreView D → D → ℕ → StoreView D
+  stopped_other old other pass = record old { other = other; stop = Some pass }
+
+  -- the count of the other disk in its place
+  risen_other : (active old other : D) (second_active : Bool) → HasRisen (faults old) (faults other) →
+      HasRisen (faults (one_of active old second_active)) (faults (one_of active other second_active)) ⊎ HasRisen (faults (one_of old active second_active)) (faults (one_of other active second_active))
+  risen_other active old other false risen = inr risen
+  risen_other active old other true risen = inl risen
+
+  checkpoints_more : (opening checkpoints : List Checkpoint) → IsPrefix opening checkpoints → (made : Checkpoint) → IsPrefix opening (checkpoints ++ made ∷ [])
+  checkpoints_more opening checkpoints begins made = (begins.0 ++ made ∷ [], sym (append_assoc opening begins.0 (made ∷ [])) ∙ ap (λ (cs : List Checkpoint). cs ++ made ∷ []) begins.1)
+
+  not_none : (more : List Checkpoint) (made : Checkpoint) → more ++ made ∷ [] ≡ [] → ⊥
+  not_none [] made is = cc
+  not_none (first ∷ more) made is = cc
+
+  exchanged_more : (more : List Checkpoint) (made : Checkpoint) (second : Bool) → place_after (length (more ++ made ∷ [])) second ≡ not (place_after (length more) second)
+  exchanged_more more made second = ap (λ (n : ℕ). place_after n second) (let long = length-append more (made ∷ []) in let same : length (more ++ made ∷ []) ≡ suc (length more) = omega (arith, long) in same)
+
+  by_checkpoint : (opening old new : StoreView D) (pass : ℕ) (result : CheckpointReply) → HasGoneOn clock left_since image faults opening old → MakesCheckpoint faults old pass result new → Checkpoints clock left_since image faults old pass result new →
+      HasGoneOn clock left_since image faults opening new
+  by_checkpoint opening old _ pass _ g (makes.made active running fits) s = record {
+    began = g.began;
+    key_stays = g.key_stays;
+    ring_stays = g.ring_stays;
+    base_stays = g.base_stays;
+    events_go_on = g.events_go_on;
+    lawful = g.lawful;
+    checkpoints_go_on = checkpoints_more opening.checkpoints old.checkpoints g.checkpoints_go_on (record { after = length old.events; pass = pass });
+    generation_grows = let long = length-append g.checkpoints_go_on.0 (record { after = length old.events; pass = pass } ∷ []) in omega (arith, long, g.generation_grows);
+    place_is = ap not g.place_is ∙ sym (exchanged_more g.checkpoints_go_on.0 (record { after = length old.events; pass = pass }) opening.second_active);
+    other_stays = λ none. absurd (not_none g.checkpoints_go_on.0 (record { after = length old.events; pass = pass }) none);
+    ready = λ first none. s.stays_ready (g.ready first running) (λ is. cc);
+    current = λ first none. s.stays_current (g.current first running) (λ is. cc);
+    halts = λ first other some. none_some old.stop other running some;
+    failed = λ other some. none_some old.stop other running some;
+    first_told = s.first_told ∙ g.first_told;
+    second_told = s.second_told ∙ g.second_told;
+    first_never_falls = omega (arith, s.first_never_falls, g.first_never_falls);
+    second_never_falls = omega (arith, s.second_never_falls, g.second_never_falls);
+  }
+  by_checkpoint opening old _ pass _ g (makes.full running over) s = g
+  by_checkpoint opening old _ pass _ g (makes.failed other running fits risen) s = record {
+    began = g.began;
+    key_stays = g.key_stays;
+    ring_stays = g.ring_stays;
+    base_stays = g.base_stays;
+    events_go_on = g.events_go_on;
+    lawful = g.lawful;
+    checkpoints_go_on = g.checkpoints_go_on;
+    generation_grows = g.generation_grows;
+    place_is = g.place_is;
+    other_stays = λ none. inr (pass, refl, subst (λ (d : D). HasRisen (faults d) (faults other)) (untouched opening old running (g.other_stays none)) risen);
+    ready = λ first none. none_some (Some pass) pass none refl;
+    current = λ first none. none_some (Some pass) pass none refl;
+    halts = λ first stopper some. in_a_checkpoint (s.halts (g.ready first running) refl);
+    failed = λ stopper some. ⊎_elim
+        (λ (r : HasRisen (faults (first_disk old)) (faults (one_of old.active other old.second_active))). inl (risen_since (faults (first_disk opening)) (faults (first_disk old)) (faults (one_of old.active other old.second_active)) g.first_never_falls r))
+        (λ (r : HasRisen (faults (second_disk old)) (faults (one_of other old.active old.second_active))). inr (risen_since (faults (second_disk opening)) (faults (second_disk old)) (faults (one_of other old.active old.second_active)) g.second_never_falls r))
+        (risen_other old.active old.other other old.second_active risen);
+    first_told = s.first_told ∙ g.first_told;
+    second_told = s.second_told ∙ g.second_told;
+    first_never_falls = omega (arith, s.first_never_falls, g.first_never_falls);
+    second_never_falls = omega (arith, s.second_never_falls, g.second_never_falls);
+  }
+  by_checkpoint opening old _ pass _ g (makes.stopped earlier is) s = g
+  by_checkpoint opening old _ pass _ g (makes.without_memory running) s = g
+
+  pub goes_on_checkpoint : (opening old new : StoreView D) (pass : ℕ) (result : CheckpointReply) → HasGoneOn clock left_since image faults opening old → Checkpoints clock left_since image faults old pass result new →
+      HasGoneOn clock left_since image faults opening new
+  goes_on_checkpoint opening old new pass result g s = by_checkpoint opening old new pass result g s.answer s

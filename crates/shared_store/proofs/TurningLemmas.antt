@@ -1,5 +1,5 @@
 -- What a store does in a turn, as a turn over its entries.
-use Rattle.std.proofs.Common.{◌≡◌, ◌∙◌, ℕ, ◌-◌, List, [], ◌∷◌, ◌++◌, take, drop, map, append_assoc, Bool, true, false, Option, Some, None, refl, sym, ap, subst, append-nil}
+use Rattle.std.proofs.Common.{◌≡◌, ◌∙◌, ◌⊎◌, inl, inr, ℕ, ◌+◌, ◌-◌, ◌^◌, ◌<◌, ◌≤◌, length, length-append, arith, List, [], ◌∷◌, ◌++◌, take, drop, map, append_assoc, Bool, true, false, Option, Some, None, refl, sym, ap, subst, append-nil}
 use Rattle.std.specs.Prelude.{ℤ, ◌↔◌, IsTrue, IsSome, is_some}
 use Rattle.std.proofs.lemmas.Bool.{false≢true}
 use Rattle.policy_statement.specs.Messages.{login_message}
@@ -21,13 +21,18 @@ use Rattle.op_gate.specs.declared.cite.Citation.TheVariants as citations
 use Rattle.op_gate.specs.Citations.{GivesCitation}
 use Rattle.op_gate.specs.Decision.{GateView}
 use Rattle.pcfs_store.specs.declared.reply.StoreReply.{StoreReply}
-use Rattle.pcfs_store.specs.Entries.{StoreEntry, happened, checkpointed, stopped, stop_entries, merged, root_of, entries_of, state_of_entries, used_by}
+use Rattle.pcfs_store.specs.Entries.{StoreEntry, happened, checkpointed, stopped, stop_entries, merged, root_of, entries_of, state_of_entries, checkpoints_among, used_by}
 use Rattle.pcfs_store.specs.declared.checkpoints.Checkpoint.{Checkpoint}
 use Rattle.pcfs_store.specs.StoreView.{StoreView, AnswersIn, IsStore}
 use Rattle.pcfs_store.specs.StoredHistory.{IsFull}
+use Rattle.checkpoint_image.specs.ImageSpelling.{image_spelling}
+use Rattle.journal_core.specs.Area.{area_limit}
+use Rattle.pcfs_store.specs.declared.reply.CheckpointReply.{CheckpointReply}
+use Rattle.pcfs_store.specs.Checkpoints.{IsFullForCheckpoint, MakesCheckpoint}
+use Rattle.pcfs_store.specs.Checkpoints as makes
 use Rattle.pcfs_store.specs.Steps.{IsFullFor, Steps}
 use Rattle.pcfs_store.specs.Steps as steps
-use Rattle.pcfs_store.proofs.EntryLemmas.{events-entries, used-since, entries-kept, entries-stopped}
+use Rattle.pcfs_store.proofs.EntryLemmas.{events-entries, used-since, generation-entries, entries-kept, entries-made, entries-stopped}
 use Rattle.session_history.specs.declared.request.TurnRequest.{TurnRequest}
 use Rattle.session_history.specs.declared.request.TurnRequest.TheVariants as requests
 use Rattle.session_history.specs.declared.reply.TurnReply.{TurnReply}
@@ -37,7 +42,7 @@ use Rattle.session_history.specs.Turn.{StorePass, authority_of_root, IsFullAfter
 use Rattle.session_history.specs.Turn as turns
 use Rattle.shared_store.specs.GoesOn.{HasGoneOn}
 use Rattle.shared_store.specs.OpenedView.{OpenedView}
-use Rattle.shared_store.specs.Turning.{turn_reply, pass_at, HasTurned}
+use Rattle.shared_store.specs.Turning.{turn_reply, checkpoint_reply, pass_at, HasTurned}
 use Rattle.shared_store.proofs.GoesOnLemmas.{none_some}
 
 -- ---- entries of a store
@@ -103,11 +108,11 @@ module _ {D : Type 0} (clock : D → ℕ) (left_since : D → ℕ → List ℕ �
   used_is : IsStore now → now.used ≡ used_by (root_of opening) (entries_of now)
   used_is store = used-since opening now g.base_stays store
 
-  full_there : (event : Event) → IsStore now → IsFullFor now event → IsFullAfter (root_of opening) (entries_of now) event
+  full_there : (event : Event) → IsStore now → IsFullFor now event → IsFullAfter (root_of opening) (entries_of now) (happened event)
   full_there event store is_full =
       subst (λ (s : BaseView). IsFull (used_by (root_of opening) (entries_of now)) s.count event) (sym state_is) (subst (λ (n : ℕ). IsFull n (replay now.base now.events).count event) (used_is store) is_full)
 
-  full_here : (event : Event) → IsStore now → IsFullAfter (root_of opening) (entries_of now) event → IsFullFor now event
+  full_here : (event : Event) → IsStore now → IsFullAfter (root_of opening) (entries_of now) (happened event) → IsFullFor now event
   full_here event store is_full =
       subst (λ (n : ℕ). IsFull n (replay now.base now.events).count event) (sym (used_is store)) (subst (λ (s : BaseView). IsFull (used_by (root_of opening) (entries_of now)) s.count event) state_is is_full)
 
@@ -125,21 +130,21 @@ module _ {D : Type 0} (clock : D → ℕ) (left_since : D → ℕ → List ℕ �
     given = happened event ∷ [];
     opening_stays = refl;
     grows = entries-kept now running event active store;
-    turn = turns.kept moment (turn_replies.Step reply) event (runs now (ap is_some running)) refl (turns.steps request reply (Some event) (there pass moment request reply (Some event) answers)) (λ is_full. room (full_here event store is_full));
+    turn = turns.kept moment (turn_replies.Step reply) (happened event) (runs now (ap is_some running)) refl (turns.steps request reply (Some event) (there pass moment request reply (Some event) answers)) (λ is_full. room (full_here event store is_full));
     stops = λ stopper was is. none_some now.stop stopper was is;
   }
   by_step _ pass moment request _ store (steps.full reply event running answers is_full) = record {
     given = [];
     opening_stays = refl;
     grows = sym (append-nil (entries_of now));
-    turn = turns.full moment (turn_replies.Step reply) event (runs now (ap is_some running)) refl (turns.steps request reply (Some event) (there pass moment request reply (Some event) answers)) (full_there event store is_full);
+    turn = turns.full moment (turn_replies.Step reply) (happened event) (runs now (ap is_some running)) refl (turns.steps request reply (Some event) (there pass moment request reply (Some event) answers)) (full_there event store is_full);
     stops = λ stopper was is. none_some now.stop stopper was is;
   }
   by_step _ pass moment request _ store (steps.failed reply event active running answers room risen) = record {
     given = stopped pass ∷ [];
     opening_stays = refl;
     grows = entries-stopped now running active now.other pass;
-    turn = turns.failed moment (turn_replies.Step reply) event (runs now (ap is_some running)) refl (turns.steps request reply (Some event) (there pass moment request reply (Some event) answers)) (λ is_full. room (full_here event store is_full));
+    turn = turns.failed moment (turn_replies.Step reply) (happened event) (runs now (ap is_some running)) refl (turns.steps request reply (Some event) (there pass moment request reply (Some event) answers)) (λ is_full. room (full_here event store is_full));
     stops = λ stopper was is. (one_pass pass stopper is, risen);
   }
   by_step _ pass moment request _ store (steps.stopped earlier is) = record {
@@ -150,6 +155,60 @@ module _ {D : Type 0} (clock : D → ℕ) (left_since : D → ℕ → List ℕ �
     stops = λ stopper was now_is. none_some now.stop stopper was now_is;
   }
   by_step _ pass moment request _ store (steps.without_memory running) = record { given = []; opening_stays = refl; grows = sym (append-nil (entries_of now)); turn = turns.without_memory; stops = λ stopper was is. none_some now.stop stopper was is }
+
+  -- a checkpoint
+  state_there : (P : BaseView → Type 0) → P (replay now.base now.events) → P (state_of_entries (root_of opening) (entries_of now))
+  state_there P here = subst P (sym state_is) here
+
+  -- the generation of the root is that of the store less its checkpoints
+  generation_is : IsStore now → now.generation ≡ (root_of opening).generation + checkpoints_among (entries_of now)
+  generation_is store = generation-entries now store ∙ ap (λ (n : ℕ). n + checkpoints_among (entries_of now)) root_is
+    where
+      root_is : now.generation - length now.checkpoints ≡ opening.generation - length opening.checkpoints
+      root_is =
+          let more = length-append opening.checkpoints g.checkpoints_go_on.0 in
+          let all : length (opening.checkpoints ++ g.checkpoints_go_on.0) ≡ length now.checkpoints = ap length g.checkpoints_go_on.1 in
+          omega (arith, more, all, g.generation_grows)
+
+  checkpoint_there : (pass : ℕ) → IsStore now → IsFullForCheckpoint now → IsFullAfter (root_of opening) (entries_of now) (checkpointed pass)
+  checkpoint_there pass store (inl over) = inl (state_there (λ s. area_limit < length (image_spelling s) + 25) over)
+  checkpoint_there pass store (inr last) = inr (subst (λ (n : ℕ). 2 ^ 48 - 1 ≤ n) (generation_is store) last)
+
+  checkpoint_here : (pass : ℕ) → IsStore now → IsFullAfter (root_of opening) (entries_of now) (checkpointed pass) → IsFullForCheckpoint now
+  checkpoint_here pass store (inl over) = inl (subst (λ (s : BaseView). area_limit < length (image_spelling s) + 25) state_is over)
+  checkpoint_here pass store (inr last) = inr (subst (λ (n : ℕ). 2 ^ 48 - 1 ≤ n) (sym (generation_is store)) last)
+
+  by_checkpoint : (new : StoreView D) (pass : ℕ) (moment : ℤ) (reply : CheckpointReply) → IsStore now → MakesCheckpoint faults now pass reply new →
+      HasTurned faults (λ m. m ≡ moment) requests.Checkpoint (record { store = now; opening = opening }) pass (record { store = new; opening = opening }) (checkpoint_reply reply)
+  by_checkpoint _ pass moment _ store (makes.made active running fits) = record {
+    given = checkpointed pass ∷ [];
+    opening_stays = refl;
+    grows = entries-made now running pass active store;
+    turn = turns.kept moment turn_replies.Checkpointed (checkpointed pass) (runs now (ap is_some running)) refl turns.makes (λ is_full. fits (checkpoint_here pass store is_full));
+    stops = λ stopper was is. none_some now.stop stopper was is;
+  }
+  by_checkpoint _ pass moment _ store (makes.full running over) = record {
+    given = [];
+    opening_stays = refl;
+    grows = sym (append-nil (entries_of now));
+    turn = turns.full moment turn_replies.Checkpointed (checkpointed pass) (runs now (ap is_some running)) refl turns.makes (checkpoint_there pass store over);
+    stops = λ stopper was is. none_some now.stop stopper was is;
+  }
+  by_checkpoint _ pass moment _ store (makes.failed other running fits risen) = record {
+    given = stopped pass ∷ [];
+    opening_stays = refl;
+    grows = entries-stopped now running now.active other pass;
+    turn = turns.failed moment turn_replies.Checkpointed (checkpointed pass) (runs now (ap is_some running)) refl turns.makes (λ is_full. fits (checkpoint_here pass store is_full));
+    stops = λ stopper was is. (one_pass pass stopper is, risen);
+  }
+  by_checkpoint _ pass moment _ store (makes.stopped earlier is) = record {
+    given = [];
+    opening_stays = refl;
+    grows = sym (append-nil (entries_of now));
+    turn = turns.was_stopped (stands now (ap is_some is));
+    stops = λ stopper was now_is. none_some now.stop stopper was now_is;
+  }
+  by_checkpoint _ pass moment _ store (makes.without_memory running) = record { given = []; opening_stays = refl; grows = sym (append-nil (entries_of now)); turn = turns.without_memory; stops = λ stopper was is. none_some now.stop stopper was is }
 
   -- a look at the store, which adds nothing
   abbrev Looks : TurnRequest → TurnReply → Type 0
@@ -204,6 +263,13 @@ module _ {D : Type 0} (clock : D → ℕ) (left_since : D → ℕ → List ℕ �
   look_rejected who nonce signature running is pass moment =
       turns.answered moment (turn_replies.Step (Rejected BadSignature)) (runs now running) refl (turns.rejects who nonce signature (accepted_there who nonce signature false is))
 
+pub turned_by_checkpoint : {D : Type 0} (clock : D → ℕ) (left_since : D → ℕ → List ℕ → Type 0) (image : D → Option (List ℕ)) (faults : D → ℕ) (opening old new : StoreView D) (pass : ℕ) (moment : ℤ) (reply : CheckpointReply) (told : TurnReply) →
+    HasGoneOn clock left_since image faults opening old → IsStore old → MakesCheckpoint faults old pass reply new → told ≡ checkpoint_reply reply →
+    HasTurned faults (λ m. m ≡ moment) requests.Checkpoint (record { store = old; opening = opening }) pass (record { store = new; opening = opening }) told
+turned_by_checkpoint clock left_since image faults opening old new pass moment reply told g store made is =
+    subst (λ (r : TurnReply). HasTurned faults (λ m. m ≡ moment) requests.Checkpoint (record { store = old; opening = opening }) pass (record { store = new; opening = opening }) r) (sym is)
+    (by_checkpoint clock left_since image faults opening old g new pass moment reply store made)
+
 pub turned_by_step : {D : Type 0} (clock : D → ℕ) (left_since : D → ℕ → List ℕ → Type 0) (image : D → Option (List ℕ)) (faults : D → ℕ) (opening old new : StoreView D) (pass : ℕ) (moment : ℤ) (request : StepRequest) (reply : StoreReply) (told : TurnReply) →
     HasGoneOn clock left_since image faults opening old → IsStore old → Steps faults old pass moment request reply new → told ≡ turn_reply reply →
     HasTurned faults (λ m. m ≡ moment) (requests.Step request) (record { store = old; opening = opening }) pass (record { store = new; opening = opening }) told
@@ -228,7 +294,7 @@ pub turn_shown : (gives : ℤ → Type 0) (p : StorePass) (before : List StoreEn
     Turn (λ m. m ≡ moment) p before request reply given → Turn gives p before request reply given
 turn_shown gives p before request moment _ _ shown (turns.was_stopped is) = turns.was_stopped is
 turn_shown gives p before request moment _ _ shown (turns.answered at reply running same answers) = turns.answered at reply running (subst gives (sym same) shown) answers
-turn_shown gives p before request moment _ _ shown (turns.full at reply event running same answers is_full) = turns.full at reply event running (subst gives (sym same) shown) answers is_full
-turn_shown gives p before request moment _ _ shown (turns.kept at reply event running same answers room) = turns.kept at reply event running (subst gives (sym same) shown) answers room
-turn_shown gives p before request moment _ _ shown (turns.failed at reply event running same answers room) = turns.failed at reply event running (subst gives (sym same) shown) answers room
+turn_shown gives p before request moment _ _ shown (turns.full at reply entry running same answers is_full) = turns.full at reply entry running (subst gives (sym same) shown) answers is_full
+turn_shown gives p before request moment _ _ shown (turns.kept at reply entry running same answers room) = turns.kept at reply entry running (subst gives (sym same) shown) answers room
+turn_shown gives p before request moment _ _ shown (turns.failed at reply entry running same answers room) = turns.failed at reply entry running (subst gives (sym same) shown) answers room
 turn_shown gives p before request moment _ _ shown turns.without_memory = turns.without_memory

@@ -6,22 +6,22 @@ ghost use Rattle.bl_syntax.specs.TimeOrder.{IsMoment};
 ghost use Rattle.access_history.specs.WellFormed.{IsWellFormed};
 ghost use Rattle.pcfs_store.specs.Entries.{entries_of};
 ghost use Rattle.session_history.specs.Turn.{Turn};
-ghost use Rattle.shared_store.specs.Turning.{turn_reply, pass_at, HasTurned};
+ghost use Rattle.shared_store.specs.Turning.{turn_reply, checkpoint_reply, pass_at, HasTurned};
 
 use crate::formed::FormedRequest;
 use access_history::{Rejection, StepReply, StepRequest};
 use bl_syntax::{Bytes, Numbers, Principal};
 use op_gate::Citation;
 use pcfs_ports::{Disk, Signatures};
-use pcfs_store::{Store, StoreReply};
+use pcfs_store::{CheckpointReply, Store, StoreReply};
 use policy_statement::login_message;
 use session_history::{TurnReply, TurnRequest};
 use std::alloc::Global;
 use std::marker::Model;
 use std::snapshot::Snapshot;
 
-/// A store and, for contracts alone, the store as it was opened. It has gone on from there by steps: the area that counts
-/// stayed on its disk, the other disk was not touched, and events were added at the end.
+/// A store and, for contracts alone, the store as it was opened. It has gone on from there by steps and checkpoints:
+/// events were added at the end, and with each checkpoint the disks changed their places.
 #[derive(Drop)]
 pub struct OpenedStore<D: Disk> {
     store: Store<D>,
@@ -51,6 +51,18 @@ fn told(reply: StoreReply) -> TurnReply
         StoreReply::Full => TurnReply::Full,
         StoreReply::Stopped => TurnReply::Stopped,
         StoreReply::NoMemory => TurnReply::NoMemory,
+    }
+}
+
+// What a turn replies for which a checkpoint of the store says this.
+fn told_of_checkpoint(reply: CheckpointReply) -> TurnReply
+    ensures { result ≡ checkpoint_reply reply }
+{
+    match reply {
+        CheckpointReply::Checkpointed => TurnReply::Checkpointed,
+        CheckpointReply::Full => TurnReply::Full,
+        CheckpointReply::Stopped => TurnReply::Stopped,
+        CheckpointReply::NoMemory => TurnReply::NoMemory,
     }
 }
 
@@ -98,6 +110,15 @@ impl<D: Disk> OpenedStore<D> {
         self.store.keeps();
         let reply = self.store.step(alloc, pass, request, clock);
         told(reply)
+    }
+
+    // Makes a checkpoint.
+    fn checkpoint(&mut self, alloc: Global, pass: u64) -> TurnReply
+        ensures { (clock : ℤ) → HasTurned D.faults (λ moment. moment ≡ clock) TurnRequest.Checkpoint self.old pass self.new result }
+    {
+        self.store.keeps();
+        let reply = self.store.checkpoint(alloc, pass);
+        told_of_checkpoint(reply)
     }
 
     // The statements of these numbers.
@@ -155,6 +176,7 @@ impl<D: Disk> OpenedStore<D> {
         match request.into_request() {
             TurnRequest::Step(request) => self.step(alloc, pass, request, clock),
             TurnRequest::Cite(numbers) => self.cite(alloc, &numbers),
+            TurnRequest::Checkpoint => self.checkpoint(alloc, pass),
             TurnRequest::Login(who, nonce, signature) => {
                 self.log_in(alloc, &who, &nonce, &signature)
             }

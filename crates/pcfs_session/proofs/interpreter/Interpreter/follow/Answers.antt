@@ -3,7 +3,7 @@ use Rattle.std.proofs.Common.{subst, sym}
 use Rattle.std.proofs.lemmas.Result.{IfOk-weaker}
 use Rattle.std.proofs.lemmas.Int.{to_z-of_z}
 use Rattle.std.specs.Int.{w64}
-use Rattle.line_forms.specs.declared.command.Command.TheVariants.{Register, Verify, Procap, Do}
+use Rattle.line_forms.specs.declared.command.Command.TheVariants.{Register, Verify, Procap, Checkpoint, Do}
 use Rattle.pcfs_session.specs.Interpreter.{IsAllowed, IsFollowed}
 use Rattle.access_history.proofs.HistoryLemmas.{SFits-moment}
 use Rattle.pcfs_session.proofs.InterpreterLemmas.{IsFollowed-at, IsFollowed-as, IsFollowed-same}
@@ -46,3 +46,8 @@ pub returns-in-Do-clause-ok : goal.returns-in-Do-clause-ok
 returns-in-Do-clause-ok g c =
     IfOk-weaker c.act.result _ _ (λ reply. LeadsTo-also g.D.Disk.clock g.D.Disk.left_since g.D.Disk.image g.D.Disk.faults (IsFollowed (Do c.in-Do.op c.in-Do.words)) (IsFollowed c.args.command) c.args.self.now c.act.new.self reply
     (λ met followed. IsFollowed-same _ _ c.args.command _ reply c.in-Do.is followed)) c.act.ensures.ok
+
+pub returns-in-Checkpoint-clause-ok : goal.returns-in-Checkpoint-clause-ok
+returns-in-Checkpoint-clause-ok g c =
+    IfOk-weaker c.checkpoint.result _ _ (λ reply. LeadsTo-also g.D.Disk.clock g.D.Disk.left_since g.D.Disk.image g.D.Disk.faults (IsFollowed Checkpoint) (IsFollowed c.args.command) c.args.self.now c.checkpoint.new.self reply
+    (λ met followed. IsFollowed-same _ _ c.args.command _ reply c.in-Checkpoint.is followed)) c.checkpoint.ensures.ok

@@ -1,6 +1,9 @@
 -- Each request has its turn.
 use Rattle.std.proofs.lemmas.Int.{to_z-of_z}
 use Rattle.std.specs.Int.{w64}
+use Rattle.std.proofs.Common.{◌≡◌, subst}
+use Rattle.session_history.specs.declared.request.TurnRequest.{TurnRequest}
+use Rattle.shared_store.specs.Turning.{HasTurned}
 use Rattle.access_history.proofs.HistoryLemmas.{SFits-moment}
 use Rattle.shared_store.proofs.TurningLemmas.{turned_by_look, turned_by_request}
 use Rattle.shared_store.proofs.opened.OpenedStore.answer.Goals as goal
@@ -13,3 +16,7 @@ returns-in-Cite g c = turned_by_look g.D.Disk.faults c.args.self.now c.args.pass
 
 pub returns-in-Login : goal.returns-in-Login
 returns-in-Login g c = turned_by_look g.D.Disk.faults c.args.self.now c.args.pass c.args.clock _ c.args.request c.log_in.result c.in-Login.ensures.same c.log_in.ensures
+
+pub returns-in-Checkpoint : goal.returns-in-Checkpoint
+returns-in-Checkpoint g c =
+    subst (λ (r : TurnRequest). HasTurned g.D.Disk.faults (λ moment. moment ≡ c.args.clock) r c.args.self.now c.args.pass c.checkpoint.new.self c.checkpoint.result) c.in-Checkpoint.ensures.same (c.checkpoint.ensures c.args.clock)
