@@ -131,7 +131,7 @@ fn serve<R: Threads + Wait + Sync>(
 // Whether the last script found so many events and files.
 fn is_found(case: &Case, found: &[u8]) -> bool {
     let numbers = found.iter().filter(|byte| **byte == b'#').count();
-    found.starts_with(case.found.as_bytes()) && numbers == case.nodes + 2
+    found.starts_with(case.found.as_bytes()) && numbers == case.nodes.saturating_add(2)
 }
 
 // Serves both over the disks, and runs the last script. Returns whether all is as wanted.
@@ -149,7 +149,9 @@ fn serve_and_look<R: Threads + Wait + Sync>(
     let (disks, is_served) = serve(rt, alloc, setting, meeting, speeches, nonces, disks);
     let mut output = MemorySink::new(alloc, Numbers::new(alloc));
     let _ = setting.add_script(rt, alloc, checks, &mut output, disks);
-    is_served && meeting.went_well(case.nodes + 2, case.nodes) && is_found(case, output.held())
+    is_served
+        && meeting.went_well(case.nodes.saturating_add(2), case.nodes)
+        && is_found(case, output.held())
 }
 
 // Whether all of the case is as wanted; none if there is no memory.
@@ -159,7 +161,7 @@ fn agrees<R: Threads + Wait + Sync>(
     setting: &Setting,
     case: &Case,
 ) -> Option<bool> {
-    let meeting = Meeting::new(alloc, case.nodes + 2, case.holds_clock)?;
+    let meeting = Meeting::new(alloc, case.nodes.saturating_add(2), case.holds_clock)?;
     let speeches = speeches(alloc, case)?;
     let script = bytes_of(alloc, case.script.as_bytes())?;
     let checks = bytes_of(alloc, CHECKS.as_bytes())?;
