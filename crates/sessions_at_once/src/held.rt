@@ -11,7 +11,7 @@ use crate::meeting::{FIRST_IS_AT_HAND, Meeting, SECOND_WAS_TOLD};
 use crate::pair::{Errand, both_at_once};
 use crate::setting::{Setting, bytes_of, speeches_of};
 use bl_syntax::Goal;
-use pcfs_ports::MemoryDisk;
+use pcfs_ports::{Disk, MemoryDisk};
 use pcfs_store::Store;
 use pcfs_top::run::Ended;
 use proof_term::ProofTree;
@@ -23,7 +23,7 @@ use shared_store::OpenedStore;
 use std::alloc::Global;
 use std::sync::Wait;
 use std::thread::Threads;
-use tree_lock::{Pass, Recorded, TreeLock};
+use tree_lock::{Doorman, Pass, Recorded, TreeLock};
 
 const SET_UP: &str = "at 100
 register - admin says may(alice,#1,write) from -inf to +inf
@@ -68,7 +68,7 @@ struct Talk<'a, V: Recorded> {
     speech: &'a Speech,
 }
 
-impl<'a, R: Wait> Errand<R> for Talk<'a, OpenedStore<MemoryDisk>> {
+impl<'a, R: Wait, D: Disk + Send> Errand<R> for Talk<'a, OpenedStore<D>> {
     ghost use Rattle.std.specs.Prelude.{◌≡◌};
 
     ghost ready = { λ it. it.pass.lock ≡ it.lock.now };
@@ -112,13 +112,42 @@ fn open(alloc: Global, setting: &Setting, disks: Ended<MemoryDisk>) -> Option<St
     }
 }
 
-// Whether both sessions over the store came to their ends, each in a thread of its own.
-fn talk_at_once<R: Threads + Wait + Sync>(
+// Whether both sessions under the lock came to their ends, each in a thread of its own.
+fn talk_under<R: Threads + Wait + Sync, D: Disk + Send>(
+    rt: &R,
+    alloc: Global,
+    lock: &TreeLock<OpenedStore<D>>,
+    door: &mut Doorman<OpenedStore<D>>,
+    meeting: &Meeting,
+    speeches: &Speeches,
+) -> bool
+    requires lock { door.old.lock ≡ lock.now }
+    requires unmade { door.old.made ≡ 0 }
+{
+    let first = Talk {
+        alloc,
+        lock,
+        pass: lock.pass(door),
+        meeting,
+        speech: &speeches.first,
+    };
+    let second = Talk {
+        alloc,
+        lock,
+        pass: lock.pass(door),
+        meeting,
+        speech: &speeches.second,
+    };
+    both_at_once(rt, first, second)
+}
+
+// Whether both sessions over the store came to their ends.
+fn talk_at_once<R: Threads + Wait + Sync, D: Disk + Send + Drop>(
     rt: &R,
     alloc: Global,
     meeting: &Meeting,
     speeches: &Speeches,
-    store: Store<MemoryDisk>,
+    store: Store<D>,
 ) -> bool
     requires running { store.stop ≡ None }
     requires each { AllByRecursion IsReadEvent store.events }
@@ -126,23 +155,7 @@ fn talk_at_once<R: Threads + Wait + Sync>(
 {
     let opened = OpenedStore::new(store);
     match TreeLock::new(alloc, opened) {
-        Ok((lock, mut door)) => {
-            let first = Talk {
-                alloc,
-                lock: &lock,
-                pass: lock.pass(&mut door),
-                meeting,
-                speech: &speeches.first,
-            };
-            let second = Talk {
-                alloc,
-                lock: &lock,
-                pass: lock.pass(&mut door),
-                meeting,
-                speech: &speeches.second,
-            };
-            both_at_once(rt, first, second)
-        }
+        Ok((lock, mut door)) => talk_under(rt, alloc, &lock, &mut door, meeting, speeches),
         Err(_) => false,
     }
 }
