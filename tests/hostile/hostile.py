@@ -207,7 +207,8 @@ class Run:
         self.secrets = "seal 00\nkey admin 01\n"
         store = Store(self.program, f"{self.folder}/drawn", self.secrets)
         store.run("init")
-        store.run("script", "--stored", given="".join(line + "\n" for line in Drawn(self.seed).lines(2000)).encode("latin-1"))
+        lines = [line for line in Drawn(self.seed).lines(2000) if line != "checkpoint"]  # so the first area has all events
+        store.run("script", "--stored", given="".join(line + "\n" for line in lines).encode("latin-1"))
         self.area = store.area()
 
     def kills(self):

@@ -24,6 +24,7 @@ use Rattle.pcfs_session.specs.LineAnswer.{authority_under}
 use Rattle.pcfs_session.specs.ScriptEnds.{with_line_end}
 use Rattle.pcfs_store.specs.declared.checkpoints.Checkpoint.{Checkpoint}
 use Rattle.pcfs_store.specs.Entries.{StoreEntry, happened, stop_entries, merged, checkpoints_among, events_among}
+use Rattle.pcfs_store.specs.Checkpoints.{place_after}
 use Rattle.pcfs_store.specs.StoredHistory.{state_after}
 use Rattle.pcfs_store.specs.StoreView.{AreInOrder, last_after}
 use Rattle.pcfs_store.specs.Newest.{SurvivesWholeClosed, newer, one_of}
@@ -71,7 +72,7 @@ pub record IsMet (secrets : Secrets) (base : BaseView) (events : List Event) (pa
 
 -- The store on the disks was opened, and connections had sessions over it. The history that was found is that of the newest area, from its image. Its events at the end are those, and then the ones that the sessions' passes added, and the checkpoints are those
 -- that these passes made, each after its number of events; the events are lawful, so the headline holds of them. Unless a disk failed, the newest area has the generation of the opened one, and one more for each checkpoint, and stands for the state at the
--- last of these, or for the opened base if there is none, and the events since; and if the opened one had its closed gate, it has too, and nothing is pending. If one failed in a turn of some pass, its count rose; and if the opened area had its closed gate,
+-- last of these, or for the opened base if there is none, and the events since; it is on the other disk after each of them; and if the opened one had its closed gate, it has too, and nothing is pending. If one failed in a turn of some pass, its count rose; and if the opened area had its closed gate,
 -- the newest one stands for these events, or, in a step, for them with the one that met the fault. The area that did not count is as it was, if no checkpoint was made; only if one was tried, its disk may have failed.
 pub record IsServed (secrets : Secrets) (rests : Rests) (before after : Disks) (attended count : ℕ) (stop : Option ℕ) : Type 0 where
   pub generation : ℕ
@@ -91,6 +92,7 @@ pub record IsServed (secrets : Secrets) (rests : Rests) (before after : Disks) (
   pub headline : Headline (authority_under secrets) base events (replay base events).world
   pub whole : stop ≡ None → IfTold before (λ x y. IfTold after (IsNewestOf (generation + length checkpoints) (state_after base events (last_after 0 checkpoints)) (drop (last_after 0 checkpoints) events)))
   pub closed : stop ≡ None → IfTold before (λ x y. IsNewestClosed generation base opened x y → rests.after × IfTold after (IsNewestClosed (generation + length checkpoints) (state_after base events (last_after 0 checkpoints)) (drop (last_after 0 checkpoints) events)))
+  pub place : stop ≡ None → IfTold before (λ x y. (second : Bool) → newer (generation_of x) (generation_of y) ≡ Some second → IfTold after (λ u v. newer (generation_of u) (generation_of v) ≡ Some (place_after (length checkpoints) second)))
   pub risen : (pass : ℕ) → stop ≡ Some pass → HasDiskFailed before after
   pub survives : (pass : ℕ) → stop ≡ Some pass → IfTold before (λ x y. IsNewestClosed generation base opened x y → IfTold after (SurvivesWholeClosed base events) ⊎ ((met : Event) × IsMet secrets base events pass met × IfTold after (SurvivesWithOrWithout base events met)))
   pub other_stays : checkpoints ≡ [] → IfTold before (λ x y. (second : Bool) → newer (generation_of x) (generation_of y) ≡ Some second →

@@ -4,7 +4,6 @@ use Rattle.std.specs.Prelude.{IsTrue, IsSome}
 use Rattle.pcfs_ports.specs.Told.{with_back, HoldsSome}
 use Rattle.line_text.specs.Words.{HasNo}
 use Rattle.line_framer.specs.Framing.{FramerState, IsFirst}
-use Rattle.access_history.specs.declared.event.Event.{Event}
 use Rattle.line_wire.specs.declared.reply.LineReply.{LineReply}
 use Rattle.line_wire.specs.ReplyText.{reply_text, output_of}
 use Rattle.pcfs_store.specs.Entries.{StoreEntry}

@@ -188,7 +188,7 @@ IsFollowed-do before after op words procaps caller reply caller_is brought asked
 -- what a line asks for was done
 pub IsReplied-followed : (before after : Standing) (line : List ℕ) (command : Command) (reply : LineReply) → IsLine line command → IsFollowed command before reply after → IsReplied line before reply after
 IsReplied-followed before after line command reply is followed =
-    answered followed.told followed.event (asker_after before.asker command) reply after (asks command followed.told followed.event is followed.answer) followed.becomes
+    answered followed.told followed.entry (asker_after before.asker command) reply after (asks command followed.told followed.entry is followed.answer) followed.becomes
 
 -- memory ran out, and nothing changed
 pub IsReplied-without_memory : (before after : Standing) (line : List ℕ) → after ≡ before → IsReplied line before replies.NoMemory after

@@ -22,6 +22,7 @@ use Rattle.line_forms.specs.Lines.{IsLine}
 use Rattle.line_wire.specs.declared.reply.LineReply.{LineReply}
 use Rattle.pcfs_secrets.specs.declared.secrets.Secrets.{Secrets}
 use Rattle.std.specs.Option.{option_map}
+use Rattle.pcfs_store.specs.declared.checkpoints.Checkpoint.{Checkpoint}
 use Rattle.pcfs_store.specs.Entries.{StoreEntry, happened, checkpointed, stopped as stop_mark}
 use Rattle.pcfs_session.specs.LineAnswer as line_answer
 use Rattle.pcfs_session.specs.Asker.{Asker, IsAsker, asker_after}
@@ -107,26 +108,30 @@ pub IsLawfulStanding-replied : (s after : Standing) (line : List ℕ) (reply : L
 IsLawfulStanding-replied s after line _ stands (answered told event asker reply _ answer becomes) = line_stands s after line told event asker reply stands answer becomes
 IsLawfulStanding-replied s _ line _ stands without_memory = stands
 
--- under the same secrets and over the same base, events are added
+-- under the same secrets and over the same base, events and checkpoints are added
 record GoesOn (s after : Standing) : Type 0 where
   added : List Event
+  made : List Checkpoint
   secrets : after.secrets ≡ s.secrets
   base : after.base ≡ s.base
   events : after.events ≡ s.events ++ added
+  checkpoints : after.checkpoints ≡ s.checkpoints ++ made
+  generation : after.generation ≡ s.generation + length made
 
 stays_on : (s : Standing) → GoesOn s s
-stays_on s = record { added = []; secrets = refl; base = refl; events = sym (append-nil s.events) }
+stays_on s = record { added = []; made = []; secrets = refl; base = refl; events = sym (append-nil s.events); checkpoints = sym (append-nil s.checkpoints); generation = omega arith }
 
 kept_on : (s : Standing) (entry : Option StoreEntry) (asker : Asker) → GoesOn s (standing_after s entry asker)
-kept_on s None asker = record { added = []; secrets = refl; base = refl; events = sym (append-nil s.events) }
-kept_on s (Some (happened event)) asker = record { added = event ∷ []; secrets = refl; base = refl; events = refl }
-kept_on s (Some (checkpointed pass)) asker = record { added = []; secrets = refl; base = refl; events = sym (append-nil s.events) }
-kept_on s (Some (stop_mark pass)) asker = record { added = []; secrets = refl; base = refl; events = sym (append-nil s.events) }
+kept_on s None asker = record { added = []; made = []; secrets = refl; base = refl; events = sym (append-nil s.events); checkpoints = sym (append-nil s.checkpoints); generation = omega arith }
+kept_on s (Some (happened event)) asker = record { added = event ∷ []; made = []; secrets = refl; base = refl; events = refl; checkpoints = sym (append-nil s.checkpoints); generation = omega arith }
+kept_on s (Some (checkpointed pass)) asker =
+    record { added = []; made = record { after = length s.events; pass = pass } ∷ []; secrets = refl; base = refl; events = sym (append-nil s.events); checkpoints = refl; generation = refl }
+kept_on s (Some (stop_mark pass)) asker = record { added = []; made = []; secrets = refl; base = refl; events = sym (append-nil s.events); checkpoints = sym (append-nil s.checkpoints); generation = omega arith }
 
 becomes_on : (s after : Standing) (told : LineReply) (asker : Asker) (entry : Option StoreEntry) (reply : LineReply) → Becomes s told asker entry reply after → GoesOn s after
 becomes_on s _ told asker _ _ (kept event room) = kept_on s event asker
 becomes_on s _ told asker _ _ (full event is_full) = stays_on s
-becomes_on s _ told asker _ _ (stopped event room) = record { added = []; secrets = refl; base = refl; events = sym (append-nil s.events) }
+becomes_on s _ told asker _ _ (stopped event room) = record { added = []; made = []; secrets = refl; base = refl; events = sym (append-nil s.events); checkpoints = sym (append-nil s.checkpoints); generation = omega arith }
 
 replied_on : (s after : Standing) (line : List ℕ) (reply : LineReply) → IsReplied line s reply after → GoesOn s after
 replied_on s after line _ (answered told event asker reply _ answer becomes) = becomes_on s after told asker event reply becomes
@@ -135,9 +140,12 @@ replied_on s _ line _ without_memory = stays_on s
 on_and_on : (s mid after : Standing) → GoesOn s mid → GoesOn mid after → GoesOn s after
 on_and_on s mid after one other = record {
   added = one.added ++ other.added;
+  made = one.made ++ other.made;
   secrets = other.secrets ∙ one.secrets;
   base = other.base ∙ one.base;
   events = other.events ∙ ap (λ (es : List Event). es ++ other.added) one.events ∙ append_assoc s.events one.added other.added;
+  checkpoints = other.checkpoints ∙ ap (λ (cs : List Checkpoint). cs ++ other.made) one.checkpoints ∙ append_assoc s.checkpoints one.made other.made;
+  generation = omega (arith, one.generation, other.generation, length-append one.made other.made);
 }
 
 run_on : (start end : Standing) (lines : List (List ℕ)) (replies : List LineReply) → ScriptRun start lines replies end → GoesOn start end
@@ -152,7 +160,7 @@ IsLawfulStanding-run start end _ _ stands (script.one_more _ line lines reply ot
 pub runs_lawfully : (start end : Standing) (lines : List (List ℕ)) (replies : List LineReply) → IsLawfulStanding start → ScriptRun start lines replies end → GoesLawfullyTo start end
 runs_lawfully start end lines replies stands run =
     let on = run_on start end lines replies run in
-    record { added = on.added; secrets_stay = on.secrets; base_stays = on.base; events_are = on.events; stands = IsLawfulStanding-run start end lines replies stands run }
+    record { added = on.added; made = on.made; secrets_stay = on.secrets; base_stays = on.base; events_are = on.events; checkpoints_are = on.checkpoints; generation_is = on.generation; stands = IsLawfulStanding-run start end lines replies stands run }
 
 -- a script over a store before its first event begins lawfully
 pub IsLawfulStanding-fresh : (secrets : Secrets) → IsLawfulStanding (fresh_start secrets)

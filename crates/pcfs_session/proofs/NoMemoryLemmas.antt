@@ -12,7 +12,6 @@ use Rattle.proof_verifier.specs.Cited.{statements_of}
 use Rattle.proof_verifier.specs.Verdict.{verdict}
 use Rattle.proof_verifier.proofs.MemoryLemmas.{verdict-memoryless}
 use Rattle.pcfs_secrets.specs.declared.secrets.Secrets.{Secrets}
-use Rattle.access_history.specs.declared.event.Event.{Event}
 use Rattle.access_history.specs.declared.reply.StepReply.{StepReply}
 use Rattle.access_history.specs.declared.reply.StepReply.TheVariants as steps
 use Rattle.access_history.specs.Authority.{sayings}
@@ -101,6 +100,7 @@ unproved_memory statements goal numbers proof _ (proves_none cites fault found v
 abbrev IsOutOfMemory : Look → Type 0
 IsOutOfMemory (replied reply) = reply_word reply ≡ codes "nomemory"
 IsOutOfMemory (requested request) = ⊥
+IsOutOfMemory line_answer.checkpoint = ⊥
 
 look_memory : (secrets : Secrets) (state : BaseView) (asker : Asker) (command : Command) (look : Look) → ComesTo secrets state asker command look → IsOutOfMemory look → ⊥
 look_memory secrets state asker _ _ (line_answer.sets_clock second) is = not_ok is

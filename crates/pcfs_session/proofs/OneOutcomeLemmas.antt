@@ -1,7 +1,6 @@
 -- The lines of a script have one outcome at most, unless memory runs out or a disk fails.
 use Rattle.std.proofs.Common.{◌≡◌, ℕ, List, ◌∷◌, Option, refl, sym, ap, subst, ◌∙◌}
 use Rattle.std.specs.Prelude.{◌≢◌}
-use Rattle.access_history.specs.declared.event.Event.{Event}
 use Rattle.access_history.specs.Lawful.{IsLawful}
 use Rattle.line_wire.specs.declared.reply.LineReply.{LineReply}
 use Rattle.line_wire.specs.declared.reply.LineReply.TheVariants as replies

@@ -12,7 +12,6 @@ use Rattle.line_framer.specs.Feeding.{AreShort, IsFed, IsTooLong, already, with_
 use Rattle.line_framer.specs.declared.framer.FeedFault.{FeedFault}
 use Rattle.line_framer.specs.declared.framer.FeedFault.TheVariants.{TooLong}
 use Rattle.line_framer.proofs.FramingLemmas.{last_line, lines_of-whole}
-use Rattle.access_history.specs.declared.event.Event.{Event}
 use Rattle.line_wire.specs.declared.reply.LineReply.{LineReply}
 use Rattle.line_wire.specs.ReplyText.{output_of}
 use Rattle.pcfs_store.specs.Entries.{StoreEntry}

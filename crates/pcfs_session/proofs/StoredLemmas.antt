@@ -229,10 +229,10 @@ module _ {D : Type 0} (clock : D → ℕ) (left_since : D → ℕ → List ℕ �
     checkpoints_go_on = (record { after = length old.events; pass = asker.pass } ∷ [], refl);
     generation_grows = refl;
     place_is = refl;
-    other_stays = λ none. absurd cc;
-    ready = λ is none. s.stays_ready is (λ same. cc);
+    other_stays = λ none untried. absurd cc;
+    ready = λ is none. s.stays_ready is (λ same. absurd cc);
     halts = λ is entry same. none_some entry same;
-    current = λ is none. s.stays_current is (λ same. cc);
+    current = λ is none. s.stays_current is (λ same. absurd cc);
     first_never_falls = s.first_never_falls;
     second_never_falls = s.second_never_falls;
     failed = λ entry same. none_some entry same;

@@ -6,7 +6,6 @@ use Rattle.line_text.specs.Words.{HasNo}
 use Rattle.line_framer.specs.Framing.{ended}
 use Rattle.line_framer.specs.Scanning.{HasLong}
 use Rattle.line_framer.specs.Feeding.{AreShort}
-use Rattle.access_history.specs.declared.event.Event.{Event}
 use Rattle.line_wire.specs.declared.reply.LineReply.{LineReply}
 use Rattle.line_wire.specs.ReplyText.{output_of}
 use Rattle.pcfs_store.specs.Entries.{StoreEntry}
@@ -28,7 +27,7 @@ abbrev pub IsOutAt : Halt → Option (List ℕ) → Option (List ℕ) → List �
 IsOutAt (Unsent fault) held held_after bytes = HoldsSome held held_after bytes
 IsOutAt Stopped held held_after bytes = held_after ≡ with_back held bytes
 
--- after a fault of a disk there is the event that met it
+-- after a fault of a disk there is the event or the checkpoint that met it
 abbrev pub IsMetAt : Halt → Option StoreEntry → Type 0
 IsMetAt (Unsent fault) met = Unit {0}
 IsMetAt Stopped met = (entry : StoreEntry) × (met ≡ Some entry)
@@ -39,7 +38,7 @@ IsFinished collected held how held_after = ((how ≡ script_ends.Done) × (held_
 
 -- Below `clock`, `left_since`, `image` and `faults` tell of a disk what they do in `Stored`.
 module _ {D : Type 0} (clock : D → ℕ) (left_since : D → ℕ → List ℕ → Type 0) (image : D → Option (List ℕ)) (faults : D → ℕ) where
-  -- lines are answered by an interpreter with these replies, and its store goes on; the last one met the fault of a disk, if there is an event
+  -- lines are answered by an interpreter with these replies, and its store goes on; the last one met the fault of a disk, if there is an entry
   pub record WasRun (lines : List (List ℕ)) (old new : InterpreterView D) (met : Option StoreEntry) (told : List LineReply) : Type 0 where
     pub run : ScriptRun (standing_of old None) lines told (standing_of new met)
     pub goes_on : StoreGoesOn clock left_since image faults old.store new.store met

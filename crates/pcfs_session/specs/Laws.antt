@@ -1,22 +1,27 @@
 -- Laws of runs and lines: what runs keep is lawful, and lines and runs have one answer each.
-use Rattle.std.specs.Prelude.{◌≡◌, ℕ, List, ◌++◌, codes, Option, None}
-use Rattle.pcfs_store.specs.Entries.{StoreEntry}
+use Rattle.std.specs.Prelude.{◌≡◌, ℕ, ◌+◌, List, ◌++◌, length, codes, Option, None}
+use Rattle.access_history.specs.declared.event.Event.{Event}
 use Rattle.access_history.specs.Base.{BaseView}
 use Rattle.access_history.specs.Lawful.{IsLawful}
 use Rattle.line_text.specs.Lines.{lines_of}
 use Rattle.line_wire.specs.declared.reply.LineReply.{LineReply}
 use Rattle.line_wire.specs.FirstWord.{reply_word}
 use Rattle.pcfs_secrets.specs.declared.secrets.Secrets.{Secrets}
+use Rattle.pcfs_store.specs.declared.checkpoints.Checkpoint.{Checkpoint}
+use Rattle.pcfs_store.specs.Entries.{StoreEntry}
 use Rattle.pcfs_session.specs.Asker.{Asker}
 use Rattle.pcfs_session.specs.LineAnswer.{authority_under, AnswersLine}
 use Rattle.pcfs_session.specs.ScriptRun.{Standing, state_of_standing, IsLawfulStanding, ScriptRun, AreUndisturbed, fresh_start}
 
--- a run from a lawful start ends under the same secrets and over the same base, with the events of its start and others after them, and its history is lawful
+-- a run from a lawful start ends under the same secrets and over the same base, with the events of its start and others after them, and its history is lawful; checkpoints were added too, and with each the generation grew by one
 pub record GoesLawfullyTo (start end : Standing) : Type 0 where
   pub added : List Event
+  pub made : List Checkpoint
   pub secrets_stay : end.secrets ≡ start.secrets
   pub base_stays : end.base ≡ start.base
   pub events_are : end.events ≡ start.events ++ added
+  pub checkpoints_are : end.checkpoints ≡ start.checkpoints ++ made
+  pub generation_is : end.generation ≡ start.generation + length made
   pub stands : IsLawfulStanding end
 
 abbrev pub RunsAreLawful : Type 0

@@ -25,7 +25,7 @@ IsStopFor (Some pass) (Some entry) = Unit {0}
 module _ {D : Type 0} (clock : D → ℕ) (left_since : D → ℕ → List ℕ → Type 0) (image : D → Option (List ℕ)) (faults : D → ℕ) where
   -- From one moment of a store to a later one, at which a disk has failed for this event or this checkpoint, if one has. Checkpoints were added at the end: with each the generation grew by one, and the disks changed their places; as long as
   -- none was tried, the other disk is not touched. While no disk has failed, a store that was ready is ready, and what a read gives stands for its history. If one has, a count rose; and of a store that was ready a crash leaves the history,
-  -- or with it the event.
+  -- or, if it was for an event, with it the event.
   pub record StoreGoesOn (old new : StoreView D) (met : Option StoreEntry) : Type 0 where
     pub stop_for : IsStopFor new.stop met
     pub checkpoints_go_on : IsPrefix old.checkpoints new.checkpoints

@@ -4,6 +4,7 @@ use Rattle.access_history.specs.declared.event.Event.{Event}
 use Rattle.access_history.specs.Replay.{fresh}
 use Rattle.policy_statement.specs.Ring.{KeyView}
 use Rattle.pcfs_secrets.specs.declared.secrets.Secrets.{Secrets}
+use Rattle.pcfs_store.specs.declared.checkpoints.Checkpoint.{Checkpoint}
 use Rattle.pcfs_store.specs.Formats.{IsNewStore}
 use Rattle.pcfs_store.specs.StoreView.{StoreView}
 use Rattle.pcfs_session.specs.Asker.{first_asker}
@@ -24,7 +25,9 @@ fresh_over secrets s new =
     ∙ ap (λ (r : List KeyView). record (standing_over s None (first_asker script_pass)) { secrets = secrets_of secrets.seal_key r }) new.ring_is
     ∙ ap (λ b. record (standing_over s None (first_asker script_pass)) { secrets = secrets; base = b }) new.base_is
     ∙ ap (λ (es : List Event). record (standing_over s None (first_asker script_pass)) { secrets = secrets; base = fresh; events = es }) new.no_events
-    ∙ ap (λ (n : ℕ). record (standing_over s None (first_asker script_pass)) { secrets = secrets; base = fresh; events = []; used = n }) new.used_is
+    ∙ ap (λ (cs : List Checkpoint). record (standing_over s None (first_asker script_pass)) { secrets = secrets; base = fresh; events = []; checkpoints = cs }) new.no_checkpoints
+    ∙ ap (λ (n : ℕ). record (standing_over s None (first_asker script_pass)) { secrets = secrets; base = fresh; events = []; checkpoints = []; generation = n }) new.generation_is
+    ∙ ap (λ (n : ℕ). record (standing_over s None (first_asker script_pass)) { secrets = secrets; base = fresh; events = []; checkpoints = []; generation = 1; used = n }) new.used_is
 
 pub MemoryEnds-ran : (secrets : Secrets) (before after : Streams) (start end : Standing) (status result : ℕ) → start ≡ fresh_start secrets → ScriptStatus start end before after status →
     ((status ≡ 5) × (result ≡ 9)) ⊎ ((status ≡ 5 → ⊥) × (result ≡ status)) → MemoryEnds secrets before after result

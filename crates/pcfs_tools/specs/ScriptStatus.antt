@@ -1,6 +1,6 @@
 -- The status that a script ends with, and its last line (this project's own).
 use Rattle.std.specs.Prelude.{◌≡◌, ℕ, ◌≤◌, List, codes, Option, None}
-use Rattle.access_history.specs.declared.event.Event.{Event}
+use Rattle.pcfs_store.specs.Entries.{StoreEntry}
 use Rattle.pcfs_session.specs.InterpreterView.{InterpreterView, standing_of}
 use Rattle.pcfs_session.specs.ScriptEnds.{ScriptEnds}
 use Rattle.pcfs_session.specs.ScriptRun.{Standing}
@@ -37,6 +37,6 @@ pub record ScriptStatus (start end : Standing) (before after : Streams) (status 
 module _ {D : Type 0} (clock : D → ℕ) (left_since : D → ℕ → List ℕ → Type 0) (image : D → Option (List ℕ)) (faults : D → ℕ) where
   -- the script in the input is answered by an interpreter and ends with this status, and its store goes on
   pub record AnswersInput (old : InterpreterView D) (before : Streams) (status : ℕ) (new : InterpreterView D) (after : Streams) : Type 0 where
-    pub met : Option Event
+    pub met : Option StoreEntry
     pub ends : ScriptStatus (standing_of old None) (standing_of new met) before after status
     pub goes_on : StoreGoesOn clock left_since image faults old.store new.store met

@@ -15,7 +15,7 @@ use Rattle.pcfs_store.specs.Image.{fresh_image}
 use Rattle.pcfs_store.specs.StoredHistory.{payloads_of, state_after, StandsFor}
 use Rattle.pcfs_store.specs.Formats.{IsNoneOrFresh}
 use Rattle.pcfs_store.specs.Newest.{SurvivesWholeClosed, newer, newest, one_of}
-use Rattle.pcfs_store.specs.Checkpoints.{SurvivesMet}
+use Rattle.pcfs_store.specs.Checkpoints.{place_after, SurvivesMet}
 use Rattle.pcfs_store.specs.Entries.{StoreEntry, checkpointed as checkpoint_mark}
 use Rattle.pcfs_store.specs.StoreView.{last_after}
 use Rattle.pcfs_store.specs.declared.format.FormatFault.{FormatFault}
@@ -95,12 +95,13 @@ abbrev pub records_in : Standing → List Event
 records_in s = drop (settled_in s) s.events
 
 -- What comes back of the disks of a store that was opened, where a script ended. Its generation is that of the opened area, and one more for each checkpoint. Unless a disk failed, the newest area has this generation, and stands for the state at
--- the last checkpoint, or for the opened base if there was none, and the events since; and if the opened one had its closed gate, it has too, and nothing is pending. If one failed, its count rose; and if the opened area had its closed gate, the
+-- the last checkpoint, or for the opened base if there was none, and the events since; it is on the other disk after each checkpoint; and if the opened one had its closed gate, it has too, and nothing is pending. If one failed, its count rose; and if the opened area had its closed gate, the
 -- newest one that comes back stands for the history at the end, or, if an event met the fault, for it with this event. The area that did not count is as it was, if no checkpoint was made, and none met the fault.
 pub record Returns (rests : Rests) (generation : ℕ) (before after : Disks) (start end : Standing) : Type 0 where
   pub grown : end.generation ≡ generation + length end.checkpoints
   pub whole : IfTold before (λ x y. end.met ≡ None → IfTold after (IsNewestOf end.generation (head_in end) (records_in end)))
   pub closed : IfTold before (λ x y. IsNewestClosed generation start.base start.events x y → end.met ≡ None → rests.after × IfTold after (IsNewestClosed end.generation (head_in end) (records_in end)))
+  pub place : end.met ≡ None → IfTold before (λ x y. (second : Bool) → newer (generation_of x) (generation_of y) ≡ Some second → IfTold after (λ u v. newer (generation_of u) (generation_of v) ≡ Some (place_after (length end.checkpoints) second)))
   pub failed : (met : StoreEntry) → end.met ≡ Some met → HasDiskFailed before after
   pub survives : IfTold before (λ x y. IsNewestClosed generation start.base start.events x y → (met : StoreEntry) → end.met ≡ Some met → IfTold after (SurvivesMet end.base end.events met))
   pub other_stays : end.checkpoints ≡ [] → ((pass : ℕ) → end.met ≡ Some (checkpoint_mark pass) → ⊥) → IfTold before (λ x y. (second : Bool) → newer (generation_of x) (generation_of y) ≡ Some second → one_of after.b after.a second ≡ one_of before.b before.a second)

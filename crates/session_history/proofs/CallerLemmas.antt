@@ -1,4 +1,4 @@
--- In a session that is given entries somebody logged in over its nonce by one of its lines, and each operation among them is by who did.
+-- In a session that is given entries somebody logged in over its nonce by one of its lines, each operation among them is by who did, and each checkpoint by `admin`.
 use Rattle.std.proofs.Common.{◌≡◌, ◌∙◌, ℕ, List, [], ◌∷◌, ◌++◌, Bool, true, false, Option, Some, None, codes, refl, sym, ap, subst, append_assoc}
 use Rattle.std.specs.Prelude.{ℤ}
 use Rattle.std.specs.List.{AllByRecursion}
@@ -192,6 +192,7 @@ done_turn : (replied : TurnReply) (reply : LineReply) → IsTold replied reply �
 done_turn (turn_replies.Step answer) reply is done = let no : false ≡ true = sym (ap is_done is) ∙ done in absurd cc
 done_turn (turn_replies.Cited cites) reply is done = absurd is
 done_turn turn_replies.LoggedIn reply is done = refl
+done_turn turn_replies.Checkpointed reply is done = let no : false ≡ true = sym (ap is_done is) ∙ done in absurd cc
 done_turn turn_replies.Full reply is done = let no : false ≡ true = sym (ap is_done is) ∙ done in absurd cc
 done_turn turn_replies.Stopped reply is done = let no : false ≡ true = sym (ap is_done is) ∙ done in absurd cc
 done_turn turn_replies.NoMemory reply is done = let no : false ≡ true = sym (ap is_done is) ∙ done in absurd cc
@@ -262,6 +263,7 @@ module _ (gives : ℤ → Type 0) (p : StorePass) (history : List StoreEntry) (n
   after_line _ _ _ _ asks over (at_once reply) = same_state
   after_line _ _ _ _ asks over (in_a_turn (Step request) replied reply to given turn is) = same_state
   after_line _ _ _ _ asks over (in_a_turn (Cite numbers) replied reply to given turn is) = same_state
+  after_line _ _ _ _ asks over (in_a_turn turn_requests.Checkpoint replied reply to given turn is) = same_state
   after_line _ _ _ _ asks over (in_a_turn (Login who n signature) replied reply to given turn is) =
       login_state p.root.ring nonce heard line s who n signature reply (is_done reply) refl over asks signed (λ done. turn_signed gives p turn.before who n signature replied given turn.turn (done_turn replied reply is done))
   after_line _ _ _ _ asks over (places.cites_none goal numbers proof replied reply to given turn is) = same_state
@@ -270,6 +272,7 @@ module _ (gives : ℤ → Type 0) (p : StorePass) (history : List StoreEntry) (n
   after_line _ _ _ _ asks over (places.without_memory (tasks.Reply reply)) = same_state
   after_line _ _ _ _ asks over (places.without_memory (tasks.Turn (Step request))) = same_state
   after_line _ _ _ _ asks over (places.without_memory (tasks.Turn (Cite numbers))) = same_state
+  after_line _ _ _ _ asks over (places.without_memory (tasks.Turn turn_requests.Checkpoint)) = same_state
   after_line _ _ _ _ asks over (places.without_memory (tasks.Turn (Login who n signature))) = same_state
   after_line _ _ _ _ asks over (places.without_memory (tasks.Proof goal numbers proof)) = same_state
 

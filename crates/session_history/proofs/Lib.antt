@@ -1,5 +1,6 @@
 pub mod AskingLemmas
 pub mod CallerLemmas
+pub mod CheckpointLemmas
 pub mod CitationLemmas
 pub mod EndLemmas
 pub mod FormedLemmas

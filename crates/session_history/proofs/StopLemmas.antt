@@ -1,6 +1,7 @@
 -- A turn or a line is told that the store is stopped only where a mark is among the entries up to its place.
-use Rattle.std.proofs.Common.{◌≡◌, ◌∙◌, ◌+◌, ◌⊎◌, inl, inr, ℕ, List, [], ◌∷◌, ◌++◌, true, Option, Some, None, length, take, refl, sym, ap, append_assoc, length-append}
+use Rattle.std.proofs.Common.{◌≡◌, ◌∙◌, ◌+◌, ◌⊎◌, inl, inr, ℕ, List, [], ◌∷◌, ◌++◌, true, false, Option, Some, None, length, take, refl, sym, ap, append_assoc, length-append}
 use Rattle.std.specs.Prelude.{ℤ}
+use Rattle.std.specs.Option.{option_map}
 use Rattle.std.proofs.lemmas.Bool.{false≢true}
 use Rattle.std.proofs.Math.Seq.{take-append_seam}
 use Rattle.access_history.specs.declared.event.Event.{Event}
@@ -13,7 +14,7 @@ use Rattle.access_history.specs.declared.request.StepRequest.TheVariants as requ
 use Rattle.line_forms.specs.declared.fault.LineFault.{LineFault}
 use Rattle.line_wire.specs.declared.reply.LineReply.{LineReply}
 use Rattle.line_wire.specs.declared.reply.LineReply.TheVariants as replies
-use Rattle.pcfs_store.specs.Entries.{Root, StoreEntry, happened, checkpointed, stopped, events_among, state_of_entries}
+use Rattle.pcfs_store.specs.Entries.{Root, StoreEntry, happened, checkpointed, stopped, events_among, checkpoints_among, state_of_entries}
 use Rattle.session_history.specs.declared.request.TurnRequest.{TurnRequest}
 use Rattle.session_history.specs.declared.request.TurnRequest.TheVariants.{Step, Login}
 use Rattle.session_history.specs.declared.request.TurnRequest.TheVariants as turn_requests
@@ -45,6 +46,11 @@ stop_within (stopped other ∷ xs) ys pass = refl
 
 -- ---- turns
 
+-- the entry that an answer adds, if there is one
+abbrev pub those_of : Option StoreEntry → List StoreEntry
+those_of None = []
+those_of (Some entry) = entry ∷ []
+
 -- no answer is that the store is stopped
 answer_goes : (root : Root) (state : BaseView) (pass : ℕ) (clock : ℤ) (request : TurnRequest) (reply : TurnReply) (entry : Option StoreEntry) → AnswersTurn root state pass clock request reply entry → reply ≡ turn_replies.Stopped → ⊥
 answer_goes root state pass clock _ _ _ (steps request reply event answers) is = cc
@@ -71,19 +77,41 @@ none_kept gives p before request _ _ (kept clock reply entry running shown answe
 none_kept gives p before request _ _ (failed clock reply entry running shown answers room) is = refl
 none_kept gives p before request _ _ turns.without_memory is = refl
 
+-- and makes no checkpoint
+none_made : (gives : ℤ → Type 0) (p : StorePass) (before : List StoreEntry) (request : TurnRequest) (reply : TurnReply) (given : List StoreEntry) → Turn gives p before request reply given → reply ≡ turn_replies.Stopped → checkpoints_among given ≡ 0
+none_made gives p before request _ _ (was_stopped stop) is = refl
+none_made gives p before request _ _ (answered clock reply running shown answers) is = refl
+none_made gives p before request _ _ (full clock reply entry running shown answers is_full) is = refl
+none_made gives p before request _ _ (kept clock reply entry running shown answers room) is = absurd (answer_goes p.root (state_of_entries p.root before) p.number clock request reply (Some entry) answers is)
+none_made gives p before request _ _ (failed clock reply entry running shown answers room) is = refl
+none_made gives p before request _ _ turns.without_memory is = refl
+
+-- no answer adds a mark
+event_no_mark : (event : Option Event) → has_stop (those_of (option_map happened event)) ≡ false
+event_no_mark None = refl
+event_no_mark (Some event) = refl
+
+no_mark : (root : Root) (state : BaseView) (pass : ℕ) (clock : ℤ) (request : TurnRequest) (reply : TurnReply) (entry : Option StoreEntry) → AnswersTurn root state pass clock request reply entry → has_stop (those_of entry) ≡ false
+no_mark root state pass clock _ _ _ (steps request reply event answers) = event_no_mark event
+no_mark root state pass clock _ _ _ makes = refl
+no_mark root state pass clock _ _ _ (cites numbers cited found) = refl
+no_mark root state pass clock _ _ _ (cites_none numbers number absent) = refl
+no_mark root state pass clock _ _ _ (logs_in who nonce signature accepted) = refl
+no_mark root state pass clock _ _ _ (rejects who nonce signature refused) = refl
+
 -- and a turn that adds a mark is told so
 mark_told : (gives : ℤ → Type 0) (p : StorePass) (before : List StoreEntry) (request : TurnRequest) (reply : TurnReply) (given : List StoreEntry) → Turn gives p before request reply given → has_stop given ≡ true → reply ≡ turn_replies.Stopped
 mark_told gives p before request _ _ (was_stopped stop) mark = refl
 mark_told gives p before request _ _ (answered clock reply running shown answers) mark = absurd (false≢true mark)
 mark_told gives p before request _ _ (full clock reply entry running shown answers is_full) mark = absurd (false≢true mark)
-mark_told gives p before request _ _ (kept clock reply entry running shown answers room) mark = absurd (false≢true mark)
+mark_told gives p before request _ _ (kept clock reply entry running shown answers room) mark = absurd (false≢true (sym (no_mark p.root (state_of_entries p.root before) p.number clock request reply (Some entry) answers) ∙ mark))
 mark_told gives p before request _ _ (failed clock reply entry running shown answers room) mark = refl
 mark_told gives p before request _ _ turns.without_memory mark = absurd (false≢true mark)
 
 pub stops_told : (gives : ℤ → Type 0) (p : StorePass) (before : List StoreEntry) (request : TurnRequest) (reply : TurnReply) (given : List StoreEntry) → Turn gives p before request reply given →
-    (reply ≡ turn_replies.Stopped → (has_stop (before ++ given) ≡ true) × (events_among given ≡ [])) × (has_stop given ≡ true → reply ≡ turn_replies.Stopped)
+    (reply ≡ turn_replies.Stopped → (has_stop (before ++ given) ≡ true) × (events_among given ≡ []) × (checkpoints_among given ≡ 0)) × (has_stop given ≡ true → reply ≡ turn_replies.Stopped)
 stops_told gives p before request reply given turn =
-    (λ is. (stop_there gives p before request reply given turn is, none_kept gives p before request reply given turn is), λ mark. mark_told gives p before request reply given turn mark)
+    (λ is. (stop_there gives p before request reply given turn is, none_kept gives p before request reply given turn is, none_made gives p before request reply given turn is), λ mark. mark_told gives p before request reply given turn mark)
 
 -- the entries up to where a turn came
 front_of : (history before given after : List StoreEntry) (to : ℕ) → history ≡ before ++ (given ++ after) → to ≡ length before + length given → take to history ≡ before ++ given

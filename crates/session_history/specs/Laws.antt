@@ -7,9 +7,10 @@ use Rattle.access_history.specs.declared.event.Event.TheVariants.{Registered, Is
 use Rattle.access_history.specs.Lawful.{IsLawful}
 use Rattle.line_wire.specs.declared.reply.LineReply.{LineReply}
 use Rattle.line_wire.specs.declared.reply.LineReply.TheVariants as replies
-use Rattle.pcfs_store.specs.Entries.{StoreEntry, happened, checkpointed, stopped, events_among}
+use Rattle.pcfs_store.specs.Entries.{StoreEntry, happened, checkpointed, stopped, events_among, checkpoints_among}
 use Rattle.session_history.specs.declared.request.TurnRequest.{TurnRequest}
 use Rattle.session_history.specs.declared.request.TurnRequest.TheVariants.{Login}
+use Rattle.session_history.specs.declared.request.TurnRequest.TheVariants as requests
 use Rattle.session_history.specs.declared.reply.TurnReply.{TurnReply}
 use Rattle.session_history.specs.declared.reply.TurnReply.TheVariants as turn_replies
 use Rattle.session_history.specs.Passes.{AllOfPass, has_stop}
@@ -49,10 +50,15 @@ abbrev pub PlacesGoOn : (ℤ → Type 0) → Type 0
 PlacesGoOn gives = (p : StorePass) (history : List StoreEntry) (start : SessionState) (from : ℕ) (lines : List (List ℕ)) (answers : List LineReply) (end : SessionState) (to : ℕ) (given : List StoreEntry) →
     from ≤ length history → LinesPlaced gives p history start from lines answers end to given → (from ≤ to) × (to ≤ length history)
 
--- A turn that is told that the store is stopped keeps no event, and there is a mark, which it found or which it adds; and a turn that adds a mark is told so.
+-- A turn that is told that the store is stopped keeps no event and makes no checkpoint, and there is a mark, which it found or which it adds; and a turn that adds a mark is told so.
 abbrev pub StopsAreTold : (ℤ → Type 0) → Type 0
 StopsAreTold gives = (p : StorePass) (before : List StoreEntry) (request : TurnRequest) (reply : TurnReply) (given : List StoreEntry) → Turn gives p before request reply given →
-    (reply ≡ turn_replies.Stopped → (has_stop (before ++ given) ≡ true) × (events_among given ≡ [])) × (has_stop given ≡ true → reply ≡ turn_replies.Stopped)
+    (reply ≡ turn_replies.Stopped → (has_stop (before ++ given) ≡ true) × (events_among given ≡ []) × (checkpoints_among given ≡ 0)) × (has_stop given ≡ true → reply ≡ turn_replies.Stopped)
+
+-- A turn that is told that a checkpoint was made asked for one, and adds it, under the number of its pass, and nothing else; and a turn that adds one is told so.
+abbrev pub CheckpointsAreTold : (ℤ → Type 0) → Type 0
+CheckpointsAreTold gives = (p : StorePass) (before : List StoreEntry) (request : TurnRequest) (reply : TurnReply) (given : List StoreEntry) → Turn gives p before request reply given →
+    (reply ≡ turn_replies.Checkpointed → (request ≡ requests.Checkpoint) × (given ≡ checkpointed p.number ∷ [])) × (checkpoints_among given ≢ 0 → reply ≡ turn_replies.Checkpointed)
 
 -- a line is told that the store is stopped only where a mark is among the entries up to its place
 abbrev pub StoppedAfterStop : (ℤ → Type 0) → Type 0

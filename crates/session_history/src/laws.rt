@@ -1,7 +1,7 @@
 //! Laws of the definitions. The functions do nothing: each contract is a law. Where the moments of a clock occur, it holds
 //! of each clock.
 
-ghost use Rattle.session_history.specs.Laws.{TurnsStayPlaced, LinesStayPlaced, SessionsStayPlaced, GivenAreOfPass, PlacesGoOn, StopsAreTold, StoppedAfterStop, CallersAreAccepted, LinesAreAnswered, LinesHaveATask, LinesHaveOneTask, TasksAreFormed, TurnsHaveAnEnd, LinesHaveAnEnd, NothingAfterStop, TurnsHaveOneEnd};
+ghost use Rattle.session_history.specs.Laws.{TurnsStayPlaced, LinesStayPlaced, SessionsStayPlaced, GivenAreOfPass, PlacesGoOn, StopsAreTold, CheckpointsAreTold, StoppedAfterStop, CallersAreAccepted, LinesAreAnswered, LinesHaveATask, LinesHaveOneTask, TasksAreFormed, TurnsHaveAnEnd, LinesHaveAnEnd, NothingAfterStop, TurnsHaveOneEnd};
 
 use pcfs_ports::Clock;
 
@@ -15,8 +15,8 @@ pub fn what_is_placed_stays_placed<C: Clock>(clock: &C)
 }
 
 /// The entries that a session is given are of its own pass. If there are any, one of its lines asks that somebody be logged
-/// in over its nonce, by a signature that the ring accepts; and each operation among them is by somebody of whom such a line
-/// says so.
+/// in over its nonce, by a signature that the ring accepts; each operation among them is by somebody of whom such a line says
+/// so, and each checkpoint by `admin`, of whom one does.
 pub fn given_entries_are_of_the_session<C: Clock>(clock: &C)
     ensures pass { GivenAreOfPass (C.gives clock.now) }
     ensures callers { CallersAreAccepted (C.gives clock.now) }
@@ -32,12 +32,19 @@ pub fn places_go_on<C: Clock>(clock: &C)
     let _ = clock;
 }
 
-/// A turn is told that the store is stopped if it adds a mark, and only if there is one; it keeps no event then. So a line is
-/// told so only after a mark, and after one no turn decides anything.
+/// A turn is told that the store is stopped if it adds a mark, and only if there is one; it keeps no event and makes
+/// no checkpoint then. So a line is told so only after a mark, and after one no turn decides anything.
 pub fn a_stop_is_the_end<C: Clock>(clock: &C)
     ensures turns { StopsAreTold (C.gives clock.now) }
     ensures told { StoppedAfterStop (C.gives clock.now) }
     ensures nothing { NothingAfterStop (C.gives clock.now) }
+{
+    let _ = clock;
+}
+
+/// A turn is told that a checkpoint was made exactly if it adds one. It asked for one then, and adds nothing else.
+pub fn checkpoints_are_told<C: Clock>(clock: &C)
+    ensures { CheckpointsAreTold (C.gives clock.now) }
 {
     let _ = clock;
 }

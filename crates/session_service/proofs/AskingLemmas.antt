@@ -1,6 +1,6 @@
 -- What a line of a session asks, and what a look makes of its command.
 use Rattle.std.proofs.Common.{◌≡◌, ℕ, List, [], ◌∷◌, map, Option, Some, None, sym, subst}
-use Rattle.std.specs.Prelude.{Ok, Err}
+use Rattle.std.specs.Prelude.{Ok, Err, IsTrue}
 use Rattle.bl_syntax.specs.declared.grant.Goal.{Goal}
 use Rattle.bl_syntax.specs.Grant.{GrantView}
 use Rattle.procap.specs.declared.procap.Procap.{Procap as Sealed}
@@ -21,14 +21,16 @@ use Rattle.access_history.specs.declared.reply.StepReply.TheVariants.{Absent}
 use Rattle.line_words.specs.declared.procap_word.ProcapWord.{ProcapWord}
 use Rattle.line_words.specs.declared.procap_word.ProcapWord.TheVariants as words
 use Rattle.line_forms.specs.declared.command.Command.{Command}
-use Rattle.line_forms.specs.declared.command.Command.TheVariants.{At, As, Register, Procap, Verify, Check, Do}
+use Rattle.line_forms.specs.declared.command.Command.TheVariants.{At, As, Register, Procap, Checkpoint, Verify, Check, Do}
+use Rattle.line_forms.specs.Modes.{is_admin}
 use Rattle.line_wire.specs.declared.reply.LineReply.TheVariants as replies
 use Rattle.session_history.specs.declared.request.TurnRequest.TheVariants.{Step}
+use Rattle.session_history.specs.declared.request.TurnRequest.TheVariants as turn_requests
 use Rattle.session_history.specs.declared.task.LineTask.{LineTask}
 use Rattle.session_history.specs.declared.task.LineTask.TheVariants as tasks
 use Rattle.session_history.specs.Tasks.{IsUserTask}
 use Rattle.pcfs_session.specs.Asker.{Asker}
-use Rattle.pcfs_session.specs.LineAnswer.{replied, requested, ComesTo, registers, shows, verifies, verifies_nothing, acts}
+use Rattle.pcfs_session.specs.LineAnswer.{replied, requested, ComesTo, checkpoint, registers, shows, makes_checkpoint, verifies, verifies_nothing, acts}
 use Rattle.pcfs_session.specs.Procaps.{held, AreBrought}
 use Rattle.pcfs_session.specs.Proved.{cites_none, proves_none}
 
@@ -59,11 +61,24 @@ module _ (secrets : Secrets) (state : BaseView) (asker : Asker) where
   turn_comes (Procap number) request sees is =
       subst (Comes (Procap number)) (same_step (requests.ShowProcap number (Some asker.caller)) request is)
       (subst (λ (who : Option (List ℕ)). Comes (Procap number) (requests.ShowProcap number who)) sees (shows number))
+  turn_comes Checkpoint request sees is = let other = is.1 in absurd cc
   turn_comes (Verify goal numbers proof) request sees is = absurd cc
   turn_comes (Check goal numbers proof) request sees is = absurd is
   turn_comes (Do op given) request sees is =
       subst (Comes (Do op given)) (same_step (requests.Act asker.caller op is.0) request is.2)
       (acts op given is.0 (subst (λ (ws : List ProcapWord). AreBrought secrets.seal_key state.issues ws is.0) (sym is.1) (brought secrets.seal_key state.issues is.0)))
+
+  -- a turn that makes a checkpoint is one of a command of `admin` to make it
+  pub checkpoint_comes : (command : Command) → IsUserTask asker.caller command (tasks.Turn turn_requests.Checkpoint) → IsTrue (is_admin asker.caller) × ComesTo secrets state asker command checkpoint
+  checkpoint_comes (At second) is = absurd is
+  checkpoint_comes (As who) is = absurd is
+  checkpoint_comes (Register None statement) is = absurd is
+  checkpoint_comes (Register (Some signature) statement) is = absurd cc
+  checkpoint_comes (Procap number) is = absurd cc
+  checkpoint_comes Checkpoint is = (is.0, makes_checkpoint)
+  checkpoint_comes (Verify goal numbers proof) is = absurd cc
+  checkpoint_comes (Check goal numbers proof) is = absurd is
+  checkpoint_comes (Do op given) is = let other = is.2 in absurd cc
 
   module _ (goal : Goal) (numbers : List ℕ) (proof : ProofView) where
     -- a task that is a proof is one of a command to verify it
@@ -73,6 +88,7 @@ module _ (secrets : Secrets) (state : BaseView) (asker : Asker) where
     proof_of (Register None statement) is = absurd is
     proof_of (Register (Some signature) statement) is = absurd cc
     proof_of (Procap number) is = absurd cc
+    proof_of Checkpoint is = let other = is.1 in absurd cc
     proof_of (Verify goal' numbers' proof') is = sym (same_proof goal goal' numbers numbers' proof proof' is)
     proof_of (Check goal' numbers' proof') is = absurd is
     proof_of (Do op given) is = let other = is.2 in absurd cc

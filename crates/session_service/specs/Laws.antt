@@ -1,5 +1,5 @@
 -- Laws of sessions: what a line of a session asks is what the definition of answers makes of its command, for somebody who calls in their own name and may see what is granted to them; and a session is placed in what its pass has seen.
-use Rattle.std.specs.Prelude.{◌≡◌, ℕ, ℤ, ◌≤◌, List, ◌++◌, Some, Ok, Err}
+use Rattle.std.specs.Prelude.{◌≡◌, ℕ, ℤ, ◌≤◌, List, ◌++◌, IsTrue, Some, Ok, Err}
 use Rattle.bl_syntax.specs.declared.grant.Goal.{Goal}
 use Rattle.bl_syntax.specs.Grant.{GrantView}
 use Rattle.proof_term.specs.Proof.{ProofView}
@@ -16,12 +16,13 @@ use Rattle.access_history.specs.Base.{BaseView}
 use Rattle.access_history.specs.declared.reply.StepReply.TheVariants.{Absent}
 use Rattle.access_history.specs.Citing.{AreFound, IsAbsent}
 use Rattle.line_forms.specs.declared.command.Command.{Command}
+use Rattle.line_forms.specs.Modes.{is_admin}
 use Rattle.line_wire.specs.declared.reply.LineReply.{LineReply}
 use Rattle.line_wire.specs.declared.reply.LineReply.TheVariants as replies
 use Rattle.tree_lock.specs.Seen.{PassView}
 use Rattle.pcfs_store.specs.Entries.{StoreEntry}
 use Rattle.pcfs_store.specs.StoreView.{StoreView}
-use Rattle.session_history.specs.declared.request.TurnRequest.TheVariants.{Step}
+use Rattle.session_history.specs.declared.request.TurnRequest.TheVariants.{Step, Checkpoint}
 use Rattle.session_history.specs.declared.task.LineTask.TheVariants as tasks
 use Rattle.session_history.specs.Tasks.{IsUserTask}
 use Rattle.session_history.specs.SessionState.{SessionState, guest_with}
@@ -31,7 +32,7 @@ use Rattle.shared_store.specs.LockHistory.{numbered, lock_history}
 use Rattle.shared_store.specs.Turning.{pass_at}
 use Rattle.shared_store.specs.Asking.{entries_seen, HasHistory, HasSeenFault}
 use Rattle.pcfs_session.specs.Asker.{Asker}
-use Rattle.pcfs_session.specs.LineAnswer.{replied, requested, ComesTo}
+use Rattle.pcfs_session.specs.LineAnswer.{replied, requested, checkpoint, ComesTo}
 use Rattle.session_service.specs.Said.{SaysStopped}
 use Rattle.session_service.specs.SessionEnds.{Speaks}
 
@@ -56,6 +57,10 @@ FaultsAreWhatCommandsComeTo = (secrets : Secrets) (state : BaseView) (asker : As
 abbrev pub AbsencesAreWhatCommandsComeTo : Type 0
 AbsencesAreWhatCommandsComeTo = (secrets : Secrets) (state : BaseView) (asker : Asker) (command : Command) (goal : Goal) (numbers : List ℕ) (proof : ProofView) (number : ℕ) →
     IsUserTask asker.caller command (tasks.Proof goal numbers proof) → IsAbsent (sayings state.statements) numbers number → ComesTo secrets state asker command (replied (replies.Step (Absent number)))
+
+-- and a turn that makes a checkpoint is one of a command that comes to it, and is by `admin`
+abbrev pub CheckpointsAreWhatCommandsComeTo : Type 0
+CheckpointsAreWhatCommandsComeTo = (secrets : Secrets) (state : BaseView) (asker : Asker) (command : Command) → IsUserTask asker.caller command (tasks.Turn Checkpoint) → IsTrue (is_admin asker.caller) × ComesTo secrets state asker command checkpoint
 
 -- A session in what its pass has seen at the end: this is the history of a store that was opened so, and the replies are placed in it, after all that the pass had seen at first; the pass's own entries grew by those that the replies
 -- were given.

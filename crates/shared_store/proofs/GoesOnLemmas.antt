@@ -1,4 +1,4 @@
--- A store goes on from its opening by steps.
+-- A store goes on from its opening by steps and checkpoints.
 use Rattle.std.proofs.Common.{◌≡◌, ◌∙◌, ◌⊎◌, inl, inr, ⊎_elim, ℕ, suc, ◌≤◌, ◌<◌, ◌+◌, ◌-◌, ◌^◌, length, length-append, Bool, true, false, List, [], ◌∷◌, ◌++◌, Option, Some, None, refl, sym, ap, subst, arith, append_assoc, append-nil}
 use Rattle.std.specs.Prelude.{ℤ, ◌≢◌, not, is_some}
 use Rattle.std.proofs.lemmas.Bool.{cases_lt}
@@ -206,6 +206,10 @@ module _ {D : Type 0} (clock : D → ℕ) (left_since : D → ℕ → List ℕ �
   checkpoints_more : (opening checkpoints : List Checkpoint) → IsPrefix opening checkpoints → (made : Checkpoint) → IsPrefix opening (checkpoints ++ made ∷ [])
   checkpoints_more opening checkpoints begins made = (begins.0 ++ made ∷ [], sym (append_assoc opening begins.0 (made ∷ [])) ∙ ap (λ (cs : List Checkpoint). cs ++ made ∷ []) begins.1)
 
+  not_none : (more : List Checkpoint) (made : Checkpoint) → more ++ made ∷ [] ≡ [] → ⊥
+  not_none [] made is = cc
+  not_none (first ∷ more) made is = cc
+
   exchanged_more : (more : List Checkpoint) (made : Checkpoint) (second : Bool) → place_after (length (more ++ made ∷ [])) second ≡ not (place_after (length more) second)
   exchanged_more more made second = ap (λ (n : ℕ). place_after n second) (let long = length-append more (made ∷ []) in let same : length (more ++ made ∷ []) ≡ suc (length more) = omega (arith, long) in same)
 
@@ -231,10 +235,6 @@ module _ {D : Type 0} (clock : D → ℕ) (left_since : D → ℕ → List ℕ �
     first_never_falls = omega (arith, s.first_never_falls, g.first_never_falls);
     second_never_falls = omega (arith, s.second_never_falls, g.second_never_falls);
   }
-    where
-      not_none : (more : List Checkpoint) (made : Checkpoint) → more ++ made ∷ [] ≡ [] → ⊥
-      not_none [] made is = cc
-      not_none (first ∷ more) made is = cc
   by_checkpoint opening old _ pass _ g (makes.full running over) s = g
   by_checkpoint opening old _ pass _ g (makes.failed other running fits risen) s = record {
     began = g.began;

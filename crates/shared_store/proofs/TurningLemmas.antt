@@ -145,7 +145,7 @@ module _ {D : Type 0} (clock : D → ℕ) (left_since : D → ℕ → List ℕ �
     opening_stays = refl;
     grows = entries-stopped now running active now.other pass;
     turn = turns.failed moment (turn_replies.Step reply) (happened event) (runs now (ap is_some running)) refl (turns.steps request reply (Some event) (there pass moment request reply (Some event) answers)) (λ is_full. room (full_here event store is_full));
-    stops = λ stopper was is. (one_pass pass stopper is, inl risen);
+    stops = λ stopper was is. (one_pass pass stopper is, risen);
   }
   by_step _ pass moment request _ store (steps.stopped earlier is) = record {
     given = [];
@@ -199,7 +199,7 @@ module _ {D : Type 0} (clock : D → ℕ) (left_since : D → ℕ → List ℕ �
     opening_stays = refl;
     grows = entries-stopped now running now.active other pass;
     turn = turns.failed moment turn_replies.Checkpointed (checkpointed pass) (runs now (ap is_some running)) refl turns.makes (λ is_full. fits (checkpoint_here pass store is_full));
-    stops = λ stopper was is. (one_pass pass stopper is, inr risen);
+    stops = λ stopper was is. (one_pass pass stopper is, risen);
   }
   by_checkpoint _ pass moment _ store (makes.stopped earlier is) = record {
     given = [];
@@ -266,9 +266,9 @@ module _ {D : Type 0} (clock : D → ℕ) (left_since : D → ℕ → List ℕ �
 pub turned_by_checkpoint : {D : Type 0} (clock : D → ℕ) (left_since : D → ℕ → List ℕ → Type 0) (image : D → Option (List ℕ)) (faults : D → ℕ) (opening old new : StoreView D) (pass : ℕ) (moment : ℤ) (reply : CheckpointReply) (told : TurnReply) →
     HasGoneOn clock left_since image faults opening old → IsStore old → MakesCheckpoint faults old pass reply new → told ≡ checkpoint_reply reply →
     HasTurned faults (λ m. m ≡ moment) requests.Checkpoint (record { store = old; opening = opening }) pass (record { store = new; opening = opening }) told
-turned_by_checkpoint clock left_since image faults opening old new pass moment reply told g store makes is =
+turned_by_checkpoint clock left_since image faults opening old new pass moment reply told g store made is =
     subst (λ (r : TurnReply). HasTurned faults (λ m. m ≡ moment) requests.Checkpoint (record { store = old; opening = opening }) pass (record { store = new; opening = opening }) r) (sym is)
-    (by_checkpoint clock left_since image faults opening old g new pass moment reply store makes)
+    (by_checkpoint clock left_since image faults opening old g new pass moment reply store made)
 
 pub turned_by_step : {D : Type 0} (clock : D → ℕ) (left_since : D → ℕ → List ℕ → Type 0) (image : D → Option (List ℕ)) (faults : D → ℕ) (opening old new : StoreView D) (pass : ℕ) (moment : ℤ) (request : StepRequest) (reply : StoreReply) (told : TurnReply) →
     HasGoneOn clock left_since image faults opening old → IsStore old → Steps faults old pass moment request reply new → told ≡ turn_reply reply →
@@ -294,7 +294,7 @@ pub turn_shown : (gives : ℤ → Type 0) (p : StorePass) (before : List StoreEn
     Turn (λ m. m ≡ moment) p before request reply given → Turn gives p before request reply given
 turn_shown gives p before request moment _ _ shown (turns.was_stopped is) = turns.was_stopped is
 turn_shown gives p before request moment _ _ shown (turns.answered at reply running same answers) = turns.answered at reply running (subst gives (sym same) shown) answers
-turn_shown gives p before request moment _ _ shown (turns.full at reply entry running same answers is_full) = turns.full at reply event running (subst gives (sym same) shown) answers is_full
-turn_shown gives p before request moment _ _ shown (turns.kept at reply entry running same answers room) = turns.kept at reply event running (subst gives (sym same) shown) answers room
-turn_shown gives p before request moment _ _ shown (turns.failed at reply entry running same answers room) = turns.failed at reply event running (subst gives (sym same) shown) answers room
+turn_shown gives p before request moment _ _ shown (turns.full at reply entry running same answers is_full) = turns.full at reply entry running (subst gives (sym same) shown) answers is_full
+turn_shown gives p before request moment _ _ shown (turns.kept at reply entry running same answers room) = turns.kept at reply entry running (subst gives (sym same) shown) answers room
+turn_shown gives p before request moment _ _ shown (turns.failed at reply entry running same answers room) = turns.failed at reply entry running (subst gives (sym same) shown) answers room
 turn_shown gives p before request moment _ _ shown turns.without_memory = turns.without_memory

@@ -42,8 +42,8 @@ pub data HasMet {D : Type 0} (clock : D → ℕ) (left_since : D → ℕ → Lis
 
 module _ {D : Type 0} (clock : D → ℕ) (left_since : D → ℕ → List ℕ → Type 0) (image : D → Option (List ℕ)) (faults : D → ℕ) where
   -- The store was opened as `opening`, and is `now`. Key, ring and base are the same, and the events are those of the opening with others after them; if the former are lawful, so are all. Checkpoints were added at the end: with each the
-  -- generation grew by one, and the disks changed their places; as long as none was made, the other disk is not touched, or one was tried at which it failed. While no disk has failed, a store that was ready is ready, and what a read gives
-  -- stands for its history. If one has, a count rose above the one at the opening; and of a store that was ready a crash leaves the history, or with it the event that met the fault, which a request of the pass that stopped it asked for.
+  -- generation grew by one, and the disks changed their places; as long as none was made, the other disk is not touched, or one was tried in which it failed. While no disk has failed, a store that was ready is ready, and what a read gives
+  -- stands for its history. If one has, a count rose above the one at the opening; and of a store that was ready a crash leaves the history, or, in a step, with it the event that met the fault, which a request of the pass that stopped it asked for.
   pub record HasGoneOn (opening now : StoreView D) : Type 0 where
     pub began : opening.stop ≡ None
     pub key_stays : now.key ≡ opening.key

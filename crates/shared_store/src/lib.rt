@@ -2,7 +2,7 @@
 //!
 //! A turn reads the clock and asks the store one thing. Of whatever history begins with what a pass has seen, the turn has
 //! its place there, and the pass was given exactly the entries that the turn added. The store remembers, for contracts
-//! alone, how it was opened, and has gone on from there by steps.
+//! alone, how it was opened, and has gone on from there by steps and checkpoints.
 #![tactic(auto)]
 
 mod asking;

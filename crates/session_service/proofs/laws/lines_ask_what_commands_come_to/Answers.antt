@@ -1,4 +1,4 @@
-use Rattle.session_service.proofs.AskingLemmas.{turn_comes, grant_comes, fault_comes, absent_comes}
+use Rattle.session_service.proofs.AskingLemmas.{turn_comes, grant_comes, fault_comes, absent_comes, checkpoint_comes}
 use Rattle.session_service.proofs.laws.lines_ask_what_commands_come_to.Goals as goal
 
 pub returns-clause-turns : goal.returns-clause-turns
@@ -12,3 +12,6 @@ returns-clause-faults c = λ secrets state asker command goal numbers proof cite
 
 pub returns-clause-absences : goal.returns-clause-absences
 returns-clause-absences c = λ secrets state asker command goal numbers proof number is absent. absent_comes secrets state asker goal numbers proof command number is absent
+
+pub returns-clause-checkpoints : goal.returns-clause-checkpoints
+returns-clause-checkpoints c = λ secrets state asker command is. checkpoint_comes secrets state asker command is
