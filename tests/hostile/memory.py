@@ -319,7 +319,7 @@ class Parts:
     def place(self, folder, logs):
         """Each reply but `nomemory` has its place among the events, and each event is that of a line that was answered, or that
         was the first without an answer. A fresh opening and an audit find as many events."""
-        placing = Placing(bytes_at(f"{folder}/pcfs.a"), self.secrets)
+        placing = Placing([bytes_at(f"{folder}/pcfs.a")], self.secrets)
         for log in logs:
             placing.add(without_memory_replies(log))
         state = placing.check()
