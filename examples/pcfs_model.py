@@ -551,7 +551,7 @@ OPERATIONS = {
     "chown": ([node, principal], 1),
 }
 GOAL = [principal, node, permission, cited]
-FORMS = {"at": [second], "as": [principal], "register": [signature], "procap": [issue], "verify": GOAL, "check": GOAL}
+FORMS = {"at": [second], "as": [principal], "register": [signature], "procap": [issue], "checkpoint": [], "verify": GOAL, "check": GOAL}
 
 
 def fault(text):
@@ -695,6 +695,9 @@ class Server:
     def procap(self, number):
         grant, tag = self.issued(number)
         return f"ok procap {(grant_bytes(grant) + tag).hex()}"
+
+    def checkpoint(self):
+        return "ok checkpoint"
 
     # -- operations
 
@@ -1064,11 +1067,13 @@ class Drawn:
             yield self.tell(line)
         yield self.tell("as alice")
         for _ in range(count):
-            kind = self.draw.choice(["operation"] * 12 + ["as", "at", "broken"])
+            kind = self.draw.choice(["operation"] * 12 + ["as", "at", "broken", "checkpoint"])
             if kind == "as":
                 yield self.tell(f"as {self.draw.choice(['alice', 'bob'])}")
             elif kind == "broken":
-                yield self.tell(self.broken(self.draw.choice([self.operation(), "as alice", "at 150"])))
+                yield self.tell(self.broken(self.draw.choice([self.operation(), "as alice", "at 150", "checkpoint"])))
+            elif kind == "checkpoint":
+                yield self.tell("checkpoint")
             elif kind == "at":
                 yield self.tell(f"at {self.draw.choice([0, 100, 100, 150, 200, 290, 301] if self.draw.random() < 0.2 else [100, 150, 200])}")
             else:

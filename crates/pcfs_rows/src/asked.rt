@@ -40,9 +40,9 @@ fn add_guest(alloc: Global, line: &[u8], out: &mut Bytes) -> Result<(), RowFault
     }
 }
 
-// Adds what the line of somebody who is logged in asks for.
-fn add_user(alloc: Global, line: &[u8], out: &mut Bytes) -> Result<(), RowFault> {
-    match Principal::new(b"alice") {
+// Adds what the line of the principal of this name, who is logged in, asks for.
+fn add_user(alloc: Global, name: &[u8], line: &[u8], out: &mut Bytes) -> Result<(), RowFault> {
+    match Principal::new(name) {
         Some(who) => add_asked(alloc, &Mode::User(who), line, out),
         None => Err(RowFault::BadRow),
     }
@@ -52,7 +52,8 @@ fn add_user(alloc: Global, line: &[u8], out: &mut Bytes) -> Result<(), RowFault>
 pub fn add_read(alloc: Global, kind: &str, line: &[u8], out: &mut Bytes) -> Result<(), RowFault> {
     match kind {
         "guest" => add_guest(alloc, line, out),
-        "user" => add_user(alloc, line, out),
+        "user" => add_user(alloc, b"alice", line, out),
+        "admin" => add_user(alloc, b"admin", line, out),
         "inquiry" => add_asked(alloc, &Mode::Inquiry, line, out),
         _ => Err(RowFault::BadRow),
     }

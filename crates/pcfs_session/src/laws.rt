@@ -2,7 +2,7 @@
 
 ghost use Rattle.pcfs_session.specs.Laws.{RunsAreLawful, LinesHaveOneAnswer, LinesHaveAnAnswer, AnswersAreNotOutOfMemory, RunsHaveOneOutcome, RunsHaveAnOutcome, FreshStartsAreLawful, ScriptsHaveOneOutcome};
 
-/// The events of a run of a script are lawful.
+/// The events of a run of a script are lawful, and with each checkpoint the generation grows by one.
 pub fn runs_are_lawful()
     ensures { RunsAreLawful }
 {}
