@@ -135,22 +135,24 @@ class Run:
             self.fault(part, fault)
 
     def quiet(self, part, server, idle):
-        """Once all have left, there are no more threads and files than before they came."""
-        until = time.monotonic() + 10
+        """Once all have left, there are no more threads than before they came, and no more files but that of the second area."""
+        until, threads, files = time.monotonic() + 10, idle[1], idle[2] + 1
         now = server.watch()
-        while now and (now[1] > idle[1] or now[2] > idle[2]) and time.monotonic() < until:
+        while now and (now[1] > threads or now[2] > files) and time.monotonic() < until:
             time.sleep(0.05)
             now = server.watch()
-        if now and (now[1] > idle[1] or now[2] > idle[2]):
-            self.fault(part, f"{now[1]} threads and {now[2]} files are left, and there were {idle[1]} and {idle[2]}")
+        if now and (now[1] > threads or now[2] > files):
+            self.fault(part, f"{now[1]} threads and {now[2]} files are left, and there were {threads} and {files}, with the second area's")
 
     def fill(self, server):
         """Connections that say nothing, until the server has had as many as it was to have."""
         for _ in range(server.count):
+            if not server.runs():
+                return
             try:
                 Session(server.port, 1).connection.close()
             except (OSError, Unanswered):
-                return
+                pass
 
     def end(self, part, server):
         """The server ends by itself, and tells how many it served."""

@@ -1,0 +1,206 @@
+#!/usr/bin/env bash
+# Times a checkpoint of a full tree: 16,384 nodes, 32 MiB of contents (2,048 bytes in each file), 4,096 statements and as many
+# issues as there are files. The line `checkpoint` is said to `pcfs script --stored`, from the line to its reply. Beside it, on the
+# same disk: `cp` and `sync` of a file of the same bytes; and SQLite's `VACUUM INTO`, and a sync, of a row for each node, statement
+# and issue, of the same size. Then the greatest memory of it, an opening of the area that it leaves, with its memory; and writes of
+# 4,096 bytes in the middle of a file of 1 MiB beside such into one of 8 KiB, over a store in memory. Each time is the least of
+# seven. Aims: 1.5 times cp and sync; twice the image more memory than before; an opening in a second, with three times the image;
+# both writes the same. It makes its own input, works in a folder of its own, ends by itself and decides no test.
+# usage: bench/checkpoint.sh [FOLDER], which lies on the disk to be timed; by default the current one. PROGRAM is the program, by
+# default crates/pcfs/out/pcfs.
+set -euo pipefail
+top=$(cd "$(dirname "$0")/.." && pwd)
+work=$(mktemp -d -p "${1:-.}")
+work=$(cd "$work" && pwd)
+memory=
+trap 'rm -rf "$work" ${memory:+"$memory"}' EXIT
+
+program=$(realpath "${PROGRAM:-$top/crates/pcfs/out/pcfs}")
+if [ ! -x "$program" ]; then
+  (cd "$top/crates/pcfs" && rt run > "$work/build.log" 2>&1 -- load 0 7) || { tail -5 "$work/build.log"; exit 1; }
+fi
+memory=$(mktemp -d -p "$([ -w /dev/shm ] && echo /dev/shm || echo "$work")")
+cd "$work"
+printf 'seal 0102\nkey admin 01\n' | tee pcfs.secrets > "$memory/pcfs.secrets"
+python3 - "$program" "$memory" << 'PYTHON'
+import os, shutil, sqlite3, subprocess, sys, time
+
+program, memory, disk = sys.argv[1], sys.argv[2], os.getcwd()
+FILES, SIZE, STATEMENTS, ROUNDS = 16383, 2048, 4096, 7
+MIB = 1 << 20
+ROOT = ["at 100", "register - admin says may(alice,#1,write) from 0 to 200", "verify alice #1 write 1 saysR(claim(0,init(1)))", "as alice"]
+OWNER = "register - admin says forall F:file. forall K:principal. owner(F,K) => may(K,F,write) from 0 to 200"
+
+
+def verify(file):
+    return f"verify alice #{file} write 2 saysR(claim(0,forallL(1,#{file},forallL(2,alice,impL(3,ctime,ctime,interR,init(4))))))"
+
+
+class Script:
+    """A stored script, to which one line after another is said."""
+
+    def __init__(self, folder):
+        self.process = subprocess.Popen([program, "script", "--stored"], cwd=folder, stdin=subprocess.PIPE, stdout=subprocess.PIPE)
+
+    def ask(self, line, wanted):
+        """Seconds from the line to its reply."""
+        begin = time.perf_counter()
+        self.process.stdin.write(line + b"\n")
+        self.process.stdin.flush()
+        told = self.process.stdout.readline()
+        taken = time.perf_counter() - begin
+        assert told.startswith(wanted), (line[:100], told[:100], self.process.poll())
+        return taken
+
+    def memory(self, kind):
+        with open(f"/proc/{self.process.pid}/status") as file:
+            return next(int(line.split()[1]) * 1024 for line in file if line.startswith(kind))
+
+    def forget_peak(self):
+        with open(f"/proc/{self.process.pid}/clear_refs", "w") as file:
+            file.write("5")
+
+    def end(self):
+        self.process.stdin.close()
+        assert self.process.wait() == 0
+        self.process.stdout.close()
+
+
+def run(words, folder, lines=()):
+    done = subprocess.run([program, *words], cwd=folder, input="".join(line + "\n" for line in lines).encode(), stdout=subprocess.PIPE)
+    told = done.stdout.splitlines()
+    assert done.returncode == 0 and all(reply.startswith(b"ok") for reply in told), (done.returncode, [reply for reply in told if not reply.startswith(b"ok")][:3])
+
+
+def full_tree():
+    """Makes the store in memory, and copies it to the disk."""
+    run(["init"], memory)
+    run(["script", "--stored"], memory, [*ROOT, OWNER])
+    run(["script", "--stored"], memory, (f"register - admin says p{one}(#{one}) from 0 to 200" for one in range(STATEMENTS - 2)))
+    run(["script", "--stored"], memory, ["at 100", "as alice", *(f"do create #1 file.{one} @1" for one in range(FILES))])
+    files = range(2, FILES + 2)
+    rest = 32 * MIB - FILES * SIZE
+    run(["script", "--stored"], memory, map(verify, files))
+    writes = (f"do write #{file} 0 {one % 251:02x}{'5a' * (SIZE - 1 + (rest if one == 0 else 0))} @{2 + one}" for one, file in enumerate(files))
+    run(["script", "--stored"], memory, ["at 100", "as alice", *writes])
+    shutil.copy(f"{memory}/pcfs.a", disk)
+
+
+def checkpoint(script):
+    return script.ask(b"checkpoint", b"ok checkpoint")
+
+
+def copy_and_sync():
+    if os.path.exists("copy"):
+        os.unlink("copy")
+    begin = time.perf_counter()
+    subprocess.run(["cp", "bytes", "copy"], check=True)
+    subprocess.run(["sync", "copy"], check=True)
+    return time.perf_counter() - begin
+
+
+def write_and_sync():
+    """The same bytes by one write and one sync, without a process."""
+    with open("bytes", "rb") as file:
+        data = file.read()
+    file = os.open("copy", os.O_RDWR | os.O_CREAT)
+    begin = time.perf_counter()
+    assert os.pwrite(file, data, 0) == len(data)
+    os.fsync(file)
+    taken = time.perf_counter() - begin
+    os.close(file)
+    return taken
+
+
+def database(image):
+    base = sqlite3.connect("base", isolation_level=None)
+    base.execute("pragma synchronous = full")
+    base.execute("create table node (number integer primary key, kind integer, owner text, directory integer, name text, contents blob)")
+    base.execute("create table row (number integer primary key, bytes blob)")
+    base.execute("begin")
+    base.executemany("insert into node values (?, 1, 'alice', 1, ?, ?)", ((one, f"file.{one}", bytes([one % 251]) * SIZE) for one in range(FILES)))
+    rows = STATEMENTS + FILES
+    left = image - FILES * (SIZE + 40)
+    base.executemany("insert into row values (?, ?)", ((one, bytes(left // rows)) for one in range(rows)))
+    base.execute("commit")
+    return base
+
+
+def vacuum(base):
+    if os.path.exists("into"):
+        os.unlink("into")
+    begin = time.perf_counter()
+    base.execute("vacuum into 'into'")
+    file = os.open("into", os.O_RDWR)
+    os.fsync(file)
+    os.close(file)
+    return time.perf_counter() - begin
+
+
+def opening():
+    """Seconds of an opening that does nothing more, and its greatest memory."""
+    begin = time.perf_counter()
+    script = Script(disk)
+    script.ask(b"at 100", b"ok")
+    taken = time.perf_counter() - begin
+    most = script.memory("VmHWM")
+    script.end()
+    return taken, most
+
+
+def header(name):
+    with open(name, "rb") as file:
+        head = file.read(24)
+    return head[0], int.from_bytes(head[8:16], "big"), int.from_bytes(head[16:24], "big")
+
+
+def seconds_of_writes():
+    """Seconds of one write of 4,096 bytes into a file of 8 KiB, and into one of 1 MiB: the least of many, in turns."""
+    shutil.rmtree(f"{memory}/writes", ignore_errors=True)
+    os.makedirs(f"{memory}/writes")
+    shutil.copy("pcfs.secrets", f"{memory}/writes")
+    run(["init"], f"{memory}/writes")
+    run(["script", "--stored"], f"{memory}/writes", [*ROOT, OWNER, "do create #1 small @1", "do create #1 large @1", verify(2), verify(3)])
+    script = Script(f"{memory}/writes")
+    for line in b"at 100", b"as alice", b"do truncate #2 8192 @2", b"do truncate #3 1048576 @3":
+        script.ask(line, b"ok")
+    piece, times = b"5a" * 4096, ([], [])
+    for one in range(400):
+        times[0].append(script.ask(b"do write #2 2048 %s @2" % piece, b"ok"))
+        times[1].append(script.ask(b"do write #3 %d %s @3" % (2048 + 4096 * (one % 250), piece), b"ok"))
+    script.end()
+    return [(min(some), sorted(some)[len(some) // 2]) for some in times]
+
+
+full_tree()
+script = Script(disk)
+script.ask(b"at 100", b"ok")
+checkpoint(script)
+before = script.memory("VmRSS")
+script.forget_peak()
+made, copied, written = [], [], []
+with open("pcfs.b", "rb") as area:
+    image = header("pcfs.b")[2]
+    with open("bytes", "wb") as file:
+        file.write(area.read(24 + image + 1))
+base = database(image)
+vacuumed = []
+for _ in range(ROUNDS):
+    made.append(checkpoint(script))
+    copied.append(copy_and_sync())
+    written.append(write_and_sync())
+    vacuumed.append(vacuum(base))
+most = script.memory("VmHWM")
+script.end()
+opened = [opening() for _ in range(ROUNDS)]
+taken = min(made)
+print(f"an image of {image} bytes: {FILES + 1} nodes, {32 * MIB} bytes of contents, {STATEMENTS} statements, {FILES + 1} issues")
+print(f"checkpoint: {taken * 1000:.0f} ms, {image / taken / 1e6:.0f} MB a second; cp and sync {min(copied) * 1000:.0f} ms, so {taken / min(copied):.2f} times that")
+print(f"one write of the same bytes and a sync: {min(written) * 1000:.0f} ms, so {taken / min(written):.2f} times that")
+print(f"VACUUM INTO of {os.path.getsize('into')} bytes, and a sync: {min(vacuumed) * 1000:.0f} ms, so {taken / min(vacuumed):.2f} times that")
+print(f"memory: {most / MIB:.0f} MiB at most, {most / image:.2f} of the image; {before / MIB:.0f} MiB between checkpoints, so {(most - before) / image:.2f} of the image more")
+seconds, peak = min(one for one, _ in opened), max(one for _, one in opened)
+print(f"opening: {seconds * 1000:.0f} ms, {peak / MIB:.0f} MiB at most, {peak / image:.2f} of the image")
+(small, small_middle), (large, large_middle) = seconds_of_writes()
+print(f"a write of 4,096 bytes, with its event: into 8 KiB {small * 1e6:.1f} us, into 1 MiB {large * 1e6:.1f} us, so {large / small:.2f} times that; in the middle {small_middle * 1e6:.1f} and {large_middle * 1e6:.1f} us")
+PYTHON
