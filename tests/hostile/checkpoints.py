@@ -39,7 +39,7 @@ class Generations:
         return f"{self.folder}/{number}"
 
     def all(self):
-        """The areas in their order, up to the last, or to the one before many at once."""
+        """The areas in their order, up to the last with events."""
         for number in range(1, 1 + (self.until or self.last())):
             yield self.area(number)
 
@@ -114,10 +114,11 @@ class Operator(threading.Thread):
 
 
 def all_at_once(port, generations):
-    """Some say it at once, again and again, while nobody else says anything: what is wrong, and their nonces. What counted before is
-    kept, and so are the replies to all."""
+    """Some say it at once, again and again, while nobody else says anything: the one reply to all of them. What counted before is
+    kept as the last: nothing happens any more."""
     before = generations.last()
     generations.keep(before)
+    generations.until = before
     sessions = [Session(port) for _ in range(AT_ONCE)]
     for session in sessions:
         session.ask(login("admin", session.nonce).encode())
@@ -125,7 +126,6 @@ def all_at_once(port, generations):
     for session in sessions:
         session.leave()
     replies = [reply for session in sessions for reply, *_ in session.log.replies[1:]]
-    faults = [f"one of {AT_ONCE} who say checkpoint at once is told {reply!r}" for reply in replies if reply != b"ok checkpoint"]
-    if generations.last() != before + AT_ONCE * EACH:
-        faults.append(f"{AT_ONCE * EACH} checkpoints lead from generation {before} to {generations.last()}")
-    return before, faults, [session.nonce for session in sessions]
+    if len(set(replies)) > 1 or generations.last() != before + replies.count(b"ok checkpoint"):
+        raise Unanswered(f"checkpoints at once lead from generation {before} to {generations.last()}, and are told {replies}")
+    return replies[0]

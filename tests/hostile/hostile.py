@@ -50,7 +50,7 @@ class Run:
         together = sum(SHARES[part] for part in parts)
         self.shares = {part: seconds * SHARES[part] / together for part in parts}
         self.faults, self.total = [], Counter()
-        self.area = self.secrets = None
+        self.area = self.secrets = self.at_once = None
 
     def tell(self, part, text):
         print(f"{part}: {text}", flush=True)
@@ -128,11 +128,11 @@ class Run:
         return operator.logs
 
     def together(self, part, server, generations):
-        """Some make checkpoints at once. What was before is kept; after it nothing happens any more."""
-        before, faults, _ = all_at_once(server.port, generations)
-        generations.until = before
-        for fault in faults:
-            self.fault(part, fault)
+        """Some make checkpoints at once, at the end."""
+        try:
+            self.at_once = all_at_once(server.port, generations)
+        except (OSError, Unanswered) as fault:
+            self.fault(part, f"checkpoints at once: {fault!r}")
 
     def quiet(self, part, server, idle):
         """Once all have left, there are no more threads than before they came, and no more files but that of the second area."""
@@ -186,20 +186,29 @@ class Run:
             self.area, self.secrets = generations.area(1), store.secrets
 
     def open_again(self, part, store, state, placing):
-        """A fresh opening finds the same events, and so does an audit, if the program has one; after checkpoints at the end the area has
-        the state as its image, and nothing else."""
-        found, area = store.found(), store.newest()
+        """A fresh opening finds the same events, and so does an audit, if the program has one."""
+        found, unissued = store.found(), placing.unissued
         if found != (state.count, 0):
             self.fault(part, f"an opening finds {found}, and not {state.count} events")
-        unissued = placing.unissued if any(True for _ in records(area)) else 0
-        if not any(True for _ in records(area)) and image_in(area) != image_of(state):
-            self.fault(part, "an area without records has another image than that of the state")
+        if self.at_once:
+            unissued = 0 if self.at_once == b"ok checkpoint" else unissued
+            self.compare_at_once(part, store.newest(), image_of(state))
         done = store.run("audit")
         wanted = f"events {state.count} statements {len(state.statements)} issues {len(state.issues)} unissued {unissued}\n".encode()
         if done == (b"usage\n", 1):
             self.tell(part, "the program has no audit")
         elif done != (wanted, 0):
             self.fault(part, f"an audit writes {done[0][:300]!r}, {done[1]}, and not {wanted!r}")
+
+    def compare_at_once(self, part, area, image):
+        """After the checkpoints at the end the area has the state as its image, and nothing else; or it was full."""
+        if self.at_once == b"full":
+            is_right = len(image) + 25 > LIMIT
+        else:
+            is_right = self.at_once == b"ok checkpoint" and image_in(area) == image and not any(True for _ in records(area))
+        if not is_right:
+            self.fault(part, f"checkpoints at the end are told {self.at_once!r}, over a state whose image has {len(image)} bytes, and leave another area")
+        self.at_once = None
 
     def figures(self, part, placing, server, generations, sessions, lines):
         events, told = placing.last, placing.told_words
@@ -239,11 +248,12 @@ class Run:
         self.total["damages"] += kinds.total()
 
     def draw_store(self):
-        """A store by a random script, if no part before has left one."""
+        """A store by a random script without checkpoints, if no part before has left one."""
         self.secrets = "seal 00\nkey admin 01\n"
         store = Store(self.program, f"{self.folder}/drawn", self.secrets)
         store.run("init")
-        store.run("script", "--stored", given="".join(line + "\n" for line in Drawn(self.seed).lines(2000)).encode("latin-1"))
+        lines = [line + "\n" for line in Drawn(self.seed).lines(2000) if line != "checkpoint"]
+        store.run("script", "--stored", given="".join(lines).encode("latin-1"))
         self.area = store.area()
 
     def kills(self):

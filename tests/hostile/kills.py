@@ -65,7 +65,7 @@ class Kills:
             commanded += self.kill_checkpoint(store, generations)
             if time.monotonic() > end:
                 break
-        placing = Placing(generations.all(), store.secrets, {SHARED, "admin"})
+        placing = Placing(generations.all(), store.secrets, {SHARED})
         placing.makers.update(dict.fromkeys(commanded))
         for log in logs:
             placing.add(log)
