@@ -248,12 +248,12 @@ class Run:
         self.total["damages"] += kinds.total()
 
     def draw_store(self):
-        """A store by a random script without checkpoints, if no part before has left one."""
+        """A store by a random script, if no part before has left one."""
         self.secrets = "seal 00\nkey admin 01\n"
         store = Store(self.program, f"{self.folder}/drawn", self.secrets)
         store.run("init")
-        lines = [line + "\n" for line in Drawn(self.seed).lines(2000) if line != "checkpoint"]
-        store.run("script", "--stored", given="".join(lines).encode("latin-1"))
+        lines = [line for line in Drawn(self.seed).lines(2000) if line != "checkpoint"]  # so the first area has all events
+        store.run("script", "--stored", given="".join(line + "\n" for line in lines).encode("latin-1"))
         self.area = store.area()
 
     def kills(self):
