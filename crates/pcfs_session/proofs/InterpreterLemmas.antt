@@ -34,7 +34,7 @@ use Rattle.line_forms.specs.Lines.{IsLine, IsLineFault, IsUnread}
 use Rattle.line_wire.specs.declared.reply.LineReply.{LineReply}
 use Rattle.line_wire.specs.declared.reply.LineReply.TheVariants as replies
 use Rattle.std.specs.Option.{option_map}
-use Rattle.pcfs_store.specs.Entries.{StoreEntry, happened}
+use Rattle.pcfs_store.specs.Entries.{happened}
 use Rattle.pcfs_session.specs.Asker.{Asker, asker_after}
 use Rattle.pcfs_session.specs.Brought.{AreProcapsAdded}
 use Rattle.pcfs_session.specs.Procaps.{AreBrought, IsFirstUnissued}

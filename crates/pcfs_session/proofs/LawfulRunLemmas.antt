@@ -22,7 +22,7 @@ use Rattle.line_forms.specs.Lines.{IsLine}
 use Rattle.line_wire.specs.declared.reply.LineReply.{LineReply}
 use Rattle.pcfs_secrets.specs.declared.secrets.Secrets.{Secrets}
 use Rattle.std.specs.Option.{option_map}
-use Rattle.pcfs_store.specs.declared.checkpoints.Checkpoint.{Checkpoint}
+use Rattle.pcfs_store.specs.declared.checkpoints.Checkpoint.{Checkpoint as MadeCheckpoint}
 use Rattle.pcfs_store.specs.Entries.{StoreEntry, happened, checkpointed, stopped as stop_mark}
 use Rattle.pcfs_session.specs.LineAnswer as line_answer
 use Rattle.pcfs_session.specs.Asker.{Asker, IsAsker, asker_after}
@@ -111,7 +111,7 @@ IsLawfulStanding-replied s _ line _ stands without_memory = stands
 -- under the same secrets and over the same base, events and checkpoints are added
 record GoesOn (s after : Standing) : Type 0 where
   added : List Event
-  made : List Checkpoint
+  made : List MadeCheckpoint
   secrets : after.secrets ≡ s.secrets
   base : after.base ≡ s.base
   events : after.events ≡ s.events ++ added
@@ -144,7 +144,7 @@ on_and_on s mid after one other = record {
   secrets = other.secrets ∙ one.secrets;
   base = other.base ∙ one.base;
   events = other.events ∙ ap (λ (es : List Event). es ++ other.added) one.events ∙ append_assoc s.events one.added other.added;
-  checkpoints = other.checkpoints ∙ ap (λ (cs : List Checkpoint). cs ++ other.made) one.checkpoints ∙ append_assoc s.checkpoints one.made other.made;
+  checkpoints = other.checkpoints ∙ ap (λ (cs : List MadeCheckpoint). cs ++ other.made) one.checkpoints ∙ append_assoc s.checkpoints one.made other.made;
   generation = omega (arith, one.generation, other.generation, length-append one.made other.made);
 }
 

@@ -1,5 +1,5 @@
 -- A store while a script goes on.
-use Rattle.std.proofs.Common.{◌≡◌, ◌⊎◌, inl, inr, ℕ, zero, suc, ℤ, ◌+◌, ◌≤◌, Bool, true, false, List, [], ◌∷◌, ◌++◌, length, length-append, append_assoc, append-nil, Option, Some, None, refl, sym, ap, subst, ◌∙◌, arith}
+use Rattle.std.proofs.Common.{◌≡◌, ◌⊎◌, inl, inr, ℕ, zero, suc, ℤ, ◌≤◌, Bool, true, false, List, [], ◌∷◌, ◌++◌, length, length-append, append_assoc, append-nil, Option, Some, None, refl, sym, ap, subst, ◌∙◌, arith}
 use Rattle.std.specs.Prelude.{◌≢◌, not}
 use Rattle.pcfs_ports.specs.Faults.{HasRisen}
 use Rattle.access_history.specs.declared.event.Event.{Event}
@@ -288,8 +288,8 @@ module _ {D : Type 0} (clock : D → ℕ) (left_since : D → ℕ → List ℕ �
 
   -- memory ran out in a checkpoint
   pub same-checkpoint : (inside seated : InterpreterView D) (new : StoreView D) (reply : CheckpointReply) → inside ≡ seated → reply ≡ checkpoint_replies.NoMemory → MakesCheckpoint faults inside.store inside.asker.pass reply new → seen new inside.asker ≡ seated
-  same-checkpoint inside seated new reply same is makes =
-      ap (λ (n : StoreView D). seen n inside.asker) (unmade inside.store new inside.asker.pass (subst (λ (r : CheckpointReply). MakesCheckpoint faults inside.store inside.asker.pass r new) is makes)) ∙ same
+  same-checkpoint inside seated new reply same is said =
+      ap (λ (n : StoreView D). seen n inside.asker) (unmade inside.store new inside.asker.pass (subst (λ (r : CheckpointReply). MakesCheckpoint faults inside.store inside.asker.pass r new) is said)) ∙ same
     where
       unmade : (old after : StoreView D) (pass : ℕ) → MakesCheckpoint faults old pass checkpoint_replies.NoMemory after → after ≡ old
       unmade old _ pass (makes.without_memory goes) = refl

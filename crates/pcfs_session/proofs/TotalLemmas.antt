@@ -44,7 +44,6 @@ use Rattle.pcfs_session.specs.Procaps.{BringsProcap, held, issued, NamesIssue, A
 use Rattle.pcfs_session.specs.Proved.{IsUnproved, cites_none, proves_none, IsProved}
 use Rattle.pcfs_session.specs.LineAnswer.{authority_under, signature_under, Look, replied, requested, ComesTo, AnswersCommand, at_once, decided, AnswersLine, faulty, asks}
 use Rattle.pcfs_session.specs.LineAnswer as line_answer
-use Rattle.pcfs_store.specs.StoredHistory.{IsFull}
 use Rattle.journal_records.specs.EventSpelling.{event_spelling}
 use Rattle.pcfs_session.specs.ScriptRun.{Standing, state_of_standing, standing_after, IsLawfulStanding, HasRoom, IsFullIn, Becomes, kept, full, IsReplied, answered, ScriptRun, ended, one_more, IsUndisturbed, AreUndisturbed}
 use Rattle.pcfs_session.proofs.FormedLemmas.{IsWellFormed-line}

@@ -1,5 +1,4 @@
 -- What a checkpoint of the store says is told.
-use Rattle.std.proofs.Common.{ap, ◌∙◌}
 use Rattle.std.proofs.lemmas.Result.{IfOk-weaker}
 use Rattle.pcfs_session.proofs.OutboxLemmas.{OnErr-weaker}
 use Rattle.pcfs_session.proofs.StoredLemmas.{LeadsTo-checkpoint, same-checkpoint}
