@@ -1,5 +1,5 @@
 -- How a run ends that serves.
-use Rattle.std.proofs.Common.{◌≡◌, ◌∙◌, ◌⊎◌, inl, inr, ℕ, ◌+◌, ◌≤◌, List, [], ◌∷◌, ◌++◌, ◌-◌, length, take, drop, append_assoc, append-nil, map, Bool, Option, Some, None, codes, decimal, refl, sym, ap, subst, arith, add-zero}
+use Rattle.std.proofs.Common.{◌≡◌, ◌∙◌, ◌⊎◌, inl, inr, ℕ, ◌+◌, ◌≤◌, List, [], ◌∷◌, ◌++◌, ◌-◌, length, take, drop, append_assoc, append-nil, map, Bool, true, false, Option, Some, None, codes, decimal, refl, sym, ap, subst, arith, add-zero}
 use Rattle.pcfs_ports.specs.Accepted.{FallsBy}
 use Rattle.pcfs_ports.specs.Faults.{HasRisen}
 use Rattle.access_history.specs.Answer.{Answers}
