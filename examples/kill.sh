@@ -1,7 +1,9 @@
 #!/usr/bin/env bash
-# Kills the program at random moments of a stored script, with SIGKILL, and opens the store again each time: every event
-# whose reply was written is there, and at most one more. Exits 1 if that fails once.
-# usage: examples/kill.sh [PROGRAM [TIMES]], by default crates/pcfs/out/pcfs and 200
+# Kills the program at random moments of a stored script with checkpoints in it, and of the command `checkpoint`, with SIGKILL, and
+# opens the store again each time: every event whose reply was written is there, and at most one more; the area begins with the
+# image of the last checkpoint that was told, or of one more, and leads to the same state by the plain model. Exits 1 if that
+# fails once.
+# usage: examples/kill.sh [PROGRAM [TIMES [SEED]]], by default crates/pcfs/out/pcfs, 200 and 1
 set -euo pipefail
 here=$(cd "$(dirname "$0")" && pwd)
 program=$(realpath "${1:-$here/../crates/pcfs/out/pcfs}")
@@ -10,23 +12,59 @@ work=$(mktemp -d)
 trap 'rm -rf "$work"' EXIT
 cp "$here/pcfs.secrets" "$work/"
 cd "$work"
-python3 - "$program" "$times" << 'PYTHON'
-"""Runs the stored script again and again, kills it, and counts what the next opening finds."""
+PYTHONPATH="$here/../tests/hostile:$here" PYTHONDONTWRITEBYTECODE=1 python3 - "$program" "$times" "${3:-1}" << 'PYTHON'
+"""Runs the stored script again and again, kills it, and compares what the next opening finds."""
 import os, random, signal, subprocess, sys, time
+from collections import Counter
 
-program, times = sys.argv[1], int(sys.argv[2])
-draw = random.Random(1)
+from areas import bytes_of, generation, image_in, newest, opened
+from images import count_in
+
+program, times, seed = sys.argv[1], int(sys.argv[2]), int(sys.argv[3])
+draw = random.Random(seed)
 POLICY = ["at 100", "register - admin says may(alice,#1,write) from 0 to 200", "verify alice #1 write 1 saysR(claim(0,init(1)))", "as alice"]
 KEPT = 2  # of the lines of the policy, so many are events
+ENOUGH = 4000  # events of one store
 # the number of the last event, as a line tells it that is denied
 PROBE = b"as bob\ndo create #1 x @1\n"
+SECRETS = bytes_of("pcfs.secrets").decode()
 
 
-def store():
-    for name in ("pcfs.a", "pcfs.b"):
-        if os.path.exists(name):
-            os.unlink(name)
-    subprocess.run([program, "init"], check=True, stdout=subprocess.DEVNULL)
+class Store:
+    """A new store, and what it has to have: its events, the names that were made, its generation, and the events before its image."""
+
+    def __init__(self):
+        for name in ("pcfs.a", "pcfs.b"):
+            if os.path.exists(name):
+                os.unlink(name)
+        subprocess.run([program, "init"], check=True, stdout=subprocess.DEVNULL)
+        subprocess.run([program, "script", "--stored"], input="\n".join(POLICY).encode() + b"\n", check=True, stdout=subprocess.DEVNULL)
+        self.events, self.names, self.generation, self.before = KEPT, set(), 1, 0
+
+    def made(self, name):
+        self.events += 1
+        self.names.add(name)
+
+    def checkpointed(self):
+        self.generation += 1
+        self.before = self.events
+
+    def compare(self, turn, next_line):
+        """What stands there is what was told, or that and what the line asks for that was not answered: whether it is more."""
+        area = newest(bytes_of("pcfs.a"), bytes_of("pcfs.b"))
+        is_more = False
+        if next_line.startswith("do create") and found() == self.events + 1:
+            is_more = True
+            self.made(next_line.split(" ")[3])
+        elif next_line == "checkpoint" and generation(area) == self.generation + 1:
+            is_more = True
+            self.checkpointed()
+        state = opened(area, SECRETS)
+        there = found(), generation(area), count_in(image_in(area)), state.count, len(state.statements), len(state.issues), set(state.nodes[1].children)
+        wanted = self.events, self.generation, self.before, self.events, 1, 1, self.names
+        if there != wanted or len(state.nodes) != 1 + len(self.names):
+            sys.exit(f"turn {turn}: {str(there)[:500]} is found, and not {str(wanted)[:500]}")
+        return is_more
 
 
 def found():
@@ -40,12 +78,12 @@ def found():
     return int(last.split()[-1])
 
 
-def run_and_kill(lines, after):
+def run_and_kill(words, lines, after):
     """The replies that were written before the program was killed."""
     with open("lines", "w") as out:
-        out.write("\n".join(lines) + "\n")
+        out.write("".join(line + "\n" for line in lines))
     with open("lines") as lines_in, open("replies", "wb") as replies:
-        child = subprocess.Popen([program, "script", "--stored"], stdin=lines_in, stdout=replies)
+        child = subprocess.Popen([program, *words], stdin=lines_in, stdout=replies)
         time.sleep(after)
         child.send_signal(signal.SIGKILL)
         child.wait()
@@ -54,25 +92,44 @@ def run_and_kill(lines, after):
     return written[: written.rfind(b"\n") + 1].decode().splitlines(), child.returncode == -signal.SIGKILL
 
 
-store()
-subprocess.run([program, "script", "--stored"], input="\n".join(POLICY).encode() + b"\n", check=True, stdout=subprocess.DEVNULL)
-events, name, killed, more = KEPT, 0, 0, 0
-for turn in range(times):
-    if events > 12000:
-        store()
-        subprocess.run([program, "script", "--stored"], input="\n".join(POLICY).encode() + b"\n", check=True, stdout=subprocess.DEVNULL)
-        events = KEPT
+def seconds_of_opening():
+    begin = time.monotonic()
+    found()
+    return time.monotonic() - begin
+
+
+def script(number):
+    """Lines that make files, from this number on, and checkpoints."""
+    often = draw.choice([0.3, 0.05, 0.02, 0])
     lines = ["at 100", "as alice"]
-    for _ in range(400):
-        name += 1
-        lines.append(f"do create #1 n{name} @1")
-    replies, was_killed = run_and_kill(lines, draw.random() * 0.15)
-    told = sum(reply.startswith("ok node") for reply in replies)
-    now = found()
-    if not events + told <= now <= events + told + 1:
-        sys.exit(f"turn {turn}: {events} events before, {told} told, {now} found")
-    killed += was_killed
-    more += now - events - told
-    events = now
-print(f"{times} runs, {killed} killed before their end, {more} with one event more than told")
+    for one in range(400):
+        lines += ["checkpoint"] * (draw.random() < often) + [f"do create #1 n{number + one} @1"]
+    return lines
+
+
+store, counts = Store(), Counter()
+for turn in range(times):
+    if store.events > ENOUGH:
+        store = Store()
+    is_command = turn % 4 == 3
+    words, lines = (["checkpoint"], ["checkpoint"]) if is_command else (["script", "--stored"], script(turn * 400))
+    replies, was_killed = run_and_kill(words, lines, draw.random() * (seconds_of_opening() * 1.5 + (0 if is_command else 0.15)))
+    for line, reply in zip(lines, replies):
+        if reply == "ok checkpoint":
+            store.checkpointed()
+            counts["checkpoints"] += 1
+        elif reply.startswith("ok node"):
+            store.made(line.split(" ")[3])
+        elif reply != "ok":
+            sys.exit(f"turn {turn}: {line} is told {reply}")
+    next_line = lines[len(replies)] if len(replies) < len(lines) else ""
+    is_more = store.compare(turn, next_line)
+    counts["killed"] += was_killed
+    counts["in a checkpoint"] += was_killed and next_line == "checkpoint"
+    counts["events more"] += is_more and next_line != "checkpoint"
+    counts["checkpoints more"] += is_more and next_line == "checkpoint"
+print(
+    f"{times} runs, {counts['killed']} killed before their end, {counts['events more']} with one event more than told; {counts['checkpoints']} checkpoints told, "
+    f"{counts['in a checkpoint']} killed before one was told, {counts['checkpoints more']} of which had been made"
+)
 PYTHON

@@ -1,5 +1,5 @@
 """What docs/FORMATS.md says of areas: their records, and what an opening of two of them finds."""
-from history import History
+from images import LAST_EVENT, state_of
 from pcfs_model import Bad
 
 LIMIT = 67_108_864
@@ -18,20 +18,17 @@ class Damaged(Exception):
         super().__init__(f"damaged {record} {cause}")
 
 
-class Unsaid(Damaged):
-    """An image other than a new store's, of which these tests do not say what is found."""
-
-    def __init__(self):
-        super().__init__(0, 2)
-
-
 def generation(area):
     return int.from_bytes(area[8:16], "big") if len(area) >= 16 else 0
 
 
+def is_open(area):
+    return area[:1] == b"\x01"
+
+
 def newest(first, second):
     """The area that counts, or none if neither is open."""
-    opened = [area for area in (first, second) if area[:1] == b"\x01"]
+    opened = [area for area in (first, second) if is_open(area)]
     return max(opened, key=generation) if opened else None
 
 
@@ -42,9 +39,12 @@ def begin_of(area):
     end = 24 + int.from_bytes(area[16:24], "big")
     if end > len(area) or end + 1 > LIMIT:
         raise Damaged(0, 1)
-    if area[24:end] != FRESH:
-        raise Unsaid
     return end
+
+
+def image_in(area):
+    """The image with which an open area begins."""
+    return area[24 : begin_of(area)]
 
 
 def records(area):
@@ -60,9 +60,13 @@ def records(area):
 
 
 def opened(area, secrets, reader=None):
-    """The state that the records of an area lead to."""
-    history = History(secrets, reader)
+    """The state that the image and the records of an area lead to."""
+    cause, history = state_of(image_in(area), secrets, reader)
+    if cause:
+        raise Damaged(0, cause)
     for number, (payload, _) in enumerate(records(area), 1):
+        if history.count == LAST_EVENT:
+            raise Damaged(number, 2)
         try:
             event = history.reader.event(payload)
         except Bad:
@@ -74,22 +78,20 @@ def opened(area, secrets, reader=None):
 
 
 def opening(first, second, secrets, reader=None):
-    """What an opening finds: its line and its status, or the number of events and 0; none if that is not said here."""
+    """What an opening finds: its line and its status, or the number of events and 0."""
     area = newest(first, second)
     if area is None:
         return "nostore", 4
     try:
         return opened(area, secrets, reader).count, 0
-    except Unsaid:
-        return None
     except Damaged as damaged:
         return str(damaged), 3
 
 
-def bytes_of(path):
-    """The bytes of a file, none if it is not there."""
+def bytes_of(path, most=-1):
+    """The bytes of a file, or the first of them; none if it is not there."""
     try:
         with open(path, "rb") as file:
-            return file.read()
+            return file.read(most)
     except FileNotFoundError:
         return b""

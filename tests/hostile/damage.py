@@ -2,27 +2,55 @@
 import time
 from collections import Counter
 
-from areas import FRESH, HEADER, newest, opening, records
+from areas import FRESH, HEADER, begin_of, newest, opening, records
+from history import History
+from images import image_of, state_of
+from pcfs_model import Node
 from serving import free_port
 
+BASES = 12  # images of states between the first events, of which so many are taken at most
+BASE_EVENTS = 600
 MADE = b"\x01" + HEADER + (1).to_bytes(8, "big") + len(FRESH).to_bytes(8, "big") + FRESH + b"\0"
 
 
 def ends_of(area):
     """The offsets behind the header and image, and behind each record."""
-    return [24 + len(FRESH), *(end for _, end in records(area))]
+    return [begin_of(area), *(end for _, end in records(area))]
+
+
+def area_of(generation, image, records):
+    """An open area."""
+    return b"\x01" + HEADER + generation.to_bytes(8, "big") + len(image).to_bytes(8, "big") + image + records + b"\0"
+
+
+def images_between(draw, area, secrets, reader):
+    """Images of states between the first events of an area, which begins with that of a new store, by how many are before them."""
+    places = set(draw.choices(range(BASE_EVENTS), k=BASES))
+    images, history = {0: FRESH}, History(secrets, reader)
+    for payload, _ in records(area):
+        if history.count == BASE_EVENTS:
+            break
+        history.add(reader.event(payload))
+        if history.count in places:
+            images[history.count] = image_of(history)
+    return images
 
 
 class Damages:
-    """Draws damages of the first records of an area."""
+    """Draws damages of the first records of an area, and of images of states between them."""
 
-    def __init__(self, draw, area):
-        self.draw, self.area, self.ends = draw, area, ends_of(area)
+    def __init__(self, draw, area, secrets, reader):
+        self.draw, self.area, self.ends, self.secrets = draw, area, ends_of(area), secrets
+        self.images = images_between(draw, area, secrets, reader)
 
     def whole(self):
-        """An area of some of the first records, and where they end."""
+        """An area of some of the first records, of which an image may stand for the first of all, and where they end."""
         count = self.draw.randint(0, min(len(self.ends) - 1, self.draw.choice([10, 100, 600, 1200])))
-        return self.area[: self.ends[count]] + b"\0", self.ends[: count + 1]
+        base = self.draw.choice([one for one in self.images if one <= count])
+        base = 0 if self.draw.random() < 0.3 else base
+        generation = self.draw.choice([2, 2, 3, 2**48 - 1]) if base else 1
+        image, ends = self.images[base], self.ends[base : count + 1]
+        return area_of(generation, image, self.area[ends[0] : ends[-1]]), [24 + len(image) + end - ends[0] for end in ends]
 
     def place(self, area, ends):
         """A byte of it: anywhere, within the header, or near the begin of a record."""
@@ -36,7 +64,7 @@ class Damages:
     def damaged(self):
         """An area with some damage, and its kind."""
         area, ends = self.whole()
-        kind = self.draw.choice(["flip", "flip", "byte", "byte", "cut", "longer", "insert", "zeros", "twice", "exchange", "without", "last", "many"])
+        kind = self.draw.choice(["flip", "flip", "byte", "byte", "cut", "longer", "insert", "zeros", "twice", "exchange", "without", "last", "many", "state", "state"])
         return kind, getattr(self, "with_" + kind)(area, ends)
 
     def with_flip(self, area, ends):
@@ -103,15 +131,95 @@ class Damages:
         left[0] = 0
         return area[:begin] + bytes(left[: self.draw.randint(1, len(left))])
 
+    def with_state(self, area, ends):
+        """The image of another state, or of one that is none."""
+        _, state = state_of(area[24 : ends[0]], self.secrets)
+        Another(self.draw, state).make()
+        return area_of(2, image_of(state), area[ends[0] : -1])
+
     def with_many(self, area, ends):
         for _ in range(self.draw.randint(2, 6)):
             area = self.with_byte(area, ends)
         return area
 
 
+class Another:
+    """Changes a state; mostly it is none then."""
+
+    def __init__(self, draw, state):
+        self.draw, self.state = draw, state
+        self.number, self.node = draw.choice(list(state.nodes.items()))
+
+    def make(self):
+        kinds = ["head", "place", "place", "contents", "attributes", "names", "gone", "statements", "issues"]
+        getattr(self, self.draw.choice(kinds))()
+
+    def head(self):
+        state, draw = self.state, self.draw
+        state.next = draw.choice([state.next, 0, max(state.nodes), max(state.nodes) + 1, 2**64 - 1])
+        state.count = draw.choice([state.count, 0, 2**48 - 1, 2**48, 2**48 - 2])
+        state.moment = draw.choice([state.moment, -62135596800, -62135596801, 253402300799, 253402300800])
+
+    def place(self):
+        """Another directory, and so maybe a circle; another kind; another owner."""
+        node, nodes = self.node, list(self.state.nodes)
+        node.parent = self.draw.choice([*nodes, *nodes, self.number, 0, 2**64 - 1])
+        node.kind = self.draw.choice([node.kind] * 3 + ["file", "directory"])
+        node.owner = self.draw.choice([node.owner, "bob", "admin"])
+
+    def contents(self):
+        size = self.draw.choice([0, 1, 1048576, 1048577])
+        self.node.contents = bytearray(size)
+
+    def attributes(self):
+        count = self.draw.choice([1, 32, 33, 255])
+        self.node.attributes = {f"a{one}": self.draw.choice(["", "x" * 128, "x" * 129, '"']) if one == 0 else "y" for one in range(count)}
+
+    def names(self):
+        other = self.draw.choice(list(self.state.nodes.values()))
+        self.node.name = self.draw.choice([other.name, other.name, "", ".", "..", "x" * 64, "x" * 65, "a/b", "new"])
+
+    def gone(self):
+        """A node is not there, or more are; a few are too many."""
+        nodes, count = self.state.nodes, self.draw.choice([1, 100, 16384 - len(self.state.nodes), 16385 - len(self.state.nodes)])
+        if self.draw.random() < 0.5:
+            del nodes[self.number]
+        else:
+            for one in range(self.state.next, self.state.next + count):
+                nodes[one] = Node("file", "bob", 1, f"more.{one}")
+            self.state.next += count
+
+    def statements(self):
+        """A statement stands twice, or changes places, or is gone, or has another's signature."""
+        kept = self.state.registrations
+        if kept:
+            one, other = (self.draw.randrange(len(kept)) for _ in range(2))
+            kind = self.draw.randrange(4)
+            if kind == 0:
+                kept.insert(one, kept[other])
+            elif kind == 1:
+                kept[one], kept[other] = kept[other], kept[one]
+            elif kind == 2:
+                del kept[one]
+            else:
+                kept[one] = kept[one]._replace(signature=kept[other].signature)
+
+    def issues(self):
+        """An issue cites others, or has another's grant or proof."""
+        kept = self.state.grantings
+        if kept:
+            place, other = self.draw.randrange(len(kept)), self.draw.choice(kept)
+            one, count = kept[place], len(self.state.registrations)
+            numbers = self.draw.choice([[], [0], [1, 1], [2, 1], [count], [count + 1], [*one.numbers, count], list(range(1, 66)), other.numbers])
+            more = {"numbers": numbers}, {"grant": other.grant}, {"proof": other.proof, "proof_bytes": other.proof_bytes}
+            kept[place] = one._replace(**self.draw.choice(more))
+
+
 def second_area(draw, area):
-    """What stands in the second file, mostly nothing."""
+    """What stands in the second file, mostly nothing; or what a stop leaves of a checkpoint, or would not."""
     kind = draw.randrange(12)
+    if kind == 3:
+        return draw.choice([b"\0", b"\0", b"\x01"]) + area[1 : draw.randint(1, len(area))]
     if kind == 0:
         return area[:8] + draw.choice([0, 1, 2, 2**48 - 1, 2**48]).to_bytes(8, "big") + area[16:]
     if kind == 1:
@@ -142,9 +250,7 @@ def try_damage(store, draw, damages, reader):
         return "init", "init", try_init(store, first, second)
     wanted, found = opening(first, second, store.secrets, reader), store.found()
     fault = None
-    if wanted is None and not (found[1] == 0 or found[1] == 3 and found[0].startswith("damaged ")):
-        fault = f"{kind}: an opening of another image finds {found}"
-    elif wanted is not None and found != wanted:
+    if found != wanted:
         fault = f"{kind}: an opening finds {found}, and not {wanted}"
     elif (store.area(), store.area("pcfs.b")) != (first, second):
         fault = f"{kind}: an opening writes"
@@ -168,7 +274,7 @@ def cause_of(line):
 
 def damage_until(store, draw, area, reader, until):
     """Damages until that moment: how many of each kind, what was found, and the faults, whose areas are kept."""
-    damages, kinds, found, faults = Damages(draw, area), Counter(), Counter(), []
+    damages, kinds, found, faults = Damages(draw, area, store.secrets, reader), Counter(), Counter(), []
     while time.monotonic() < until and len(faults) < 10:
         kind, what, fault = try_damage(store, draw, damages, reader)
         kinds[kind] += 1

@@ -49,6 +49,21 @@ def names_state(formula):
     return any(names_state(part) for part in formula[1:] if isinstance(part, tuple))
 
 
+def grant_at(reading):
+    """The grant at the front."""
+    start = reading.at
+    need(reading.take(2) == b"\x47\x01")
+    reading.name(), reading.number(8), reading.perm()
+    for _ in range(reading.number(1)):
+        reading.term(), reading.term()
+    for _ in range(reading.number(1)):
+        tag = reading.number(1)
+        need(tag in STATE.values())
+        reading.state(tag)
+    grant, _ = read_procap(reading.data[start : reading.at] + bytes(32))
+    return grant
+
+
 class Reader:
     """Reads events, and the bytes of a procap or of a statement but once each."""
 
@@ -106,9 +121,7 @@ class Reader:
         start = reading.at
         proof = read_proof(reading)
         need(reading.at == end and proof.size <= MOST_RULES)
-        grant, _ = read_procap(reading.data[end:] + bytes(32))
-        reading.at = len(reading.data)
-        return Issued(numbers, proof, reading.data[start:end], grant)
+        return Issued(numbers, proof, reading.data[start:end], grant_at(reading))
 
     def acted(self, reading):
         caller = reading.name()
@@ -139,6 +152,7 @@ class History(Server):
         super().__init__(secrets)
         self.reader = reader or Reader(self.seal)
         self.said = {}  # the number of each statement, by its bytes
+        self.registrations, self.grantings = [], []  # the events of the statements, and of the issues
 
     def accepts(self, statement, signature):
         key = self.keys.get(statement.who)
@@ -168,18 +182,25 @@ class History(Server):
             return 3, None
         if event.statement.bytes in self.said or len(self.statements) == MOST_STATEMENTS:
             return 7, None
+        self.registrations.append(event)
         self.statements.append(event.statement)
         self.said[event.statement.bytes] = len(self.statements)
         return None, f"ok statement {len(self.statements)}"
 
-    def add_issued(self, event):
+    def gives(self, event):
+        """Whether the proof of an issue gives its grant from statements that are there."""
         numbers, grant = event.numbers, event.grant
         rising = all(a < b for a, b in zip(numbers, numbers[1:]))
         if not 1 <= len(numbers) <= 64 or not rising or numbers[0] < 1 or numbers[-1] > len(self.statements):
-            return 4, None
+            return False
         verdict = self.verdict(numbers, grant.who, grant.file, grant.perm, event.proof, event.proof_bytes)
-        if isinstance(verdict, str) or grant_bytes(verdict) != grant_bytes(grant):
+        return not isinstance(verdict, str) and grant_bytes(verdict) == grant_bytes(grant)
+
+    def add_issued(self, event):
+        if not self.gives(event):
             return 4, None
+        grant = event.grant
+        self.grantings.append(event)
         self.issues.append(grant)
         return None, f"ok issue {len(self.issues)} time {len(grant.times)} state {len(grant.states)}"
 

@@ -18,6 +18,7 @@ CONDITION = r"(?:[ -~]+ <= [ -~]+|(?:owner|has_xattr|in_dir)\([ -~]+\))"
 CAUSE = f"(?:seal|principal|file|permission|(?:time|state) {NUMBER} {CONDITION})"
 REPLIES = [
     "ok",
+    "ok checkpoint",
     f"ok statement {NUMBER}",
     f"ok issue {NUMBER} time {NUMBER} state {NUMBER}",
     f"ok procap {HEX}",
@@ -48,8 +49,9 @@ def signature(word):
     return hexadecimal(word, MOST_SIGNATURE)
 
 
-FORMS = {"login": [principal, signature], "register": [signature], "procap": [issue], "verify": GOAL}
+FORMS = {"login": [principal, signature], "register": [signature], "procap": [issue], "verify": GOAL, "checkpoint": []}
 WITH_TEXT = ("register", "verify")
+OF_ADMIN = ("checkpoint",)  # to others who are logged in they are no form
 
 
 class Lines:
@@ -65,10 +67,10 @@ class Lines:
             self.held[word] = self.reader.procap(hexadecimal(word, MOST_SIGNATURE))
         return self.held[word]
 
-    def head(self, form, behind):
+    def head(self, form, behind, caller):
         """The form of a line, the kinds of its words, and what stands after those that name the form."""
         if form != "do":
-            need(form in FORMS, fault("bad 1 0"))
+            need(form in FORMS and (form not in OF_ADMIN or caller in (None, "admin")), fault("bad 1 0"))
             return form, FORMS[form], behind
         need(behind, fault("bad 2"))
         operation, behind = first_word(behind[1:])
@@ -76,10 +78,10 @@ class Lines:
         kinds, slots = OPERATIONS[operation]
         return operation, kinds + [self.procap] * slots, behind
 
-    def read(self, line):
-        """What a line asks for. A Reply tells its first fault."""
+    def read(self, line, caller):
+        """What a line asks for that this caller says, None if nobody is logged in. A Reply tells its first fault."""
         line = line.decode("latin-1")
-        form, kinds, behind = self.head(*first_word(line))
+        form, kinds, behind = self.head(*first_word(line), caller)
         words = []
         for kind in kinds:
             need(behind, fault("bad 2"))

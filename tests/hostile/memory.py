@@ -16,7 +16,7 @@ import time
 from collections import Counter
 from concurrent.futures import ThreadPoolExecutor
 
-from areas import records
+from areas import generation, is_open, records
 from placing import Placing
 from said import POLICY, login, registration, root_verify, secrets_of
 from serving import AREAS, Store, free_port
@@ -202,6 +202,8 @@ class Parts:
             self.each(f"{name}, over a store", script.check)
             base = self.after(base, "script", "--stored", given=joined(example(name)))
             self.opens(base)
+        lines = [b"checkpoint", *example("stored/read"), b"checkpoint", *example("stored/read"), b"checkpoint"]
+        self.each("checkpoints in a script", Script(self.refusing, base, lines, ["script", "--stored"]).check)
         events = self.refusing.run(base, 0, "audit")[:2]
         self.each("checkpoint", lambda number: self.check_checkpoint(base, number, events))
         self.each("script over a checkpoint", Script(self.refusing, self.after(base, "checkpoint"), example("first-file"), ["script", "--stored"]).check)
@@ -281,7 +283,7 @@ class Parts:
     # ---- sessions ----
 
     def sessions(self):
-        """Two sessions, one after the other, over a new store."""
+        """Two sessions, one after the other, over a new store; in the first admin makes a checkpoint."""
         base = f"{self.folder}/sessions"
         store = Store(self.program, base, secrets_of(NAMES))
         if store.run("init") != (b"ok\n", 0):
@@ -319,7 +321,7 @@ class Parts:
     def place(self, folder, logs):
         """Each reply but `nomemory` has its place among the events, and each event is that of a line that was answered, or that
         was the first without an answer. A fresh opening and an audit find as many events."""
-        placing = Placing(bytes_at(f"{folder}/pcfs.a"), self.secrets)
+        placing = Placing(sorted(filter(is_open, areas(folder)), key=generation), self.secrets)
         for log in logs:
             placing.add(without_memory_replies(log))
         state = placing.check()
@@ -341,6 +343,9 @@ def keeper(session):
     session.ask(login("keeper", session.nonce).encode())
     for text in POLICY[:2]:
         session.ask(registration(text).encode())
+    session.log.generation = 1
+    session.ask(login("admin", session.nonce).encode())
+    session.ask(b"checkpoint")
     session.leave()
 
 

@@ -1,23 +1,29 @@
-"""Places what clients were told in the history that an area keeps, and compares it with the plain model there.
+"""Places what clients were told in the history that areas keep, and compares it with the plain model there.
 
 Each reply of a session has a place: so many events stood in the history when it was decided. Places of one session do not go
 back; a line that was said after another client had its reply is decided after that one's event, and an event whose line was
-said later is not yet there. A reply that begins an event is that very event, and no event is another's.
+said later is not yet there. A reply that begins an event is that very event, and no event is another's. A checkpoint has the place of
+its image, which is that of the state there.
 """
 import re
 from array import array
 from bisect import bisect_left, bisect_right
 from collections import defaultdict, deque, namedtuple
+from hashlib import sha256
 from itertools import islice
 
-from areas import BEGIN, LIMIT, Damaged, records
+from areas import LIMIT, Damaged, generation, image_in, records
 from history import MOST_STATEMENTS, Acted, History, Issued, Registered, acted_bytes, issued_bytes, registered_bytes
+from images import count_in, image_of
 from lines import LONGEST, Lines, is_accepted, is_in_table
 from pcfs_client import tag_of
 from pcfs_model import OPERATIONS, Bad, Reply, Undecided, grant_bytes
 
-# Between which places a reply stands, its event, and what is to be asked of the model there.
-Place = namedtuple("Place", "least most event ask", defaults=(0, None))
+# Between which places a reply stands, its event, what is to be asked of the model there, and of how many bytes a record has no room
+# in the area, 0 if that is not said.
+Place = namedtuple("Place", "least most event ask size", defaults=(0, None, 0))
+# The image with which an area begins: how many events are before it, and its length and digest.
+Image = namedtuple("Image", "events length digest")
 Ask = namedtuple("Ask", "caller form words procaps first last reply")
 ISSUE = re.compile(rb"ok issue ([1-9][0-9]*) (.*)")
 SECOND = 10**9
@@ -62,19 +68,25 @@ def key_asked(asked, caller):
     return caller, asked.form, tuple(asked.words[:-slots]), tuple(procap.bytes for procap in asked.words[-slots:])
 
 
-class Placing:
-    """The history of an area, and what sessions were told of it. A caller who is shared may have several sessions, and never
-    asks twice for the same; every other has one session alone."""
+def picture_of(events, image):
+    return Image(events, len(image), sha256(image).digest())
 
-    def __init__(self, area, secrets, shared=()):
-        self.known = History(secrets)  # its statements are all that the area has
+
+class Placing:
+    """The history of areas that counted one after another, and what sessions were told of it. A caller who is shared may have several
+    sessions, and never asks twice for the same; every other has one session alone."""
+
+    def __init__(self, areas, secrets, shared=()):
+        self.known = History(secrets)  # its statements are all that the areas have
         self.secrets, self.shared = secrets, shared
         self.lines = Lines(self.known.reader)
         self.shown, self.counts, self.told_words = [], defaultdict(int), defaultdict(int)
-        self.events, self.ends = [None], [BEGIN]
+        self.events = [None]
+        self.images, self.ends, self.makers = [None], [None], {1: None}  # by the generations of their areas; who made them
         self.statement_events, self.issue_events, self.issues = [0], [0], [None]
         self.acted = defaultdict(deque)
-        self.read_area(area)
+        for area in areas:
+            self.read_area(area)
         count = len(self.events)
         self.sent, self.got = array("q", [0]) * count, array("q", [FOREVER]) * count
         self.walls = [(0, FOREVER)] * count
@@ -89,19 +101,26 @@ class Placing:
     # ---- the history ----
 
     def read_area(self, area):
-        """Takes all events, up to damage, which is a fault."""
+        """Takes the image and all events, up to damage, which is a fault."""
         try:
+            self.take_image(area, image_in(area))
             for payload, end in records(area):
                 self.take_event(self.known.reader.event(payload), end)
         except Damaged as damaged:
-            self.fault(f"the area is {damaged}")
+            self.fault(f"area {len(self.images) - 1} is {damaged}")
         except Bad:
             self.fault(f"event {len(self.events)} is none")
+
+    def take_image(self, area, image):
+        if (generation(area), count_in(image)) != (len(self.images), self.last):
+            self.fault(f"area {generation(area)} is of {count_in(image)} events, and after area {len(self.images) - 1} there are {self.last}")
+        self.images.append(picture_of(self.last, image))
+        self.ends.append(array("q", [24 + len(image)]))
 
     def take_event(self, event, end):
         number = len(self.events)
         self.events.append(event)
-        self.ends.append(end)
+        self.ends[-1].append(end)
         if isinstance(event, Registered):
             self.statement_events.append(number)
             self.known.statements.append(event.statement)
@@ -125,6 +144,7 @@ class Placing:
     def add(self, spoken):
         """Reads what was said on a connection and what it was told."""
         caller, places, session = None, [], len(self.sessions)
+        self.generation = spoken.generation
         for number, ((reply, got, got_wall), (line, sent, sent_wall)) in enumerate(zip(spoken.replies, spoken.lines)):
             self.told_words[kind_of(reply)] += 1
             try:
@@ -138,7 +158,7 @@ class Placing:
                 self.own(place.event, session, (sent, got), (sent_wall, got_wall), reply)
             if reply == b"ok" and line.startswith(b"login "):
                 caller = line.split(b" ")[1].decode()
-            places.append((place.least, place.most, place.event, place.ask, sent, got))
+            places.append((*place, sent, got))
         self.sessions.append(places)
         self.keep_unanswered(spoken, session, caller)
 
@@ -159,7 +179,7 @@ class Placing:
             want(reply, "bad 3")
             return self.anywhere()
         try:
-            asked = self.lines.read(line)
+            asked = self.lines.read(line, caller)
         except Reply as first:
             want(reply, str(first))
             return self.anywhere()
@@ -171,6 +191,8 @@ class Placing:
         if caller is None:
             want(reply, "rejected 4")
             return self.anywhere()
+        if asked.form == "checkpoint":
+            return self.place_of_checkpoint(reply)
         if asked.form in OPERATIONS:
             return self.place_of_operation(asked, reply, caller, sent, got)
         find = {"register": self.place_of_statement, "verify": self.place_of_proof, "procap": self.place_of_procap}[asked.form]
@@ -178,7 +200,34 @@ class Placing:
 
     def place_when_full(self, size, least, most, ask=None):
         """Where a record with so many bytes does not fit any more."""
-        return Place(max(least, bisect_right(self.ends, LIMIT - 6 - size)), most, 0, ask)
+        return Place(least, most, 0, ask, size)
+
+    def without_room(self, place, size):
+        """The first place from there on where a record with so many bytes does not fit; behind the last if there is none."""
+        for image, ends in islice(zip(self.images, self.ends), 1, None):
+            if image.events + len(ends) > place:
+                found = bisect_right(ends, LIMIT - 6 - size, max(0, place - image.events))
+                if found < len(ends):
+                    return image.events + found
+        return self.last + 1
+
+    def place_of_checkpoint(self, reply):
+        """The place of the next image; who makes checkpoints is alone with that."""
+        if reply == b"full":
+            return Place(0, self.last, 0, Ask("admin", "checkpoint", (), (), 0, 0, reply))
+        want(reply, "ok checkpoint")
+        if self.generation is None or self.generation + 1 >= len(self.images):
+            raise Wrong("and no area has its image")
+        self.generation += 1
+        return self.place_of_image(self.generation)
+
+    def place_of_image(self, generation):
+        """The place of an image, which is now that of one who asked for it."""
+        if generation in self.makers:
+            raise Wrong(f"and area {generation} is told twice")
+        self.makers[generation] = len(self.sessions)
+        count = self.images[generation].events
+        return Place(count, count)
 
     def place_of_statement(self, asked, reply, caller):
         (given,), statement = asked.words, asked.text
@@ -276,12 +325,15 @@ class Placing:
         lines = []
         for line, sent, wall in spoken.lines[len(spoken.replies) :]:
             try:
-                asked = self.lines.read(line) if len(line) <= LONGEST else None
+                asked = self.lines.read(line, caller) if len(line) <= LONGEST else None
             except (Reply, Undecided):
                 continue
             if asked and asked.form == "login":
                 caller = asked.words[0] if is_accepted(self.known.keys, *asked.words, spoken.nonce) else caller
-            elif asked and asked.form != "procap" and caller is not None:
+            elif asked and asked.form == "checkpoint" and caller is not None and self.generation is not None:
+                self.generation += 1
+                lines.append((self.generation, sent, wall))
+            elif asked and asked.form not in ("procap", "checkpoint") and caller is not None:
                 lines.append((key_asked(asked, caller), sent, wall))
         if lines:
             self.unanswered.append((session, lines))
@@ -296,14 +348,29 @@ class Placing:
         for session, lines in self.unanswered:
             low = 0
             for key, sent, wall in lines:
+                if isinstance(key, int):
+                    low = max(low, self.find_image(session, key, sent))
+                    continue
                 number = next((one for one in left.get(key, ()) if one > low), None)
                 if number is not None:
                     left[key].remove(number)
                     self.own(number, session, (sent, FOREVER), (wall, FOREVER))
-                    self.sessions[session].append((number - 1, number - 1, number, None, sent, FOREVER))
+                    self.sessions[session].append((*Place(number - 1, number - 1, number), sent, FOREVER))
                     low = number
         for number in sorted(number for numbers in left.values() for number in numbers):
             self.fault(f"nobody asked for event {number}, {str(self.events[number])[:300]}")
+        for number in range(1, len(self.images)):
+            if number not in self.makers:
+                self.fault(f"nobody asked for area {number}")
+
+    def find_image(self, session, generation, sent):
+        """Gives an image that nobody was told to who asked for it, if there is one: its place, or else 0."""
+        if generation >= len(self.images) or generation in self.makers:
+            return 0
+        place = self.place_of_image(generation)
+        self.counts["checkpoints that were not told"] += 1
+        self.sessions[session].append((*place, sent, FOREVER))
+        return place.least
 
     # ---- places ----
 
@@ -334,13 +401,14 @@ class Placing:
     def walk(self, session):
         """Places the replies of a session, each as early as it may stand."""
         low = 0
-        for number, (least, most, event, ask, sent, got) in enumerate(self.sessions[session]):
+        for number, (least, most, event, ask, size, sent, got) in enumerate(self.sessions[session]):
             place = max(low, least, self.told_before(sent))
+            place = self.without_room(place, size) if size else place
             most = min(most, self.said_before(got))
             if place > most:
                 self.fault(f"session {session}, reply {number} has no place: not before {place} by {low}, {least} and what was told, nor after {most}")
             if ask:
-                self.asks[min(place, self.last)].append((session, number, ask, most))
+                self.asks[min(place, self.last)].append((session, number, ask, size, most))
             low = event or place
 
     # ---- the model ----
@@ -348,8 +416,11 @@ class Placing:
     def replay(self):
         """Makes the history by the model, and asks it at each place what was told there."""
         history = History(self.secrets, self.known.reader)
-        granted, self.unissued = set(), 0
+        granted, self.unissued, self.images_at = set(), 0, defaultdict(list)
+        for number in range(1, len(self.images)):
+            self.images_at[self.images[number].events].append(number)
         for number in range(1, self.last + 1):
+            self.look_at(history, number - 1)
             self.ask_at(history, number - 1)
             event, before = self.events[number], history.moment
             cause, reply = history.add(event)
@@ -363,8 +434,18 @@ class Placing:
                 self.unissued += any(procap.bytes[:-32] not in granted for procap in event.procaps)
             elif isinstance(event, Issued):
                 granted.add(grant_bytes(event.grant))
+        self.look_at(history, self.last)
         self.ask_at(history, self.last)
         return history
+
+    def look_at(self, history, place):
+        """Compares the images at this place with that of the state; an audit begins after the last of them."""
+        for number in self.images_at.get(place, ()):
+            image, wanted = self.images[number], picture_of(place, image_of(history))
+            if image != wanted:
+                self.fault(f"after event {place} the image of area {number}, of {image.length} bytes, is not that of the state, of {wanted.length}")
+            if number == len(self.images) - 1:
+                self.unissued = 0
 
     def test_moment(self, number, before):
         """The moment is the one before, or the clock's while the line was out."""
@@ -373,18 +454,23 @@ class Placing:
             self.fault(f"event {number} has the moment {moment}, was said at {sent // SECOND} and told at {got // SECOND}")
 
     def ask_at(self, history, place):
-        for session, number, ask, most in self.asks.pop(place, ()):
-            replies = [
-                history.would_answer(ask.caller, ask.form, ask.words, ask.procaps, clock) for clock in range(ask.first, ask.last + 1)
-            ]
+        for session, number, ask, size, most in self.asks.pop(place, ()):
+            replies = self.would_be_told(history, ask)
             is_full = ask.reply == b"full"
             if any(reply.startswith("ok") if is_full else reply.encode() == ask.reply for reply in replies):
                 continue
-            if is_full and place < most:
-                self.asks[place + 1].append((session, number, ask, most))
+            after = self.without_room(place + 1, size) if size else place + 1
+            if is_full and after <= most:
+                self.asks[after].append((session, number, ask, size, most))
             else:
                 words = f"{ask.form} {str(ask.words)[:200]} of {ask.caller}"
                 self.fault(f"session {session}, reply {number}: at {place} {words} is told {ask.reply[:200]!r}, and not {replies[0][:200]}")
+
+    def would_be_told(self, history, ask):
+        """What may be told of this now, if there is room for a record; of a checkpoint, whether its image has none."""
+        if ask.form == "checkpoint":
+            return ["ok" if len(image_of(history)) + 25 > LIMIT else "that there is room"]
+        return [history.would_answer(ask.caller, ask.form, ask.words, ask.procaps, clock) for clock in range(ask.first, ask.last + 1)]
 
     def check(self):
         """Compares all, once every session was added, and returns the state at the end."""

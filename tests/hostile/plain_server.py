@@ -11,9 +11,10 @@ import sys
 import threading
 import time
 
-from areas import LIMIT, Damaged, bytes_of, newest, opened, records
+from areas import HEADER, LIMIT, Damaged, begin_of, bytes_of, generation, newest, opened, records
 from damage import MADE
 from history import Acted, Issued, Registered
+from images import image_of
 from lines import LONGEST, Lines, is_accepted
 from pcfs_audit_model import CODES, cited_bytes, word_bytes
 from pcfs_client import short, tag_of
@@ -40,10 +41,10 @@ def payload(event):
 class Kept:
     """The store, and its lock."""
 
-    def __init__(self, history, size):
+    def __init__(self, history, area, is_second):
         self.history, self.lines, self.lock = history, Lines(history.reader), threading.Lock()
-        self.file = os.open("pcfs.a", os.O_RDWR)
-        self.end = size
+        self.file, self.other = (os.open(name, os.O_RDWR | os.O_CREAT) for name in (("pcfs.b", "pcfs.a") if is_second else ("pcfs.a", "pcfs.b")))
+        self.end, self.generation = max((end for _, end in records(area)), default=begin_of(area)), generation(area)
         self.stale = None
 
     def keep(self, event):
@@ -57,6 +58,23 @@ class Kept:
             self.end += 5 + len(record)
         _, reply = self.history.add(event)
         return reply
+
+    def checkpoint(self, asked, caller):
+        """Writes the image of the state into the other area, which counts from then on."""
+        if WRONG == "image":
+            self.history.nodes[1].owner = "alice" if random.random() < 0.5 else "admin"
+        image = image_of(self.history)
+        if len(image) + 25 > LIMIT:
+            return "full"
+        if WRONG == "no-checkpoint":
+            return "ok checkpoint"
+        self.generation += 1
+        area = HEADER + self.generation.to_bytes(8, "big") + len(image).to_bytes(8, "big") + image + b"\0"
+        for data, offset in (b"\0", 0), (area, 1), (b"\x01", 0):
+            os.pwrite(self.other, data, offset)
+        if WRONG != "old-area":
+            self.file, self.other, self.end = self.other, self.file, len(area)
+        return "ok checkpoint"
 
     def register(self, asked, caller):
         (given,), statement, history = asked.words, asked.text, self.history
@@ -127,7 +145,7 @@ class Session:
 
     def answer(self, line):
         try:
-            asked = self.kept.lines.read(line)
+            asked = self.kept.lines.read(line, None if WRONG == "any-checkpoint" else self.caller)
         except Reply as fault:
             return str(fault)
         except Undecided:
@@ -139,7 +157,7 @@ class Session:
         if self.caller is None:
             return "rejected 4"
         with self.kept.lock:
-            return getattr(self.kept, asked.form if asked.form in ("register", "verify", "procap") else "do")(asked, self.caller)
+            return getattr(self.kept, asked.form if asked.form in ("register", "verify", "procap", "checkpoint") else "do")(asked, self.caller)
 
 
 def attend(kept, connection, room):
@@ -150,7 +168,8 @@ def attend(kept, connection, room):
 def serve(port, count):
     with open("pcfs.secrets", encoding="ascii") as file:
         text = file.read()
-    area = newest(bytes_of("pcfs.a"), bytes_of("pcfs.b"))
+    first, second = bytes_of("pcfs.a"), bytes_of("pcfs.b")
+    area = newest(first, second)
     if area is None:
         return told("nostore", 4)
     try:
@@ -160,8 +179,7 @@ def serve(port, count):
         return told(damaged, 3)
     except OSError:
         return told("netfault", 8)
-    size = max((end for _, end in records(area)), default=len(MADE) - 1)
-    attend_all(Kept(history, size), listener, count)
+    attend_all(Kept(history, area, area is second), listener, count)
     return told(f"served {count}", 0)
 
 

@@ -4,7 +4,7 @@ import shutil
 import socket
 import subprocess
 
-from areas import bytes_of
+from areas import bytes_of, generation, is_open
 
 AREAS = ("pcfs.a", "pcfs.b")
 TICK = os.sysconf("SC_CLK_TCK")
@@ -47,6 +47,23 @@ class Store:
     def area(self, name="pcfs.a"):
         return bytes_of(f"{self.folder}/{name}")
 
+    def heads(self):
+        """The generations of the open areas, with the names of their files."""
+        heads = {}
+        for name in reversed(AREAS):
+            head = bytes_of(f"{self.folder}/{name}", 16)
+            if is_open(head):
+                heads[generation(head)] = name
+        return heads
+
+    def newest(self):
+        """The area that counts."""
+        return self.area(self.name_of_newest())
+
+    def name_of_newest(self):
+        heads = self.heads()
+        return heads[max(heads)]
+
     def memory(self):
         """How many KiB of memory an opening takes that does nothing more."""
         with self.start("script", "--stored", given=subprocess.PIPE) as process:
@@ -59,7 +76,7 @@ class Store:
         return int(most)
 
     def size(self):
-        return os.path.getsize(f"{self.folder}/pcfs.a")
+        return os.path.getsize(f"{self.folder}/{self.name_of_newest()}")
 
     def start(self, *words, given=subprocess.DEVNULL):
         """The program at work with these words."""

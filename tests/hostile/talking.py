@@ -14,12 +14,13 @@ class Unanswered(Exception):
 
 class Spoken:
     """What was said on one connection and what it was told, each with its moment by two clocks. `end` is how it ended:
-    `left`, after each line was answered, or `vanished`."""
+    `left`, after each line was answered, or `vanished`. `generation` is that of the area that counted at its begin, if it is of
+    one who makes checkpoints."""
 
-    __slots__ = ("nonce", "lines", "replies", "end")
+    __slots__ = ("nonce", "lines", "replies", "end", "generation")
 
     def __init__(self, nonce):
-        self.nonce, self.lines, self.replies, self.end = nonce, [], [], "vanished"
+        self.nonce, self.lines, self.replies, self.end, self.generation = nonce, [], [], "vanished", None
 
     def plain(self):
         return self.nonce, self.lines, self.replies, self.end

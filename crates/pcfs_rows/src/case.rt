@@ -23,17 +23,27 @@ pub struct Case {
     failing_writes: Numbers,
     first: Area,
     second: Area,
+    stop: Option<Stop>,
     shows: Shows,
     found: Bytes,
     wanted: Bytes,
     status: u8,
 }
 
-/// A disk of a case: its bytes, and the calls of it that fail.
+/// A disk of a case: its bytes, and the calls of it that fail, or the number from which on all fail.
 #[derive(Drop)]
 struct Area {
     bytes: Bytes,
     failing: Numbers,
+    fuse: Option<u64>,
+}
+
+/// A crash after a run: the byte that it leaves where something was written and not synced, and whether a
+/// single byte that was written is there.
+#[derive(Clone, Copy)]
+struct Stop {
+    fill: u8,
+    kept: bool,
 }
 
 /// What is shown of the disks after a run.
@@ -60,13 +70,13 @@ impl Left {
         }
     }
 
-    // Keeps the bytes of the disks that a run gave back, and returns its status.
-    fn keep(&mut self, ended: Ended<MemoryDisk>) -> Result<u8, RowFault> {
-        self.first.clear();
-        self.first.extend(ended.a.image())?;
-        self.second.clear();
-        self.second.extend(ended.b.image())?;
-        Ok(ended.status)
+    // Keeps the bytes of the disks that a run gave back, after a crash if there is one, and returns its
+    // status.
+    fn keep(&mut self, ended: Ended<MemoryDisk>, stop: Option<Stop>) -> Result<u8, RowFault> {
+        let Ended { status, a, b } = ended;
+        let first = keep_disk(a, stop, &mut self.first);
+        let second = keep_disk(b, stop, &mut self.second);
+        unless_refused(first.and(second), Ok(status))
     }
 
     // Adds the line that shows the disks.
@@ -96,6 +106,18 @@ pub struct CaseEnd {
     pub status: u8,
     pub wanted: Bytes,
     pub wanted_status: u8,
+}
+
+// Keeps the bytes of a disk, after a crash if there is one.
+fn keep_disk(disk: MemoryDisk, stop: Option<Stop>, bytes: &mut Bytes) -> Result<(), NoMemory> {
+    bytes.clear();
+    match stop {
+        None => bytes.extend(disk.image()),
+        Some(stop) => match disk.stopped(stop.fill, stop.kept) {
+            Ok(left) => bytes.extend(left.image()),
+            Err(_) => Err(NoMemory),
+        },
+    }
 }
 
 // Sets the numbers to those of the words.
@@ -130,15 +152,47 @@ impl Area {
         Area {
             bytes: Bytes::new(alloc),
             failing: Numbers::new(alloc),
+            fuse: None,
         }
     }
 
     // The disk in memory.
     fn into_disk(self, alloc: Global) -> Result<MemoryDisk, RowFault> {
-        match MemoryDisk::new(alloc, self.bytes, self.failing) {
-            Ok(disk) => Ok(disk),
-            Err(_) => Err(RowFault::NoMemory),
+        let Area {
+            bytes,
+            failing,
+            fuse,
+        } = self;
+        match fuse {
+            Some(calls) => Ok(MemoryDisk::fused(alloc, bytes, calls)),
+            None => match MemoryDisk::new(alloc, bytes, failing) {
+                Ok(disk) => Ok(disk),
+                Err(_) => Err(RowFault::NoMemory),
+            },
         }
+    }
+}
+
+// Sets the number from which on all calls fail.
+fn set_fuse(word: &str, fuse: &mut Option<u64>) -> Result<(), RowFault> {
+    *fuse = Some(u64::from(number_of(word)?));
+    Ok(())
+}
+
+// Sets the crash after the run: a byte, and `kept` or `lost`.
+fn set_stop(text: &str, stop: &mut Option<Stop>) -> Result<(), RowFault> {
+    let (byte, word) = parts_at(text, ' ')?;
+    let kept = match word {
+        "kept" => true,
+        "lost" => false,
+        _ => return Err(RowFault::BadRow),
+    };
+    match byte.parse::<u8>() {
+        Ok(fill) => {
+            *stop = Some(Stop { fill, kept });
+            Ok(())
+        }
+        Err(_) => Err(RowFault::BadRow),
     }
 }
 
@@ -199,6 +253,7 @@ impl Case {
             failing_writes: Numbers::new(alloc),
             first: Area::new(alloc),
             second: Area::new(alloc),
+            stop: None,
             shows: Shows::Nothing,
             found: Bytes::new(alloc),
             wanted: Bytes::new(alloc),
@@ -261,6 +316,9 @@ impl Case {
             "b" => set_bytes(alloc, &self.texts, text, &mut self.second.bytes),
             "calls.a" => set_numbers(text, &mut self.first.failing),
             "calls.b" => set_numbers(text, &mut self.second.failing),
+            "fuse.a" => set_fuse(text, &mut self.first.fuse),
+            "fuse.b" => set_fuse(text, &mut self.second.fuse),
+            "stops" => set_stop(text, &mut self.stop),
             "again" => self.go_on(left, text),
             "shows" => self.set_shows(text),
             "pieces" => set_number(text, &mut self.input.piece),
@@ -313,6 +371,7 @@ impl Case {
             failing_writes,
             first,
             second,
+            stop,
             shows,
             mut found,
             wanted,
@@ -324,7 +383,7 @@ impl Case {
         let status = match Secrets::parse(alloc, secrets.as_slice()) {
             Ok(secrets) => {
                 let ended = run_alone(rt, alloc, &words, &secrets, &mut input, &mut output, a, b);
-                left.keep(ended)
+                left.keep(ended, stop)
             }
             Err(_) => Err(RowFault::BadRow),
         };

@@ -4,6 +4,26 @@ use bl_syntax::Bytes;
 use pcfs_ports::SetClock;
 use std::sync::atomic::{AtomicBool, AtomicUsize, Ordering};
 
+/// What becomes of a connection at a step.
+#[derive(Clone, Copy, PartialEq, Eq)]
+pub enum Turn {
+    /// It says its line, and is told the reply.
+    Told,
+    /// It says its line, and the write of the reply fails.
+    WriteFails,
+    /// Its read fails.
+    ReadFails,
+    /// Its input ends.
+    Ends,
+}
+
+impl Turn {
+    /// Whether its session is over then, by a fault.
+    pub fn is_fault(self) -> bool {
+        self == Turn::WriteFails || self == Turn::ReadFails
+    }
+}
+
 /// What one connection says, and what it is told then.
 #[derive(Drop)]
 pub struct Step {
@@ -15,8 +35,19 @@ pub struct Step {
     pub line: Bytes,
     /// What it is told, with its end.
     pub reply: Bytes,
-    /// The connection says nothing more, and is told nothing.
-    pub ends: bool,
+    /// What becomes of the connection.
+    pub turn: Turn,
+}
+
+/// What becomes of bytes that a connection is told.
+#[derive(Clone, Copy, PartialEq, Eq)]
+pub enum Taken {
+    /// They were taken.
+    Told,
+    /// Their write fails.
+    Fails,
+    /// It is not the connection's step.
+    NotYet,
 }
 
 /// How the connections did.
@@ -79,23 +110,46 @@ impl Board {
         }
     }
 
-    /// Takes what a connection is told, if it is its step, or if no step is left, when it is told too much. Returns whether
-    /// it was taken.
-    pub fn take_reply(&self, connection: u64, reply: &[u8]) -> bool {
+    /// Whether a session of this connection goes on after a fault. It is noted.
+    pub fn goes_on_after_fault(&self, connection: u64) -> bool {
+        let made = self.made.load(Ordering::SeqCst);
+        let goes_on = self.steps.iter().take(made).any(|step| step.connection == connection
+            && step.turn.is_fault());
+        if goes_on {
+            self.note_wrong(made);
+        }
+        goes_on
+    }
+
+    // Makes a step at which a connection is told something.
+    fn make_step(&self, made: usize, step: &Step, reply: &[u8]) -> Taken {
+        match step.turn {
+            Turn::WriteFails => {
+                self.advance();
+                return Taken::Fails;
+            }
+            Turn::Told => {}
+            Turn::ReadFails | Turn::Ends => self.note_wrong(made),
+        }
+        if step.reply.as_slice() != reply {
+            self.note_wrong(made);
+        }
+        self.advance();
+        Taken::Told
+    }
+
+    /// Takes what a connection is told, if it is its step, or if no step is left, when it is told too much.
+    pub fn take_reply(&self, connection: u64, reply: &[u8]) -> Taken {
         match self.next_step() {
             Some((made, step)) => {
                 if step.connection != connection {
-                    return false;
+                    return Taken::NotYet;
                 }
-                if step.reply.as_slice() != reply {
-                    self.note_wrong(made);
-                }
-                self.advance();
-                true
+                self.make_step(made, step, reply)
             }
             None => {
                 self.note_wrong(self.steps.len());
-                true
+                Taken::Told
             }
         }
     }

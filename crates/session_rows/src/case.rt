@@ -1,8 +1,9 @@
 //! A case: an operator's script, what connections say and are told, and what another script finds then.
 
-use crate::board::{Board, Outcome, Step};
+use crate::board::{Board, Outcome, Step, Turn};
 use crate::command::Command;
 use crate::connection::RowListener;
+use crate::plans::Plans;
 use bl_syntax::{Bytes, NoMemory, Numbers};
 use pcfs_ports::{ListNonces, MemoryDisk, MemorySink, MemorySource};
 use pcfs_run::run;
@@ -45,6 +46,7 @@ pub struct Case {
     secrets: Bytes,
     script: Bytes,
     command: Command,
+    plans: Plans,
     nonces: Bytes,
     connections: u64,
     second: i64,
@@ -91,9 +93,11 @@ fn words_of(alloc: Global, words: &[&str]) -> Result<Vec<String>, RowFault> {
     Ok(own)
 }
 
-// A disk in memory without bytes.
-fn new_disk(alloc: Global) -> Result<MemoryDisk, RowFault> {
-    match MemoryDisk::new(alloc, Bytes::new(alloc), Numbers::new(alloc)) {
+// A disk in memory with these bytes, of which these calls fail.
+fn new_disk(alloc: Global, image: &[u8], failing: Numbers) -> Result<MemoryDisk, RowFault> {
+    let mut bytes = Bytes::new(alloc);
+    bytes.extend(image)?;
+    match MemoryDisk::new(alloc, bytes, failing) {
         Ok(disk) => Ok(disk),
         Err(_) => Err(RowFault::NoMemory),
     }
@@ -124,29 +128,39 @@ fn set_up<R: Threads + Wait + Sync + AllocGlobal>(
     let alloc = rt.alloc();
     let mut output = MemorySink::new(alloc, Numbers::new(alloc));
     let none = Bytes::new(alloc);
-    let a = new_disk(alloc)?;
-    let b = new_disk(alloc)?;
+    let a = new_disk(alloc, &[], Numbers::new(alloc))?;
+    let b = new_disk(alloc, &[], Numbers::new(alloc))?;
     let made = run_over(rt, &["init"], secrets, none, &mut output, a, b)?;
     let words = ["script", "--stored"];
     run_over(rt, &words, secrets, script, &mut output, made.a, made.b)
 }
 
-// Runs the command, which gives the connections of the board sessions over the disks. Returns the disks, and whether it ended
-// as it has to.
+// Runs the command, which gives the connections of the board sessions over disks with the bytes of these. Returns how it left
+// its disks, and whether it ended as it has to.
 fn serve<R: Threads + Wait + Sync + AllocGlobal>(
     rt: &R,
     secrets: &Secrets,
     board: &Board,
     command: &Command,
+    plans: Plans,
     connections: u64,
     nonces: Bytes,
-    disks: Ended<MemoryDisk>,
+    disks: &Ended<MemoryDisk>,
 ) -> Result<(Ended<MemoryDisk>, bool), RowFault> {
     let alloc = rt.alloc();
+    let Plans {
+        net: failing_net,
+        nonces: failing_nonces,
+        a: failing_a,
+        b: failing_b,
+        output: failing_output,
+    } = plans;
+    let a = new_disk(alloc, disks.a.image(), failing_a)?;
+    let b = new_disk(alloc, disks.b.image(), failing_b)?;
     let mut input = MemorySource::new(alloc, Bytes::new(alloc), Numbers::new(alloc));
-    let mut output = MemorySink::new(alloc, Numbers::new(alloc));
-    let mut nonces = ListNonces::new(alloc, nonces, Numbers::new(alloc));
-    let mut net = RowListener::new(board, connections);
+    let mut output = MemorySink::new(alloc, failing_output);
+    let mut nonces = ListNonces::new(alloc, nonces, failing_nonces);
+    let mut net = RowListener::new(board, connections, failing_net);
     let ended = run(
         rt,
         alloc,
@@ -154,8 +168,8 @@ fn serve<R: Threads + Wait + Sync + AllocGlobal>(
         secrets,
         &mut input,
         &mut output,
-        disks.a,
-        disks.b,
+        a,
+        b,
         &board.clock,
         &mut net,
         &mut nonces,
@@ -164,17 +178,19 @@ fn serve<R: Threads + Wait + Sync + AllocGlobal>(
     Ok((ended, is_served))
 }
 
-// What a script over the disks is told.
+// What a script is told that opens disks with the bytes of these.
 fn found_by<R: Threads + Wait + Sync + AllocGlobal>(
     rt: &R,
     secrets: &Secrets,
     script: Bytes,
-    disks: Ended<MemoryDisk>,
+    disks: &Ended<MemoryDisk>,
 ) -> Result<Bytes, RowFault> {
     let alloc = rt.alloc();
+    let a = new_disk(alloc, disks.a.image(), Numbers::new(alloc))?;
+    let b = new_disk(alloc, disks.b.image(), Numbers::new(alloc))?;
     let mut output = MemorySink::new(alloc, Numbers::new(alloc));
     let words = ["script", "--stored"];
-    let _ = run_over(rt, &words, secrets, script, &mut output, disks.a, disks.b)?;
+    let _ = run_over(rt, &words, secrets, script, &mut output, a, b)?;
     let mut found = Bytes::new(alloc);
     found.extend(output.held())?;
     Ok(found)
@@ -187,14 +203,24 @@ fn run_all<R: Threads + Wait + Sync + AllocGlobal>(
     secrets: &Secrets,
     board: &Board,
     command: &Command,
+    plans: Plans,
     connections: u64,
     script: Bytes,
     nonces: Bytes,
     checks: Bytes,
 ) -> Result<(bool, Bytes), RowFault> {
-    let disks = set_up(rt, secrets, script)?;
-    let (disks, is_served) = serve(rt, secrets, board, command, connections, nonces, disks)?;
-    match found_by(rt, secrets, checks, disks) {
+    let made = set_up(rt, secrets, script)?;
+    let (disks, is_served) = serve(
+        rt,
+        secrets,
+        board,
+        command,
+        plans,
+        connections,
+        nonces,
+        &made,
+    )?;
+    match found_by(rt, secrets, checks, &disks) {
         Ok(found) => Ok((is_served, found)),
         Err(fault) => Err(fault),
     }
@@ -207,6 +233,7 @@ impl Case {
             secrets: Bytes::new(alloc),
             script: Bytes::new(alloc),
             command: Command::new(alloc),
+            plans: Plans::new(alloc),
             nonces: Bytes::new(alloc),
             connections: 0,
             second: 0,
@@ -257,31 +284,27 @@ impl Case {
 
     // Adds the step, with what is told.
     fn add_reply(&mut self, alloc: Global, text: &str) -> Result<(), RowFault> {
-        let mut line = Bytes::new(alloc);
-        line.extend(self.line.as_slice())?;
         let mut reply = Bytes::new(alloc);
         add_line(text, &mut reply)?;
+        self.add_step(alloc, reply, Turn::Told)
+    }
+
+    // Adds the step at which a connection reads no line.
+    fn add_last(&mut self, alloc: Global, number: &str, turn: Turn) -> Result<(), RowFault> {
+        self.begin_step(number)?;
+        self.add_step(alloc, Bytes::new(alloc), turn)
+    }
+
+    // Adds the step.
+    fn add_step(&mut self, alloc: Global, reply: Bytes, turn: Turn) -> Result<(), RowFault> {
+        let mut line = Bytes::new(alloc);
+        line.extend(self.line.as_slice())?;
         let step = Step {
             connection: self.connection,
             second: self.second,
             line,
             reply,
-            ends: false,
-        };
-        match self.steps.push(step) {
-            Ok(()) => Ok(()),
-            Err(_) => Err(RowFault::NoMemory),
-        }
-    }
-
-    // Adds the step at which the input of a connection ends.
-    fn add_end(&mut self, alloc: Global, number: &str) -> Result<(), RowFault> {
-        let step = Step {
-            connection: number_of(number)?,
-            second: self.second,
-            line: Bytes::new(alloc),
-            reply: Bytes::new(alloc),
-            ends: true,
+            turn,
         };
         match self.steps.push(step) {
             Ok(()) => Ok(()),
@@ -300,6 +323,21 @@ impl Case {
         }
     }
 
+    // Adds what a row of the connections and their steps says.
+    fn add_said(&mut self, alloc: Global, kind: &str, text: &str) -> Result<(), RowFault> {
+        match kind {
+            "nonce" => self.add_connection(text),
+            "at" => self.set_clock(text),
+            "+" => self.begin_step(text),
+            "." => self.add_last(alloc, text, Turn::Ends),
+            "!" => self.add_last(alloc, text, Turn::ReadFails),
+            "long" => self.say_long(text),
+            "<" => self.add_reply(alloc, text),
+            "<!" => self.add_step(alloc, Bytes::new(alloc), Turn::WriteFails),
+            _ => self.say(kind, text),
+        }
+    }
+
     /// Adds what a row gives or wants.
     pub fn add_row(&mut self, alloc: Global, row: &str) -> Result<(), RowFault> {
         let (kind, text) = row.split_once(' ').unwrap_or((row, ""));
@@ -309,16 +347,11 @@ impl Case {
             "words" => self.command.add_words(alloc, text),
             "status" => self.command.set_status(text),
             "tells" => self.command.add_told(text),
-            "nonce" => self.add_connection(text),
-            "at" => self.set_clock(text),
-            "+" => self.begin_step(text),
-            "." => self.add_end(alloc, text),
-            "long" => self.say_long(text),
-            "<" => self.add_reply(alloc, text),
+            "fails" => self.plans.set(text),
             "then" => add_line(text, &mut self.checks),
             "is" => add_line(text, &mut self.wanted),
             "" | "#" => Ok(()),
-            _ => self.say(kind, text),
+            _ => self.add_said(alloc, kind, text),
         }
     }
 
@@ -328,6 +361,7 @@ impl Case {
             secrets,
             script,
             command,
+            plans,
             nonces,
             connections,
             second: _,
@@ -349,6 +383,7 @@ impl Case {
             &secrets,
             &board,
             &command,
+            plans,
             connections,
             script,
             nonces,

@@ -59,9 +59,9 @@ impl Command {
         self.add_words(alloc, number.as_str())
     }
 
-    // If no row says what it has to write, that is how many were served.
+    // If no row says what it has to write, that is how many were served, at status 0.
     fn add_served(&mut self, count: u64) -> Result<(), RowFault> {
-        if !self.told.as_slice().is_empty() {
+        if self.status != 0 || !self.told.as_slice().is_empty() {
             return Ok(());
         }
         put_counted(&mut self.told, "served ", count)?;

@@ -1,8 +1,10 @@
 //! Connections that say the steps of a board.
 
-ghost use Rattle.std.specs.Prelude.{◌≡◌, ◌≤◌, None, IfSome, length};
+ghost use Rattle.std.specs.Prelude.{◌≡◌, ◌≤◌, None, IfOk, OnErr, length};
+ghost use Rattle.pcfs_ports.specs.Faults.{HasRisen};
 
-use crate::board::Board;
+use crate::board::{Board, Taken, Turn};
+use bl_syntax::Numbers;
 use pcfs_ports::{Accepted, Failed, Listener, Sink, Source};
 use std::alloc::Global;
 use std::thread;
@@ -27,54 +29,96 @@ pub struct RowSource<'b> {
     connection: u64,
     step: usize,
     given: usize,
+    faults: u64,
 }
 
 impl<'b> RowSource<'b> {
-    // Gives bytes of its line, or tells that there are none; or it is not its step, or its line was given.
-    fn look(&mut self, buf: &mut [u8]) -> Option<usize>
-        ensures { IfSome result (λ count. count ≤ length buf.new) }
+    // How many bytes of the line of the step after so many were given.
+    fn given_of(&self, made: usize) -> usize {
+        if self.step == made { self.given } else { 0 }
+    }
+
+    // Whether it is its step and the line was not all given, or the step has no line; or no step is left.
+    fn is_ready(&self) -> bool {
+        match self.board.next_step() {
+            Some((made, step)) => {
+                if step.connection != self.connection {
+                    return false;
+                }
+                step.turn == Turn::ReadFails
+                    || step.turn == Turn::Ends
+                    || self.given_of(made) < step.line.len()
+            }
+            None => true,
+        }
+    }
+
+    // Waits until it is ready, and returns whether it is.
+    fn waits(&self) -> bool {
+        for _ in 0..LOOKS {
+            if self.is_ready() {
+                return true;
+            }
+            thread::yield_now();
+        }
+        false
+    }
+
+    // Gives bytes of the line of the step after so many.
+    fn give_line(&mut self, made: usize, line: &[u8], buf: &mut [u8]) -> usize
+        ensures some { result ≤ length buf.new }
+        ensures same { self.new.faults ≡ self.old.faults }
+    {
+        let at = self.given_of(made).min(line.len());
+        let count = give(&line[at..], buf);
+        self.step = made;
+        self.given = at + count;
+        count
+    }
+
+    // Gives bytes of its line, or tells that there are none, or fails.
+    fn take_step(&mut self, buf: &mut [u8]) -> Result<usize, Failed>
+        ensures bound { IfOk result (λ count. count ≤ length buf.new) }
+        ensures risen { OnErr result (HasRisen self.old.faults self.new.faults) }
+        ensures never_falls { self.old.faults ≤ self.new.faults }
     {
         let board = self.board;
         let (made, step) = match board.next_step() {
             Some((made, step)) => (made, step),
-            None => return Some(0),
+            None => return Ok(0),
         };
-        if step.connection != self.connection {
-            return None;
+        match step.turn {
+            Turn::ReadFails => {
+                board.advance();
+                self.faults = self.faults.saturating_add(1);
+                Err(Failed)
+            }
+            Turn::Ends => {
+                board.advance();
+                Ok(0)
+            }
+            Turn::Told | Turn::WriteFails => {
+                board.clock.set(step.second);
+                Ok(self.give_line(made, step.line.as_slice(), buf))
+            }
         }
-        if step.ends {
-            board.advance();
-            return Some(0);
-        }
-        if self.step != made {
-            self.step = made;
-            self.given = 0;
-        }
-        let line = step.line.as_slice();
-        if line.len() <= self.given {
-            return None;
-        }
-        board.clock.set(step.second);
-        let count = give(&line[self.given..], buf);
-        self.given += count;
-        Some(count)
     }
 }
 
 impl<'b> Source for RowSource<'b> {
     ghost left = { λ _. None };
 
-    ghost faults = { λ _. 0 };
+    ghost faults = { λ s. s.faults };
 
     fn read(&mut self, buf: &mut [u8]) -> Result<usize, Failed> {
-        for _ in 0..LOOKS {
-            if let Some(count) = self.look(buf) {
-                return Ok(count);
-            }
-            thread::yield_now();
+        if self.board.goes_on_after_fault(self.connection) {
+            return Ok(0);
         }
-        self.board.give_up();
-        Ok(0)
+        if !self.waits() {
+            self.board.give_up();
+            return Ok(0);
+        }
+        self.take_step(buf)
     }
 }
 
@@ -83,41 +127,77 @@ impl<'b> Source for RowSource<'b> {
 pub struct RowSink<'b> {
     board: &'b Board,
     connection: u64,
+    faults: u64,
+}
+
+impl<'b> RowSink<'b> {
+    // Waits until it is its step, and returns what becomes of the bytes.
+    fn offer(&self, piece: &[u8]) -> Taken {
+        for _ in 0..LOOKS {
+            let taken = self.board.take_reply(self.connection, piece);
+            if taken != Taken::NotYet {
+                return taken;
+            }
+            thread::yield_now();
+        }
+        Taken::NotYet
+    }
 }
 
 impl<'b> Sink for RowSink<'b> {
     ghost held = { λ _. None };
 
-    ghost faults = { λ _. 0 };
+    ghost faults = { λ s. s.faults };
 
     fn write(&mut self, piece: &[u8]) -> Result<usize, Failed> {
-        for _ in 0..LOOKS {
-            if self.board.take_reply(self.connection, piece) {
-                return Ok(piece.len());
-            }
-            thread::yield_now();
+        if self.board.goes_on_after_fault(self.connection) {
+            return Ok(piece.len());
         }
-        self.board.give_up();
-        Ok(piece.len())
+        match self.offer(piece) {
+            Taken::Told => Ok(piece.len()),
+            Taken::Fails => {
+                self.faults = self.faults.saturating_add(1);
+                Err(Failed)
+            }
+            Taken::NotYet => {
+                self.board.give_up();
+                Ok(piece.len())
+            }
+        }
     }
 }
 
-/// The connections of a board, by their numbers.
+/// The connections of a board, by their numbers. It fails at the calls, of `listen` and `accept` together, that are to fail.
 #[derive(Drop)]
 pub struct RowListener<'b> {
     board: &'b Board,
     accepted: u64,
     count: u64,
+    failing: Numbers,
+    calls: u32,
+    faults: u64,
 }
 
 impl<'b> RowListener<'b> {
-    /// So many connections.
-    pub fn new(board: &'b Board, count: u64) -> RowListener<'b> {
+    /// So many connections, and the numbers, from 0, of the calls that fail.
+    pub fn new(board: &'b Board, count: u64, failing: Numbers) -> RowListener<'b> {
         RowListener {
             board,
             accepted: 0,
             count,
+            failing,
+            calls: 0,
+            faults: 0,
         }
+    }
+
+    // Whether the next call fails. It is counted.
+    fn is_to_fail(&mut self) -> bool
+        ensures { self.new.faults ≡ self.old.faults }
+    {
+        let fails = self.failing.as_slice().contains(&self.calls);
+        self.calls = self.calls.saturating_add(1);
+        fails
     }
 }
 
@@ -130,13 +210,21 @@ impl<'b> Listener for RowListener<'b> {
 
     ghost over = { λ _. Unit {0} };
 
-    ghost faults = { λ _. 0 };
+    ghost faults = { λ s. s.faults };
 
     fn listen(&mut self, _port: u16) -> Result<(), Failed> {
+        if self.is_to_fail() {
+            self.faults = self.faults.saturating_add(1);
+            return Err(Failed);
+        }
         Ok(())
     }
 
     fn accept(&mut self, _alloc: Global) -> Accepted<RowSource<'b>, RowSink<'b>> {
+        if self.is_to_fail() {
+            self.faults = self.faults.saturating_add(1);
+            return Accepted::Failed;
+        }
         if self.count <= self.accepted {
             return Accepted::Closed;
         }
@@ -146,10 +234,12 @@ impl<'b> Listener for RowListener<'b> {
             connection: self.accepted,
             step: 0,
             given: 0,
+            faults: 0,
         };
         let output = RowSink {
             board: self.board,
             connection: self.accepted,
+            faults: 0,
         };
         Accepted::Conn(input, output)
     }

@@ -10,6 +10,7 @@ mod board;
 mod case;
 mod command;
 mod connection;
+mod plans;
 mod rows;
 
 use bl_syntax::{Bytes, NoMemory};
