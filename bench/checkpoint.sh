@@ -54,6 +54,11 @@ class Script:
         assert told.startswith(wanted), (line[:100], told[:100], self.process.poll())
         return taken
 
+    def processor(self):
+        """Seconds that it has had of a processor."""
+        with open(f"/proc/{self.process.pid}/schedstat") as file:
+            return int(file.read().split()[0]) / 1e9
+
     def memory(self, kind):
         with open(f"/proc/{self.process.pid}/status") as file:
             return next(int(line.split()[1]) * 1024 for line in file if line.startswith(kind))
@@ -102,7 +107,9 @@ def full_tree(sizes):
 
 
 def checkpoint(script):
-    return script.ask(b"checkpoint", b"ok checkpoint")
+    """Seconds of a checkpoint, and those of a processor in it."""
+    before = script.processor()
+    return script.ask(b"checkpoint", b"ok checkpoint"), script.processor() - before
 
 
 def copy_and_sync():
@@ -156,14 +163,14 @@ def vacuum(base):
 
 
 def opening():
-    """Seconds of an opening that does nothing more, and its greatest memory."""
+    """Seconds of an opening that does nothing more, those of a processor in it, and its greatest memory."""
     begin = time.perf_counter()
     script = Script(disk)
     script.ask(b"at 100", b"ok")
     taken = time.perf_counter() - begin
-    most = script.memory("VmHWM")
+    found = taken, script.processor(), script.memory("VmHWM")
     script.end()
-    return taken, most
+    return found
 
 
 def seconds_of_writes():
@@ -185,8 +192,8 @@ def seconds_of_writes():
 
 
 def times(script, base):
-    """Seconds of a checkpoint, of cp and sync, of a write and sync, and of VACUUM INTO: the least of each, in turns."""
-    rounds = [(checkpoint(script), copy_and_sync(), write_and_sync(), vacuum(base)) for _ in range(ROUNDS)]
+    """Seconds of a checkpoint and of a processor in it, of cp and sync, of a write and sync, and of VACUUM INTO: the least, in turns."""
+    rounds = [(*checkpoint(script), copy_and_sync(), write_and_sync(), vacuum(base)) for _ in range(ROUNDS)]
     return map(min, zip(*rounds))
 
 
@@ -200,18 +207,18 @@ def tell(what, sizes):
     script.ask(b"at 100", b"ok")
     before = script.memory("VmRSS")
     script.forget_peak()
-    made, copied, written, vacuumed = times(script, base)
+    made, used, copied, written, vacuumed = times(script, base)
     most = script.memory("VmHWM")
     script.end()
     base.close()
     opened = [opening() for _ in range(ROUNDS)]
-    seconds, peak = min(one for one, _ in opened), max(one for _, one in opened)
+    seconds, busy, peak = (least(some) for least, some in zip((min, min, max), zip(*opened)))
     print(f"{what}: an image of {image} bytes of {FILES + 1} nodes, {TOGETHER} bytes of contents, {STATEMENTS} statements, {len(sizes) + 1} issues")
-    print(f"  checkpoint: {made * 1000:.0f} ms, {image / made / 1e6:.0f} MB a second; cp and sync {copied * 1000:.0f} ms, so {made / copied:.2f} times that")
+    print(f"  checkpoint: {made * 1000:.0f} ms, {used * 1000:.0f} of a processor, {image / made / 1e6:.0f} MB a second; cp and sync {copied * 1000:.0f} ms, so {made / copied:.2f} times that")
     print(f"  one write of the same bytes and a sync: {written * 1000:.0f} ms, so {made / written:.2f} times that")
     print(f"  VACUUM INTO of {os.path.getsize('into')} bytes, and a sync: {vacuumed * 1000:.0f} ms, so {made / vacuumed:.2f} times that")
     print(f"  memory: {most / MIB:.0f} MiB at most, {most / image:.2f} of the image; {before / MIB:.0f} MiB before, so {(most - before) / image:.2f} of the image more")
-    print(f"  opening: {seconds * 1000:.0f} ms, {peak / MIB:.0f} MiB at most, {peak / image:.2f} of the image", flush=True)
+    print(f"  opening: {seconds * 1000:.0f} ms, {busy * 1000:.0f} of a processor, {peak / MIB:.0f} MiB at most, {peak / image:.2f} of the image", flush=True)
 
 
 tell("32 files", [MIB] * 32)
