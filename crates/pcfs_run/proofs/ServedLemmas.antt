@@ -1,5 +1,5 @@
 -- How a run ends that serves.
-use Rattle.std.proofs.Common.{◌≡◌, ◌∙◌, ◌⊎◌, inl, inr, ℕ, ◌+◌, ◌≤◌, List, [], ◌∷◌, ◌++◌, ◌-◌, length, take, drop, append_assoc, append-nil, map, Bool, Option, Some, None, codes, decimal, refl, sym, ap, subst, arith, add-zero}
+use Rattle.std.proofs.Common.{◌≡◌, ◌∙◌, ◌⊎◌, inl, inr, ℕ, ◌+◌, ◌≤◌, List, [], ◌∷◌, ◌++◌, ◌-◌, length, take, drop, append_assoc, append-nil, map, Bool, true, false, Option, Some, None, codes, decimal, refl, sym, ap, subst, arith, add-zero}
 use Rattle.pcfs_ports.specs.Accepted.{FallsBy}
 use Rattle.pcfs_ports.specs.Faults.{HasRisen}
 use Rattle.access_history.specs.Answer.{Answers}
@@ -32,7 +32,7 @@ use Rattle.shared_store.specs.GoesOn.{HasGoneOn, HasMet, in_a_step, in_a_checkpo
 use Rattle.pcfs_tools.specs.LastLine.{IsTold}
 use Rattle.pcfs_top.specs.Ports.{Rests, IfTold, AreBytesKept}
 use Rattle.pcfs_top.specs.Run.{IsNewestOf, TellsUnopened, damaged_text}
-use Rattle.pcfs_top.proofs.EndsWithLemmas.{disks_of, rests_of, newest_of, counts_now, closed_of, pinned_at, other_is, added_all, place_kept, has_no_area}
+use Rattle.pcfs_top.proofs.EndsWithLemmas.{disks_of, rests_of, newest_of, counts_now, closed_of, pinned_at, other_is, added_all, place_kept, place_moved, has_no_area}
 use Rattle.pcfs_run.specs.Passes.{IsGrown, stop_among}
 use Rattle.pcfs_run.specs.Served.{Net, ServePorts, IsNetKept, AreAttended, IsMet, IsServed, TellsServed, ServeWrites, EndsServing, all_served, net_failed}
 use Rattle.pcfs_run.specs.Served as serving
@@ -232,6 +232,10 @@ module _ {D : Type 0} (clock : D → ℕ) (left_since : D → ℕ → List ℕ �
                 under (λ key ring base. IsNewestClosed (s.generation + length s'.checkpoints) (state_after base s'.events (last_after 0 s'.checkpoints)) (records_of s') x' y')
                 (subst (λ (n : ℕ). IsNewestClosed n (head_of s') (records_of s') x' y') generation_is (closed_of clock left_since image faults s' store' ready x' y' is_x' is_y')),
           );
+      place = λ runs x y is_x is_y second counts x' y' is_x' is_y'.
+          let now = counts_now clock left_since image faults s store (opened.current x y is_x is_y) x y (opened.first_read.same ∙ is_x) (opened.second_read.same ∙ is_y) in
+          counts_now clock left_since image faults s' store' (goes.current (opened.current x y is_x is_y) (is ∙ runs)) x' y' is_x' is_y'
+          ∙ ap Some (place_moved goes.checkpoints_go_on.0 s'.checkpoints s.second_active second s'.second_active added_to (same_place s.second_active second (sym now ∙ counts)) goes.place_is);
       risen = λ pass stops. risen_since s s' opened (goes.failed pass (is ∙ stops));
       survives = λ pass stops x y is_x is_y gate. left_by pass (goes.halts (opened.ready x y is_x is_y gate) pass (is ∙ stops));
       other_stays = λ none x y is_x is_y second counts.

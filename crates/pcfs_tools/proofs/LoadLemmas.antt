@@ -8,7 +8,7 @@ use Rattle.pcfs_secrets.specs.declared.secrets.Secrets.{Secrets}
 use Rattle.pcfs_session.specs.InterpreterView.{InterpreterView, standing_of}
 use Rattle.pcfs_session.specs.ScriptEnds.{RunsOver, ScriptWrites, ScriptEnds, with_line_end}
 use Rattle.pcfs_session.specs.ScriptEnds as ends
-use Rattle.pcfs_session.specs.ScriptRun.{Standing, fresh_start, state_of_standing}
+use Rattle.pcfs_session.specs.ScriptRun.{Standing, fresh_start}
 use Rattle.pcfs_session.specs.Streams.{Streams}
 use Rattle.pcfs_session.specs.declared.script_end.ScriptEnd.{ScriptEnd}
 use Rattle.pcfs_session.specs.declared.script_end.ScriptEnd.TheVariants.{Done, LineTooLong, ReadFault, WriteFault, NoMemory, InputTooLong, Stopped}

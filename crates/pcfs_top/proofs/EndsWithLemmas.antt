@@ -113,6 +113,10 @@ added_all first added all none both = ap (λ (cs : List Checkpoint). cs ++ added
 pub place_kept : (added : List Checkpoint) (old new : Bool) → added ≡ [] → new ≡ place_after (length added) old → new ≡ old
 place_kept added old new none is = is ∙ ap (λ (cs : List Checkpoint). place_after (length cs) old) none
 
+-- with each that was added they change their places
+pub place_moved : (added all : List Checkpoint) (old first new : Bool) → added ≡ all → old ≡ first → new ≡ place_after (length added) old → new ≡ place_after (length all) first
+place_moved added all old first new same begins is = is ∙ ap (λ (cs : List Checkpoint). place_after (length cs) old) same ∙ ap (place_after (length all)) begins
+
 -- the area of a store without checkpoints has the image of its base, and the records of all its events
 body_unsettled : {D : Type 0} (s : StoreView D) → s.checkpoints ≡ [] → body_of s ≡ area_bytes s.generation (image_spelling s.base) (payloads_of s.events)
 body_unsettled s unsettled = ap (λ (cs : List Checkpoint). area_since s.generation s.base s.events (last_after 0 cs)) unsettled
@@ -466,6 +470,10 @@ module _ {D : Type 0} (clock : D → ℕ) (left_since : D → ℕ → List ℕ �
           closed = λ x y is_x is_y closed none.
               let ready = goes.ready (opened.ready x y is_x is_y closed) none in
               (pinned_at s' (first_disk s') (second_disk s') refl refl ready, closed_of s' store' ready);
+          place = λ none x y is_x is_y second counts x' y' is_x' is_y'.
+              let now = counts_now s store (opened.current x y is_x is_y) x y (opened.first_read.same ∙ is_x) (opened.second_read.same ∙ is_y) in
+              counts_now s' store' (goes.current (opened.current x y is_x is_y) none) x' y' is_x' is_y'
+              ∙ ap Some (place_moved added s'.checkpoints s.second_active second s'.second_active all (same_place s.second_active second (sym now ∙ counts)) goes.place_is);
           failed = λ entry same. risen_since secrets a b s s' opened (goes.failed entry same);
           survives = λ x y is_x is_y closed entry same x' y' is_x' is_y'.
               goes.halts (opened.ready x y is_x is_y closed) entry same x' y' (may_stay (first_disk s') x' is_x') (may_stay (second_disk s') y' is_y');

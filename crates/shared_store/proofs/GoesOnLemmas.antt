@@ -203,8 +203,8 @@ module _ {D : Type 0} (clock : D → ℕ) (left_since : D → ℕ → List ℕ �
   risen_other active old other false risen = inr risen
   risen_other active old other true risen = inl risen
 
-  checkpoints_more : (opening checkpoints : List Checkpoint) → IsPrefix opening checkpoints → (made : Checkpoint) → IsPrefix opening (checkpoints ++ made ∷ [])
-  checkpoints_more opening checkpoints begins made = (begins.0 ++ made ∷ [], sym (append_assoc opening begins.0 (made ∷ [])) ∙ ap (λ (cs : List Checkpoint). cs ++ made ∷ []) begins.1)
+  checkpoints_more : (opening more checkpoints : List Checkpoint) (last : Checkpoint) → opening ++ more ≡ checkpoints → opening ++ (more ++ last ∷ []) ≡ checkpoints ++ last ∷ []
+  checkpoints_more opening more checkpoints last is = sym (append_assoc opening more (last ∷ [])) ∙ ap (λ (cs : List Checkpoint). cs ++ last ∷ []) is
 
   not_none : (more : List Checkpoint) (made : Checkpoint) → more ++ made ∷ [] ≡ [] → ⊥
   not_none [] made is = cc
@@ -222,7 +222,8 @@ module _ {D : Type 0} (clock : D → ℕ) (left_since : D → ℕ → List ℕ �
     base_stays = g.base_stays;
     events_go_on = g.events_go_on;
     lawful = g.lawful;
-    checkpoints_go_on = checkpoints_more opening.checkpoints old.checkpoints g.checkpoints_go_on (record { after = length old.events; pass = pass });
+    checkpoints_go_on =
+        (g.checkpoints_go_on.0 ++ record { after = length old.events; pass = pass } ∷ [], checkpoints_more opening.checkpoints g.checkpoints_go_on.0 old.checkpoints (record { after = length old.events; pass = pass }) g.checkpoints_go_on.1);
     generation_grows = let long = length-append g.checkpoints_go_on.0 (record { after = length old.events; pass = pass } ∷ []) in omega (arith, long, g.generation_grows);
     place_is = ap not g.place_is ∙ sym (exchanged_more g.checkpoints_go_on.0 (record { after = length old.events; pass = pass }) opening.second_active);
     other_stays = λ none. absurd (not_none g.checkpoints_go_on.0 (record { after = length old.events; pass = pass }) none);

@@ -178,37 +178,37 @@ module _ {D : Type 0} (clock : D → ℕ) (left_since : D → ℕ → List ℕ �
   checkpoint_here pass store (inl over) = inl (subst (λ (s : BaseView). area_limit < length (image_spelling s) + 25) state_is over)
   checkpoint_here pass store (inr last) = inr (subst (λ (n : ℕ). 2 ^ 48 - 1 ≤ n) (sym (generation_is store)) last)
 
-  by_checkpoint : (new : StoreView D) (pass : ℕ) (moment : ℤ) (reply : CheckpointReply) → IsStore now → MakesCheckpoint faults now pass reply new →
+  by_checkpoint : (pass : ℕ) (new : StoreView D) (moment : ℤ) (reply : CheckpointReply) → IsStore now → MakesCheckpoint faults now pass reply new →
       HasTurned faults (λ m. m ≡ moment) requests.Checkpoint (record { store = now; opening = opening }) pass (record { store = new; opening = opening }) (checkpoint_reply reply)
-  by_checkpoint _ pass moment _ store (makes.made active running fits) = record {
+  by_checkpoint pass _ moment _ store (makes.made active running fits) = record {
     given = checkpointed pass ∷ [];
     opening_stays = refl;
     grows = entries-made now running pass active store;
     turn = turns.kept moment turn_replies.Checkpointed (checkpointed pass) (runs now (ap is_some running)) refl turns.makes (λ is_full. fits (checkpoint_here pass store is_full));
     stops = λ stopper was is. none_some now.stop stopper was is;
   }
-  by_checkpoint _ pass moment _ store (makes.full running over) = record {
+  by_checkpoint pass _ moment _ store (makes.full running over) = record {
     given = [];
     opening_stays = refl;
     grows = sym (append-nil (entries_of now));
     turn = turns.full moment turn_replies.Checkpointed (checkpointed pass) (runs now (ap is_some running)) refl turns.makes (checkpoint_there pass store over);
     stops = λ stopper was is. none_some now.stop stopper was is;
   }
-  by_checkpoint _ pass moment _ store (makes.failed other running fits risen) = record {
+  by_checkpoint pass _ moment _ store (makes.failed other running fits risen) = record {
     given = stopped pass ∷ [];
     opening_stays = refl;
     grows = entries-stopped now running now.active other pass;
     turn = turns.failed moment turn_replies.Checkpointed (checkpointed pass) (runs now (ap is_some running)) refl turns.makes (λ is_full. fits (checkpoint_here pass store is_full));
     stops = λ stopper was is. (one_pass pass stopper is, risen);
   }
-  by_checkpoint _ pass moment _ store (makes.stopped earlier is) = record {
+  by_checkpoint pass _ moment _ store (makes.stopped earlier is) = record {
     given = [];
     opening_stays = refl;
     grows = sym (append-nil (entries_of now));
     turn = turns.was_stopped (stands now (ap is_some is));
     stops = λ stopper was now_is. none_some now.stop stopper was now_is;
   }
-  by_checkpoint _ pass moment _ store (makes.without_memory running) = record { given = []; opening_stays = refl; grows = sym (append-nil (entries_of now)); turn = turns.without_memory; stops = λ stopper was is. none_some now.stop stopper was is }
+  by_checkpoint pass _ moment _ store (makes.without_memory running) = record { given = []; opening_stays = refl; grows = sym (append-nil (entries_of now)); turn = turns.without_memory; stops = λ stopper was is. none_some now.stop stopper was is }
 
   -- a look at the store, which adds nothing
   abbrev Looks : TurnRequest → TurnReply → Type 0
@@ -266,9 +266,9 @@ module _ {D : Type 0} (clock : D → ℕ) (left_since : D → ℕ → List ℕ �
 pub turned_by_checkpoint : {D : Type 0} (clock : D → ℕ) (left_since : D → ℕ → List ℕ → Type 0) (image : D → Option (List ℕ)) (faults : D → ℕ) (opening old new : StoreView D) (pass : ℕ) (moment : ℤ) (reply : CheckpointReply) (told : TurnReply) →
     HasGoneOn clock left_since image faults opening old → IsStore old → MakesCheckpoint faults old pass reply new → told ≡ checkpoint_reply reply →
     HasTurned faults (λ m. m ≡ moment) requests.Checkpoint (record { store = old; opening = opening }) pass (record { store = new; opening = opening }) told
-turned_by_checkpoint clock left_since image faults opening old new pass moment reply told g store made is =
+turned_by_checkpoint clock left_since image faults opening old new pass moment reply told g store checkpoint is =
     subst (λ (r : TurnReply). HasTurned faults (λ m. m ≡ moment) requests.Checkpoint (record { store = old; opening = opening }) pass (record { store = new; opening = opening }) r) (sym is)
-    (by_checkpoint clock left_since image faults opening old g new pass moment reply store made)
+    (by_checkpoint clock left_since image faults opening old g pass new moment reply store checkpoint)
 
 pub turned_by_step : {D : Type 0} (clock : D → ℕ) (left_since : D → ℕ → List ℕ → Type 0) (image : D → Option (List ℕ)) (faults : D → ℕ) (opening old new : StoreView D) (pass : ℕ) (moment : ℤ) (request : StepRequest) (reply : StoreReply) (told : TurnReply) →
     HasGoneOn clock left_since image faults opening old → IsStore old → Steps faults old pass moment request reply new → told ≡ turn_reply reply →
