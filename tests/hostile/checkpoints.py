@@ -4,7 +4,7 @@ import shutil
 import threading
 import time
 
-from areas import bytes_of
+from areas import begin_of, bytes_of
 from said import SHARED, login, registration
 from serving import Store
 from talking import Session, Unanswered
@@ -47,14 +47,16 @@ class Generations:
         return self.store.newest() if number == self.last() else bytes_of(self.path(number))
 
     def memory(self):
-        """How many KiB of memory an opening of a new store takes, and more than that openings of all areas together."""
+        """How many KiB of memory an opening of the last image takes, and more than that the records of all areas, and the largest image
+        with a copy of its nodes."""
         store = Store(self.store.program, f"{self.store.folder}.opened", self.store.secrets)
-        store.run("init")
-        least = most = store.memory()
+        alone = records = largest = 0
         for area in self.all():
-            store.put(area)
-            most += store.memory() - least
-        return most
+            begin = begin_of(area)
+            alone = store.memory_of(area[:begin] + b"\0")
+            records += store.memory_of(area) - alone
+            largest = max(largest, begin)
+        return alone + records + 2 * largest // 1024
 
 
 class Operator(threading.Thread):

@@ -217,7 +217,7 @@ class Run:
         images = [image.length for image in placing.images[1:]]
         self.tell(part, f"{len(images) - 1} checkpoints, with images of up to {max(images)} bytes")
         opened = generations.memory()
-        memory = f"{server.memory} KiB at most, and {opened} for openings of its areas"
+        memory = f"{server.memory} KiB at most, and {opened} for what its areas have"
         self.tell(part, f"{events} events in {sum(map(len, generations.all()))} bytes; {memory}; {server.threads} threads, {server.files} files at most")
         if server.memory > opened + SESSIONS_MEMORY:
             self.fault(part, f"history and sessions explain {opened + SESSIONS_MEMORY} KiB of memory, and not {server.memory}")

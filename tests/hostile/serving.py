@@ -75,6 +75,11 @@ class Store:
             process.communicate()
         return int(most)
 
+    def memory_of(self, area):
+        """The same of an opening of this area."""
+        self.put(area)
+        return self.memory()
+
     def size(self):
         return os.path.getsize(f"{self.folder}/{self.name_of_newest()}")
 
