@@ -1,4 +1,5 @@
 """Events as docs/FORMATS.md writes them, and the state that they lead to, by the plain model of examples/pcfs_model.py."""
+from bisect import bisect_left
 from collections import namedtuple
 
 import pcfs_model
@@ -135,12 +136,56 @@ class Reader:
         return Acted(caller, operation, words, procaps, moment)
 
 
-def copied(node, with_contents):
-    """The node, with lists of its own."""
-    other = Node(node.kind, node.owner, node.parent, node.name)
-    other.attributes, other.children = dict(node.attributes), dict(node.children)
-    other.contents = bytearray(node.contents) if with_contents else node.contents
-    return other
+class Names(dict):
+    """The children of a directory, which keep their entries of a list in its order, and the reply until a name changes."""
+
+    def __init__(self, children):
+        super().__init__(children)
+        self.order = sorted(children)
+        self.entries = [f" {name}#{children[name]}" for name in self.order]
+        self.reply = None
+
+    def __setitem__(self, name, number):
+        self.pop(name, None)
+        super().__setitem__(name, number)
+        place = bisect_left(self.order, name)
+        self.order.insert(place, name)
+        self.entries.insert(place, f" {name}#{number}")
+        self.reply = None
+
+    def pop(self, name, *otherwise):
+        if name in self:
+            place = bisect_left(self.order, name)
+            del self.order[place], self.entries[place]
+            self.reply = None
+        return super().pop(name, *otherwise)
+
+    def listed(self):
+        """The reply to `list`."""
+        if self.reply is None:
+            self.reply = "ok list" + "".join(self.entries)
+        return self.reply
+
+
+class Before:
+    """What a node was before an operation, but for the children that have none of these names."""
+
+    def __init__(self, node, names, with_contents):
+        self.node, self.attributes = node, dict(node.attributes)
+        self.said = node.owner, node.parent, node.name
+        self.contents = bytearray(node.contents) if with_contents else node.contents
+        self.children = [(name, node.children.get(name)) for name in names]
+
+    def again(self):
+        """The node, which is again as it was."""
+        node = self.node
+        node.owner, node.parent, node.name = self.said
+        node.attributes, node.contents = self.attributes, self.contents
+        for name, child in self.children:
+            node.children.pop(name, None)
+            if child is not None:
+                node.children[name] = child
+        return node
 
 
 class History(Server):
@@ -219,13 +264,31 @@ class History(Server):
 
     def admitted(self, caller, operation, words, procaps, moment):
         """The reply to an operation, which is done if that begins with `ok`; it is not counted."""
+        return self.denial_of(caller, operation, words, procaps, moment) or self.done(operation, words)
+
+    def denial_of(self, caller, operation, words, procaps, moment):
+        """The reply to an operation that is denied; None to another."""
         self.caller = caller
         for place, file, perm in self.needs(operation, *words):
             cause = self.why_denied(procaps[place - 1], file, perm, moment)
             if cause:
                 return f"denied {place} {cause} at {self.count}"
+        return None
+
+    def done(self, operation, words):
+        """The reply to an operation that is allowed."""
         done = getattr(self, operation)(*words)
         return f"refused {done} at {self.count}" if isinstance(done, int) else done
+
+    def list(self, directory):
+        """As the model, from names that are in order already."""
+        refusal = self.first_of(*self.directory_tests(directory))
+        return refusal or self.names_of(self.nodes[directory]).listed()
+
+    def names_of(self, directory):
+        if not isinstance(directory.children, Names):
+            directory.children = Names(directory.children)
+        return directory.children
 
     def why_denied(self, procap, file, perm, moment):
         """The first cause for which the procap does not give the caller the permission."""
@@ -246,17 +309,24 @@ class History(Server):
 
     def would_answer(self, caller, operation, words, procaps, clock):
         """The reply that an operation would get now; nothing changes."""
+        caller_before = self.caller
+        denial = self.denial_of(caller, operation, words, procaps, max(clock, self.moment))
+        reply = denial or self.would_do(operation, words)
+        self.caller = caller_before
+        return reply
+
+    def would_do(self, operation, words):
+        """The reply to an operation that is allowed; nothing changes."""
         kinds = OPERATIONS[operation][0]
         near = [word for kind, word in zip(kinds, words) if kind is pcfs_model.node]
         names = [word for kind, word in zip(kinds, words) if kind is pcfs_model.name]
         near += [self.child(directory, name) for directory in near for name in names]
         writes = operation in ("write", "truncate")
-        kept = {number: copied(self.nodes[number], writes) for number in near if number in self.nodes}
-        new, together, caller_before = self.next, self.together, self.caller
-        reply = self.admitted(caller, operation, words, procaps, max(clock, self.moment))
-        self.caller = caller_before
+        before = {number: Before(self.nodes[number], names, writes) for number in near if number in self.nodes}
+        new, together = self.next, self.together
+        reply = self.done(operation, words)
         if reply.startswith("ok"):
-            self.nodes.update(kept)
+            self.nodes.update((number, one.again()) for number, one in before.items())
             self.nodes.pop(new, None)
             self.next, self.together = new, together
         return reply

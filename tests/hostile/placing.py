@@ -10,6 +10,7 @@ from array import array
 from bisect import bisect_left, bisect_right
 from collections import defaultdict, deque, namedtuple
 from hashlib import sha256
+from functools import lru_cache
 from itertools import islice
 
 from areas import LIMIT, Damaged, generation, image_in, records
@@ -17,7 +18,8 @@ from history import MOST_STATEMENTS, Acted, History, Issued, Registered, acted_b
 from images import count_in, image_of
 from lines import LONGEST, Lines, is_accepted, is_in_table
 from pcfs_client import tag_of
-from pcfs_model import OPERATIONS, Bad, Reply, Undecided, grant_bytes
+from pcfs_model import OPERATIONS, Bad, Reply, Server, Undecided, grant_bytes
+from talking import LONG, is_shortened, shortened
 
 # Between which places a reply stands, its event, what is to be asked of the model there, and of how many bytes a record has no room
 # in the area, 0 if that is not said.
@@ -36,14 +38,24 @@ class Wrong(Exception):
     """A reply that the definitions do not allow."""
 
 
+@lru_cache(maxsize=64)
+def shortened_text(text):
+    return shortened(text.encode("latin-1"))
+
+
+def kept_form(text):
+    """A reply of the model as one that was heard is kept."""
+    return text.encode("latin-1") if len(text) <= LONG else shortened_text(text)
+
+
 def want(reply, wanted):
-    if reply != wanted.encode("latin-1"):
+    if reply != kept_form(wanted):
         raise Wrong(f"and not {wanted[:200]}")
 
 
 def kind_of(reply):
     """A reply without what it tells of one line alone."""
-    words = reply.decode("latin-1").split(" ")
+    words = reply.decode("latin-1").split(" ", 3)
     if words[0] == "denied":
         return f"denied {words[2]}"
     return " ".join(words[:2]) if words[0] in ("ok", "rejected", "unproved", "refused", "bad") else words[0]
@@ -148,7 +160,7 @@ class Placing:
         for number, ((reply, got, got_wall), (line, sent, sent_wall)) in enumerate(zip(spoken.replies, spoken.lines)):
             self.told_words[kind_of(reply)] += 1
             try:
-                if not is_in_table(reply):
+                if not is_shortened(reply) and not is_in_table(reply):
                     raise Wrong("which no table has")
                 place = self.place(line, reply, caller, spoken.nonce, sent_wall, got_wall)
             except Wrong as wrong:
@@ -427,8 +439,8 @@ class Placing:
             if cause:
                 self.fault(f"event {number} is damage of cause {cause}: {str(event)[:300]}")
                 return history
-            if self.told[number] not in (None, reply.encode()):
-                self.fault(f"event {number} was told {self.told[number][:200]!r}, and not {reply[:200]}")
+            if self.told[number] not in (None, kept_form(reply)):
+                self.fault(f"event {number} was told {self.told[number]!r}, and not {kept_form(reply)!r}")
             if isinstance(event, Acted):
                 self.test_moment(number, before)
                 self.unissued += any(procap.bytes[:-32] not in granted for procap in event.procaps)
@@ -436,7 +448,14 @@ class Placing:
                 granted.add(grant_bytes(event.grant))
         self.look_at(history, self.last)
         self.ask_at(history, self.last)
+        self.list_all(history)
         return history
+
+    def list_all(self, history):
+        """Compares what a directory has kept for its lists with the list of the plain model, for each at the end."""
+        for number, node in history.nodes.items():
+            if node.kind == "directory" and history.list(number) != Server.list(history, number):
+                self.fault(f"at the end the model has kept other names of #{number} than it has")
 
     def look_at(self, history, place):
         """Compares the images at this place with that of the state; an audit begins after the last of them."""
@@ -455,22 +474,32 @@ class Placing:
 
     def ask_at(self, history, place):
         for session, number, ask, size, most in self.asks.pop(place, ()):
-            replies = self.would_be_told(history, ask)
-            is_full = ask.reply == b"full"
-            if any(reply.startswith("ok") if is_full else reply.encode() == ask.reply for reply in replies):
+            other = self.other_reply(history, ask)
+            if other is None:
                 continue
             after = self.without_room(place + 1, size) if size else place + 1
-            if is_full and after <= most:
+            if ask.reply == b"full" and after <= most:
                 self.asks[after].append((session, number, ask, size, most))
             else:
                 words = f"{ask.form} {str(ask.words)[:200]} of {ask.caller}"
-                self.fault(f"session {session}, reply {number}: at {place} {words} is told {ask.reply[:200]!r}, and not {replies[0][:200]}")
+                self.fault(f"session {session}, reply {number}: at {place} {words} is told {ask.reply[:200]!r}, and not {other[:200]}")
+
+    def other_reply(self, history, ask):
+        """None if what was told may be told now; else the first reply that may be."""
+        replies = []
+        for reply in self.would_be_told(history, ask):
+            if reply.startswith("ok") if ask.reply == b"full" else kept_form(reply) == ask.reply:
+                return None
+            replies.append(reply)
+        return replies[0]
 
     def would_be_told(self, history, ask):
         """What may be told of this now, if there is room for a record; of a checkpoint, whether its image has none."""
         if ask.form == "checkpoint":
-            return ["ok" if len(image_of(history)) + 25 > LIMIT else "that there is room"]
-        return [history.would_answer(ask.caller, ask.form, ask.words, ask.procaps, clock) for clock in range(ask.first, ask.last + 1)]
+            yield "ok" if len(image_of(history)) + 25 > LIMIT else "that there is room"
+            return
+        for clock in range(ask.first, ask.last + 1):
+            yield history.would_answer(ask.caller, ask.form, ask.words, ask.procaps, clock)
 
     def check(self):
         """Compares all, once every session was added, and returns the state at the end."""

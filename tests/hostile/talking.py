@@ -3,9 +3,14 @@ import re
 import socket
 import struct
 import time
+from hashlib import sha256
+
+from lines import is_in_table
 
 GREETING = re.compile(rb"hello ([0-9a-f]{32})")
 PATIENCE = 60  # seconds for a reply, after which it counts as never told
+LONG = 1024  # bytes of a reply that is kept as it is
+SHOWN = 300  # bytes of a longer one that are kept
 
 
 class Unanswered(Exception):
@@ -30,6 +35,23 @@ def spoken_of(plain):
     spoken = Spoken(plain[0])
     _, spoken.lines, spoken.replies, spoken.end = plain
     return spoken
+
+
+def shortened(reply):
+    """A reply, or of a long one its first bytes, its length and the digest of all its bytes. Only what was shortened has an end of a
+    line within it."""
+    if len(reply) <= LONG:
+        return reply
+    return b"%s..\n%d bytes, with SHA-256 %s" % (reply[:SHOWN], len(reply), sha256(reply).hexdigest().encode())
+
+
+def is_shortened(reply):
+    return b"\n" in reply
+
+
+def kept(reply):
+    """A reply as it is kept: a long one is shortened if it is one of the table, else it is kept whole for the fault that it is."""
+    return shortened(reply) if len(reply) > LONG and is_in_table(reply) else reply
 
 
 def moment():
@@ -101,7 +123,8 @@ class Session:
         reply = self.line()
         if reply is None:
             raise Unanswered(f"no reply to {self.log.lines[len(self.log.replies)][0][:200]!r}")
-        self.log.replies.append((reply, *moment()))
+        now = moment()
+        self.log.replies.append((kept(reply), *now))
         return reply
 
     def ask(self, line):
