@@ -1,4 +1,5 @@
 """Random clients of one server: threads in a few processes, each with one session after another."""
+import gc
 import multiprocessing
 import os
 import pickle
@@ -130,7 +131,7 @@ class Client:
 
 
 def work(numbers, plan):
-    """The clients of one process, each in a thread of its own; what was said is left in a file."""
+    """The clients of one process, each in a thread of its own; what each said is left in a file."""
     board = Board()
     clients = [Client(number, plan, board) for number in numbers]
     threads = [threading.Thread(target=client.live) for client in clients]
@@ -138,9 +139,9 @@ def work(numbers, plan):
         thread.start()
     for thread in threads:
         thread.join()
-    logs = [log.plain() for client in clients for log in client.logs]
-    with open(f"{plan.prefix()}.{numbers[0]}", "wb") as file:
-        pickle.dump((logs, [fault for client in clients for fault in client.faults]), file)
+    for client in clients:
+        with open(f"{plan.prefix()}.{client.number}", "wb") as file:
+            pickle.dump(([log.plain() for log in client.logs], client.faults), file)
 
 
 def begun(plan):
@@ -155,14 +156,45 @@ def begun(plan):
 
 def said(plan):
     """What was said, session by session, and what went wrong; the files go."""
-    for first in range(min(PROCESSES, plan.clients)):
-        path = f"{plan.prefix()}.{first}"
-        if not os.path.exists(path):
-            yield None, [f"the clients from {first} on left nothing"]
-            continue
-        with open(path, "rb") as file:
-            logs, faults = pickle.load(file)
-        os.unlink(path)
+    for number in range(plan.clients):
+        logs, faults = said_by(plan, number)
         yield None, faults
         for log in logs:
-            yield spoken_of(log), []
+            yield log, []
+
+
+def said_by(plan, number):
+    """What one client said, session by session, and what went wrong; its file goes."""
+    path = f"{plan.prefix()}.{number}"
+    if not os.path.exists(path):
+        return [], [f"client {number} left nothing"]
+    with open(path, "rb") as file:
+        logs, faults = pickle.load(file)
+    os.unlink(path)
+    return map(spoken_of, logs), faults
+
+
+looking = None  # in a process that looks at sessions: the plan, and where they are to be placed
+
+
+def look_with(plan, placing):
+    """Begins a process that looks at sessions."""
+    global looking
+    gc.disable()
+    looking = plan, placing
+
+
+def look_at(number):
+    """What was found of the sessions of one client, and what went wrong."""
+    plan, placing = looking
+    logs, faults = said_by(plan, number)
+    return [placing.look(log) for log in logs], faults
+
+
+def found(plan, placing):
+    """What was found of what was said, client by client, and what went wrong: several processes look at it. It is in the order of
+    the clients."""
+    gc.freeze()
+    with multiprocessing.get_context("fork").Pool(PROCESSES, look_with, (plan, placing)) as pool:
+        yield from pool.imap(look_at, range(plan.clients))
+    gc.unfreeze()

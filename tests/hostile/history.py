@@ -83,6 +83,10 @@ class Reader:
                 self.lengths.append(len(data))
         return self.procaps[data]
 
+    def same(self, procap):
+        """This procap, or the one with the same bytes that was read before."""
+        return self.procaps.setdefault(procap.bytes, procap)
+
     def procap_at(self, reading):
         """The procap at the front."""
         for length in self.lengths:
@@ -205,14 +209,22 @@ class History(Server):
 
     def verdict(self, numbers, who, file, perm, proof, bytes_of_proof):
         """The grant of a proof from statements that are there, or the reply that tells its fault."""
-        cited = [self.statements[one - 1] for one in numbers]
-        case = (tuple(one.bytes for one in cited), bytes_of_proof, who, file, perm)
+        case = self.case(numbers, who, file, perm, bytes_of_proof)
         if case not in self.verdicts:
             try:
-                self.verdicts[case] = grant_of(cited, who, file, perm, proof)
+                self.verdicts[case] = grant_of([self.statements[one - 1] for one in numbers], who, file, perm, proof)
             except Reply as reply:
                 self.verdicts[case] = str(reply)
         return self.verdicts[case]
+
+    def case(self, numbers, who, file, perm, bytes_of_proof):
+        """All that a verdict depends on."""
+        return tuple(self.statements[one - 1].bytes for one in numbers), bytes_of_proof, who, file, perm
+
+    def take_verdict(self, event):
+        """Takes the grant of an issue as the verdict on its proof, as another process has found it to be."""
+        grant = event.grant
+        self.verdicts.setdefault(self.case(event.numbers, grant.who, grant.file, grant.perm, event.proof_bytes), grant)
 
     def add(self, event):
         """Adds an event: the cause for which it is damage, or else none, and the reply to who asked for it."""

@@ -12,7 +12,7 @@ from itertools import chain
 from areas import LIMIT, image_in, records
 from checkpoints import AT_ONCE as OPERATORS
 from checkpoints import Generations, Operator, all_at_once
-from clients import Plan, begun, said
+from clients import Plan, begun, found
 from damage import damage_until
 from history import Reader
 from images import image_of
@@ -168,13 +168,13 @@ class Run:
     def place(self, part, plan, generations, server, logs):
         store = generations.store
         placing, nonces, lines = Placing(generations.all(), store.secrets, {SHARED}), Counter(), 0
-        for log, faults in chain(((log, []) for log in logs), said(plan)):
+        for sessions, faults in chain([(map(placing.look, logs), [])], found(plan, placing)):
             for fault in faults:
                 self.fault(part, fault)
-            if log:
-                placing.add(log)
-                nonces[log.nonce] += 1
-                lines += len(log.lines)
+            for session in sessions:
+                placing.take(session)
+                nonces[session.nonce] += 1
+                lines += session.lines
         state = placing.check()
         for fault in placing.shown:
             self.fault(part, fault)

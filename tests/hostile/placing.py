@@ -14,6 +14,7 @@ from functools import lru_cache
 from itertools import islice
 
 from areas import LIMIT, Damaged, generation, image_in, records
+from found import ROW, Found
 from history import MOST_STATEMENTS, Acted, History, Issued, Registered, acted_bytes, issued_bytes, registered_bytes
 from images import count_in, image_of
 from lines import LONGEST, Lines, is_accepted, is_in_table
@@ -99,11 +100,12 @@ class Placing:
         self.acted = defaultdict(deque)
         for area in areas:
             self.read_area(area)
+        self.of_shared = {caller: self.by_key(self.acted[caller]) for caller in shared}
         count = len(self.events)
         self.sent, self.got = array("q", [0]) * count, array("q", [FOREVER]) * count
-        self.walls = [(0, FOREVER)] * count
+        self.sent_wall, self.got_wall = array("q", [0]) * count, array("q", [FOREVER]) * count
         self.told, self.owner = [None] * count, [None] * count
-        self.sessions, self.unanswered, self.asks = [], [], defaultdict(list)
+        self.sessions, self.asks = [], defaultdict(list)
 
     def fault(self, text):
         self.counts["faults"] += 1
@@ -143,6 +145,13 @@ class Placing:
         else:
             self.acted[event.caller].append(number)
 
+    def by_key(self, numbers):
+        """The numbers of events that say the same, in their order, by all that they say."""
+        found = defaultdict(deque)
+        for number in numbers:
+            found[key_of(self.events[number])].append(number)
+        return found
+
     @property
     def last(self):
         return len(self.events) - 1
@@ -154,33 +163,59 @@ class Placing:
     # ---- what one session was told ----
 
     def add(self, spoken):
-        """Reads what was said on a connection and what it was told."""
-        caller, places, session = None, [], len(self.sessions)
+        """Takes what was said on a connection and what it was told."""
+        self.take(self.look(spoken))
+
+    def look(self, spoken):
+        """Finds where each reply stands. But for who makes checkpoints this changes nothing that another session needs."""
+        found, caller = Found(spoken), None
         self.generation = spoken.generation
-        for number, ((reply, got, got_wall), (line, sent, sent_wall)) in enumerate(zip(spoken.replies, spoken.lines)):
-            self.told_words[kind_of(reply)] += 1
-            try:
-                if not is_shortened(reply) and not is_in_table(reply):
-                    raise Wrong("which no table has")
-                place = self.place(line, reply, caller, spoken.nonce, sent_wall, got_wall)
-            except Wrong as wrong:
-                self.fault(f"session {session}, line {number}, {line[:300]!r} of {caller} is told {reply[:300]!r} {wrong}")
-                place = Place(0, self.last)
+        for told, said in zip(spoken.replies, spoken.lines):
+            (reply, got, got_wall), (line, sent, sent_wall) = told, said
+            found.words[kind_of(reply)] += 1
+            place = self.place_found(found, said, told, caller)
             if place.event:
-                self.own(place.event, session, (sent, got), (sent_wall, got_wall), reply)
+                found.own(place.event, (sent, got), (sent_wall, got_wall), reply)
             if reply == b"ok" and line.startswith(b"login "):
                 caller = line.split(b" ")[1].decode()
-            places.append((*place, sent, got))
-        self.sessions.append(places)
-        self.keep_unanswered(spoken, session, caller)
+            found.put(place, sent, got)
+        self.keep_unanswered(found, spoken, caller)
+        return found
 
-    def own(self, event, session, moments, walls, reply=None):
+    def place_found(self, found, said, told, caller):
+        """The place of a reply; if it has none, that is a fault, and it may stand anywhere."""
+        (line, _, sent), (reply, _, got) = said, told
+        try:
+            if not is_shortened(reply) and not is_in_table(reply):
+                raise Wrong("which no table has")
+            return self.place(line, reply, caller, found.nonce, sent, got)
+        except Wrong as wrong:
+            number = len(found.places) // ROW
+            found.faults.append(f"line {number}, {line[:300]!r} of {caller} is told {reply[:300]!r} {wrong}")
+            return self.anywhere()
+
+    def take(self, found):
+        """Takes what was found of a session."""
+        session = len(self.sessions)
+        for fault in found.faults:
+            self.fault(f"session {session}, {fault}")
+        for kind, times in found.words.items():
+            self.told_words[kind] += times
+        for (event, *moments), reply in found.owned():
+            self.own(event, session, moments, reply)
+        for number, ask in found.asks.items():
+            found.asks[number] = ask._replace(procaps=[self.known.reader.same(procap) for procap in ask.procaps])
+        self.sessions.append(found)
+
+    def own(self, event, session, moments, reply=None):
         """Gives an event to a session."""
         if self.owner[event] is not None:
             self.fault(f"event {event} is told twice, in sessions {self.owner[event]} and {session}")
         self.owner[event], self.told[event] = session, reply
-        self.sent[event], self.got[event] = moments
-        self.walls[event] = walls
+        self.sent[event], self.got[event], self.sent_wall[event], self.got_wall[event] = moments
+        issued = self.events[event]
+        if isinstance(issued, Issued) and reply:
+            self.known.take_verdict(issued)
 
     def anywhere(self):
         return Place(0, self.last)
@@ -320,21 +355,18 @@ class Placing:
 
     def acted_event(self, asked, caller):
         """The event that this operation is: of who has one session alone, the next; else the one that says the same."""
-        left = self.acted[caller]
         wanted = key_asked(asked, caller)
-        for number in left if caller in self.shared else islice(left, 1):
-            if key_of(self.events[number]) == wanted:
-                left.remove(number)
-                return number
-            if caller not in self.shared:
-                raise Wrong(f"and the next event of {caller}, {number}, is {str(self.events[number])[:300]}")
-        raise Wrong(f"and {caller} has no such event")
+        left = self.of_shared[caller].get(wanted) if caller in self.shared else self.acted.get(caller)
+        if not left:
+            raise Wrong(f"and {caller} has no such event")
+        if key_of(self.events[left[0]]) != wanted:
+            raise Wrong(f"and the next event of {caller}, {left[0]}, is {str(self.events[left[0]])[:300]}")
+        return left.popleft()
 
     # ---- what was said and not answered ----
 
-    def keep_unanswered(self, spoken, session, caller):
+    def keep_unanswered(self, found, spoken, caller):
         """Keeps the lines that were not answered: the first of them may have become events."""
-        lines = []
         for line, sent, wall in spoken.lines[len(spoken.replies) :]:
             try:
                 asked = self.lines.read(line, caller) if len(line) <= LONGEST else None
@@ -344,30 +376,25 @@ class Placing:
                 caller = asked.words[0] if is_accepted(self.known.keys, *asked.words, spoken.nonce) else caller
             elif asked and asked.form == "checkpoint" and caller is not None and self.generation is not None:
                 self.generation += 1
-                lines.append((self.generation, sent, wall))
+                found.unanswered.append((self.generation, sent, wall))
             elif asked and asked.form not in ("procap", "checkpoint") and caller is not None:
-                lines.append((key_asked(asked, caller), sent, wall))
-        if lines:
-            self.unanswered.append((session, lines))
+                found.unanswered.append((key_asked(asked, caller), sent, wall))
 
     def find_unanswered(self):
         """Gives each event that nobody was told to a line that was not answered, each line at most one, in their order."""
-        left = defaultdict(deque)
-        for number in range(1, self.last + 1):
-            if self.owner[number] is None:
-                left[key_of(self.events[number])].append(number)
+        left = self.by_key(number for number in range(1, self.last + 1) if self.owner[number] is None)
         self.counts["events that were not told"] = sum(map(len, left.values()))
-        for session, lines in self.unanswered:
+        for session, found in enumerate(self.sessions):
             low = 0
-            for key, sent, wall in lines:
+            for key, sent, wall in found.unanswered:
                 if isinstance(key, int):
                     low = max(low, self.find_image(session, key, sent))
                     continue
                 number = next((one for one in left.get(key, ()) if one > low), None)
                 if number is not None:
                     left[key].remove(number)
-                    self.own(number, session, (sent, FOREVER), (wall, FOREVER))
-                    self.sessions[session].append((*Place(number - 1, number - 1, number), sent, FOREVER))
+                    self.own(number, session, (sent, FOREVER, wall, FOREVER))
+                    found.put(Place(number - 1, number - 1, number), sent, FOREVER)
                     low = number
         for number in sorted(number for numbers in left.values() for number in numbers):
             self.fault(f"nobody asked for event {number}, {str(self.events[number])[:300]}")
@@ -381,7 +408,7 @@ class Placing:
             return 0
         place = self.place_of_image(generation)
         self.counts["checkpoints that were not told"] += 1
-        self.sessions[session].append((*place, sent, FOREVER))
+        self.sessions[session].put(place, sent, FOREVER)
         return place.least
 
     # ---- places ----
@@ -413,7 +440,7 @@ class Placing:
     def walk(self, session):
         """Places the replies of a session, each as early as it may stand."""
         low = 0
-        for number, (least, most, event, ask, size, sent, got) in enumerate(self.sessions[session]):
+        for number, (least, most, event, size, sent, got), ask in self.sessions[session].placed():
             place = max(low, least, self.told_before(sent))
             place = self.without_room(place, size) if size else place
             most = min(most, self.said_before(got))
@@ -468,7 +495,7 @@ class Placing:
 
     def test_moment(self, number, before):
         """The moment is the one before, or the clock's while the line was out."""
-        moment, (sent, got) = self.events[number].moment, self.walls[number]
+        moment, sent, got = self.events[number].moment, self.sent_wall[number], self.got_wall[number]
         if moment < (sent - COARSE) // SECOND or moment != before and moment > got // SECOND:
             self.fault(f"event {number} has the moment {moment}, was said at {sent // SECOND} and told at {got // SECOND}")
 

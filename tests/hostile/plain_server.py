@@ -19,6 +19,7 @@ from lines import LONGEST, Lines, is_accepted
 from pcfs_audit_model import CODES, cited_bytes, word_bytes
 from pcfs_client import short, tag_of
 from pcfs_model import OPERATIONS, Bad, Reply, Undecided, grant_bytes
+from talking import LONG
 
 WRONG = os.environ.get("WRONG", "")
 AT_ONCE = 65 if WRONG == "too-many" else 64
@@ -36,6 +37,13 @@ def payload(event):
     out += b"".join(word_bytes(kind, word) for kind, word in zip(kinds, event.words))
     out += bytes([len(event.procaps)]) + b"".join(procap.bytes for procap in event.procaps)
     return out + event.moment.to_bytes(8, "big", signed=True)
+
+
+def wrong_list(reply):
+    """A list with something wrong at its end: it lacks an entry, two are exchanged, or two spaces are between them."""
+    *before, first, last = reply.split(" ")
+    after = {"list-lacks": [last], "list-exchanged": [last, first], "list-spaces": [first, "", last]}[WRONG]
+    return " ".join([*before, *after])
 
 
 class Kept:
@@ -111,7 +119,7 @@ class Kept:
         told = self.keep(Acted("admin" if WRONG == "other-caller" and random.random() < 0.01 else caller, asked.form, words, procaps, max(clock, self.history.moment)))
         if WRONG == "stale" and asked.form == "read":
             told, self.stale = self.stale or told, told
-        return told
+        return wrong_list(told) if WRONG.startswith("list-") and asked.form == "list" and len(told) > LONG else told
 
 
 class Session:

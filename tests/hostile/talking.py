@@ -9,7 +9,7 @@ from lines import is_in_table
 
 GREETING = re.compile(rb"hello ([0-9a-f]{32})")
 PATIENCE = 60  # seconds for a reply, after which it counts as never told
-LONG = 1024  # bytes of a reply that is kept as it is
+LONG = 512  # bytes of a reply that is kept as it is
 SHOWN = 300  # bytes of a longer one that are kept
 
 

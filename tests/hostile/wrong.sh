@@ -15,7 +15,7 @@ try() {
         python3 "$here/hostile.py" "$here/plain_server.py" "$work/work" "$seconds" 1 "$@" > "$work/out" 2>&1
 }
 if try "" clients strangers; then echo "right: passed"; else echo "right: refused"; cat "$work/out"; missed=1; fi
-for kind in lost twice others-procaps old-clock number other-caller stale nonce login state-conditions no-checkpoint old-area image any-checkpoint; do
+for kind in lost twice others-procaps old-clock number other-caller stale nonce login state-conditions no-checkpoint old-area image any-checkpoint list-lacks list-exchanged list-spaces; do
     if try "$kind" clients; then echo "$kind: missed"; missed=1; else echo "$kind: found, $(grep -m 1 FAULT "$work/out" | cut -c 1-160)"; fi
 done
 if try too-many strangers; then echo "too-many: missed"; missed=1; else echo "too-many: found, $(grep -m 1 'FAULT one too many' "$work/out" | cut -c 1-160)"; fi
