@@ -65,23 +65,47 @@ def grant_at(reading):
     return grant
 
 
+def is_same(one, other):
+    """Whether two grants have the same bytes."""
+    return one == other or grant_bytes(one) == grant_bytes(other)
+
+
 class Reader:
-    """Reads events, and the bytes of a procap or of a statement but once each."""
+    """Reads events, and the bytes of a grant, of a procap or of a statement but once each."""
 
     def __init__(self, seal):
         self.seal = seal
-        self.procaps = {}
-        self.lengths = []
+        self.procaps, self.grants = {}, {}
+        self.lengths = []  # of grants
         self.canonical = set()
 
     def procap(self, data):
         """The procap of these bytes; Bad if they are none."""
         if data not in self.procaps:
-            grant, tag = read_procap(data)
+            grant, tag = self.grants.get(data[:-32]), data[-32:]
+            if grant is None:
+                grant, tag = read_procap(data)
+                self.keep_grant(data[:-32], grant)
             self.procaps[data] = Procap(grant, tag, data, tag == tag_of(self.seal, grant_bytes(grant)))
-            if len(data) not in self.lengths:
-                self.lengths.append(len(data))
         return self.procaps[data]
+
+    def keep_grant(self, data, grant):
+        """Keeps a grant and its bytes, which are the begin of no other grant's."""
+        self.grants[data] = grant
+        if len(data) not in self.lengths:
+            self.lengths.append(len(data))
+        return grant
+
+    def grant_at(self, reading):
+        """The grant at the front."""
+        start = reading.at
+        for length in self.lengths:
+            data = reading.data[start : start + length]
+            if data in self.grants:
+                reading.at += len(data)
+                return self.grants[data]
+        grant = grant_at(reading)
+        return self.keep_grant(reading.data[start : reading.at], grant)
 
     def same(self, procap):
         """This procap, or the one with the same bytes that was read before."""
@@ -89,12 +113,12 @@ class Reader:
 
     def procap_at(self, reading):
         """The procap at the front."""
+        start = reading.at
         for length in self.lengths:
-            found = self.procaps.get(reading.data[reading.at : reading.at + length])
+            found = self.procaps.get(reading.data[start : start + length + 32])
             if found:
                 reading.at += len(found.bytes)
                 return found
-        start = reading.at
         procap_at(reading)
         return self.procap(reading.data[start : reading.at])
 
@@ -126,7 +150,7 @@ class Reader:
         start = reading.at
         proof = read_proof(reading)
         need(reading.at == end and proof.size <= MOST_RULES)
-        return Issued(numbers, proof, reading.data[start:end], grant_at(reading))
+        return Issued(numbers, proof, reading.data[start:end], self.grant_at(reading))
 
     def acted(self, reading):
         caller = reading.name()
@@ -251,7 +275,7 @@ class History(Server):
         if not 1 <= len(numbers) <= 64 or not rising or numbers[0] < 1 or numbers[-1] > len(self.statements):
             return False
         verdict = self.verdict(numbers, grant.who, grant.file, grant.perm, event.proof, event.proof_bytes)
-        return not isinstance(verdict, str) and grant_bytes(verdict) == grant_bytes(grant)
+        return not isinstance(verdict, str) and is_same(verdict, grant)
 
     def add_issued(self, event):
         if not self.gives(event):

@@ -15,7 +15,7 @@ from itertools import islice
 
 from areas import LIMIT, Damaged, generation, image_in, records
 from found import ROW, Found
-from history import MOST_STATEMENTS, Acted, History, Issued, Registered, acted_bytes, issued_bytes, registered_bytes
+from history import MOST_STATEMENTS, Acted, History, Issued, Registered, acted_bytes, is_same, issued_bytes, registered_bytes
 from images import count_in, image_of
 from lines import LONGEST, Lines, is_accepted, is_in_table
 from pcfs_client import tag_of
@@ -313,7 +313,7 @@ class Placing:
             raise Wrong("and the proof gives a grant")
         want(found[2], f"time {len(verdict.times)} state {len(verdict.states)}")
         event = self.issue_events[int(found[1])]
-        if key_of(self.events[event]) != key_asked(asked, caller) or grant_bytes(self.events[event].grant) != grant_bytes(verdict):
+        if key_of(self.events[event]) != key_asked(asked, caller) or not is_same(self.events[event].grant, verdict):
             raise Wrong(f"and that is event {event}, {str(self.events[event])[:300]}")
         return Place(event - 1, event - 1, event)
 
