@@ -1,4 +1,5 @@
 """The program at work: a store in a folder, `serve` on a port, and what the system says of it."""
+import glob
 import os
 import shutil
 import socket
@@ -16,6 +17,18 @@ def free_port():
     with socket.socket() as one:
         one.bind(("127.0.0.1", 0))
         return one.getsockname()[1]
+
+
+def waited_by(process):
+    """How many nanoseconds the threads of a process have waited for a processor; 0 if the system does not tell."""
+    together = 0
+    for path in glob.glob(f"/proc/{process}/task/*/schedstat"):
+        try:
+            with open(path, encoding="ascii") as file:
+                together += int(file.read().split()[1])
+        except OSError:
+            pass
+    return together
 
 
 class Store:
@@ -137,6 +150,11 @@ class Running:
         with open(f"/proc/{self.process.pid}/stat", encoding="ascii") as file:
             words = file.read().rsplit(")", 1)[1].split()
         return (int(words[11]) + int(words[12])) / TICK
+
+    def waited(self):
+        """How many seconds its threads and those of the test have been ready to run, and waited for a processor. It grows faster than
+        the clock if several wait."""
+        return (waited_by(self.process.pid) + waited_by("self")) / 10**9
 
     def ended(self, patience=60):
         """What it wrote at its end, and its status."""
