@@ -10,9 +10,8 @@ from dataclasses import dataclass
 
 from lines import LONGEST
 from said import Board, Speaker
+from several import PROCESSES
 from talking import Session, Unanswered, moment, spoken_of
-
-PROCESSES = min(4, os.cpu_count() or 1)
 
 
 @dataclass

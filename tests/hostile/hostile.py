@@ -2,6 +2,7 @@
 
     hostile.py PROGRAM FOLDER SECONDS SEED [PART..]     the parts are clients, strangers, damage and kills: all, if none is named
 """
+import gc
 import multiprocessing
 import random
 import sys
@@ -166,6 +167,12 @@ class Run:
     # ---- what is compared after them ----
 
     def place(self, part, plan, generations, server, logs):
+        """Compares all that was told with what the areas have. What is read for that stays, and is not looked through again and again."""
+        gc.disable()
+        self.compare(part, plan, generations, server, logs)
+        gc.enable()
+
+    def compare(self, part, plan, generations, server, logs):
         store = generations.store
         placing, nonces, lines = Placing(generations.all(), store.secrets, {SHARED}), Counter(), 0
         for sessions, faults in chain([(map(placing.look, logs), [])], found(plan, placing)):

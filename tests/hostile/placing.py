@@ -19,7 +19,8 @@ from history import MOST_STATEMENTS, Acted, History, Issued, Registered, acted_b
 from images import count_in, image_of
 from lines import LONGEST, Lines, is_accepted, is_in_table
 from pcfs_client import tag_of
-from pcfs_model import OPERATIONS, Bad, Reply, Server, Undecided, grant_bytes
+from pcfs_model import OPERATIONS, Bad, Reply, Server, Undecided, grant_bytes, need
+from several import Readers
 from talking import LONG, is_shortened, shortened
 
 # Between which places a reply stands, its event, what is to be asked of the model there, and of how many bytes a record has no room
@@ -85,6 +86,17 @@ def picture_of(events, image):
     return Image(events, len(image), sha256(image).digest())
 
 
+def before_damage(records_of_area):
+    """The payloads and ends of the records before damage, and the damage, if there is any."""
+    found = []
+    try:
+        for one in records_of_area:
+            found.append(one)
+    except Damaged as damage:
+        return [payload for payload, _ in found], [end for _, end in found], damage
+    return [payload for payload, _ in found], [end for _, end in found], None
+
+
 class Placing:
     """The history of areas that counted one after another, and what sessions were told of it. A caller who is shared may have several
     sessions, and never asks twice for the same; every other has one session alone."""
@@ -98,8 +110,9 @@ class Placing:
         self.images, self.ends, self.makers = [None], [None], {1: None}  # by the generations of their areas; who made them
         self.statement_events, self.issue_events, self.issues = [0], [0], [None]
         self.acted = defaultdict(deque)
-        for area in areas:
-            self.read_area(area)
+        with Readers(self.known.reader) as readers:
+            for area in areas:
+                self.read_area(area, readers)
         self.of_shared = {caller: self.by_key(self.acted[caller]) for caller in shared}
         count = len(self.events)
         self.sent, self.got = array("q", [0]) * count, array("q", [FOREVER]) * count
@@ -114,12 +127,16 @@ class Placing:
 
     # ---- the history ----
 
-    def read_area(self, area):
+    def read_area(self, area, readers):
         """Takes the image and all events, up to damage, which is a fault."""
         try:
             self.take_image(area, image_in(area))
-            for payload, end in records(area):
-                self.take_event(self.known.reader.event(payload), end)
+            payloads, ends, damage = before_damage(records(area))
+            for event, end in zip(readers.events(payloads), ends):
+                need(event is not None)
+                self.take_event(event, end)
+            if damage:
+                raise damage
         except Damaged as damaged:
             self.fault(f"area {len(self.images) - 1} is {damaged}")
         except Bad:
