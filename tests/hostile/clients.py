@@ -190,7 +190,7 @@ def look_at(number):
     return [placing.look(log) for log in logs], faults
 
 
-def found(plan, placing):
+def look_at_all(plan, placing):
     """What was found of what was said, client by client, and what went wrong: several processes look at it. It is in the order of
     the clients."""
     gc.freeze()

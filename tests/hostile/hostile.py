@@ -13,7 +13,7 @@ from itertools import chain
 from areas import LIMIT, image_in, records
 from checkpoints import AT_ONCE as OPERATORS
 from checkpoints import Generations, Operator, all_at_once
-from clients import Plan, begun, found
+from clients import Plan, begun, look_at_all
 from damage import damage_until
 from history import Reader
 from images import image_of
@@ -175,7 +175,7 @@ class Run:
     def compare(self, part, plan, generations, server, logs):
         store = generations.store
         placing, nonces, lines = Placing(generations.all(), store.secrets, {SHARED}), Counter(), 0
-        for sessions, faults in chain([(map(placing.look, logs), [])], found(plan, placing)):
+        for sessions, faults in chain([(map(placing.look, logs), [])], look_at_all(plan, placing)):
             for fault in faults:
                 self.fault(part, fault)
             for session in sessions:
