@@ -1,8 +1,8 @@
 #!/usr/bin/env bash
 # Tries the hostile tests on a plain server (plain_server.py), which they have to pass, and on that server wrong in one way
 # each, of which they have to find a fault; once it is found, that run ends. Exits 1 if they do not.
-# usage: tests/hostile/wrong.sh [SECONDS [KIND..]], by default 6 for each, and all kinds; `right` is the server as it is, and
-# long lists take three times as long
+# usage: tests/hostile/wrong.sh [SECONDS [KIND..]], by default 6 for each, and all kinds; `right` is the server as it is. On a loaded
+# machine little is said in that time: a kind that is not found is tried once more, for five times as long.
 set -euo pipefail
 here=$(cd "$(dirname "$0")" && pwd)
 seconds=${1:-6}
@@ -13,22 +13,22 @@ work=$(mktemp -d)
 trap 'rm -rf "$work"' EXIT
 missed=0
 try() {
-    local kind=$1
-    shift
+    local kind=$1 long=$2
+    shift 2
     PYTHONPATH="$here:$here/../../examples" PYTHONPYCACHEPREFIX="$work/cache" WRONG="$kind" \
-        python3 "$here/hostile.py" "$here/plain_server.py" "$work/work" "$seconds" 1 "$@" 2> "$work/errors"
+        python3 "$here/hostile.py" "$here/plain_server.py" "$work/work" "$long" 1 "$@" 2> "$work/errors"
 }
 find_fault() {
     local kind=$1 fault=$2 found
     shift 2
-    found=$(try "$kind" "$@" | grep -m 1 "$fault" | cut -c 1-160) || true
+    found=$(try "$kind" "$seconds" "$@" | grep -m 1 "$fault" | cut -c 1-160) || true
+    [ -n "$found" ] || found=$(try "$kind" $((5 * seconds)) "$@" | grep -m 1 "$fault" | cut -c 1-160) || true
     if [ -n "$found" ]; then echo "$kind: found, $found"; else echo "$kind: missed"; missed=1; fi
 }
 for kind in "${kinds[@]}"; do
     case $kind in
-        right) if try "" clients strangers > "$work/out"; then echo "right: passed"; else echo "right: refused"; cat "$work/out" "$work/errors"; missed=1; fi ;;
+        right) if try "" "$seconds" clients strangers > "$work/out"; then echo "right: passed"; else echo "right: refused"; cat "$work/out" "$work/errors"; missed=1; fi ;;
         too-many) find_fault "$kind" "FAULT one too many" strangers ;;
-        list-*) seconds=$((3 * seconds)); find_fault "$kind" FAULT clients; seconds=$((seconds / 3)) ;;
         *) find_fault "$kind" FAULT clients ;;
     esac
 done
