@@ -2,3 +2,4 @@ pub mod PassLemmas
 pub mod SentLemmas
 pub mod ServedLemmas
 pub mod WordsLemmas
+pub mod UnsaidLemmas

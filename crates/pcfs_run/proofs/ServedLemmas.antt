@@ -2,6 +2,7 @@
 use Rattle.std.proofs.Common.{◌≡◌, ◌∙◌, ◌⊎◌, inl, inr, ℕ, ◌+◌, ◌≤◌, List, [], ◌∷◌, ◌++◌, ◌-◌, length, take, drop, append_assoc, append-nil, map, Bool, true, false, Option, Some, None, codes, decimal, refl, sym, ap, subst, arith, add-zero}
 use Rattle.pcfs_ports.specs.Accepted.{FallsBy}
 use Rattle.pcfs_ports.specs.Faults.{HasRisen}
+use Rattle.checkpoint_image.specs.ImageSpelling.{image_spelling}
 use Rattle.access_history.specs.Answer.{Answers}
 use Rattle.access_history.specs.Base.{BaseView}
 use Rattle.access_history.specs.History.{authority_with}
@@ -17,7 +18,7 @@ use Rattle.pcfs_server.specs.declared.end.ServeEnd.TheVariants as serve_ends
 use Rattle.pcfs_session.specs.LineAnswer.{authority_under}
 use Rattle.pcfs_session.specs.Streams.{Streams}
 use Rattle.pcfs_session.proofs.StoredLemmas.{HasRisen-earlier}
-use Rattle.pcfs_store.specs.Entries.{StoreEntry, happened, checkpointed, stopped, stop_entries, merged, entries_of, checkpoints_among, events_among}
+use Rattle.pcfs_store.specs.Entries.{Root, StoreEntry, happened, checkpointed, stopped, stop_entries, merged, root_of, entries_of, checkpoints_among, events_among}
 use Rattle.pcfs_store.specs.declared.checkpoints.Checkpoint.{Checkpoint}
 use Rattle.pcfs_store.specs.Newest.{SurvivesWholeClosed, one_of}
 use Rattle.pcfs_store.specs.Ready.{SurvivesWithOrWithout}
@@ -33,8 +34,9 @@ use Rattle.pcfs_tools.specs.LastLine.{IsTold}
 use Rattle.pcfs_top.specs.Ports.{Rests, IfTold, AreBytesKept}
 use Rattle.pcfs_top.specs.Run.{IsNewestOf, TellsUnopened, damaged_text}
 use Rattle.pcfs_top.proofs.EndsWithLemmas.{disks_of, rests_of, newest_of, counts_now, closed_of, pinned_at, other_is, added_all, place_kept, place_moved, has_no_area}
-use Rattle.pcfs_run.specs.Passes.{IsGrown, stop_among}
-use Rattle.pcfs_run.specs.Served.{Net, ServePorts, IsNetKept, AreAttended, IsMet, IsServed, TellsServed, ServeWrites, EndsServing, all_served, net_failed}
+use Rattle.session_service.specs.Sessions.{SessionSources}
+use Rattle.pcfs_run.specs.Passes.{AreOfPasses, IsGrown, stop_among}
+use Rattle.pcfs_run.specs.Served.{Net, ServePorts, IsNetKept, AreAttended, IsMet, root_under, IsServed, TellsServed, ServeWrites, EndsServing, all_served, net_failed}
 use Rattle.pcfs_run.specs.Served as serving
 
 -- ---- entries
@@ -97,7 +99,7 @@ FallsBy-none (Some left) = ap Some (sym (add-zero left))
 pub AreAttended-none : (count : ℕ) (net : Net) → 1 ≤ count → AreAttended count net net (serve_ends.NoMemory 0)
 AreAttended-none count net some = record { taken = inl (FallsBy-none net.waiting); cause = omega (arith, some); risen = λ failed. absurd failed }
 
-module _ {D : Type 0} (clock : D → ℕ) (left_since : D → ℕ → List ℕ → Type 0) (image : D → Option (List ℕ)) (faults : D → ℕ) (secrets : Secrets) (a b : D) where
+module _ {D : Type 0} (sources : SessionSources) (clock : D → ℕ) (left_since : D → ℕ → List ℕ → Type 0) (image : D → Option (List ℕ)) (faults : D → ℕ) (secrets : Secrets) (a b : D) where
   abbrev Opened : StoreView D → Type 0
   Opened s = opening.IsOpened clock left_since image faults a b secrets.seal_key secrets.ring s
 
@@ -160,11 +162,11 @@ module _ {D : Type 0} (clock : D → ℕ) (left_since : D → ℕ → List ℕ �
     )
 
     -- the mark is none of the opening
-    added_stop : (attended count : ℕ) (grown : IsGrown attended count s s') → stop_among grown.added ≡ s'.stop
+    added_stop : (attended count : ℕ) (grown : IsGrown sources attended count s s') → stop_among grown.added ≡ s'.stop
     added_stop attended count grown =
         sym (stop-append (entries_of s) grown.added (stop-entries s.events s.checkpoints s.stop ∙ opened.running)) ∙ ap stop_among (sym grown.parts) ∙ stop-entries s'.events s'.checkpoints s'.stop
 
-    added_checkpoints : (attended count : ℕ) (grown : IsGrown attended count s s') → checkpoints_among grown.added ≡ length s'.checkpoints
+    added_checkpoints : (attended count : ℕ) (grown : IsGrown sources attended count s s') → checkpoints_among grown.added ≡ length s'.checkpoints
     added_checkpoints attended count grown =
         let before = generation-entries s store in
         let after = generation-entries s' store' in
@@ -173,10 +175,26 @@ module _ {D : Type 0} (clock : D → ℕ) (left_since : D → ℕ → List ℕ �
         omega (arith, before, after, none, parts, store'.counted)
 
     -- the entries at the end are the events of the opening, and those that were added
-    added_entries : (attended count : ℕ) (grown : IsGrown attended count s s') → entries_of s' ≡ map happened s.events ++ grown.added
+    added_entries : (attended count : ℕ) (grown : IsGrown sources attended count s s') → entries_of s' ≡ map happened s.events ++ grown.added
     added_entries attended count grown = grown.parts ∙ ap (λ (l : List StoreEntry). l ++ grown.added) (entries_opened s opened.unsettled opened.running)
 
-    added_events : (attended count : ℕ) (grown : IsGrown attended count s s') → s'.events ≡ s.events ++ events_among grown.added
+    -- the root of the store is that of the run
+    abbrev root_with : List ℕ → List KeyView → ℕ → Root
+    root_with key ring generation = record { base = s.base; key = key; ring = ring; generation = generation; image_length = length (image_spelling s.base) }
+
+    root_is : root_of s ≡ root_under secrets s.generation s.base
+    root_is =
+        let none : length s.checkpoints ≡ 0 = ap length opened.unsettled in
+        let first : s.generation - length s.checkpoints ≡ s.generation = omega (arith, none) in
+        ap (λ (key : List ℕ). root_with key s.ring (s.generation - length s.checkpoints)) opened.key_is ∙ ap (λ (ring : List KeyView). root_with secrets.seal_key ring (s.generation - length s.checkpoints)) opened.ring_is
+        ∙ ap (root_with secrets.seal_key secrets.ring) first
+
+    added_of_passes : (attended count : ℕ) (grown : IsGrown sources attended count s s') → AreOfPasses sources (root_under secrets s.generation s.base) (map happened s.events) attended count grown.added
+    added_of_passes attended count grown =
+        subst (λ (root : Root). AreOfPasses sources root (map happened s.events) attended count grown.added) root_is
+        (subst (λ (first : List StoreEntry). AreOfPasses sources (root_of s) first attended count grown.added) (entries_opened s opened.unsettled opened.running) grown.of_passes)
+
+    added_events : (attended count : ℕ) (grown : IsGrown sources attended count s s') → s'.events ≡ s.events ++ events_among grown.added
     added_events attended count grown =
         sym (events-entries s'.events s'.checkpoints s'.stop) ∙ ap events_among grown.parts ∙ events-append (entries_of s) grown.added ∙ ap (λ (l : List Event). l ++ events_among grown.added) (events-entries s.events s.checkpoints s.stop)
 
@@ -203,8 +221,8 @@ module _ {D : Type 0} (clock : D → ℕ) (left_since : D → ℕ → List ℕ �
           λ x y is_x is_y. under (λ key ring base. SurvivesWithOrWithout base s'.events halts.met x y) (halts.survives x y (may_stay (first_disk s') x is_x) (may_stay (second_disk s') y is_y)),
         )
 
-    is_served : (attended count : ℕ) (stop : Option ℕ) → s'.stop ≡ stop → IsGrown attended count s s' →
-        IsServed secrets (rests_of clock left_since image faults a b (first_disk s') (second_disk s')) (disks_of clock left_since image faults a b) (disks_of clock left_since image faults (first_disk s') (second_disk s')) attended count stop
+    is_served : (attended count : ℕ) (stop : Option ℕ) → s'.stop ≡ stop → IsGrown sources attended count s s' →
+        IsServed sources secrets (rests_of clock left_since image faults a b (first_disk s') (second_disk s')) (disks_of clock left_since image faults a b) (disks_of clock left_since image faults (first_disk s') (second_disk s')) attended count stop
     is_served attended count stop is grown = record {
       generation = s.generation;
       base = s.base;
@@ -212,7 +230,7 @@ module _ {D : Type 0} (clock : D → ℕ) (left_since : D → ℕ → List ℕ �
       added = grown.added;
       events = s'.events;
       found = opened.newest_history;
-      of_passes = grown.of_passes;
+      of_passes = added_of_passes attended count grown;
       checkpoints = s'.checkpoints;
       counted = added_checkpoints attended count grown;
       in_order = store'.in_order;
@@ -256,34 +274,34 @@ module _ {D : Type 0} (clock : D → ℕ) (left_since : D → ℕ → List ℕ �
       Around = rests_of clock left_since image faults a b (first_disk s') (second_disk s')
 
       -- a line is told, or the output fails
-      told_as : (status : ℕ) (line : List ℕ) (result : ℕ) → ServeWrites secrets count Around Here There status line → IsTold status line before.held before.write_faults result after.held after.write_faults → EndsServing secrets count Around Here There result
-      told_as status line result writes (inl told) = subst (EndsServing secrets count Around Here There) (sym told.0) (serving.told status line writes told.1)
-      told_as status line result writes (inr failed) = subst (EndsServing secrets count Around Here There) (sym failed.0) (serving.cut_short status line writes failed.1 failed.2)
+      told_as : (status : ℕ) (line : List ℕ) (result : ℕ) → ServeWrites sources secrets count Around Here There status line → IsTold status line before.held before.write_faults result after.held after.write_faults → EndsServing sources secrets count Around Here There result
+      told_as status line result writes (inl told) = subst (EndsServing sources secrets count Around Here There) (sym told.0) (serving.told status line writes told.1)
+      told_as status line result writes (inr failed) = subst (EndsServing sources secrets count Around Here There) (sym failed.0) (serving.cut_short status line writes failed.1 failed.2)
 
-      told_running : (end : ServeEnd) (result : ℕ) → s'.stop ≡ None → IsGrown (number_of end) count s s' → AreAttended count net net' end → TellsServed end before.held before.write_faults result after.held after.write_faults → EndsServing secrets count Around Here There result
+      told_running : (end : ServeEnd) (result : ℕ) → s'.stop ≡ None → IsGrown sources (number_of end) count s s' → AreAttended count net net' end → TellsServed end before.held before.write_faults result after.held after.write_faults → EndsServing sources secrets count Around Here There result
       told_running (serve_ends.Done n) result runs grown attended (inl told) =
           told_as 0 (codes "served " ++ decimal n) result (serving.served (serve_ends.Done n) 0 (codes "served " ++ decimal n) (is_served n count None runs grown) attended (all_served n)) told
       told_running (serve_ends.Done n) result runs grown attended (inr untold) =
-          subst (EndsServing secrets count Around Here There) (sym untold.0) (serving.out_of_memory (serve_ends.Done n) (λ e. e) (is_served n count None runs grown) attended untold.1)
+          subst (EndsServing sources secrets count Around Here There) (sym untold.0) (serving.out_of_memory (serve_ends.Done n) (λ e. e) (is_served n count None runs grown) attended untold.1)
       told_running (serve_ends.NetFault n) result runs grown attended told =
           told_as 8 (codes "netfault") result (serving.served (serve_ends.NetFault n) 8 (codes "netfault") (is_served n count None runs grown) attended (net_failed n)) told
       told_running (serve_ends.NoMemory n) result runs grown attended untold =
-          subst (EndsServing secrets count Around Here There) (sym untold.0) (serving.out_of_memory (serve_ends.NoMemory n) (λ e. e) (is_served n count None runs grown) attended untold.1)
+          subst (EndsServing sources secrets count Around Here There) (sym untold.0) (serving.out_of_memory (serve_ends.NoMemory n) (λ e. e) (is_served n count None runs grown) attended untold.1)
 
-      told_end : (stop : Option ℕ) (end : ServeEnd) (result : ℕ) → s'.stop ≡ stop → IsGrown (number_of end) count s s' → AreAttended count net net' end →
+      told_end : (stop : Option ℕ) (end : ServeEnd) (result : ℕ) → s'.stop ≡ stop → IsGrown sources (number_of end) count s s' → AreAttended count net net' end →
           ((pass : ℕ) → s'.stop ≡ Some pass → IsTold 5 (codes "stopped") before.held before.write_faults result after.held after.write_faults) →
-          (s'.stop ≡ None → TellsServed end before.held before.write_faults result after.held after.write_faults) → EndsServing secrets count Around Here There result
+          (s'.stop ≡ None → TellsServed end before.held before.write_faults result after.held after.write_faults) → EndsServing sources secrets count Around Here There result
       told_end None end result is grown attended stops runs = told_running end result is grown attended (runs is)
       told_end (Some pass) end result is grown attended stops runs =
           told_as 5 (codes "stopped") result (serving.disk_failed end pass (is_served (number_of end) count (Some pass) is grown) attended) (stops pass is)
 
-      pub EndsServing-served : (end : ServeEnd) (result : ℕ) (a' b' : D) → IsGrown (number_of end) count s s' → AreAttended count net net' end →
+      pub EndsServing-served : (end : ServeEnd) (result : ℕ) (a' b' : D) → IsGrown sources (number_of end) count s s' → AreAttended count net net' end →
           ((pass : ℕ) → s'.stop ≡ Some pass → IsTold 5 (codes "stopped") before.held before.write_faults result after.held after.write_faults) →
           (s'.stop ≡ None → TellsServed end before.held before.write_faults result after.held after.write_faults) → a' ≡ first_disk s' → b' ≡ second_disk s' →
-          EndsServing secrets count (rests_of clock left_since image faults a b a' b') Here (record { ports = record { streams = after; disks = disks_of clock left_since image faults a' b' }; net = net' }) result
+          EndsServing sources secrets count (rests_of clock left_since image faults a b a' b') Here (record { ports = record { streams = after; disks = disks_of clock left_since image faults a' b' }; net = net' }) result
       EndsServing-served end result a' b' grown attended stops runs a_is b_is =
-          subst (λ (x : D). EndsServing secrets count (rests_of clock left_since image faults a b x b') Here (record { ports = record { streams = after; disks = disks_of clock left_since image faults x b' }; net = net' }) result) (sym a_is)
-          (subst (λ (y : D). EndsServing secrets count (rests_of clock left_since image faults a b (first_disk s') y) Here (record { ports = record { streams = after; disks = disks_of clock left_since image faults (first_disk s') y }; net = net' }) result) (sym b_is)
+          subst (λ (x : D). EndsServing sources secrets count (rests_of clock left_since image faults a b x b') Here (record { ports = record { streams = after; disks = disks_of clock left_since image faults x b' }; net = net' }) result) (sym a_is)
+          (subst (λ (y : D). EndsServing sources secrets count (rests_of clock left_since image faults a b (first_disk s') y) Here (record { ports = record { streams = after; disks = disks_of clock left_since image faults (first_disk s') y }; net = net' }) result) (sym b_is)
           (told_end s'.stop end result refl grown attended stops runs))
 
   -- ---- no store was opened
@@ -299,9 +317,9 @@ module _ {D : Type 0} (clock : D → ℕ) (left_since : D → ℕ → List ℕ �
     Between = rests_of clock left_since image faults a b a' b'
 
     abbrev Ends : ℕ → Type 0
-    Ends status = EndsServing secrets count Between First Last status
+    Ends status = EndsServing sources secrets count Between First Last status
 
-    tells : (status : ℕ) (line : List ℕ) (result : ℕ) → ServeWrites secrets count Between First Last status line → IsTold status line before.held before.write_faults result after.held after.write_faults → Ends result
+    tells : (status : ℕ) (line : List ℕ) (result : ℕ) → ServeWrites sources secrets count Between First Last status line → IsTold status line before.held before.write_faults result after.held after.write_faults → Ends result
     tells status line result writes (inl told) = subst Ends (sym told.0) (serving.told status line writes told.1)
     tells status line result writes (inr failed) = subst Ends (sym failed.0) (serving.cut_short status line writes failed.1 failed.2)
 

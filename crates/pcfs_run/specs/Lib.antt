@@ -1,3 +1,4 @@
 pub mod Passes
 pub mod ServeWords
 pub mod Served
+pub mod Laws

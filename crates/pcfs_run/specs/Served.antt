@@ -3,6 +3,7 @@ use Rattle.std.specs.Prelude.{◌≡◌, ◌⊎◌, ℕ, ℤ, ◌+◌, List, [],
 use Rattle.std.specs.Fmt.{decimal}
 use Rattle.std.specs.declared.alloc.Global.{Global}
 use Rattle.bl_syntax.specs.TimeOrder.{IsMoment}
+use Rattle.checkpoint_image.specs.ImageSpelling.{image_spelling}
 use Rattle.pcfs_ports.specs.Faults.{HasRisen}
 use Rattle.pcfs_ports.specs.Told.{with_back, HoldsSome}
 use Rattle.journal_core.specs.Area.{generation_of}
@@ -23,7 +24,7 @@ use Rattle.pcfs_server.specs.Ends.{number_of, HasTaken, HasCause, IsNetFault}
 use Rattle.pcfs_session.specs.LineAnswer.{authority_under}
 use Rattle.pcfs_session.specs.ScriptEnds.{with_line_end}
 use Rattle.pcfs_store.specs.declared.checkpoints.Checkpoint.{Checkpoint}
-use Rattle.pcfs_store.specs.Entries.{StoreEntry, happened, stop_entries, merged, checkpoints_among, events_among}
+use Rattle.pcfs_store.specs.Entries.{Root, StoreEntry, happened, stop_entries, merged, checkpoints_among, events_among}
 use Rattle.pcfs_store.specs.Checkpoints.{place_after}
 use Rattle.pcfs_store.specs.StoredHistory.{state_after}
 use Rattle.pcfs_store.specs.StoreView.{AreInOrder, last_after}
@@ -33,6 +34,7 @@ use Rattle.recover.specs.Opening.{IsNewestHistory, IsNewestDamaged, IsNewestClos
 use Rattle.pcfs_tools.specs.LastLine.{IsTold, IsUntold}
 use Rattle.pcfs_top.specs.Ports.{Disks, Ports, Rests, IfTold, HasDiskFailed, AreBytesKept}
 use Rattle.pcfs_top.specs.Run.{IsNewestOf, HasNoArea, EndsWith, damaged_text}
+use Rattle.session_service.specs.Sessions.{SessionSources}
 use Rattle.pcfs_run.specs.Passes.{AreOfPasses, stop_among}
 use Rattle.pcfs_run.specs.ServeWords.{IsServe}
 
@@ -70,18 +72,22 @@ pub record IsMet (secrets : Secrets) (base : BaseView) (events : List Event) (pa
   pub answers : Answers (authority_under secrets) (replay base events) pass moment request reply (Some met)
   pub lawful : IsLawful (authority_under secrets) base (events ++ met ∷ [])
 
--- The store on the disks was opened, and connections had sessions over it. The history that was found is that of the newest area, from its image. Its events at the end are those, and then the ones that the sessions' passes added, and the checkpoints are those
--- that these passes made, each after its number of events; the events are lawful, so the headline holds of them. Unless a disk failed, the newest area has the generation of the opened one, and one more for each checkpoint, and stands for the state at the
--- last of these, or for the opened base if there is none, and the events since; it is on the other disk after each of them; and if the opened one had its closed gate, it has too, and nothing is pending. If one failed in a turn of some pass, its count rose; and if the opened area had its closed gate,
--- the newest one stands for these events, or, in a step, for them with the one that met the fault. The area that did not count is as it was, if no checkpoint was made; only if one was tried, its disk may have failed.
-pub record IsServed (secrets : Secrets) (rests : Rests) (before after : Disks) (attended count : ℕ) (stop : Option ℕ) : Type 0 where
+-- what a store was opened with under the secrets: an area of this generation, which begins with the image of this base
+abbrev pub root_under : Secrets → ℕ → BaseView → Root
+root_under secrets generation base = record { base = base; key = secrets.seal_key; ring = secrets.ring; generation = generation; image_length = length (image_spelling base) }
+
+-- The store on the disks was opened, and connections had sessions over it. The history that was found is that of the newest area, from its image. Its events at the end are those, and then the ones that the sessions' passes added, and the checkpoints are those that these passes made, each after its
+-- number of events: each of them was added in a turn of a line of its pass's session; the events are lawful, so the headline holds of them. Unless a disk failed, the newest area has the generation of the opened one, and one more for each checkpoint, and stands for the state at the last of these, or for
+-- the opened base if there is none, and the events since; it is on the other disk after each of them; and if the opened one had its closed gate, it has too, and nothing is pending. If one failed in a turn of some pass, its count rose; and if the opened area had its closed gate, the newest one stands
+-- for these events, or, in a step, for them with the one that met the fault. The area that did not count is as it was, if no checkpoint was made; only if one was tried, its disk may have failed.
+pub record IsServed (sources : SessionSources) (secrets : Secrets) (rests : Rests) (before after : Disks) (attended count : ℕ) (stop : Option ℕ) : Type 0 where
   pub generation : ℕ
   pub base : BaseView
   pub opened : List Event
   pub added : List StoreEntry
   pub events : List Event
   pub found : IfTold before (IsNewestHistory (authority_under secrets) generation base opened)
-  pub of_passes : AreOfPasses attended count added
+  pub of_passes : AreOfPasses sources (root_under secrets generation base) (map happened opened) attended count added
   pub checkpoints : List Checkpoint
   pub counted : checkpoints_among added ≡ length checkpoints
   pub in_order : AreInOrder 0 (length events) checkpoints
@@ -110,27 +116,27 @@ pub data IsServeLine : ServeEnd → ℕ → List ℕ → Type 0 where
   net_failed : (n : ℕ) → IsServeLine (serve_ends.NetFault n) 8 (codes "netfault")
 
 -- What such a run has to write that ends with this status: one line. If no store was opened, the listener and the nonces tell what they did before.
-pub data ServeWrites (secrets : Secrets) (count : ℕ) (rests : Rests) (before after : ServePorts) : ℕ → List ℕ → Type 0 where
-  served : (end : ServeEnd) (status : ℕ) (line : List ℕ) → IsServed secrets rests before.ports.disks after.ports.disks (number_of end) count None → AreAttended count before.net after.net end → IsServeLine end status line →
-      ServeWrites secrets count rests before after status line
-  disk_failed : (end : ServeEnd) (pass : ℕ) → IsServed secrets rests before.ports.disks after.ports.disks (number_of end) count (Some pass) → AreAttended count before.net after.net end → ServeWrites secrets count rests before after 5 (codes "stopped")
-  no_store : IfTold before.ports.disks HasNoArea → AreBytesKept before.ports.disks after.ports.disks → IsNetKept before.net after.net → ServeWrites secrets count rests before after 4 (codes "nostore")
+pub data ServeWrites (sources : SessionSources) (secrets : Secrets) (count : ℕ) (rests : Rests) (before after : ServePorts) : ℕ → List ℕ → Type 0 where
+  served : (end : ServeEnd) (status : ℕ) (line : List ℕ) → IsServed sources secrets rests before.ports.disks after.ports.disks (number_of end) count None → AreAttended count before.net after.net end → IsServeLine end status line →
+      ServeWrites sources secrets count rests before after status line
+  disk_failed : (end : ServeEnd) (pass : ℕ) → IsServed sources secrets rests before.ports.disks after.ports.disks (number_of end) count (Some pass) → AreAttended count before.net after.net end → ServeWrites sources secrets count rests before after 5 (codes "stopped")
+  no_store : IfTold before.ports.disks HasNoArea → AreBytesKept before.ports.disks after.ports.disks → IsNetKept before.net after.net → ServeWrites sources secrets count rests before after 4 (codes "nostore")
   damaged : (number : ℕ) (damage : Damage) → IfTold before.ports.disks (IsNewestDamaged (authority_under secrets) number damage) → AreBytesKept before.ports.disks after.ports.disks → IsNetKept before.net after.net →
-      ServeWrites secrets count rests before after 3 (damaged_text number damage)
-  not_opened : HasDiskFailed before.ports.disks after.ports.disks → (rests.before → AreBytesKept before.ports.disks after.ports.disks) → IsNetKept before.net after.net → ServeWrites secrets count rests before after 5 (codes "stopped")
+      ServeWrites sources secrets count rests before after 3 (damaged_text number damage)
+  not_opened : HasDiskFailed before.ports.disks after.ports.disks → (rests.before → AreBytesKept before.ports.disks after.ports.disks) → IsNetKept before.net after.net → ServeWrites sources secrets count rests before after 5 (codes "stopped")
 
 -- The status that such a run ends with. Its line was written; or the output failed, and holds some first part of it; or memory ran out, before the store was opened or after it was served with no fault of the listener or the nonces, and nothing was written.
-pub data EndsServing (secrets : Secrets) (count : ℕ) (rests : Rests) (before after : ServePorts) : ℕ → Type 0 where
-  told : (status : ℕ) (line : List ℕ) → ServeWrites secrets count rests before after status line → after.ports.streams.held ≡ with_back before.ports.streams.held (with_line_end line) → EndsServing secrets count rests before after status
-  cut_short : (status : ℕ) (line : List ℕ) → ServeWrites secrets count rests before after status line → HasRisen before.ports.streams.write_faults after.ports.streams.write_faults →
-      HoldsSome before.ports.streams.held after.ports.streams.held (with_line_end line) → EndsServing secrets count rests before after 7
-  unopened : AreBytesKept before.ports.disks after.ports.disks → IsNetKept before.net after.net → after.ports.streams.held ≡ before.ports.streams.held → EndsServing secrets count rests before after 9
-  out_of_memory : (end : ServeEnd) → (IsNetFault end → ⊥) → IsServed secrets rests before.ports.disks after.ports.disks (number_of end) count None → AreAttended count before.net after.net end → after.ports.streams.held ≡ before.ports.streams.held →
-      EndsServing secrets count rests before after 9
+pub data EndsServing (sources : SessionSources) (secrets : Secrets) (count : ℕ) (rests : Rests) (before after : ServePorts) : ℕ → Type 0 where
+  told : (status : ℕ) (line : List ℕ) → ServeWrites sources secrets count rests before after status line → after.ports.streams.held ≡ with_back before.ports.streams.held (with_line_end line) → EndsServing sources secrets count rests before after status
+  cut_short : (status : ℕ) (line : List ℕ) → ServeWrites sources secrets count rests before after status line → HasRisen before.ports.streams.write_faults after.ports.streams.write_faults →
+      HoldsSome before.ports.streams.held after.ports.streams.held (with_line_end line) → EndsServing sources secrets count rests before after 7
+  unopened : AreBytesKept before.ports.disks after.ports.disks → IsNetKept before.net after.net → after.ports.streams.held ≡ before.ports.streams.held → EndsServing sources secrets count rests before after 9
+  out_of_memory : (end : ServeEnd) → (IsNetFault end → ⊥) → IsServed sources secrets rests before.ports.disks after.ports.disks (number_of end) count None → AreAttended count before.net after.net end → after.ports.streams.held ≡ before.ports.streams.held →
+      EndsServing sources secrets count rests before after 9
 
 -- How a run ends: it serves, and takes nothing of its input; or it is a run of another command, and the listener and the nonces tell what they did before; or memory ran out before the words were read, and nothing was done.
-pub data RunEnds (secrets : Secrets) (words : List (String Global)) (rests : Rests) (before after : ServePorts) : ℕ → Type 0 where
-  serves : (status port count : ℕ) → IsServe words port count → after.ports.streams.left ≡ before.ports.streams.left → after.ports.streams.read_faults ≡ before.ports.streams.read_faults → EndsServing secrets count rests before after status → RunEnds secrets words rests before after status
+pub data RunEnds (sources : SessionSources) (secrets : Secrets) (words : List (String Global)) (rests : Rests) (before after : ServePorts) : ℕ → Type 0 where
+  serves : (status port count : ℕ) → IsServe words port count → after.ports.streams.left ≡ before.ports.streams.left → after.ports.streams.read_faults ≡ before.ports.streams.read_faults → EndsServing sources secrets count rests before after status → RunEnds sources secrets words rests before after status
   unread : AreBytesKept before.ports.disks after.ports.disks → IsNetKept before.net after.net → after.ports.streams.left ≡ before.ports.streams.left → after.ports.streams.read_faults ≡ before.ports.streams.read_faults → after.ports.streams.held ≡ before.ports.streams.held →
-      RunEnds secrets words rests before after 9
-  alone : (status : ℕ) → ((port count : ℕ) → IsServe words port count → ⊥) → EndsWith secrets words rests before.ports after.ports status → IsNetKept before.net after.net → RunEnds secrets words rests before after status
+      RunEnds sources secrets words rests before after 9
+  alone : (status : ℕ) → ((port count : ℕ) → IsServe words port count → ⊥) → EndsWith secrets words rests before.ports after.ports status → IsNetKept before.net after.net → RunEnds sources secrets words rests before after status

@@ -3,6 +3,7 @@
 ghost use Rattle.std.specs.Prelude.{◌≡◌, ◌≤◌, ℕ, List, MatchOption, Option, Some};
 ghost use Rattle.command_words.specs.declared.words.Task.TheVariants.{Serve};
 ghost use Rattle.pcfs_ports.specs.Disk.{IsPinned};
+ghost use Rattle.session_service.specs.Sessions.{sources_of};
 ghost use Rattle.pcfs_run.specs.Served.{EndsServing, RunEnds};
 
 use crate::serving::serve_store;
@@ -40,7 +41,7 @@ fn serve<
 ) -> Ended<D>
     requires some { 1 ≤ count }
     requires few { count ≤ 1000000 }
-    ensures { (left : Option (List ℕ)) (read_faults : ℕ) → EndsServing secrets.now count (record { before = IsPinned D.clock D.left_since D.image a × IsPinned D.clock D.left_since D.image b; after = IsPinned D.clock D.left_since D.image result.a × IsPinned D.clock D.left_since D.image result.b })
+    ensures { (left : Option (List ℕ)) (read_faults : ℕ) → EndsServing (sources_of (C.gives clock.now) L.In.left) secrets.now count (record { before = IsPinned D.clock D.left_since D.image a × IsPinned D.clock D.left_since D.image b; after = IsPinned D.clock D.left_since D.image result.a × IsPinned D.clock D.left_since D.image result.b })
         (record {
           ports = record {
             streams = record { left = left; read_faults = read_faults; held = O.held output.old; write_faults = O.faults output.old };
@@ -96,7 +97,8 @@ fn serving_of(asked: Option<Task>) -> Option<(u16, u64)>
 
 /// Runs the program: with `serve`, a port and a number of connections, each of so many that come to that port has a session
 /// over the store on the disks, 64 at once; every other command is that of `run_alone`. The words are read first, then the
-/// store is opened, and only then the port is listened on.
+/// store is opened, and only then the port is listened on. What is added to the history then was
+/// added in the turns of the lines of these sessions.
 ///
 /// Returns the disks and the status to end with. With `serve` that is 0, so many were attended or no more come, and the last
 /// line is `served` with their number; 3, 4, 7 or 9 as for `run_alone`; 5, a disk failed: `stopped`, also if the listener
@@ -123,7 +125,7 @@ pub fn run<
     net: &mut L,
     nonces: &mut N,
 ) -> Ended<D>
-    ensures { RunEnds secrets.now words.now.items (record { before = IsPinned D.clock D.left_since D.image a × IsPinned D.clock D.left_since D.image b; after = IsPinned D.clock D.left_since D.image result.a × IsPinned D.clock D.left_since D.image result.b })
+    ensures { RunEnds (sources_of (C.gives clock.now) L.In.left) secrets.now words.now.items (record { before = IsPinned D.clock D.left_since D.image a × IsPinned D.clock D.left_since D.image b; after = IsPinned D.clock D.left_since D.image result.a × IsPinned D.clock D.left_since D.image result.b })
         (record {
           ports = record {
             streams = record { left = I.left input.old; read_faults = I.faults input.old; held = O.held output.old; write_faults = O.faults output.old };

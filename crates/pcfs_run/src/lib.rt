@@ -1,11 +1,12 @@
 //! The run of the program: each of so many connections has a session over the store on the disks, or a command of the top floor is
 //! run alone.
 //!
-//! `run` returns how it ended and why. Of the history at the end the headline holds, the events of each connection's session
-//! carry the number of its pass, and the disks that come back stand for it.
+//! `run` returns how it ended and why. Of the history at the end the headline holds, what was added under the number of a
+//! connection's pass was added in the turns of the lines of its session, and the disks that come back stand for it.
 #![tactic(auto)]
 
 mod commands;
+pub mod laws;
 mod serving;
 mod telling;
 

@@ -5,6 +5,7 @@ ghost use Rattle.std.specs.List.{AllByRecursion};
 ghost use Rattle.journal_records.specs.EventSpelling.{IsReadEvent};
 ghost use Rattle.pcfs_server.specs.Ends.{number_of};
 ghost use Rattle.session_service.specs.Connections.{AreOfConnections};
+ghost use Rattle.session_service.specs.Sessions.{sources_of, AreOfSeenSession};
 ghost use Rattle.shared_store.specs.GoesOn.{HasGoneOn};
 ghost use Rattle.pcfs_run.specs.Passes.{IsGrown};
 ghost use Rattle.pcfs_run.specs.Served.{AreAttended};
@@ -48,7 +49,7 @@ fn attend_all<
     ensures lock { front.new.door.lock ≡ service.now.lock.now }
     ensures out { front.new.door.out ≡ front.old.door.out }
     ensures opening { front.new.door.opening ≡ front.old.door.opening }
-    ensures of_connections { AreOfConnections (number_of result) front.new.door.retired }
+    ensures of_connections { AreOfConnections (AreOfSeenSession (sources_of (C.gives service.now.clock.now) L.In.left) front.new.door.seen) (number_of result) front.new.door.retired }
     ensures made { front.new.door.made ≤ count }
     ensures attended { AreAttended count
         (record { waiting = L.waiting net.old; over = L.over net.old; faults = L.faults net.old; nonce_faults = N.faults front.old.nonces.now })
@@ -82,7 +83,7 @@ fn serve_under<
     ensures lock { result.1.lock ≡ lock.now }
     ensures out { result.1.out ≡ door.out }
     ensures opening { result.1.opening ≡ door.opening }
-    ensures of_connections { AreOfConnections (number_of result.0) result.1.retired }
+    ensures of_connections { AreOfConnections (AreOfSeenSession (sources_of (C.gives clock.now) L.In.left) result.1.seen) (number_of result.0) result.1.retired }
     ensures made { result.1.made ≤ count }
     ensures attended { AreAttended count
         (record { waiting = L.waiting net.old; over = L.over net.old; faults = L.faults net.old; nonce_faults = N.faults nonces.old })
@@ -127,7 +128,7 @@ pub fn serve_store<
     requires some { 1 ≤ count }
     requires few { count ≤ 1000000 }
     ensures gone_on { HasGoneOn D.clock D.left_since D.image D.faults store result.1 }
-    ensures grown { IsGrown (number_of result.0) count store result.1 }
+    ensures grown { IsGrown (sources_of (C.gives clock.now) L.In.left) (number_of result.0) count store result.1 }
     ensures attended { AreAttended count
         (record { waiting = L.waiting net.old; over = L.over net.old; faults = L.faults net.old; nonce_faults = N.faults nonces.old })
         (record { waiting = L.waiting net.new; over = L.over net.new; faults = L.faults net.new; nonce_faults = N.faults nonces.new }) result.0 }

@@ -3,3 +3,5 @@ pub mod AskingLemmas
 pub mod SaidLemmas
 pub mod SpokenLemmas
 pub mod SessionEndsLemmas
+pub mod SessionLemmas
+pub mod FewLemmas

@@ -1,5 +1,5 @@
 -- Laws of sessions: what a line of a session asks is what the definition of answers makes of its command, for somebody who calls in their own name and may see what is granted to them; and a session is placed in what its pass has seen.
-use Rattle.std.specs.Prelude.{◌≡◌, ℕ, ℤ, ◌≤◌, List, ◌++◌, IsTrue, Some, Ok, Err}
+use Rattle.std.specs.Prelude.{◌≡◌, ℕ, ℤ, ◌≤◌, List, ◌++◌, length, IsTrue, Some, Ok, Err}
 use Rattle.bl_syntax.specs.declared.grant.Goal.{Goal}
 use Rattle.bl_syntax.specs.Grant.{GrantView}
 use Rattle.proof_term.specs.Proof.{ProofView}
@@ -24,6 +24,7 @@ use Rattle.pcfs_store.specs.Entries.{StoreEntry}
 use Rattle.pcfs_store.specs.StoreView.{StoreView}
 use Rattle.session_history.specs.declared.request.TurnRequest.TheVariants.{Step, Checkpoint}
 use Rattle.session_history.specs.declared.task.LineTask.TheVariants as tasks
+use Rattle.session_history.specs.Turn.{StorePass}
 use Rattle.session_history.specs.Tasks.{IsUserTask}
 use Rattle.session_history.specs.SessionState.{SessionState, guest_with}
 use Rattle.session_history.specs.Placed.{LinesPlaced}
@@ -35,6 +36,7 @@ use Rattle.pcfs_session.specs.Asker.{Asker}
 use Rattle.pcfs_session.specs.LineAnswer.{replied, requested, checkpoint, ComesTo}
 use Rattle.session_service.specs.Said.{SaysStopped}
 use Rattle.session_service.specs.SessionEnds.{Speaks}
+use Rattle.session_service.specs.Sessions.{SessionSources, AreOfSession}
 
 -- what is asked in one turn is what a look at any state makes of the command
 abbrev pub TurnsAskWhatCommandsComeTo : Type 0
@@ -79,3 +81,7 @@ pub record IsPlacedSession {D : Type 0} (faults : D → ℕ) (gives : ℤ → Ty
 abbrev pub SessionsArePlaced : (D : Type 0) → (D → ℕ) → (ℤ → Type 0) → Type 0
 SessionsArePlaced D faults gives = (nonce : List ℕ) (opening : StoreView D) (old new : PassView (LockEntry D)) (lines : List (List ℕ)) (answers : List LineReply) → HasHistory opening old → Speaks faults gives nonce old new lines answers →
     IsPlacedSession faults gives nonce opening old new lines answers
+
+-- a session has no more entries than lines, so none if none is said
+abbrev pub EachEntryHasALine : SessionSources → Type 0
+EachEntryHasALine sources = (p : StorePass) (history own : List StoreEntry) → (s : AreOfSession sources p history own) → length own ≤ length s.lines

@@ -1,3 +1,4 @@
+pub mod Sessions
 pub mod Connections
 pub mod Ends
 pub mod Laws

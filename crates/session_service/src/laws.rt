@@ -1,8 +1,9 @@
 //! Laws of sessions. The functions do nothing: each contract is a law.
 
-ghost use Rattle.session_service.specs.Laws.{TurnsAskWhatCommandsComeTo, ProofsAskWhatCommandsComeTo, FaultsAreWhatCommandsComeTo, AbsencesAreWhatCommandsComeTo, CheckpointsAreWhatCommandsComeTo, SessionsArePlaced};
+ghost use Rattle.session_service.specs.Laws.{TurnsAskWhatCommandsComeTo, ProofsAskWhatCommandsComeTo, FaultsAreWhatCommandsComeTo, AbsencesAreWhatCommandsComeTo, CheckpointsAreWhatCommandsComeTo, SessionsArePlaced, EachEntryHasALine};
+ghost use Rattle.session_service.specs.Sessions.{sources_of};
 
-use pcfs_ports::{Clock, Disk};
+use pcfs_ports::{Clock, Disk, Source};
 
 /// What a line of a session asks, in one turn or by a proof, is what the definition of answers makes of its command for
 /// somebody who calls in their own name and may see what is granted to them; and so is what it is told if a proof has a fault,
@@ -19,5 +20,13 @@ pub fn lines_ask_what_commands_come_to()
 pub fn sessions_are_placed<D: Disk, C: Clock>(clock: &C)
     ensures { SessionsArePlaced D D.faults (C.gives clock.now) }
 {
+    let _ = clock;
+}
+
+/// A session has no more entries than lines: each line adds one at most, and nothing else adds any.
+pub fn each_entry_has_a_line<I: Source, C: Clock>(input: &I, clock: &C)
+    ensures { EachEntryHasALine (sources_of (C.gives clock.now) I.left) }
+{
+    let _ = input;
     let _ = clock;
 }

@@ -129,16 +129,18 @@ impl<'a, D: Disk + Send, C: Clock, N: Nonces + 'a, I: Source, O: Sink> Service<I
 
     type Kept = (LinkedList<(u64, LockEntry<D>)>, u64);
 
-    ghost use Rattle.std.specs.Prelude.{◌≡◌, ◌-◌, ◌^◌, [], true, false};
+    ghost use Rattle.std.specs.Prelude.{◌≡◌, ◌-◌, ◌^◌, true, false};
     ghost use Rattle.session_service.specs.Connections.{AreOfConnections};
+    ghost use Rattle.session_service.specs.Sessions.{sources_of, AreOfSeenSession, IsConnectionPass};
     ghost use Rattle.session_service.specs.declared.session_end.SessionEnd.{SessionEnd};
     ghost use Rattle.session_service.specs.SessionEnds.{SessionEnds, GreetsFirst};
 
-    // The passes that were taken in are those of the connections that are counted, or have no entries.
-    ghost is_door = { λ service door. (door.door.lock ≡ service.lock.now) × AreOfConnections door.served door.door.retired };
+    // The passes that were taken in are those of the connections that are counted, with the entries of a session each, or
+    // have no entries.
+    ghost is_door = { λ service door. (door.door.lock ≡ service.lock.now) × AreOfConnections (AreOfSeenSession (sources_of (C.gives service.clock.now) I.left) door.door.seen) door.served door.door.retired };
 
-    // Before the connection is attended, its pass has no entries.
-    ghost is_token = { λ service token. (token.pass.lock ≡ service.lock.now) × (token.attended ≡ false → token.pass.own ≡ []) };
+    // Before the connection is attended, its pass has no entries; after that it has those of a session.
+    ghost is_token = { λ service token. (token.pass.lock ≡ service.lock.now) × IsConnectionPass (sources_of (C.gives service.clock.now) I.left) token.attended token.pass };
 
     ghost attended = { λ token. token.attended };
 
@@ -176,9 +178,9 @@ impl<'a, D: Disk + Send, C: Clock, N: Nonces + 'a, I: Source, O: Sink> Service<I
         input: &mut I,
         output: &mut O,
     )
-        requires belongs { (token.old.pass.lock ≡ self.now.lock.now) × (token.old.attended ≡ false → token.old.pass.own ≡ []) }
+        requires belongs { (token.old.pass.lock ≡ self.now.lock.now) × IsConnectionPass (sources_of (C.gives self.now.clock.now) I.left) token.old.attended token.old.pass }
         requires once { token.old.attended ≡ false }
-        ensures belongs { (token.new.pass.lock ≡ self.now.lock.now) × (token.new.attended ≡ false → token.new.pass.own ≡ []) }
+        ensures belongs { (token.new.pass.lock ≡ self.now.lock.now) × IsConnectionPass (sources_of (C.gives self.now.clock.now) I.left) token.new.attended token.new.pass }
         ensures attended { token.new.attended ≡ true }
 
         // The connection had a session, under the token's pass and with its nonce.

@@ -1,0 +1,108 @@
+-- The entries of a pass under which a session ended are those of that session.
+use Rattle.std.proofs.Common.{◌≡◌, ◌∙◌, ℕ, List, [], ◌++◌, Option, Some, None, sym, ap, subst, append_assoc}
+use mathlib.Core.List.{IsPrefix}
+use Rattle.pcfs_ports.specs.Told.{with_front, ReadsToEnd}
+use Rattle.line_text.specs.Lines.{lines_of}
+use Rattle.line_framer.specs.Framing.{ended}
+use Rattle.line_framer.proofs.FramingLemmas.{lines_of-whole}
+use Rattle.line_wire.specs.declared.reply.LineReply.{LineReply}
+use Rattle.tree_lock.specs.Seen.{PassView}
+use Rattle.tree_lock.proofs.EntryLemmas.{prefix_refl, prefix_trans}
+use Rattle.session_history.proofs.CallerLemmas.{callers_accepted}
+use Rattle.shared_store.specs.declared.entry.LockEntry.{LockEntry}
+use Rattle.shared_store.specs.LockHistory.{numbered, lock_history}
+use Rattle.shared_store.specs.Turning.{pass_at}
+use Rattle.shared_store.specs.Asking.{entries_seen}
+use Rattle.pcfs_session.specs.Streams.{Streams}
+use Rattle.pcfs_session.specs.Taken.{AreFirst}
+use Rattle.pcfs_session.proofs.TakenLemmas.{IsBefore-long}
+use Rattle.session_service.specs.declared.session_end.SessionEnd.{SessionEnd}
+use Rattle.session_service.specs.declared.session_end.SessionEnd.TheVariants as session_ends
+use Rattle.session_service.specs.Sessions.{SessionSources, AreFirstLines, AreOfSession, AreOfSeenSession}
+use Rattle.session_service.specs.SessionEnds.{Speaks, IsUnderWay, SessionReplies, SessionEnds}
+use Rattle.session_service.specs.SessionEnds as ends
+
+-- ---- lines that were answered are the first of the input
+
+first_of_all : (bytes rest more : List ℕ) (lines : List (List ℕ)) → AreFirst bytes lines rest → IsPrefix lines (lines_of (bytes ++ more))
+first_of_all bytes rest more lines first = (
+  lines_of (rest ++ more),
+  sym (ap (λ (b : List ℕ). lines_of (b ++ more)) first.parts ∙ ap lines_of (append_assoc (ended lines) rest more) ∙ lines_of-whole lines (rest ++ more) first.whole),
+)
+
+-- the input has what was taken, and then what is left
+AreFirstLines-front : (left_after : Option (List ℕ)) (bytes rest : List ℕ) (lines : List (List ℕ)) → AreFirst bytes lines rest → AreFirstLines (with_front bytes left_after) lines
+AreFirstLines-front None bytes rest lines first = tt
+AreFirstLines-front (Some more) bytes rest lines first = first_of_all bytes rest more lines first
+
+AreFirstLines-taken : (left left_after : Option (List ℕ)) (bytes rest : List ℕ) (lines : List (List ℕ)) → left ≡ with_front bytes left_after → AreFirst bytes lines rest → AreFirstLines left lines
+AreFirstLines-taken left left_after bytes rest lines taken first = subst (λ (o : Option (List ℕ)). AreFirstLines o lines) (sym taken) (AreFirstLines-front left_after bytes rest lines first)
+
+AreFirstLines-read : (left left_after : Option (List ℕ)) (bytes : List ℕ) → ReadsToEnd left left_after bytes → AreFirstLines left (lines_of bytes)
+AreFirstLines-read None left_after bytes reads = tt
+AreFirstLines-read (Some all) left_after bytes reads = subst (λ (b : List ℕ). IsPrefix (lines_of bytes) (lines_of b)) (sym reads.all) (prefix_refl (lines_of bytes))
+
+-- ---- a session that ended
+
+module _ {D : Type 0} (faults : D → ℕ) (sources : SessionSources) (nonce : List ℕ) (old new : PassView (LockEntry D)) (before : Streams) where
+  -- what a session answered, whatever its end: the first lines of its input
+  record HasAnswered : Type 0 where
+    lines : List (List ℕ)
+    answers : List LineReply
+    speaks : Speaks faults sources.gives nonce old new lines answers
+    first : AreFirstLines before.left lines
+
+  by_way : (after : Streams) (answers : List LineReply) → IsUnderWay faults sources.gives nonce old new before after answers → HasAnswered
+  by_way after answers (ends.while_reading lines taken said) =
+      record { lines = lines; answers = answers; speaks = said; first = AreFirstLines-taken before.left after.left taken.bytes taken.rest lines taken.taken taken.first }
+  by_way after answers (ends.all_read bytes reads short said) = record { lines = lines_of bytes; answers = answers; speaks = said; first = AreFirstLines-read before.left after.left bytes reads }
+
+  by_replies : (after : Streams) (how : SessionEnd) (answers : List LineReply) → SessionReplies faults sources.gives nonce old new before after how answers → HasAnswered
+  by_replies after _ _ (ends.done bytes answers reads short said) = record { lines = lines_of bytes; answers = answers; speaks = said; first = AreFirstLines-read before.left after.left bytes reads }
+  by_replies after _ _ (ends.line_too_long lines answers cut said) =
+      let found = IsBefore-long (cut.bytes ++ cut.piece) lines cut.has_long in
+      record { lines = lines; answers = answers; speaks = said; first = AreFirstLines-taken before.left after.left (cut.bytes ++ cut.piece) found.rest lines cut.taken found.first }
+  by_replies after _ _ (ends.read_fault lines answers risen all said) =
+      record { lines = lines; answers = answers; speaks = said; first = AreFirstLines-taken before.left after.left all.bytes all.rest lines all.taken all.first }
+  by_replies after _ _ (ends.input_too_long lines answers first all said) =
+      record { lines = lines; answers = answers; speaks = said; first = AreFirstLines-taken before.left after.left all.bytes all.rest lines all.taken all.first }
+
+  by_end : (how : SessionEnd) (after : Streams) → SessionEnds faults sources.gives nonce old new before how after → HasAnswered
+  by_end _ _ (ends.written how after answers replies out) = by_replies after how answers replies
+  by_end _ _ (ends.cut_short fault after answers risen way some) = by_way after answers way
+  by_end _ _ (ends.cut_at_long_line fault after answers risen replies some) = by_replies after session_ends.LineTooLong answers replies
+
+  -- a pass that had no entries has those that the replies were given
+  of_answered : old.own ≡ [] → (h : HasAnswered) → sources.may_say h.lines → AreOfSeenSession sources new.seen new.number new.own
+  of_answered none h said =
+      let s = h.speaks in
+      record {
+        given = s.given;
+        own_is = s.goes_on.own ∙ ap (λ (l : List (ℕ × LockEntry D)). l ++ numbered s.given) none;
+        session = λ opening entries begins.
+            let placed = s.placed opening entries begins in
+            subst (λ (n : ℕ). AreOfSession sources (pass_at opening n) entries s.given) (sym s.goes_on.number)
+            (record {
+              nonce = nonce;
+              lines = h.lines;
+              answers = h.answers;
+              from = entries_seen old;
+              end = s.end;
+              to = s.to;
+              said = said;
+              placed = placed;
+              callers = callers_accepted sources.gives (pass_at opening old.number) entries nonce (entries_seen old) h.lines h.answers s.end s.to s.given placed;
+            });
+      }
+
+  pub AreOfSeenSession-ended : (how : SessionEnd) (after : Streams) → old.own ≡ [] → ((lines : List (List ℕ)) → AreFirstLines before.left lines → sources.may_say lines) → SessionEnds faults sources.gives nonce old new before how after →
+      AreOfSeenSession sources new.seen new.number new.own
+  AreOfSeenSession-ended how after none says ended =
+      let h = by_end how after ended in
+      of_answered none h (says h.lines h.first)
+
+-- ---- who has seen more has seen it
+
+pub AreOfSeenSession-later : {D : Type 0} (sources : SessionSources) (seen more : List (ℕ × LockEntry D)) (number : ℕ) (own : List (ℕ × LockEntry D)) → IsPrefix seen more → AreOfSeenSession sources seen number own → AreOfSeenSession sources more number own
+AreOfSeenSession-later sources seen more number own later s =
+    record { given = s.given; own_is = s.own_is; session = λ opening entries begins. s.session opening entries (prefix_trans seen more (lock_history opening entries) later begins) }
