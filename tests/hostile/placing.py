@@ -398,21 +398,23 @@ class Placing:
                 found.unanswered.append((key_asked(asked, caller), sent, wall))
 
     def find_unanswered(self):
-        """Gives each event that nobody was told to a line that was not answered, each line at most one, in their order."""
+        """Gives each event that nobody was told to a line that was not answered, each line at most one. Lines come in the order in which
+        they were said, and each takes the first event that says the same, after all that its session and anybody had been told."""
         left = self.by_key(number for number in range(1, self.last + 1) if self.owner[number] is None)
         self.counts["events that were not told"] = sum(map(len, left.values()))
-        for session, found in enumerate(self.sessions):
-            low = 0
-            for key, sent, wall in found.unanswered:
-                if isinstance(key, int):
-                    low = max(low, self.find_image(session, key, sent))
-                    continue
-                number = next((one for one in left.get(key, ()) if one > low), None)
-                if number is not None:
-                    left[key].remove(number)
-                    self.own(number, session, (sent, FOREVER, wall, FOREVER))
-                    found.put(Place(number - 1, number - 1, number), sent, FOREVER)
-                    low = number
+        lows = {session: self.reached(found) for session, found in enumerate(self.sessions) if found.unanswered}
+        lines = [(sent, session, key, wall) for session in lows for key, sent, wall in self.sessions[session].unanswered]
+        for sent, session, key, wall in sorted(lines, key=lambda line: line[0]):
+            if isinstance(key, int):
+                lows[session] = max(lows[session], self.find_image(session, key, sent))
+                continue
+            low = max(lows[session], self.told_before(sent))
+            number = next((one for one in left.get(key, ()) if one > low), None)
+            if number is not None:
+                left[key].remove(number)
+                self.own(number, session, (sent, FOREVER, wall, FOREVER))
+                self.sessions[session].put(Place(number - 1, number - 1, number), sent, FOREVER)
+                lows[session] = number
         for number in sorted(number for numbers in left.values() for number in numbers):
             self.fault(f"nobody asked for event {number}, {str(self.events[number])[:300]}")
         for number in range(1, len(self.images)):
@@ -430,16 +432,18 @@ class Placing:
 
     # ---- places ----
 
-    def order(self):
-        """The orders in which events were said and told."""
-        numbers = range(1, self.last + 1)
+    def order_told(self):
+        """The order in which events were told."""
         self.told_at, self.told_most = array("q"), array("q")
         most = 0
-        for number in sorted(numbers, key=self.got.__getitem__):
+        for number in sorted(range(1, self.last + 1), key=self.got.__getitem__):
             most = max(most, number)
             self.told_at.append(self.got[number])
             self.told_most.append(most)
-        said = sorted(numbers, key=self.sent.__getitem__)
+
+    def order_said(self):
+        """The order in which the lines of events were said."""
+        said = sorted(range(1, self.last + 1), key=self.sent.__getitem__)
         self.said_at, self.said_least = array("q", (self.sent[number] for number in said)), array("q", said)
         for place in range(len(said) - 2, -1, -1):
             self.said_least[place] = min(self.said_least[place], self.said_least[place + 1])
@@ -453,6 +457,14 @@ class Placing:
         """The last place before which no event stands whose line was said after that moment."""
         place = bisect_right(self.said_at, moment)
         return self.said_least[place] - 1 if place < len(self.said_at) else self.last
+
+    def reached(self, found):
+        """The place that a session had surely come to with its last reply."""
+        low = 0
+        for _, (least, _, event, size, sent, _), _ in found.placed():
+            place = max(low, least, self.told_before(sent))
+            low = event or (self.without_room(place, size) if size else place)
+        return low
 
     def walk(self, session):
         """Places the replies of a session, each as early as it may stand."""
@@ -547,8 +559,9 @@ class Placing:
 
     def check(self):
         """Compares all, once every session was added, and returns the state at the end."""
+        self.order_told()
         self.find_unanswered()
-        self.order()
+        self.order_said()
         for session in range(len(self.sessions)):
             self.walk(session)
         return self.replay()
