@@ -59,10 +59,12 @@ class Refusing:
         return folder
 
     def start(self, folder, number, *words, given=subprocess.PIPE):
+        """A run. None begins while a port is looked for, since it would have that too until its program begins."""
         environment = dict(os.environ, LD_PRELOAD=f"{self.folder}/refuse.so", REFUSE=str(number), REFUSED=f"{folder}/refused")
-        return subprocess.Popen(
-            [self.program, *words], cwd=folder, env=environment, stdin=given, stdout=subprocess.PIPE, stderr=subprocess.DEVNULL
-        )
+        with self.taking:
+            return subprocess.Popen(
+                [self.program, *words], cwd=folder, env=environment, stdin=given, stdout=subprocess.PIPE, stderr=subprocess.DEVNULL
+            )
 
     def run(self, folder, number, *words, given=b""):
         """What the program writes, its status, and whether a growth was refused; number 0 refuses none."""

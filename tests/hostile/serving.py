@@ -4,6 +4,8 @@ import os
 import shutil
 import socket
 import subprocess
+from contextlib import suppress
+from random import SystemRandom
 
 from areas import bytes_of, generation, is_open
 
@@ -14,9 +16,13 @@ PROBE = ("do create #1 x " + "470105616c696365000000000000000102" "0000" + "00" 
 
 
 def free_port():
-    with socket.socket() as one:
-        one.bind(("127.0.0.1", 0))
-        return one.getsockname()[1]
+    """A port that nobody has, and that is not of those which the system gives to whoever connects: none of these takes it before a
+    server does."""
+    while True:
+        port = SystemRandom().randint(10_000, 32_000)
+        with socket.socket() as one, suppress(OSError):
+            one.bind(("127.0.0.1", port))
+            return port
 
 
 def waited_by(process):
