@@ -12,6 +12,7 @@ if [ ! -x "$program" ]; then
   (cd "$top/crates/audit_rows" && cp data/audit.rows "$work" && rt run > "$work/build.log" 2>&1 -- "$work/audit.rows") || { tail -5 "$work/build.log"; exit 1; }
 fi
 cd "$work"
-python3 "$top/examples/pcfs_audit_model.py" changes "${1:-1000}" 1 < <(python3 "$top/examples/pcfs_model.py" generated "${2:-9700}" 1) > changes.rows
+export PYTHONDONTWRITEBYTECODE=1
+python3 "$top/tests/model/pcfs_audit_model.py" changes "${1:-1000}" 1 < <(python3 "$top/tests/model/pcfs_model.py" generated "${2:-9700}" 1) > changes.rows
 "$program" changes.rows > told || { grep -v '^agrees' told | head; exit 1; }
 grep -c '^agrees' told

@@ -1,5 +1,5 @@
 #!/usr/bin/env python3
-"""Signs statements and logins for PCFS, and reads the bytes of a procap (docs/FORMATS.md has the formats).
+"""Signs statements and logins for PCFS, and reads the bytes of a procap (docs/PROTOCOL.md has the formats).
 
     pcfs_client.py statement SECRETS TEXT       prints the line that registers the statement TEXT
     pcfs_client.py login SECRETS NAME NONCE     prints the line by which NAME logs in; NONCE is hexadecimal

@@ -1,4 +1,4 @@
-"""What docs/FORMATS.md says of areas: their records, and what an opening of two of them finds."""
+"""What docs/DISK.md says of areas: their records, and what an opening of two of them finds."""
 from images import LAST_EVENT, state_of
 from pcfs_model import Bad
 

@@ -1,4 +1,4 @@
-"""Damages areas, and compares what an opening says with what docs/FORMATS.md says of their bytes."""
+"""Damages areas, and compares what an opening says with what docs/DISK.md says of their bytes."""
 import time
 from collections import Counter
 

@@ -1,4 +1,4 @@
-"""Events as docs/FORMATS.md writes them, and the state that they lead to, by the plain model of examples/pcfs_model.py."""
+"""Events as docs/DISK.md writes them, and the state that they lead to, by the plain model of tests/model/pcfs_model.py."""
 from bisect import bisect_left
 from collections import namedtuple
 

@@ -1,4 +1,4 @@
-"""Images as docs/FORMATS.md writes them: the bytes of a state, and the state of such bytes, by the plain model."""
+"""Images as docs/DISK.md writes them: the bytes of a state, and the state of such bytes, by the plain model."""
 import re
 
 from history import MOST_STATEMENTS, History

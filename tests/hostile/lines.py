@@ -1,4 +1,4 @@
-"""Lines of sessions, as docs/FORMATS.md has them: what a line asks for, or the reply that tells its first fault."""
+"""Lines of sessions, as docs/PROTOCOL.md has them: what a line asks for, or the reply that tells its first fault."""
 import re
 from collections import namedtuple
 

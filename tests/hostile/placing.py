@@ -9,8 +9,8 @@ import re
 from array import array
 from bisect import bisect_left, bisect_right
 from collections import defaultdict, deque, namedtuple
-from hashlib import sha256
 from functools import lru_cache
+from hashlib import sha256
 from itertools import islice
 
 from areas import LIMIT, Damaged, generation, image_in, records
@@ -99,7 +99,7 @@ def before_damage(records_of_area):
 
 class Placing:
     """The history of areas that counted one after another, and what sessions were told of it. A caller who is shared may have several
-    sessions, and never asks twice for the same; every other has one session alone."""
+    sessions, of which no two do the same operation; every other has one session alone."""
 
     def __init__(self, areas, secrets, shared=()):
         self.known = History(secrets)  # its statements are all that the areas have
@@ -458,20 +458,23 @@ class Placing:
         place = bisect_right(self.said_at, moment)
         return self.said_least[place] - 1 if place < len(self.said_at) else self.last
 
+    def earliest(self, low, least, size, sent):
+        """The first place where a reply may stand, after that of the one before it."""
+        place = max(low, least, self.told_before(sent))
+        return self.without_room(place, size) if size else place
+
     def reached(self, found):
         """The place that a session had surely come to with its last reply."""
         low = 0
         for _, (least, _, event, size, sent, _), _ in found.placed():
-            place = max(low, least, self.told_before(sent))
-            low = event or (self.without_room(place, size) if size else place)
+            low = event or self.earliest(low, least, size, sent)
         return low
 
     def walk(self, session):
         """Places the replies of a session, each as early as it may stand."""
         low = 0
         for number, (least, most, event, size, sent, got), ask in self.sessions[session].placed():
-            place = max(low, least, self.told_before(sent))
-            place = self.without_room(place, size) if size else place
+            place = self.earliest(low, least, size, sent)
             most = min(most, self.said_before(got))
             if place > most:
                 self.fault(f"session {session}, reply {number} has no place: not before {place} by {low}, {least} and what was told, nor after {most}")

@@ -1,4 +1,4 @@
-"""The first fault of the text of a statement or of a proof, by docs/FORMATS.md: its number and its place."""
+"""The first fault of the text of a statement or of a proof, by docs/PROTOCOL.md: its number and its place."""
 import calendar
 import re
 

@@ -15,7 +15,7 @@ missed=0
 try() {
     local kind=$1 long=$2
     shift 2
-    PYTHONPATH="$here:$here/../../examples" PYTHONPYCACHEPREFIX="$work/cache" WRONG="$kind" \
+    PYTHONPATH="$here:$here/../model:$here/../../examples" PYTHONPYCACHEPREFIX="$work/cache" WRONG="$kind" \
         python3 "$here/hostile.py" "$here/plain_server.py" "$work/work" "$long" 1 "$@" 2> "$work/errors"
 }
 find_fault() {

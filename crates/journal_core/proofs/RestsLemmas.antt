@@ -56,6 +56,14 @@ module _ {D : Type 0} (clock : D → ℕ) (left_since : D → ℕ → List ℕ �
     since = λ t b le left. ⊎_elim (λ before. inl before) (λ p. inr (say b p)) (so_far.since t b le left);
   }
 
+  -- what a read gives after all is one of these outcomes
+  pub told_leaves : (image : D → Option (List ℕ)) (old new : D) (P : List ℕ → Type 0) →
+      ((disk : D) (t u : ℕ) (b : List ℕ) → t ≤ u → left_since disk u b → left_since disk t b) →
+      ((disk : D) (b : List ℕ) → image disk ≡ Some b → left_since disk (clock disk) b) →
+      LeavesOnly clock left_since old new P → (bytes : List ℕ) → image new ≡ Some bytes → P bytes
+  told_leaves image old new P earlier stays so_far bytes told =
+      so_far.each bytes (earlier new (clock old) (clock new) bytes so_far.later (stays new bytes told))
+
   -- a run of reads and syncs
   pub idle_then_idle : (old mid new : D) → Idles clock left_since old mid → Idles clock left_since mid new → Idles clock left_since old new
   idle_then_idle old mid new first second = record {

@@ -101,6 +101,7 @@ fn write_area<D: Disk>(disk: &mut D, base: &[u8]) -> Result<(), Failed>
         IsPinned D.clock D.left_since D.image disk.old →
         LeavesOnly D.clock D.left_since disk.old disk.new (IsOldOrShutOrNew bytes (1 ∷ tail)) }
     ensures told { is_some (D.image disk.new) ≡ is_some (D.image disk.old) }
+    ensures no_fault { OnOk result (D.faults disk.new ≡ D.faults disk.old) }
     ensures risen { OnErr result (HasRisen (D.faults disk.old) (D.faults disk.new)) }
     ensures never_falls { D.faults disk.old ≤ D.faults disk.new }
 {
@@ -127,6 +128,7 @@ fn format_disk<D: Disk>(
     ensures any_moment { (bytes : List ℕ) → D.image disk.old ≡ Some bytes → IsPinned D.clock D.left_since D.image disk.old →
         LeavesOnly D.clock D.left_since disk.old disk.new (IsOldOrShutOrNew bytes (area_bytes generation image.now [])) }
     ensures told { is_some (D.image disk.new) ≡ is_some (D.image disk.old) }
+    ensures no_fault { OnOk result (D.faults disk.new ≡ D.faults disk.old) }
     ensures risen { IsErrOf result AreaFault.Disk → HasRisen (D.faults disk.old) (D.faults disk.new) }
     ensures never_falls { D.faults disk.old ≤ D.faults disk.new }
 {
@@ -169,6 +171,7 @@ impl<D: Disk> Area<D> {
         ensures told { MatchResult result
             (λ area. is_some (D.image area.disk) ≡ is_some (D.image disk))
             (λ e. is_some (D.image e.1) ≡ is_some (D.image disk)) }
+        ensures no_fault { IfOk result (λ area. D.faults area.disk ≡ D.faults disk) }
         ensures risen { IfErr result (λ e. e.0 ≡ AreaFault.Disk → HasRisen (D.faults disk) (D.faults e.1)) }
         ensures never_falls { MatchResult result
             (λ area. D.faults disk ≤ D.faults area.disk)
@@ -183,10 +186,11 @@ impl<D: Disk> Area<D> {
 
     /// Adds a record, or nothing.
     ///
-    /// `AreaFull` is returned by length, before anything is written, and leaves the area as it was.
-    /// `Disk` is returned only if the disk's count of faults rose. The record may be there or not
-    /// then, and its gate may be open, so nothing may be appended to this value any more: another
-    /// record would be written over one that may count. A scan of the disk tells which it is.
+    /// `AreaFull` is returned by length, before anything is written, and leaves the area as it was, for
+    /// the next record too. `Disk` is returned only if the disk's count of faults rose. The record may be
+    /// there or not then, and its gate may be open, so nothing may be appended to this value any more:
+    /// another record would be written over one that may count. Its disk may be taken out and scanned,
+    /// which finds the records of before, with the new one or without.
     pub fn append(&mut self, framed: &Framed) -> Result<(), AreaFault>
         ensures full { IsErrOf result AreaFault.AreaFull ↔ area_limit < self.old.end + length framed.now + 6 }
         ensures unchanged { IsErrOf result AreaFault.AreaFull → self.new ≡ self.old }
@@ -208,7 +212,13 @@ impl<D: Disk> Area<D> {
             Rests D.clock D.left_since D.image self.old.disk body →
             LeavesOnly D.clock D.left_since self.old.disk self.new.disk (IsWithOrWithout body framed.now) }
 
+        // After a fault the disk may be read: what it gives is the records of before, with the new one or without.
+        ensures found { IsErrOf result AreaFault.Disk → (body bytes : List ℕ) → length body ≡ self.old.end →
+            Rests D.clock D.left_since D.image self.old.disk body →
+            D.image self.new.disk ≡ Some bytes → IsWithOrWithout body framed.now bytes }
+
         ensures told { is_some (D.image self.new.disk) ≡ is_some (D.image self.old.disk) }
+        ensures no_fault { OnOk result (D.faults self.new.disk ≡ D.faults self.old.disk) }
         ensures risen { IsErrOf result AreaFault.Disk → HasRisen (D.faults self.old.disk) (D.faults self.new.disk) }
         ensures never_falls { D.faults self.old.disk ≤ D.faults self.new.disk }
     {
@@ -257,6 +267,7 @@ impl<D: Disk> Area<D> {
         ensures told { MatchResult result
             (λ _. is_some (D.image self.new.disk) ≡ is_some (D.image other.old))
             (λ _. is_some (D.image other.new) ≡ is_some (D.image other.old)) }
+        ensures no_fault { OnOk result (D.faults self.new.disk ≡ D.faults other.old) }
         ensures risen { IsErrOf result AreaFault.Disk → HasRisen (D.faults other.old) (D.faults other.new) }
         ensures never_falls { MatchResult result
             (λ _. D.faults other.old ≤ D.faults self.new.disk)

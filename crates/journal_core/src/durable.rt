@@ -14,6 +14,7 @@ pub fn write_through<D: Disk>(disk: &mut D, at: u64, piece: &[u8]) -> Result<(),
     ensures any_moment { (bytes : List ℕ) → D.image disk.old ≡ Some bytes → IsPinned D.clock D.left_since D.image disk.old →
         LeavesOnly D.clock D.left_since disk.old disk.new (Torn at piece.now bytes) }
     ensures told { is_some (D.image disk.new) ≡ is_some (D.image disk.old) }
+    ensures no_fault { OnOk result (D.faults disk.new ≡ D.faults disk.old) }
     ensures risen { OnErr result (HasRisen (D.faults disk.old) (D.faults disk.new)) }
     ensures never_falls { D.faults disk.old ≤ D.faults disk.new }
 {
@@ -33,6 +34,7 @@ pub fn write_then_open<D: Disk>(disk: &mut D, gate: u64, piece: &[u8]) -> Result
         LeavesOnly D.clock D.left_since disk.old disk.new
         (λ left. Torn (gate + 1) piece.now bytes left ⊎ Torn gate (1 ∷ []) (written (gate + 1) piece.now bytes) left) }
     ensures told { is_some (D.image disk.new) ≡ is_some (D.image disk.old) }
+    ensures no_fault { OnOk result (D.faults disk.new ≡ D.faults disk.old) }
     ensures risen { OnErr result (HasRisen (D.faults disk.old) (D.faults disk.new)) }
     ensures never_falls { D.faults disk.old ≤ D.faults disk.new }
 {

@@ -52,20 +52,6 @@ impl From<AllocError> for ScanFault {
     }
 }
 
-// Whether the disk has a byte at `at`.
-fn has_byte<D: Disk>(disk: &mut D, at: u64) -> Result<bool, Failed>
-    ensures ok { IfOk result (λ has. IfSome (D.image disk.old) (λ bytes. IsTrue has ↔ (at < length bytes))) }
-    ensures same { OnOk result (D.image disk.new ≡ D.image disk.old) }
-    ensures told { is_some (D.image disk.new) ≡ is_some (D.image disk.old) }
-    ensures time { Idles D.clock D.left_since disk.old disk.new }
-    ensures risen { OnErr result (HasRisen (D.faults disk.old) (D.faults disk.new)) }
-    ensures never_falls { D.faults disk.old ≤ D.faults disk.new }
-{
-    let mut byte = [0];
-    let count = disk.read(at, &mut byte)?;
-    Ok(count == 1)
-}
-
 // How many bytes the disk has, at most as many as an area may have.
 fn find_length<D: Disk>(disk: &mut D) -> Result<u64, Failed>
     ensures ok { IfOk result (λ len. IfSome (D.image disk.old) (λ bytes. len ≡ min area_limit (length bytes))) }
@@ -76,17 +62,8 @@ fn find_length<D: Disk>(disk: &mut D) -> Result<u64, Failed>
     ensures risen { OnErr result (HasRisen (D.faults disk.old) (D.faults disk.new)) }
     ensures never_falls { D.faults disk.old ≤ D.faults disk.new }
 {
-    let mut low: u64 = 0;
-    let mut high = AREA_LIMIT;
-    while low < high {
-        let middle = low + (high - low) / 2;
-        if has_byte(disk, middle)? {
-            low = middle + 1;
-        } else {
-            high = middle;
-        }
-    }
-    Ok(low)
+    let len = disk.len()?;
+    Ok(len.min(AREA_LIMIT))
 }
 
 // The bytes of the disk, at most as many as an area may have. They are read by one call into memory of

@@ -154,8 +154,8 @@ fn each_fault_of_a_disk_is_reported(rt: HostRuntime) {
         let fault = new_area_disk(rt.alloc(), &[], &[call]).err();
         assert_eq!(rt; fault, Some(AreaFault::Disk));
     }
-    for call in 0..28u32 {
+    for call in 0..3u32 {
         assert_eq!(rt; scan_bytes(rt.alloc(), AREA, &[call]), Err(ScanFault::Disk));
     }
-    assert_eq!(rt; scan_bytes(rt.alloc(), AREA, &[28]), Ok((1, 1, true, true)));
+    assert_eq!(rt; scan_bytes(rt.alloc(), AREA, &[3]), Ok((1, 1, true, true)));
 }

@@ -1,7 +1,8 @@
 //! Areas on a file, which is opened again and again.
 
+use file_disk::FileDisk;
 use journal_core::{Area, frame};
-use pcfs_ports::{Disk, FileDisk};
+use pcfs_ports::Disk;
 use std::alloc::Global;
 use std::fs;
 use std::test::Fail;

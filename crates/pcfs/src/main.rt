@@ -6,20 +6,33 @@
 //! It ends with the status that `pcfs_run::run` returns, or with 19, if the secrets file is bad or cannot be read. If there is
 //! no memory for its words or its secrets, that is 9. Words that are not UTF-8 count as none. The secrets stand in the file
 //! `pcfs.secrets` of the current folder; if there is no such file, the key of the seal is empty and nobody has a key to
-//! sign with. A status of `run` other than 0 is reported on the standard error.
+//! sign with. A status of `run` other than 0 is reported on the standard error, and before it each error of the system with
+//! the name of what it met.
+//!
+//! A sync of an area that failed leaves the file `pcfs.fault`. While it is there the store is not opened but by
+//! `pcfs checkpoint` and `pcfs init`, which write the whole state anew, and then remove it.
 #![tactic(auto)]
 
+mod named;
+
+use crate::named::Named;
 use bl_syntax::Bytes;
+use file_disk::{FileDisk, remove_mark};
 use log::{Log, warn};
-use pcfs_ports::{
-    FileDisk, StdSink, StdSource, SystemClock, TakeFault, TcpPort, UrandomNonces, read_to_end,
-};
+use pcfs_ports::{StdSink, StdSource, SystemClock, TakeFault, TcpPort, UrandomNonces, read_to_end};
 use pcfs_run::run;
 use pcfs_secrets::{SecretFault, Secrets};
-use std::io::{self, ErrorKind};
+use std::fs::File;
+use std::io::{self, Eprint, ErrorKind};
 use std::process::ExitCode;
 use std::rt::Files;
 use std::{env, fs};
+
+/// All was done.
+const DONE: u8 = 0;
+
+/// Neither area is open.
+const NO_STORE: u8 = 4;
 
 /// There was no memory for the words or the secrets.
 const OUT_OF_MEMORY: u8 = 9;
@@ -34,6 +47,9 @@ const SECRETS_FILE: &str = "pcfs.secrets";
 const FIRST_FILE: &str = "pcfs.a";
 
 const SECOND_FILE: &str = "pcfs.b";
+
+/// The file that marks that a sync of an area failed.
+const FAULT_MARK: &str = "pcfs.fault";
 
 /// Why there are no secrets.
 #[derive(Debug, Drop)]
@@ -56,14 +72,18 @@ fn words_of<R: env::Env + AllocGlobal>(rt: &R) -> io::Result<Vec<String>> {
 }
 
 // The bytes of the secrets file; none if there is no such file.
-fn secrets_text<R: Files + AllocGlobal>(rt: &R) -> Result<Option<Bytes>, Lacking> {
+fn secrets_text<R: Files + AllocGlobal + Eprint>(rt: &R) -> Result<Option<Bytes>, Lacking> {
     let file = match fs::open(rt, SECRETS_FILE) {
         Ok(file) => file,
         Err(fault) if fault.kind() == ErrorKind::NotFound => return Ok(None),
         Err(fault) if fault.kind() == ErrorKind::OutOfMemory => return Err(Lacking::NoMemory),
-        Err(_) => return Err(Lacking::Unreadable),
+        Err(fault) => {
+            let _ = eprintln!(rt; "{SECRETS_FILE}: {fault}");
+            return Err(Lacking::Unreadable);
+        }
     };
-    match read_to_end(rt.alloc(), &mut StdSource::new(file)) {
+    let mut source = StdSource::new(Named::new(rt, SECRETS_FILE, file));
+    match read_to_end(rt.alloc(), &mut source) {
         Ok(text) => Ok(Some(text)),
         Err(TakeFault::NoMemory) => Err(Lacking::NoMemory),
         Err(_) => Err(Lacking::Unreadable),
@@ -71,7 +91,7 @@ fn secrets_text<R: Files + AllocGlobal>(rt: &R) -> Result<Option<Bytes>, Lacking
 }
 
 // The secrets of the file, or an empty key and ring if there is no such file.
-fn secrets_of<R: Files + AllocGlobal>(rt: &R) -> Result<Secrets, Lacking> {
+fn secrets_of<R: Files + AllocGlobal + Eprint>(rt: &R) -> Result<Secrets, Lacking> {
     match secrets_text(rt)? {
         Some(text) => match Secrets::parse(rt.alloc(), text.as_slice()) {
             Ok(secrets) => Ok(secrets),
@@ -83,7 +103,7 @@ fn secrets_of<R: Files + AllocGlobal>(rt: &R) -> Result<Secrets, Lacking> {
 }
 
 // Says why there are no secrets, and returns the status to end with. A line that cannot be written is dropped.
-fn refuse<R: Print>(rt: &R, lacking: Lacking) -> u8 {
+fn refuse<R: Print + Eprint>(rt: &R, lacking: Lacking) -> u8 {
     match lacking {
         Lacking::Unreadable => {
             let _ = println!(rt; "secrets");
@@ -91,9 +111,37 @@ fn refuse<R: Print>(rt: &R, lacking: Lacking) -> u8 {
         }
         Lacking::BadLine(number) => {
             let _ = println!(rt; "secrets line {number}");
+            let _ = eprintln!(rt; "{SECRETS_FILE}: line {number} is bad");
             BAD_SECRETS
         }
         Lacking::NoMemory => OUT_OF_MEMORY,
+    }
+}
+
+// What stands in the place of an area, if no store is open.
+fn found_at<R: Files>(rt: &R, path: &str) -> &'static str {
+    match fs::symlink_metadata(rt, path) {
+        Ok(_) => "is no open area",
+        Err(_) => "is not there",
+    }
+}
+
+// Says that there is no store, and what there is. A line that cannot be written is dropped.
+fn say_no_store<R: Files + Eprint>(rt: &R) {
+    let first = found_at(rt, FIRST_FILE);
+    let second = found_at(rt, SECOND_FILE);
+    let _ = eprintln!(rt; "no store: {FIRST_FILE} {first}, {SECOND_FILE} {second}");
+}
+
+// Whether the words ask for what writes the whole state anew: a checkpoint, or a store before its first event.
+fn are_remedy(words: &Vec<String>) -> bool {
+    words.len() == 1 && (words[0].as_str() == "checkpoint" || words[0].as_str() == "init")
+}
+
+// Removes the mark of a failed sync, after the whole state was written anew.
+fn unmark<R: Files<File = File> + Eprint>(rt: &R) {
+    if let Err(error) = remove_mark(rt, FAULT_MARK) {
+        let _ = eprintln!(rt; "{FAULT_MARK}: {error}");
     }
 }
 
@@ -121,10 +169,11 @@ fn main(rt: HostRuntime) -> ExitCode {
         Ok(secrets) => secrets,
         Err(lacking) => return ExitCode::from(refuse(&rt, lacking)),
     };
-    let mut input = StdSource::new(rt.reader());
-    let mut output = StdSink::new(io::writer(&rt));
-    let a = FileDisk::new(&rt, FIRST_FILE);
-    let b = FileDisk::new(&rt, SECOND_FILE);
+    let mut input = StdSource::new(Named::new(&rt, "standard input", rt.reader()));
+    let mut output = StdSink::new(Named::new(&rt, "standard output", io::writer(&rt)));
+    let is_remedy = are_remedy(&words);
+    let a = FileDisk::marked(&rt, FIRST_FILE, FAULT_MARK, is_remedy);
+    let b = FileDisk::marked(&rt, SECOND_FILE, FAULT_MARK, is_remedy);
     let clock = SystemClock::new(&rt);
     let mut net = TcpPort::new(&rt);
     let mut nonces = UrandomNonces::new(&rt);
@@ -141,6 +190,12 @@ fn main(rt: HostRuntime) -> ExitCode {
         &mut net,
         &mut nonces,
     );
+    if is_remedy && ended.status == DONE {
+        unmark(&rt);
+    }
+    if ended.status == NO_STORE {
+        say_no_store(&rt);
+    }
     report(&rt, ended.status);
     ExitCode::from(ended.status)
 }

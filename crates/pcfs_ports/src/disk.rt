@@ -12,7 +12,8 @@ use super::faults::Failed;
 /// Its meaning is its image, which is what a read gives, and for each moment what a crash since then
 /// may have left, or it tells neither; and a count of faults that never falls, and counts as risen
 /// if it stands at `u64::MAX`. Whether it tells its image is the same after each call as before. It
-/// has a clock of its own, which never falls, and moments are times of this clock.
+/// has a clock of its own, which never falls, and moments are times of this clock. A call that succeeds
+/// leaves the count of faults as it was, so what failed and was tried again cannot count as done at once.
 ///
 /// Until the next sync a crash may leave any bytes in a written range, and past the old end; a range
 /// of exactly one byte holds the old byte or the new one. The bytes outside stay as they were.
@@ -38,6 +39,17 @@ pub trait Disk {
         ensures same { OnOk result (image self.new ≡ image self.old) }
         ensures told { is_some (image self.new) ≡ is_some (image self.old) }
         ensures time { Idles clock left_since self.old self.new }
+        ensures no_fault { OnOk result (faults self.new ≡ faults self.old) }
+        ensures risen { OnErr result (HasRisen (faults self.old) (faults self.new)) }
+        ensures never_falls { faults self.old ≤ faults self.new };
+
+    /// How many bytes the image has.
+    fn len(&mut self) -> Result<u64, Failed>
+        ensures ok { IfOk result (λ count. IfSome (image self.old) (λ bytes. count ≡ length bytes)) }
+        ensures same { OnOk result (image self.new ≡ image self.old) }
+        ensures told { is_some (image self.new) ≡ is_some (image self.old) }
+        ensures time { Idles clock left_since self.old self.new }
+        ensures no_fault { OnOk result (faults self.new ≡ faults self.old) }
         ensures risen { OnErr result (HasRisen (faults self.old) (faults self.new)) }
         ensures never_falls { faults self.old ≤ faults self.new };
 
@@ -48,6 +60,7 @@ pub trait Disk {
         ensures time { Elapses clock left_since self.old self.new }
         ensures torn { (bytes : List ℕ) → LeftNow clock left_since self.new bytes →
             TornFrom at piece.now (LeftNow clock left_since self.old) bytes }
+        ensures no_fault { OnOk result (faults self.new ≡ faults self.old) }
         ensures risen { OnErr result (HasRisen (faults self.old) (faults self.new)) }
         ensures never_falls { faults self.old ≤ faults self.new };
 
@@ -57,6 +70,7 @@ pub trait Disk {
         ensures same { OnOk result (image self.new ≡ image self.old) }
         ensures told { is_some (image self.new) ≡ is_some (image self.old) }
         ensures time { Idles clock left_since self.old self.new }
+        ensures no_fault { OnOk result (faults self.new ≡ faults self.old) }
         ensures risen { OnErr result (HasRisen (faults self.old) (faults self.new)) }
         ensures never_falls { faults self.old ≤ faults self.new };
 

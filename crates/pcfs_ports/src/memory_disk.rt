@@ -196,6 +196,26 @@ impl Disk for MemoryDisk {
         Ok(count)
     }
 
+    fn len(&mut self) -> Result<u64, Failed>
+        // It fails exactly if it is to.
+        ensures planned { IsErr result ↔ FailsNext self.old.calls }
+        ensures failed { OnErr result (self.new ≡ after_failed_disk_call self.old) }
+        ensures done { OnOk result (self.new ≡ after_disk_read self.old) }
+
+        ensures ok { IfOk result (λ count. IfSome (disk_image self.old) (λ bytes. count ≡ length bytes)) }
+        ensures same { OnOk result (disk_image self.new ≡ disk_image self.old) }
+        ensures told { is_some (disk_image self.new) ≡ is_some (disk_image self.old) }
+        ensures time { Idles disk_clock disk_left_since self.old self.new }
+        ensures never_falls { self.old.calls.faults ≤ self.new.calls.faults }
+    {
+        if self.plan.is_next_to_fail() {
+            self.plan.count_failed();
+            return Err(Failed);
+        }
+        self.plan.count();
+        Ok(self.image.now().len() as u64)
+    }
+
     fn write_at(&mut self, at: u64, piece: &[u8]) -> Result<(), Failed>
         // It fails if it is to, and else only if a growth is refused.
         ensures planned { FailsNext self.old.calls → IsErr result × (self.new ≡ after_failed_disk_call self.old) }
@@ -312,6 +332,7 @@ mod tests {
             && buf == *b"cD\xc3\xa9"
             && disk.read(5, &mut buf) == Ok(1)
             && disk.read(u64::MAX, &mut buf) == Ok(0)
+            && disk.len() == Ok(6)
             && disk.made().len() == 2
             && disk.write_at(u64::MAX, b"x") == Err(Failed)
     }

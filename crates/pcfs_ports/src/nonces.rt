@@ -8,7 +8,7 @@ ghost use Rattle.pcfs_ports.specs.MemorySource.{after_read, after_failed_read};
 use super::faults::{CallPlan, Failed};
 use bl_syntax::{Bytes, Numbers};
 use std::alloc::Global;
-use std::io::Read;
+use std::io::{Eprint, Read};
 use std::marker::Model;
 use std::rt::Files;
 use std::{fs, io};
@@ -90,8 +90,11 @@ impl Nonces for ListNonces {
     }
 }
 
+/// Where the system has its random bytes.
+const RANDOM_FILE: &str = "/dev/urandom";
+
 /// The system's random bytes, from `/dev/urandom`. It opens that file at its first call, and again after a call that
-/// failed. Each error, and an end of the file, is a fault.
+/// failed. Each error, and an end of the file, is a fault, and is said on the standard error.
 #[derive(Drop)]
 pub struct UrandomNonces<'a, R: Files> {
     rt: &'a R,
@@ -125,7 +128,7 @@ impl<'a, R: Files> UrandomNonces<'a, R> {
 fn read_nonce<R: Files>(rt: &R, file: &mut Option<R::File>) -> io::Result<[u8; 16]> {
     let mut reader = match file.take() {
         Some(reader) => reader,
-        None => fs::open(rt, "/dev/urandom")?,
+        None => fs::open(rt, RANDOM_FILE)?,
     };
     let mut nonce = [0u8; NONCE_LEN];
     reader.read_exact(&mut nonce)?;
@@ -133,7 +136,7 @@ fn read_nonce<R: Files>(rt: &R, file: &mut Option<R::File>) -> io::Result<[u8; 1
     Ok(nonce)
 }
 
-impl<'a, R: Files> Nonces for UrandomNonces<'a, R> {
+impl<'a, R: Files + Eprint> Nonces for UrandomNonces<'a, R> {
     ghost faults = { λ s. s };
 
     fn next(&mut self) -> Result<[u8; 16], Failed>
@@ -143,7 +146,8 @@ impl<'a, R: Files> Nonces for UrandomNonces<'a, R> {
     {
         match read_nonce(self.rt, &mut self.file) {
             Ok(nonce) => Ok(nonce),
-            Err(_) => {
+            Err(error) => {
+                let _ = eprintln!(self.rt; "{RANDOM_FILE}: {error}");
                 self.faults = self.faults.saturating_add(1);
                 Err(Failed)
             }

@@ -10,7 +10,7 @@ use super::sinks::StdSink;
 use super::sources::StdSource;
 use std::alloc::Global;
 use std::io;
-use std::io::ErrorKind;
+use std::io::{Eprint, ErrorKind};
 use std::marker::Model;
 use std::net::{Ipv4Addr, Net, OpenListener, OpenStream, TcpListener};
 
@@ -18,7 +18,8 @@ use std::net::{Ipv4Addr, Net, OpenListener, OpenStream, TcpListener};
 ///
 /// A connection is read and written in pieces, and its two halves can be used at once. It is sent without delay, where
 /// the system has `TCP_NODELAY`, and closes once both halves were dropped. A connection that was broken off before it was
-/// accepted is passed over. Each other error is a fault. It is never over, and does not tell how many connections come.
+/// accepted is passed over. Each other error is a fault, and is said on the standard error; so is that it listens. It is
+/// never over, and does not tell how many connections come.
 #[derive(Drop)]
 pub struct TcpPort<'a, R: Net> {
     rt: &'a R,
@@ -69,7 +70,7 @@ where
     Err(ErrorKind::Other.into())
 }
 
-impl<'a, R: Net> Listener for TcpPort<'a, R>
+impl<'a, R: Net + Eprint> Listener for TcpPort<'a, R>
 where
     R::Stream: Send,
 {
@@ -91,9 +92,11 @@ where
         match TcpListener::bind(self.rt, (Ipv4Addr::LOCALHOST, port)) {
             Ok(listener) => {
                 self.listener = Some(listener);
+                let _ = eprintln!(self.rt; "listening on 127.0.0.1:{port}");
                 Ok(())
             }
-            Err(_) => {
+            Err(error) => {
+                let _ = eprintln!(self.rt; "port {port}: {error}");
                 self.faults = self.faults.saturating_add(1);
                 Err(Failed)
             }
@@ -110,7 +113,8 @@ where
     {
         match next_stream(&self.listener) {
             Ok((input, output)) => Accepted::Conn(StdSource::new(input), StdSink::new(output)),
-            Err(_) => {
+            Err(error) => {
+                let _ = eprintln!(self.rt; "port: {error}");
                 self.faults = self.faults.saturating_add(1);
                 Accepted::Failed
             }

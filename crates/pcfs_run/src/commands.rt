@@ -15,12 +15,33 @@ use pcfs_tools::answering::OUT_OF_MEMORY;
 use pcfs_top::run::{Ended, run_asked, tell_unopened};
 use recover::open_store;
 use std::alloc::Global;
+use std::io::Eprint;
 use std::sync::Wait;
 use std::thread::Threads;
 
+/// A clock that is further ahead of the store than a day, in seconds, may be wrong.
+const DAY: i64 = 86_400;
+
+/// The moment of a store in which nothing was done yet.
+const NO_MOMENT: i64 = -62_135_596_800;
+
+// Warns of a clock that may be wrong beside the moment of the store's last operation: a moment that was kept is one for good,
+// and every later operation is decided as of then at the earliest. A line that cannot be written is dropped.
+fn warn_of_clock<R: Eprint>(rt: &R, now: i64, last: i64) {
+    if now < last {
+        let _ = eprintln!(rt;
+            "the clock shows {now}, before the last operation at {last}: until then all is decided as of {last}"
+        );
+    } else if last > NO_MOMENT && now.saturating_sub(last) > DAY {
+        let _ = eprintln!(rt;
+            "the clock shows {now}, more than a day after the last operation at {last}: see that it is right"
+        );
+    }
+}
+
 // Opens the store on the disks, and gives connections sessions over it.
 fn serve<
-    R: Threads + Wait + Sync,
+    R: Threads + Wait + Sync + Eprint,
     O: Sink,
     D: Disk + Send,
     C: Clock + Sync,
@@ -68,6 +89,7 @@ fn serve<
     match open_store(alloc, a, b, secrets.seal_key.as_slice(), ring) {
         Ok(store) => {
             store.keeps();
+            warn_of_clock(rt, clock.now(), store.gate().history().moment());
             let (end, store) = serve_store(rt, alloc, store, port, count, clock, net, nonces);
             store.keeps();
             let status = tell_end(alloc, output, end, &store);
@@ -105,7 +127,7 @@ fn serving_of(asked: Option<Task>) -> Option<(u16, u64)>
 /// failed too; 8, the listener failed or there was no nonce: `netfault`. A denial, a refusal and a fault of a session's own
 /// input or output leave the status as it is.
 pub fn run<
-    R: Threads + Wait + Sync,
+    R: Threads + Wait + Sync + Eprint,
     I: Source,
     O: Sink,
     D: Disk + Send,

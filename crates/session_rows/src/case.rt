@@ -10,6 +10,7 @@ use pcfs_run::run;
 use pcfs_secrets::Secrets;
 use pcfs_top::run::{Ended, run_alone};
 use std::alloc::{AllocError, AllocFailed, Global};
+use std::io::Eprint;
 use std::sync::Wait;
 use std::thread::Threads;
 
@@ -104,7 +105,7 @@ fn new_disk(alloc: Global, image: &[u8], failing: Numbers) -> Result<MemoryDisk,
 }
 
 // Runs a command over the disks with this input.
-fn run_over<R: Threads + Wait + Sync + AllocGlobal>(
+fn run_over<R: Threads + Wait + Sync + AllocGlobal + Eprint>(
     rt: &R,
     words: &[&str],
     secrets: &Secrets,
@@ -120,7 +121,7 @@ fn run_over<R: Threads + Wait + Sync + AllocGlobal>(
 }
 
 // The disks after the operator's script.
-fn set_up<R: Threads + Wait + Sync + AllocGlobal>(
+fn set_up<R: Threads + Wait + Sync + AllocGlobal + Eprint>(
     rt: &R,
     secrets: &Secrets,
     script: Bytes,
@@ -137,7 +138,7 @@ fn set_up<R: Threads + Wait + Sync + AllocGlobal>(
 
 // Runs the command, which gives the connections of the board sessions over disks with the bytes of these. Returns how it left
 // its disks, and whether it ended as it has to.
-fn serve<R: Threads + Wait + Sync + AllocGlobal>(
+fn serve<R: Threads + Wait + Sync + AllocGlobal + Eprint>(
     rt: &R,
     secrets: &Secrets,
     board: &Board,
@@ -179,7 +180,7 @@ fn serve<R: Threads + Wait + Sync + AllocGlobal>(
 }
 
 // What a script is told that opens disks with the bytes of these.
-fn found_by<R: Threads + Wait + Sync + AllocGlobal>(
+fn found_by<R: Threads + Wait + Sync + AllocGlobal + Eprint>(
     rt: &R,
     secrets: &Secrets,
     script: Bytes,
@@ -198,7 +199,7 @@ fn found_by<R: Threads + Wait + Sync + AllocGlobal>(
 
 // Runs the operator's script, the command with the connections, and the script that looks at what is kept. Returns whether the
 // command ended as it has to, and what that script is told.
-fn run_all<R: Threads + Wait + Sync + AllocGlobal>(
+fn run_all<R: Threads + Wait + Sync + AllocGlobal + Eprint>(
     rt: &R,
     secrets: &Secrets,
     board: &Board,
@@ -356,7 +357,10 @@ impl Case {
     }
 
     /// Runs the case.
-    pub fn run<R: Threads + Wait + Sync + AllocGlobal>(self, rt: &R) -> Result<CaseEnd, RowFault> {
+    pub fn run<R: Threads + Wait + Sync + AllocGlobal + Eprint>(
+        self,
+        rt: &R,
+    ) -> Result<CaseEnd, RowFault> {
         let Case {
             secrets,
             script,

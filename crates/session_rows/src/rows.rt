@@ -5,6 +5,7 @@ use crate::case::{Case, CaseEnd, RowFault};
 use bl_syntax::decimal::put_counted;
 use bl_syntax::{Bytes, NoMemory};
 use std::alloc::Global;
+use std::io::Eprint;
 use std::sync::Wait;
 use std::thread::Threads;
 
@@ -101,7 +102,7 @@ fn add_unread(name: &str, report: &mut Bytes) -> Result<bool, NoMemory> {
 }
 
 // Runs the case of this name, and adds how it ended.
-fn run_case<R: Threads + Wait + Sync + AllocGlobal>(
+fn run_case<R: Threads + Wait + Sync + AllocGlobal + Eprint>(
     rt: &R,
     name: &str,
     case: Case,
@@ -114,7 +115,7 @@ fn run_case<R: Threads + Wait + Sync + AllocGlobal>(
 }
 
 // Reads and runs a case, of which the first line is its name.
-fn run_block<R: Threads + Wait + Sync + AllocGlobal>(
+fn run_block<R: Threads + Wait + Sync + AllocGlobal + Eprint>(
     rt: &R,
     beginning: &str,
     block: &str,
@@ -135,7 +136,7 @@ fn run_block<R: Threads + Wait + Sync + AllocGlobal>(
 }
 
 /// Runs each case of a file of rows, adds to the report how it ended, and returns whether all agree.
-pub fn run_rows<R: Threads + Wait + Sync + AllocGlobal>(
+pub fn run_rows<R: Threads + Wait + Sync + AllocGlobal + Eprint>(
     rt: &R,
     text: &str,
     report: &mut Bytes,

@@ -8,6 +8,7 @@ use pcfs_ports::{ListNonces, MemoryDisk, MemorySink, MemorySource};
 use pcfs_run::run;
 use pcfs_top::run::Ended;
 use std::alloc::Global;
+use std::io::Eprint;
 use std::sync::Wait;
 use std::thread::Threads;
 
@@ -97,7 +98,7 @@ fn speeches(alloc: Global, case: &Case) -> Option<Speeches> {
 }
 
 // Serves both over the disks. Returns the disks, and whether two were served.
-fn serve<R: Threads + Wait + Sync>(
+fn serve<R: Threads + Wait + Sync + Eprint>(
     rt: &R,
     alloc: Global,
     setting: &Setting,
@@ -135,7 +136,7 @@ fn is_found(case: &Case, found: &[u8]) -> bool {
 }
 
 // Serves both over the disks, and runs the last script. Returns whether all is as wanted.
-fn serve_and_look<R: Threads + Wait + Sync>(
+fn serve_and_look<R: Threads + Wait + Sync + Eprint>(
     rt: &R,
     alloc: Global,
     setting: &Setting,
@@ -155,7 +156,7 @@ fn serve_and_look<R: Threads + Wait + Sync>(
 }
 
 // Whether all of the case is as wanted; none if there is no memory.
-fn agrees<R: Threads + Wait + Sync>(
+fn agrees<R: Threads + Wait + Sync + Eprint>(
     rt: &R,
     alloc: Global,
     setting: &Setting,
@@ -173,7 +174,7 @@ fn agrees<R: Threads + Wait + Sync>(
 }
 
 /// Whether an operation that waits for its turn is decided at the moment of the turn.
-pub fn clock_is_read_in_the_turn<R: Threads + Wait + Sync + AllocGlobal>(
+pub fn clock_is_read_in_the_turn<R: Threads + Wait + Sync + AllocGlobal + Eprint>(
     rt: &R,
     setting: &Setting,
 ) -> bool {
@@ -181,7 +182,7 @@ pub fn clock_is_read_in_the_turn<R: Threads + Wait + Sync + AllocGlobal>(
 }
 
 /// Whether of two users who make a hundred files each, each is told two hundred times a node of its own, and all are kept.
-pub fn two_hundred_files_are_made<R: Threads + Wait + Sync + AllocGlobal>(
+pub fn two_hundred_files_are_made<R: Threads + Wait + Sync + AllocGlobal + Eprint>(
     rt: &R,
     setting: &Setting,
 ) -> bool {

@@ -86,13 +86,10 @@ fn work_at<V: Recorded, J: Job<V>>(
     requires value { (before : V) × (seat.old.me.1 ≡ (0, Some before) ∷ []) }
     ensures { (before after : V) × (seat.old.me.1 ≡ (0, Some before) ∷ []) × J.done job before number after result × Appends number (V.entries before) (V.entries after) × (seat.new.table_id ≡ seat.old.table_id) × (seat.new.me ≡ (seat.old.me.0, (0, Some after) ∷ [])) }
 {
-    let Some(mut value) = shared.exchange(seat, 0, None) else {
+    let Some(value) = seat.slot_mut(shared, 0) else {
         unreachable!()
     };
-    let out = job.work(&mut value, number);
-    let left = shared.exchange(seat, 0, Some(value));
-    let None = left else { unreachable!() };
-    out
+    job.work(value, number)
 }
 
 // Gives the value back, and serves the next ticket.

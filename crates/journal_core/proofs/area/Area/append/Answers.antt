@@ -3,7 +3,7 @@ use Rattle.std.specs.Option.{option_map}
 use Rattle.pcfs_ports.specs.Disk.{written, Torn}
 use Rattle.journal_core.specs.Area.{Closed, record_bytes}
 use Rattle.journal_core.specs.Rest.{IsWithOrWithout}
-use Rattle.journal_core.proofs.RestsLemmas.{weaker_leaves}
+use Rattle.journal_core.proofs.RestsLemmas.{weaker_leaves, told_leaves}
 use Rattle.journal_core.proofs.AreaLemmas.{append_says, append_writes, told_same, closed_written}
 use Rattle.journal_core.proofs.area.Area.append.Goals as goal
 
@@ -16,6 +16,18 @@ returns-in_err-write_then_open-clause-any_moment g c = rw (← c.self.view_is) (
     (IsWithOrWithout body c.args.framed.now)
     (λ left torn. append_says body rest.bytes c.args.framed.now frame left end counted c.bytes-frame.ensures rest.closed torn)
     (c.write_then_open.ensures.any_moment rest.bytes rest.told rest.pinned))
+
+pub returns-in_err-write_then_open-clause-found : goal.returns-in_err-write_then_open-clause-found
+returns-in_err-write_then_open-clause-found g c = rw (← c.self.view_is) (λ failed body bytes counted rest told.
+    let end = c.self.inside.end in
+    let frame = c.bytes-frame.result.now in
+    told_leaves g.D.Disk.clock g.D.Disk.left_since g.D.Disk.image c.self.inside.disk c.write_then_open.new.disk (IsWithOrWithout body c.args.framed.now)
+    (λ disk t u b le left. g.met.D.Disk.since_earlier disk t u b le left) (λ disk b is. g.met.D.Disk.image_may_stay disk b is)
+    (weaker_leaves g.D.Disk.clock g.D.Disk.left_since c.self.inside.disk c.write_then_open.new.disk
+    (λ left. Torn (end + 1) frame rest.bytes left ⊎ Torn end (1 ∷ []) (written (end + 1) frame rest.bytes) left)
+    (IsWithOrWithout body c.args.framed.now)
+    (λ left torn. append_says body rest.bytes c.args.framed.now frame left end counted c.bytes-frame.ensures rest.closed torn)
+    (c.write_then_open.ensures.any_moment rest.bytes rest.told rest.pinned)) bytes told)
 
 pub returns-clause-any_moment : goal.returns-clause-any_moment
 returns-clause-any_moment g c = rw (← c.self.view_is) (λ body counted rest.

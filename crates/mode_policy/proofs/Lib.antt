@@ -1,0 +1,15 @@
+pub mod AddingLemmas
+pub mod AllowsLemmas
+pub mod ClassLemmas
+pub mod LawLemmas
+pub mod LineLemmas
+pub mod LinePartLemmas
+pub mod NumberLemmas
+pub mod PairLemmas
+pub mod PlacesLemmas
+pub mod ProvingLemmas
+pub mod ReadingLemmas
+pub mod RowLemmas
+pub mod StatingLemmas
+pub mod TheoremLemmas
+pub mod VerdictLemmas

@@ -1,0 +1,14 @@
+pub mod Adding
+pub mod Allowed
+pub mod Laws
+pub mod LineParts
+pub mod Lines
+pub mod Modes
+pub mod Places
+pub mod Proofs
+pub mod Reading
+pub mod Rows
+pub mod Statements
+pub mod StatementsCode
+pub mod Stating
+pub mod Table
