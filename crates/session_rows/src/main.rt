@@ -16,7 +16,7 @@ mod rows;
 use bl_syntax::{Bytes, NoMemory};
 use pcfs_ports::{StdSink, write_all};
 use rows::run_rows;
-use std::io::{self, ErrorKind};
+use std::io::{self, Eprint, ErrorKind};
 use std::process::ExitCode;
 use std::rt::Files;
 use std::sync::Wait;
@@ -56,7 +56,7 @@ fn tell<R: Print>(rt: &R, text: &[u8]) -> Result<(), Stop> {
 }
 
 // Runs the cases of the file of this name, and returns whether they all agree.
-fn run_file<R: Files + Print + Threads + Wait + Sync + AllocGlobal>(
+fn run_file<R: Files + Print + Eprint + Threads + Wait + Sync + AllocGlobal>(
     rt: &R,
     name: &str,
 ) -> Result<bool, Stop> {
@@ -68,7 +68,7 @@ fn run_file<R: Files + Print + Threads + Wait + Sync + AllocGlobal>(
 }
 
 // Runs the files that the words name, and returns whether all cases agree.
-fn run_files<R: env::Env + Files + Print + Threads + Wait + Sync + AllocGlobal>(
+fn run_files<R: env::Env + Files + Print + Eprint + Threads + Wait + Sync + AllocGlobal>(
     rt: &R,
 ) -> Result<bool, Stop> {
     let mut agree = true;
